@@ -6,9 +6,9 @@ use Rattle.inv_ends.specs.model.words.Place.{is_valid}
 use Rattle.inv_ends.specs.model.words.Place.Place.{Clock}
 use Rattle.inv_ends.specs.model.words.declared.layout.Layout.{Layout}
 use Rattle.inv_ends.specs.model.defs.declared.call.Call.{Call}
-use Rattle.inv_ends.specs.model.Locals.{Local, may_begin}
+use Rattle.inv_ends.specs.model.Locals.{Local}
 use Rattle.inv_ends.specs.model.Rest.{rest, rest_of}
-use Rattle.inv_ends.specs.model.World.{World, begin, step, is_busy}
+use Rattle.inv_ends.specs.model.World.{World, begin, step, is_busy, may_start}
 use Rattle.inv_ends.proofs.shapes.Frame.{begin_stays}
 use Rattle.inv_ends.specs.history.History.{Item, Begins, Steps, Made, fits, done_if, did, made_from, first_made, made_of}
 use Rattle.inv_ends.proofs.history.Along.{Steady, item_keeps, items_keep, begins_right, low_seat}
@@ -56,7 +56,7 @@ made_step w i k false e l a h = let c : CallsEnd w k = inv_ends w k l a in let s
 item_rest : (layout : Layout) (i : ℕ) (made : Made) (item : Item) (fit : Bool) → fits made.world item ≡ fit → is_busy made.world i ≡ true → i < made.world.layout.config.seats → Goes layout made.world → is_busy (done_if made item fit).world i ≡ true → rest (done_if made item fit).world i + is_own i item ≤ rest made.world i
 item_rest layout i made (Begins k call) false f b l g h = omega arith
 item_rest layout i made (Steps k) false f b l g h = skipped made.world i k (i == k) refl b l f
-item_rest layout i made (Begins k call) true f b l g h = begin_rest made.world i k call (other_seat made.world i k (i == k) refl b (begins_right k made.world.layout.config.seats (is_busy made.world k) (may_begin made.world.layout.config call) f))
+item_rest layout i made (Begins k call) true f b l g h = begin_rest made.world i k call (other_seat made.world i k (i == k) refl b (begins_right k made.world.layout.config.seats (is_busy made.world k) (may_start made.world k call) f))
 item_rest layout i made (Steps k) true f b l g h = made_step made.world i k (i == k) refl (low_seat k made.world.layout.config.seats (is_busy made.world k) f) g.known h
 
 -- so the call ends among enough of them

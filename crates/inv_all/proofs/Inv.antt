@@ -2,7 +2,9 @@ pub mod Begun
 pub mod Ends
 pub mod Frees
 pub mod Guards
+pub mod Joins
 pub mod Kept
+pub mod Places
 pub mod Reached
 pub mod Ready
 pub mod Rows

@@ -20,7 +20,7 @@ use Rattle.inv_ends.proofs.model.Facts.{first_of, rest_of, if_implies}
 use Rattle.inv_ends.proofs.history.Passes.{is_quiet, Closing, Any, First, phase_any, scan_told, step_closes}
 use Rattle.inv_ends.proofs.history.AllOf.{all_of, of_along, of_weaker}
 use Rattle.inv_ends.proofs.history.MayTell.{Tells, base_all, clear_all, step_all, work_all}
-use Rattle.inv_ends.specs.model.World.{World, told_in, finds}
+use Rattle.inv_ends.specs.model.World.{World, finds, offered, told_in}
 use Rattle.inv_ends.specs.model.Posts.{counted}
 use Rattle.inv_ends.specs.history.Record.{Past, begins}
 
@@ -49,6 +49,8 @@ tells_machine base post found (events.Removed bucket version key) h = absurd (cc
 tells_machine base post found (events.Got bucket version key value) h = absurd (cc)
 tells_machine base post found (events.Queued number value) h = absurd (cc)
 tells_machine base post found (events.Taken number value) h = absurd (cc)
+tells_machine base post found (events.Left count) h = absurd (cc)
+tells_machine base post found (events.Adopted place count) h = absurd (cc)
 tells_machine base post found event h = refl
 
 pub base_machine : (base : Base) (post : Post) (found : ℕ) → all_of is_machine (machine.after base post found).told ≡ true
@@ -81,13 +83,13 @@ first_within : (phase : Phase) (post : Post) (found : ℕ) → First Within phas
 first_within Idle post found = refl
 first_within (Runs why base) post found = base_all is_within base post found (λ event h. machine_within event (tells_machine base post found event h))
 first_within (Scans later at) post found = of_weaker is_machine is_within (scan_told at post found) machine_within (scan_machine at post found)
-first_within (Works work) post found = work_all is_within (λ index slot. refl) (λ from index slot. refl) (λ seat index era. refl) work post
+first_within (Works work) post found = work_all is_within (λ index slot. refl) (λ from index slot. refl) (λ seat index era. refl) (λ seat. refl) work post
 
 pub told_within : (phase : Phase) (post : Post) (desk : Desk) (found : ℕ) → all_of is_within (told_by (steps.phase_turn phase post desk found)) ≡ true
 told_within phase post desk found = step_all is_within (record { quiet = quiet_within; clears = λ index slot. refl }) phase post desk found (first_within phase post found)
 
 pub within_of : (w : World) (i : ℕ) → all_of is_within (told_in w i) ≡ true
-within_of w i = told_within (w.seat i).phase (counted (w.seat i).post) (w.seat i).desk (finds w i)
+within_of w i = told_within (w.seat i).phase (counted (w.seat i).post) (offered w i).desk (finds w i)
 
 pub within_begins : (k i : ℕ) (p : Past) (event : Event) → is_within event ≡ true → begins k p i event ≡ false
 within_begins k i p (events.Begin call) h = absurd (cc)
@@ -164,6 +166,8 @@ loud_closing = record {
   links = λ post root slot same h. still_loud (enqueues.told_link root slot same) (link_still root slot same);
   queues = λ post tail slot number value h. refl;
   takes = λ post head next number value h. refl;
+  leaves = λ post count h. refl;
+  adopts = λ post place count h. refl;
   clears = λ post told index h. loud_along told (clear_told (scheme_of post) post index) h (of_weaker is_machine is_still (clear_told (scheme_of post) post index) machine_still (clear_machine (scheme_of post) post index));
   ends = λ post told outcome h. loud_along told (told_end post outcome) h (end_still post outcome);
 }
@@ -172,7 +176,7 @@ first_still : (phase : Phase) (post : Post) (found : ℕ) → First Still phase 
 first_still Idle post found = refl
 first_still (Runs why base) post found = base_all is_still base post found (λ event h. machine_still event (tells_machine base post found event h))
 first_still (Scans later at) post found = of_weaker is_machine is_still (scan_told at post found) machine_still (scan_machine at post found)
-first_still (Works work) post found = work_all is_still (λ index slot. refl) (λ from index slot. refl) (λ seat index era. refl) work post
+first_still (Works work) post found = work_all is_still (λ index slot. refl) (λ from index slot. refl) (λ seat index era. refl) (λ seat. refl) work post
 
 pub told_loud : (phase : Phase) (post : Post) (desk : Desk) (found : ℕ) → one_loud (told_by (steps.phase_turn phase post desk found)) ≡ true
 told_loud phase post desk found = step_closes Still OneLoud Any loud_closing phase post desk found (phase_any phase post found) (first_still phase post found)

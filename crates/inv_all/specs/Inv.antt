@@ -6,10 +6,10 @@ use Rattle.inv_ends.specs.model.defs.declared.call.Answer.TheVariants as answers
 use Rattle.inv_ends.specs.model.defs.declared.call.Call.{Call}
 use Rattle.inv_ends.specs.model.defs.declared.event.Guard.TheVariants.{Index}
 use Rattle.inv_ends.specs.model.Calls.{Answers, GetAt, StoreHeld, Looks, Keeping, Works}
-use Rattle.inv_ends.specs.model.Locals.{may_begin, turn}
+use Rattle.inv_ends.specs.model.Locals.{turn}
 use Rattle.inv_ends.specs.model.MayStep.{MayStep}
 use Rattle.inv_ends.specs.model.Posts.{stands}
-use Rattle.inv_ends.specs.model.World.{World, start, begin, step, is_busy, finds, told_in}
+use Rattle.inv_ends.specs.model.World.{World, begin, finds, is_busy, may_start, offered, start, step, told_in}
 use Rattle.inv_ends.specs.requests.Views.{View as Asked}
 use Rattle.inv_steps_left.specs.rows.Hands.{row_move}
 use Rattle.inv_steps_left.specs.rows.Queue.{Line}
@@ -34,7 +34,7 @@ abbrev pub InvStart : Type 0
 InvStart = (layout : Layout) → is_valid layout ≡ true → Inv (start layout)
 
 abbrev pub InvBegin : Type 0
-InvBegin = (w : World) (i : ℕ) (call : Call) → is_busy w i ≡ false → may_begin w.layout.config call ≡ true → Inv w → Inv (begin w i call)
+InvBegin = (w : World) (i : ℕ) (call : Call) → is_busy w i ≡ false → may_start w i call ≡ true → Inv w → Inv (begin w i call)
 
 abbrev pub InvKept : Type 0
 InvKept = (w : World) (i : ℕ) → i < w.layout.config.seats → Inv w → Inv (step w i)
@@ -49,7 +49,7 @@ pub record TellsRight (w : World) (i : ℕ) : Type 0 where
   pub queue : AllQueueRight w.book (told_in w i)
   pub looks : (index key : ℕ) (at : GetAt) (slot version : ℕ) (value : Option ℕ)
       → (w.seat i).phase ≡ Works (Keeping (Looks index key at))
-      → (turn (w.seat i) (finds w i)).outcome ≡ Answers (answers.Looked slot version value)
+      → (turn (offered w i) (finds w i)).outcome ≡ Answers (answers.Looked slot version value)
       → LookRight w.book slot version key value
 
 abbrev pub InvTells : Type 0

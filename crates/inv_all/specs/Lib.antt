@@ -13,7 +13,9 @@ pub mod Ends
 pub mod Finish
 pub mod Histories
 pub mod Inv
+pub mod Joins
 pub mod Known
 pub mod Outcomes
+pub mod Places
 pub mod Shows
 pub mod Sights

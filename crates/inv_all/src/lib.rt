@@ -6,7 +6,9 @@ ghost use Rattle.inv_all.specs.Ends.{InvEnds};
 ghost use Rattle.inv_all.specs.Finish.{CallsFinish};
 ghost use Rattle.inv_all.specs.Histories.{InvReached, ReachedReady};
 ghost use Rattle.inv_all.specs.Inv.{InvBegin, InvCopies, InvKept, InvReady, InvStart, InvStays, InvTells};
+ghost use Rattle.inv_all.specs.Joins.{InvJoins, JoinsFit, ListingAdds};
 ghost use Rattle.inv_all.specs.Outcomes.{MachinesEnd};
+ghost use Rattle.inv_all.specs.Places.{InvPlaceMoves, InvPlaces};
 ghost use Rattle.inv_all.specs.Shows.{InvShows, InvTimes};
 
 /// The invariant holds at the start of a table with a valid setting.
@@ -69,6 +71,23 @@ pub fn inv_times()
 /// the head's row has no next link all that was queued was taken.
 pub fn inv_shows()
     ensures { InvShows }
+{}
+
+/// A seat that is busy has not left, and its list is its own. A list that another seat has taken over is
+/// empty, as is one that a seat is to mark so; nothing stands at a seat that is to leave its list. A step of
+/// a busy seat changes a place word only where it leaves its list, takes one over or marks it; so a list
+/// stays its seat's until another takes it over.
+pub fn inv_places()
+    ensures shows { InvPlaces }
+    ensures moves { InvPlaceMoves }
+{}
+
+/// Where the list of a seat that makes no call goes to the end of that of another such seat, and neither has
+/// left, the invariant is kept; both lists together have no row twice, and each row is one of the table's.
+pub fn inv_joins()
+    ensures keeps { InvJoins }
+    ensures fits { JoinsFit }
+    ensures adds { ListingAdds }
 {}
 
 /// Each step that does not end its call leaves it fewer steps, no step leaves another call more, and

@@ -8,7 +8,7 @@ use Rattle.inv_covers.specs.defs.declared.event.Root.TheVariants as roots
 use Rattle.inv_covers.specs.model.Book.{Book}
 use Rattle.inv_covers.specs.model.Calls.{Answers, GetAt, Looks, Keeping, Works}
 use Rattle.inv_covers.specs.model.Locals.{turn}
-use Rattle.inv_covers.specs.model.World.{World, finds, told_in}
+use Rattle.inv_covers.specs.model.World.{World, finds, offered, told_in}
 use Rattle.inv_covers.specs.rows.Rows.{View}
 use Rattle.inv_covers.specs.rows.Agree.{Agree, RowsNeeds}
 use Rattle.inv_contents.specs.Contents.{Contents, ContentsNeeds}
@@ -50,5 +50,5 @@ pub record LookRight (a : Book) (slot version key : ℕ) (value : Option ℕ) : 
 abbrev pub ContentsLooked : Type 0
 ContentsLooked =
     (w : World) (i : ℕ) (v : View) (index key : ℕ) (at : GetAt) (slot version : ℕ) (value : Option ℕ) → ContentsNeeds w i v → Contents w v
-    → (w.seat i).phase ≡ Works (Keeping (Looks index key at)) → (turn (w.seat i) (finds w i)).outcome ≡ Answers (answers.Looked slot version value)
+    → (w.seat i).phase ≡ Works (Keeping (Looks index key at)) → (turn (offered w i) (finds w i)).outcome ≡ Answers (answers.Looked slot version value)
     → LookRight w.book slot version key value

@@ -1,5 +1,5 @@
 -- The row whose next link is followed stands at index 0, under Hazard Eras and 2GE.
-use Rattle.std.proofs.Common.{ℕ, ◌+◌, ◌-◌, ◌≡◌, sym, subst, true, false, refl, Bool, Option, Some, None, List, [], ◌∷◌, ◌<◌, length, ◌∙◌, ap}
+use Rattle.std.proofs.Common.{ℕ, ◌+◌, ◌-◌, ◌≡◌, sym, subst, true, false, refl, Bool, Option, Some, None, List, [], ◌∷◌, ◌<◌, length, ◌∙◌, ap, drop}
 use Rattle.std.specs.Prelude.{◌==◌, if◌then◌else◌, nat_lt}
 use Rattle.inv_shapes.specs.words.declared.config.SchemeKind.{SchemeKind}
 use Rattle.inv_shapes.specs.words.declared.layout.Layout.{Layout}
@@ -10,7 +10,7 @@ use Rattle.inv_shapes.specs.defs.declared.event.Root.TheVariants as roots
 use Rattle.inv_shapes.specs.model.declared.post.Post.{Post}
 use Rattle.inv_shapes.specs.model.Desks.{Desk, noting}
 use Rattle.inv_shapes.specs.model.Guards.{guards, guard_at, eras_in, published}
-use Rattle.inv_shapes.specs.model.Posts.{stands, withdrawn, upper, with_row, counted}
+use Rattle.inv_shapes.specs.model.Posts.{stands, withdrawn, upper, with_row, counted, standing_from}
 use Rattle.inv_shapes.specs.model.Phases.BeginAt.{LoadLower, PublishSpan}
 use Rattle.inv_shapes.specs.model.Phases.{BeginAt, Aim, Alone, Follows, Base, ProtectAt, Ending, Outcome, Goes, Ends, Turn, goes, ends}
 use Rattle.inv_shapes.specs.model.Phases.ProtectAt.{LoadClock, PublishEra, LoadLink, CheckClock, LoadWithin, CheckUpper, RaiseUpper}
@@ -25,20 +25,22 @@ use Rattle.inv_shapes.specs.model.Scan.{Entry, scanned, giving_back, reading, un
 use Rattle.inv_shapes.specs.model.Steps.{resumed, phase_turn, holding, copying, looking_at, first_phase}
 use Rattle.inv_shapes.specs.model.Calls.{Task, Gets, Changes, Holds, Enqueues, Dequeues, AfterScan, Answered, Repeated, Counted, ScanAt, ReadGuard, GiveBack, Why, Opens, FollowsHead, Fills, ClearsNext, Clears, Finishes, GivesUp, Retires, Tidies, Advances, Releases, LetGo, Released, Rehold, Dropped, Phase, Idle, Runs, Scans, Works, CallTurn, CallOutcome, GoesOn, Answers}
 use Rattle.inv_shapes.specs.Seats.{task_root, root_by, protect_fits, Run}
-use Rattle.inv_shapes.specs.words.Schemes.{helps}
+use Rattle.inv_shapes.specs.words.Schemes.{helps, has_one_interval}
 use Rattle.inv_shapes.specs.model.declared.ends.ProtectEnd.TheVariants as protect_ends
 use Rattle.inv_shapes.specs.model.Locals.{Local, turn, settled, settled_by, told_by, rounds_told, begun, begun_post}
 use Rattle.inv_shapes.specs.model.Locals as locals
 use Rattle.inv_shapes.specs.Frame.{phase_left}
 use Rattle.inv_shapes.specs.defs.declared.call.Call.{Call}
 use Rattle.inv_shapes.specs.defs.declared.call.Call.TheVariants as names
-use Rattle.inv_shapes.specs.model.World.{finds}
+use Rattle.inv_shapes.specs.model.World.{finds, offered}
 use Rattle.inv_covers.specs.Held.{follows_root, follows_row}
 use Rattle.inv_covers.specs.Parents.{has_parent_why, Parent, ParentsStart, ParentsBegin, ParentsKept, ParentsGive}
-use Rattle.inv_covers.proofs.Parents.{Tended, stood_task, stood_why, round_tends, work_tends, resume_tends}
+use Rattle.inv_covers.proofs.Parents.{Tended, stood_task, stood_why, round_tends, work_tends, resume_tends, parting_tends}
 use Rattle.inv_shapes.proofs.model.Standing.{stands-with_row_same}
-use Rattle.inv_shapes.proofs.model.Facts.{no_truth}
+use Rattle.inv_shapes.proofs.model.Facts.{no_truth, if_by}
 use Rattle.inv_shapes.proofs.model.Schemes.{each_release}
+use Rattle.inv_shapes.specs.model.Keep.{parting, parting_from, parting_span}
+use Rattle.inv_shapes.specs.defs.declared.lifetime.Interval.{Interval}
 
 -- a scan follows no link
 scanned_tends : (later : AfterScan) (post : Post) (desk : Desk) (told : List Event) → Tended (scanned later post desk told)
@@ -197,7 +199,7 @@ parent_pick old new false a b = a
 
 pub parents_kept : ParentsKept
 parents_kept w i f n r = record {
-  stand = λ k. parent_pick (w.seat k) (locals.after (w.seat i) (finds w i)) (k == i) (r.stand k) (settled_tends (w.seat i) (turn (w.seat i) (finds w i)) (turn_tends w.layout (w.seat i).phase (w.seat i).post (counted (w.seat i).post) (w.seat i).desk (finds w i) f (n.shape i) n.room (r.stand i)));
+  stand = λ k. parent_pick (w.seat k) (locals.after (offered w i) (finds w i)) (k == i) (r.stand k) (settled_tends (offered w i) (turn (offered w i) (finds w i)) (turn_tends w.layout (w.seat i).phase (w.seat i).post (counted (w.seat i).post) (offered w i).desk (finds w i) f (n.shape i) n.room (r.stand i)));
 }
 
 pub parents_start : ParentsStart
@@ -225,6 +227,16 @@ holding_tends : (key : ℕ) (post next : Post) (x : Option ℕ) → Parent (hold
 holding_tends key post next None = round_tends (Holds key) post
 holding_tends key post next (Some slot) = letting_tends (Rehold key) post
 
+parting_span_tends : (x : Option Interval) (post : Post) → Parent (parting_span x) post
+parting_span_tends None post = λ row h. absurd (cc)
+parting_span_tends (Some span) post = λ row h. absurd (cc)
+
+leaving_tends : (post : Post) → Parent (parting post) post
+leaving_tends post =
+    if_by (has_one_interval (scheme_of post)) (parting_span post.span) (parting_from 2 post) (λ (phase : Phase). Parent phase post)
+    (λ e. parting_span_tends post.span post)
+    (λ e. parting_tends (standing_from 2 (drop 2 post.standing)) post)
+
 first_tends : (call : Call) (post : Post) → Parent (first_phase call post) post
 first_tends (names.Get key) post = round_tends (Gets key) post
 first_tends (names.Put key value) post = round_tends (Changes _) post
@@ -239,6 +251,8 @@ first_tends (names.Copy from index) post = copying_tends from index post (stands
 first_tends (names.DropIndex index) post = letting_tends (Dropped index) post
 first_tends (names.Look index key) post = looking_tends index key post (stands post index)
 first_tends (names.PutIf key value version) post = round_tends (Changes _) post
+first_tends names.Leave post = leaving_tends post
+first_tends (names.Adopt place) post = λ row h. absurd (cc)
 
 pub parents_begin : ParentsBegin
 parents_begin w i call r = record {

@@ -1,6 +1,6 @@
 -- What a call's own step leaves, and what comes after a machine: no scan that has read something, no try that has loaded a
 -- link, and nothing stands that did not stand before.
-use Rattle.std.proofs.Common.{ℕ, ◌+◌, Bool, true, false, List, [], ◌∷◌, ◌++◌, length, Option, Some, None, refl, subst, sym, ◌∙◌, ◌≡◌}
+use Rattle.std.proofs.Common.{ℕ, ◌+◌, Bool, true, false, List, [], ◌∷◌, ◌++◌, length, Option, Some, None, refl, subst, sym, ◌∙◌, ◌≡◌, drop}
 use Rattle.std.specs.Prelude.{◌==◌, ◌%◌, ◌-◌, nat_lt}
 use Rattle.inv_shapes.specs.defs.declared.call.Answer.{Answer}
 use Rattle.inv_shapes.specs.defs.declared.call.Call.{Call}
@@ -26,19 +26,20 @@ use Rattle.inv_shapes.specs.model.Enqueue as enqueues
 use Rattle.inv_shapes.specs.model.Dequeue as dequeues
 use Rattle.inv_shapes.specs.model.Keep as keeps
 use Rattle.inv_shapes.specs.model.Steps as steps
-use Rattle.inv_shapes.specs.model.Calls.{Task, Gets, Changes, Holds, Enqueues, Dequeues, Again, Answering, Retiring, AfterScan, Why, Phase, ChangeKept, EnqueueKept, GetAt, FindVersion, FindCount, FindKey, FindValue, ChangeAt, LoadVersion, LoadCount, LoadKey, LoadValue, ExchangeRoot, EnqueueAt, LoadNumber, LoadNext, PassTail, ExchangeNext, ExchangeTail, DequeueAt, LoadTail, SwingTail, TakeNumber, TakeValue, ExchangeHead, Work, Getting, Changing, Enqueuing, Dequeuing, Opens, FollowsHead, Fills, ClearsNext, Clears, Finishes, GivesUp, Retires, Tidies, Advances, Releases, LetGo, Released, Rehold, Dropped, Loosens, LoadHeld, StoreHeld, Looks, Misses, Keeping, Next, MakeRoom, Runs, Works, CallTurn}
+use Rattle.inv_shapes.specs.model.Calls.{Task, Gets, Changes, Holds, Enqueues, Dequeues, Again, Answering, Retiring, AfterScan, Why, Phase, ChangeKept, EnqueueKept, GetAt, FindVersion, FindCount, FindKey, FindValue, ChangeAt, LoadVersion, LoadCount, LoadKey, LoadValue, ExchangeRoot, EnqueueAt, LoadNumber, LoadNext, PassTail, ExchangeNext, ExchangeTail, DequeueAt, LoadTail, SwingTail, TakeNumber, TakeValue, ExchangeHead, Work, Getting, Changing, Enqueuing, Dequeuing, Opens, FollowsHead, Fills, ClearsNext, Clears, Finishes, GivesUp, Retires, Tidies, Advances, Releases, LetGo, Released, Rehold, Dropped, Parting, Loosens, LoadHeld, StoreHeld, Looks, Misses, HideSpan, MarkLeft, TakeList, MarkTaken, Keeping, Next, MakeRoom, Runs, Works, CallTurn}
 use Rattle.inv_shapes.specs.words.declared.config.SchemeKind.{SchemeKind}
 use Rattle.inv_shapes.specs.words.declared.config.SchemeKind.TheVariants.{He, Ibr, Wfe}
 use Rattle.inv_shapes.specs.defs.declared.lifetime.Interval.{Interval}
-use Rattle.inv_shapes.specs.model.Posts.{stands, withdrawn, cleared, reserves_index}
+use Rattle.inv_shapes.specs.model.Posts.{stands, withdrawn, cleared, reserves_index, standing_from}
 use Rattle.inv_shapes.specs.Frame.{phase_left}
 use Rattle.inv_shapes.specs.words.Packed.{read_reservation}
 use Rattle.inv_shapes.specs.words.Schemes.{has_one_interval}
 use Rattle.inv_shapes.specs.defs.declared.event.Root.{Root}
-use Rattle.inv_covers.proofs.Stands.{withdrawn_shrinks}
+use Rattle.inv_covers.proofs.Stands.{withdrawn_shrinks, bare_none}
 use Rattle.inv_covers.specs.Covers.{is_fresh}
 use Rattle.inv_covers.specs.Tries.{is_copy, is_start, starts_base, Begins, Leaves, Shrinks}
 use Rattle.inv_shapes.proofs.model.Schemes.{each_begin, each_clear, each_clear_post, each_finish, each_release}
+use Rattle.inv_shapes.proofs.model.Facts.{if_by}
 
 opening_at : (task : Task) (post : Post) (index : ℕ) (root : Root) (scheme : SchemeKind) → Begins (Phase.Runs (Opens task) (protect_base scheme index root))
 opening_at task post index root He = record { fresh = refl; starts = refl }
@@ -204,10 +205,30 @@ dequeue_fresh (TakeNumber head next) post desk found = record { fresh = refl; st
 dequeue_fresh (TakeValue head next number) post desk found = record { fresh = refl; starts = refl; shrinks = λ j s h. h }
 dequeue_fresh (ExchangeHead head next number value) post desk found = taken_fresh head next number value post desk (found == head + 1)
 
+-- a seat leaves
+parting_begins : (x : Option ℕ) → Begins (keeps.parting_index x)
+parting_begins None = record { fresh = refl; starts = refl }
+parting_begins (Some index) = record { fresh = refl; starts = refl }
+
+parting_span_begins : (x : Option Interval) → Begins (keeps.parting_span x)
+parting_span_begins None = record { fresh = refl; starts = refl }
+parting_span_begins (Some span) = record { fresh = refl; starts = refl }
+
+leaving_begins : (post : Post) → Begins (keeps.parting post)
+leaving_begins post =
+    if_by (has_one_interval (scheme_of post)) (keeps.parting_span post.span) (keeps.parting_from 2 post) Begins
+    (λ e. parting_span_begins post.span)
+    (λ e. parting_begins (standing_from 2 (drop 2 post.standing)))
+
+taking_fresh : (place : ℕ) (post : Post) (desk : Desk) (left : Bool) (found : ℕ) → Leaves post (keeps.taking place post desk left found)
+taking_fresh place post desk true found = record { fresh = refl; starts = refl; shrinks = λ j s h. h }
+taking_fresh place post desk false found = record { fresh = refl; starts = refl; shrinks = λ j s h. h }
+
 released_fresh : (let_go : LetGo) (post : Post) (desk : Desk) (told : List Event) → Leaves post (keeps.released let_go post desk told)
 released_fresh Released post desk told = record { fresh = refl; starts = refl; shrinks = λ j s h. h }
 released_fresh (Rehold key) post desk told = record { fresh = (round_fresh (Holds key) post).fresh; starts = (round_fresh (Holds key) post).starts; shrinks = λ j s h. h }
 released_fresh (Dropped index) post desk told = record { fresh = refl; starts = refl; shrinks = λ j s h. h }
+released_fresh (Parting index) post desk told = let b = parting_begins (standing_from (index + 1) (drop (index + 1) post.standing)) in record { fresh = b.fresh; starts = b.starts; shrinks = λ j s h. h }
 
 loosened_fresh : (let_go : LetGo) (post : Post) (desk : Desk) → Leaves post (keeps.released let_go (withdrawn post (let_index let_go)) desk (cleared (let_index let_go) (stands post (let_index let_go))))
 loosened_fresh let_go post desk =
@@ -240,6 +261,10 @@ work_fresh (Keeping (LoadHeld from index)) post desk found c = absurd (cc)
 work_fresh (Keeping (StoreHeld from index era)) post desk found c = absurd (cc)
 work_fresh (Keeping (Looks index key at)) post desk found c = look_fresh index key at post desk found
 work_fresh (Keeping (Misses index)) post desk found c = record { fresh = refl; starts = refl; shrinks = λ j s h. h }
+work_fresh (Keeping HideSpan) post desk found c = record { fresh = refl; starts = refl; shrinks = λ j s h. absurd (bare_none post j s h) }
+work_fresh (Keeping MarkLeft) post desk found c = record { fresh = refl; starts = refl; shrinks = λ j s h. h }
+work_fresh (Keeping (TakeList place)) post desk found c = taking_fresh place post desk (found == 1) found
+work_fresh (Keeping (MarkTaken place count)) post desk found c = record { fresh = refl; starts = refl; shrinks = λ j s h. h }
 
 begins_start : (next : Phase) (why : Why) (base : Base) → Begins next → next ≡ Runs why base → starts_base base ≡ true
 begins_start next why base b e = subst (λ (p : Phase). is_start p ≡ true) e b.starts
@@ -279,6 +304,10 @@ works_fresh (Keeping (StoreHeld from index era)) post desk found = (copied_begin
 works_fresh (Keeping (Loosens let_go)) post desk found = (work_fresh (Keeping (Loosens let_go)) post desk found refl).fresh
 works_fresh (Keeping (Looks index key at)) post desk found = (work_fresh (Keeping (Looks index key at)) post desk found refl).fresh
 works_fresh (Keeping (Misses index)) post desk found = refl
+works_fresh (Keeping HideSpan) post desk found = (work_fresh (Keeping HideSpan) post desk found refl).fresh
+works_fresh (Keeping MarkLeft) post desk found = (work_fresh (Keeping MarkLeft) post desk found refl).fresh
+works_fresh (Keeping (TakeList place)) post desk found = (work_fresh (Keeping (TakeList place)) post desk found refl).fresh
+works_fresh (Keeping (MarkTaken place count)) post desk found = (work_fresh (Keeping (MarkTaken place count)) post desk found refl).fresh
 works_fresh (Getting key at) post desk found = (work_fresh (Getting key at) post desk found refl).fresh
 works_fresh (Changing kept at) post desk found = (work_fresh (Changing kept at) post desk found refl).fresh
 works_fresh (Enqueuing kept at) post desk found = (work_fresh (Enqueuing kept at) post desk found refl).fresh
@@ -291,6 +320,10 @@ works_start (Keeping (StoreHeld from index era)) post desk found why base e = be
 works_start (Keeping (Loosens let_go)) post desk found why base e = leaves_start post _ why base (work_fresh (Keeping (Loosens let_go)) post desk found refl) e
 works_start (Keeping (Looks index key at)) post desk found why base e = leaves_start post _ why base (work_fresh (Keeping (Looks index key at)) post desk found refl) e
 works_start (Keeping (Misses index)) post desk found why base e = absurd (cc)
+works_start (Keeping HideSpan) post desk found why base e = leaves_start post _ why base (work_fresh (Keeping HideSpan) post desk found refl) e
+works_start (Keeping MarkLeft) post desk found why base e = leaves_start post _ why base (work_fresh (Keeping MarkLeft) post desk found refl) e
+works_start (Keeping (TakeList place)) post desk found why base e = leaves_start post _ why base (work_fresh (Keeping (TakeList place)) post desk found refl) e
+works_start (Keeping (MarkTaken place count)) post desk found why base e = leaves_start post _ why base (work_fresh (Keeping (MarkTaken place count)) post desk found refl) e
 works_start (Getting key at) post desk found why base e = leaves_start post _ why base (work_fresh (Getting key at) post desk found refl) e
 works_start (Changing kept at) post desk found why base e = leaves_start post _ why base (work_fresh (Changing kept at) post desk found refl) e
 works_start (Enqueuing kept at) post desk found why base e = leaves_start post _ why base (work_fresh (Enqueuing kept at) post desk found refl) e
@@ -430,3 +463,5 @@ first_begins (names.Copy from index) post = copying_begins from index (stands po
 first_begins (names.DropIndex index) post = letting_begins (Dropped index) post
 first_begins (names.Look index key) post = looking_begins index key (stands post index)
 first_begins (names.PutIf key value version) post = round_fresh (Changes _) post
+first_begins names.Leave post = leaving_begins post
+first_begins (names.Adopt place) post = record { fresh = refl; starts = refl }

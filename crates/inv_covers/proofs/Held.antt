@@ -32,9 +32,9 @@ use Rattle.inv_shapes.specs.model.Steps.{phase_turn, phase_move, resumed, work_t
 use Rattle.inv_shapes.specs.model.Scan.{scan_turn}
 use Rattle.inv_shapes.specs.model.Keep.{copied, load_held}
 use Rattle.inv_shapes.specs.model.Rounds.{scheme_of}
-use Rattle.inv_shapes.specs.model.Calls.{KeepAt, Loosens, LoadHeld, StoreHeld, Looks, Misses, Work, Getting, Changing, Enqueuing, Dequeuing, Keeping, Why, Phase, Idle, Runs, Scans, Works, CallTurn, CallOutcome, GoesOn, Answers}
+use Rattle.inv_shapes.specs.model.Calls.{KeepAt, Loosens, LoadHeld, StoreHeld, Looks, Misses, HideSpan, MarkLeft, TakeList, MarkTaken, Work, Getting, Changing, Enqueuing, Dequeuing, Keeping, Why, Phase, Idle, Runs, Scans, Works, CallTurn, CallOutcome, GoesOn, Answers}
 use Rattle.inv_shapes.specs.model.Locals.{Local, move, turn, settled_by, told_by, rounds_told}
-use Rattle.inv_shapes.specs.model.World.{World, step, finds}
+use Rattle.inv_shapes.specs.model.World.{World, step, finds, offered}
 use Rattle.inv_rows.specs.Rows.{Status, View, made, is_settled}
 use Rattle.inv_rows.specs.Rows.Status.{Free, Claimed, Born, Linked, InQueue, Cut, Sealed, Listed}
 use Rattle.inv_rows.specs.Hands.{row_move}
@@ -51,7 +51,7 @@ use Rattle.inv_covers.proofs.Copying.{copy_covers, same_guard}
 use Rattle.inv_covers.proofs.Fresh.{work_fresh, works_start, resume_fresh}
 use Rattle.inv_covers.proofs.Kept.{covers_kept, before_at}
 use Rattle.inv_covers.proofs.Scans.{scan_shrinks, scan_starts}
-use Rattle.inv_covers.proofs.Stands.{withdrawn_apart, with_row_apart, with_row_is}
+use Rattle.inv_covers.proofs.Stands.{withdrawn_apart, with_row_apart, with_row_is, bare_none}
 use Rattle.inv_covers.proofs.Stood.{Was, base_stood}
 use Rattle.inv_covers.proofs.Tried.{out_tries, out_index, loads_link, protect_tries, other_tries, is_protect, tried_quiet, loaded_quiet, protect_clock, start_untried, queued_back, tries_back}
 use Rattle.inv_covers.proofs.Words.{keeps, shown_kept, widens_same, stores_guard, base_other, base_quiet, scan_quiet, work_span, work_stores, work_quiet}
@@ -114,17 +114,18 @@ pub settled_post : (l : Local) (post : Post) (desk : Desk) (rounds : ℕ) (outco
 settled_post l post desk rounds (GoesOn phase) = refl
 settled_post l post desk rounds (Answers answer) = refl
 
-pub stepped_post : (w : World) (i : ℕ) → ((step w i).seat i).post ≡ (turn (w.seat i) (finds w i)).post
-stepped_post w i = let l : Local = w.seat i in let t : CallTurn = turn l (finds w i) in ap (λ (x : Local). x.post) (seat_steps w i) ∙ settled_post l t.post (noting t.desk (told_by t)) (rounds_told l.rounds (told_by t)) t.outcome
+pub stepped_post : (w : World) (i : ℕ) → ((step w i).seat i).post ≡ (turn (offered w i) (finds w i)).post
+stepped_post w i = let l : Local = offered w i in let t : CallTurn = turn l (finds w i) in ap (λ (x : Local). x.post) (seat_steps w i) ∙ settled_post l t.post (noting t.desk (told_by t)) (rounds_told l.rounds (told_by t)) t.outcome
 
-pub stepped_phase : (w : World) (i : ℕ) → ((step w i).seat i).phase ≡ phase_left (turn (w.seat i) (finds w i)).outcome
-stepped_phase w i = let l : Local = w.seat i in let t : CallTurn = turn l (finds w i) in ap (λ (x : Local). x.phase) (seat_steps w i) ∙ settled_phase l t.post (noting t.desk (told_by t)) (rounds_told l.rounds (told_by t)) t.outcome
+pub stepped_phase : (w : World) (i : ℕ) → ((step w i).seat i).phase ≡ phase_left (turn (offered w i) (finds w i)).outcome
+stepped_phase w i = let l : Local = offered w i in let t : CallTurn = turn l (finds w i) in ap (λ (x : Local). x.phase) (seat_steps w i) ∙ settled_phase l t.post (noting t.desk (told_by t)) (rounds_told l.rounds (told_by t)) t.outcome
 
 -- where a row stood that stands after a step of a call's own: where it stands, at an index whose word stays; or at the index
 -- from which a copy comes
 abbrev pub KeepFrom : KeepAt → Post → ℕ → ℕ → Type 0
 KeepFrom (LoadHeld from index) post j s = (stands post j ≡ Some s) ⊎ ((has_one_interval (scheme_of post) ≡ true) × (stands post from ≡ Some s))
 KeepFrom (StoreHeld from index era) post j s = (((j == index) ≡ false) × (stands post j ≡ Some s)) ⊎ ((j ≡ index) × (stands post from ≡ Some s))
+KeepFrom HideSpan post j s = ⊥
 KeepFrom at post j s = stands post j ≡ Some s
 
 abbrev pub WorkFrom : Work → Post → ℕ → ℕ → Type 0
@@ -164,6 +165,10 @@ work_from (Keeping (StoreHeld from index era)) post desk found j s k h = copied_
 work_from (Keeping (Loosens let_go)) post desk found j s k h = (work_fresh (Keeping (Loosens let_go)) post desk found refl).shrinks j s h
 work_from (Keeping (Looks index key at)) post desk found j s k h = (work_fresh (Keeping (Looks index key at)) post desk found refl).shrinks j s h
 work_from (Keeping (Misses index)) post desk found j s k h = h
+work_from (Keeping HideSpan) post desk found j s k h = bare_none post j s h
+work_from (Keeping MarkLeft) post desk found j s k h = h
+work_from (Keeping (TakeList place)) post desk found j s k h = (work_fresh (Keeping (TakeList place)) post desk found refl).shrinks j s h
+work_from (Keeping (MarkTaken place count)) post desk found j s k h = h
 work_from (Getting key at) post desk found j s k h = (work_fresh (Getting key at) post desk found refl).shrinks j s h
 work_from (Changing kept at) post desk found j s k h = (work_fresh (Changing kept at) post desk found refl).shrinks j s h
 work_from (Enqueuing kept at) post desk found j s k h = (work_fresh (Enqueuing kept at) post desk found refl).shrinks j s h
@@ -184,6 +189,7 @@ from_counted : (work : Work) (post : Post) (j s : ℕ) → WorkFrom work (counte
 from_counted (Keeping (LoadHeld from index)) post j s h = h
 from_counted (Keeping (StoreHeld from index era)) post j s h = h
 from_counted (Keeping (Loosens let_go)) post j s h = h
+from_counted (Keeping HideSpan) post j s h = h
 from_counted work post j s h = h
 
 pub turn_from : (phase : Phase) (post : Post) (desk : Desk) (x j s : ℕ) → PhaseHas phase (counted post) → stands (phase_turn phase (counted post) desk x).post j ≡ Some s → From phase post x j s
@@ -229,8 +235,8 @@ quiet_widens w i why base j f e b q =
 whole_widens : (w : World) (i j : ℕ) → has_one_interval w.layout.config.scheme ≡ true → Widens (shown w (Whole i)) (shown (step w i) (Whole i)) → Widens (shown w (own_guard w.layout.config.scheme i j)) (shown (step w i) (own_guard w.layout.config.scheme i j))
 whole_widens w i j f h = subst (λ (g : Guard). Widens (shown w g) (shown (step w i) g)) (sym (interval_guard w.layout.config.scheme i j f)) h
 
-pub turned_post : (w : World) (i : ℕ) (phase : Phase) → (w.seat i).phase ≡ phase → ((step w i).seat i).post ≡ (phase_turn phase (counted (w.seat i).post) (w.seat i).desk (finds w i)).post
-turned_post w i phase e = stepped_post w i ∙ ap (λ (p : Phase). (phase_turn p (counted (w.seat i).post) (w.seat i).desk (finds w i)).post) e
+pub turned_post : (w : World) (i : ℕ) (phase : Phase) → (w.seat i).phase ≡ phase → ((step w i).seat i).post ≡ (phase_turn phase (counted (w.seat i).post) (offered w i).desk (finds w i)).post
+turned_post w i phase e = stepped_post w i ∙ ap (λ (p : Phase). (phase_turn p (counted (w.seat i).post) (offered w i).desk (finds w i)).post) e
 
 span_raised : (w : World) (i : ℕ) (v : View) (why : Why) (aim : Aim) (index : ℕ) (root : Root) (steps era : ℕ) → (w.seat i).phase ≡ Runs why (Protect aim index root steps (RaiseUpper era)) → has_one_interval w.layout.config.scheme ≡ true → HeldNeeds w i v → upper (w.seat i).post.span ≤ era → Widens (shown w (Whole i)) (shown (step w i) (Whole i))
 span_raised w i v why aim index root steps era e f n u =
@@ -317,7 +323,7 @@ store_holds : (w : World) (i : ℕ) (v : View) (from index era s : ℕ) (one : B
 store_holds w i v from index era s true f n h e y =
     let g = interval_guard w.layout.config.scheme i index f in
     let o : Holds w v (Whole i) s = subst (λ (g : Guard). Holds w v g s) (interval_guard w.layout.config.scheme i from f) (h.stood i from s y) in
-    rw g (holds_kept w i v (Whole i) s n (kept_widens w i (Whole i) (keeps_at w i (Works (Keeping (StoreHeld from index era))) (IntervalOf i) e (work_span i (Keeping (StoreHeld from index era)) (w.seat i).post))) o)
+    rw g (holds_kept w i v (Whole i) s n (kept_widens w i (Whole i) (keeps_at w i (Works (Keeping (StoreHeld from index era))) (IntervalOf i) e (work_span i (Keeping (StoreHeld from index era)) (w.seat i).post (grind (arith, nat_tests))))) o)
 store_holds w i v from index era s false f n h e y =
     let c = n.stores from index era e in
     let o : Holds w v (Index i from) s = subst (λ (g : Guard). Holds w v g s) (index_guard w.layout.config.scheme i from f) (h.stood i from s y) in
@@ -331,6 +337,10 @@ work_holds w i v (Keeping (StoreHeld from index era)) j s n h e (inr y) = rw y.0
 work_holds w i v (Keeping (Loosens let_go)) j s n h e y = same_holds w i v (Keeping (Loosens let_go)) j s n e refl (h.stood i j s y)
 work_holds w i v (Keeping (Looks index key at)) j s n h e y = same_holds w i v (Keeping (Looks index key at)) j s n e refl (h.stood i j s y)
 work_holds w i v (Keeping (Misses index)) j s n h e y = same_holds w i v (Keeping (Misses index)) j s n e refl (h.stood i j s y)
+work_holds w i v (Keeping HideSpan) j s n h e y = absurd y
+work_holds w i v (Keeping MarkLeft) j s n h e y = same_holds w i v (Keeping MarkLeft) j s n e refl (h.stood i j s y)
+work_holds w i v (Keeping (TakeList place)) j s n h e y = same_holds w i v (Keeping (TakeList place)) j s n e refl (h.stood i j s y)
+work_holds w i v (Keeping (MarkTaken place count)) j s n h e y = same_holds w i v (Keeping (MarkTaken place count)) j s n e refl (h.stood i j s y)
 work_holds w i v (Getting key at) j s n h e y = same_holds w i v (Getting key at) j s n e refl (h.stood i j s y)
 work_holds w i v (Changing kept at) j s n h e y = same_holds w i v (Changing kept at) j s n e refl (h.stood i j s y)
 work_holds w i v (Enqueuing kept at) j s n h e y = same_holds w i v (Enqueuing kept at) j s n e refl (h.stood i j s y)
@@ -360,7 +370,7 @@ own_from w i v (Works work) j s f n h e y = work_holds w i v work j s n h e y
 
 own_stood : (w : World) (i : ℕ) (v : View) (j s : ℕ) → helps w.layout.config.scheme ≡ false → HeldNeeds w i v → Held w v → stands ((step w i).seat i).post j ≡ Some s → Holds (step w i) (rows_after w i v) (own_guard w.layout.config.scheme i j) s
 own_stood w i v j s f n h y =
-    own_from w i v (w.seat i).phase j s f n h refl (turn_from (w.seat i).phase (w.seat i).post (w.seat i).desk (finds w i) j s (phase_has w i v (w.seat i).phase n refl) (subst (λ (p : Post). stands p j ≡ Some s) (stepped_post w i) y))
+    own_from w i v (w.seat i).phase j s f n h refl (turn_from (w.seat i).phase (w.seat i).post (offered w i).desk (finds w i) j s (phase_has w i v (w.seat i).phase n refl) (subst (λ (p : Post). stands p j ≡ Some s) (stepped_post w i) y))
 
 -- the machine of the seat that steps: what it comes to
 pub out_start : (clock : ℕ) (status : ℕ → Status) (post : Post) (phase : Phase) (why : Why) (base : Base) (s : ℕ) → is_start phase ≡ true → phase ≡ Runs why base → tries_base clock status post base s ≡ true → false ≡ true
@@ -456,12 +466,12 @@ counted_tries clock status mem post root (RaiseUpper era) s h = h
 
 -- what comes of a machine's step
 pub turn_out : (w : World) (i : ℕ) (reason : Why) (one : Base) (why : Why) (base : Base) (clock : ℕ) (status : ℕ → Status) (s : ℕ)
-    → phase_left (phase_turn (Runs reason one) (counted (w.seat i).post) (w.seat i).desk (finds w i)).outcome ≡ Runs why base
+    → phase_left (phase_turn (Runs reason one) (counted (w.seat i).post) (offered w i).desk (finds w i)).outcome ≡ Runs why base
     → tries_base clock status ((step w i).seat i).post base s ≡ true
     → Comes clock status ((step w i).seat i).post (machine.after one (counted (w.seat i).post) (finds w i)).outcome base s
 turn_out w i reason one why base clock status s o t =
     let u : Turn = machine.after one (counted (w.seat i).post) (finds w i) in
-    resumed_comes clock status ((step w i).seat i).post reason (w.seat i).desk u.post u.told u.outcome why base s o t
+    resumed_comes clock status ((step w i).seat i).post reason (offered w i).desk u.post u.told u.outcome why base s o t
 
 pub other_comes : (clock : ℕ) (status : ℕ → Status) (next post : Post) (one base : Base) (x s : ℕ) → is_protect one ≡ false → Comes clock status next (machine.after one post x).outcome base s → false ≡ true
 other_comes clock status next post one base x s p c = sym (other_tries clock status one post next x s p) ∙ c.tried
@@ -491,7 +501,7 @@ protect_comes w i v why aim index root steps at base s n h e f c =
     rw (sym z.at ∙ g.0) (tried_holds w i v why aim index root steps at s n h e f (counted_tries (w.mem Clock) v.status w.mem (w.seat i).post root at s g.1))
 
 run_comes : (w : World) (i : ℕ) (v : View) (reason : Why) (one : Base) (why : Why) (base : Base) (s : ℕ) → HeldNeeds w i v → Held w v → helps w.layout.config.scheme ≡ false → (w.seat i).phase ≡ Runs reason one
-    → phase_left (phase_turn (Runs reason one) (counted (w.seat i).post) (w.seat i).desk (finds w i)).outcome ≡ Runs why base
+    → phase_left (phase_turn (Runs reason one) (counted (w.seat i).post) (offered w i).desk (finds w i)).outcome ≡ Runs why base
     → tries_base ((step w i).mem Clock) (rows_after w i v).status ((step w i).seat i).post base s ≡ true
     → Holds (step w i) (rows_after w i v) (own_guard w.layout.config.scheme i (index_base base)) s
 run_comes w i v reason (Protect aim index root steps at) why base s n h f e o t =
@@ -523,14 +533,14 @@ run_comes w i v reason (Move at) why base s n h f e o t =
 
 -- the turn of the seat that steps comes to a try
 turn_comes : (w : World) (i : ℕ) (v : View) (phase : Phase) (why : Why) (base : Base) (s : ℕ) → HeldNeeds w i v → Held w v → helps w.layout.config.scheme ≡ false → (w.seat i).phase ≡ phase
-    → phase_left (phase_turn phase (counted (w.seat i).post) (w.seat i).desk (finds w i)).outcome ≡ Runs why base
+    → phase_left (phase_turn phase (counted (w.seat i).post) (offered w i).desk (finds w i)).outcome ≡ Runs why base
     → tries_base ((step w i).mem Clock) (rows_after w i v).status ((step w i).seat i).post base s ≡ true
     → Holds (step w i) (rows_after w i v) (own_guard w.layout.config.scheme i (index_base base)) s
 turn_comes w i v Idle why base s n h f e o t = absurd (cc)
 turn_comes w i v (Scans later at) why base s n h f e o t =
-    absurd (no_truth (out_start ((step w i).mem Clock) (rows_after w i v).status ((step w i).seat i).post (phase_left (scan_turn later at (counted (w.seat i).post) (w.seat i).desk (finds w i)).outcome) why base s (scan_starts later at (counted (w.seat i).post) (w.seat i).desk (finds w i)) o t))
+    absurd (no_truth (out_start ((step w i).mem Clock) (rows_after w i v).status ((step w i).seat i).post (phase_left (scan_turn later at (counted (w.seat i).post) (offered w i).desk (finds w i)).outcome) why base s (scan_starts later at (counted (w.seat i).post) (offered w i).desk (finds w i)) o t))
 turn_comes w i v (Works work) why base s n h f e o t =
-    absurd (no_truth (sym (start_untried ((step w i).mem Clock) (rows_after w i v).status ((step w i).seat i).post base s (works_start work (counted (w.seat i).post) (w.seat i).desk (finds w i) why base o)) ∙ t))
+    absurd (no_truth (sym (start_untried ((step w i).mem Clock) (rows_after w i v).status ((step w i).seat i).post base s (works_start work (counted (w.seat i).post) (offered w i).desk (finds w i) why base o)) ∙ t))
 turn_comes w i v (Runs reason one) why base s n h f e o t = run_comes w i v reason one why base s n h f e o t
 
 own_tried : (w : World) (i : ℕ) (v : View) (why : Why) (base : Base) (s : ℕ) → helps w.layout.config.scheme ≡ false → HeldNeeds w i v → Held w v → ((step w i).seat i).phase ≡ Runs why base → tries_base ((step w i).mem Clock) (rows_after w i v).status ((step w i).seat i).post base s ≡ true

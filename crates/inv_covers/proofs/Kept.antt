@@ -1,5 +1,5 @@
 -- A covered row stays covered, and no scan gives it back.
-use Rattle.std.proofs.Common.{ℕ, zero, suc, ◌+◌, ◌-◌, ◌<◌, ◌≡◌, ◌∙◌, sym, subst, ap, true, false, arith, refl, Bool, List, [], ◌∷◌}
+use Rattle.std.proofs.Common.{ℕ, zero, suc, ◌+◌, ◌-◌, ◌<◌, ◌≡◌, ◌∙◌, sym, subst, ap, true, false, arith, refl, Bool, List, [], ◌∷◌, nat_lt}
 use Rattle.std.proofs.lemmas.Bool.Decides.{nat_tests}
 use Rattle.std.specs.Prelude.{◌==◌, if◌then◌else◌}
 use Rattle.inv_shapes.specs.words.declared.layout.Layout.{Layout}
@@ -24,14 +24,14 @@ use Rattle.inv_shapes.specs.defs.declared.event.Event.{Event}
 use Rattle.inv_shapes.specs.model.Machine as machine
 use Rattle.inv_shapes.specs.model.Steps.{phase_turn, phase_move, resumed, run_turn, work_turn, first_phase}
 use Rattle.inv_shapes.specs.defs.declared.call.Call.{Call}
-use Rattle.inv_shapes.specs.model.Calls.{AfterScan, ScanAt, ReadGuard, GiveBack, Why, LoadVersion, LoadCount, LoadKey, LoadValue, ExchangeRoot, LoadNumber, LoadNext, PassTail, ExchangeNext, ExchangeTail, LoadTail, SwingTail, TakeNumber, TakeValue, ExchangeHead, Work, Getting, Changing, Enqueuing, Dequeuing, Keeping, Phase, Idle, Runs, Scans, Works, CallTurn, CallOutcome, GoesOn, Answers}
-use Rattle.inv_shapes.specs.model.Locals.{begun, begun_post, Local, turn, after, settled, settled_by, told_by, rounds_told}
-use Rattle.inv_shapes.specs.model.World.{World, step, finds}
-use Rattle.inv_rows.specs.Rows.{View, Good, RowMove, made, is_settled}
+use Rattle.inv_shapes.specs.model.Calls.{AfterScan, ScanAt, ReadGuard, GiveBack, Why, LoadVersion, LoadCount, LoadKey, LoadValue, ExchangeRoot, LoadNumber, LoadNext, PassTail, ExchangeNext, ExchangeTail, LoadTail, SwingTail, TakeNumber, TakeValue, ExchangeHead, Work, Getting, Changing, Enqueuing, Dequeuing, Keeping, Phase, Idle, Runs, Scans, Works, CallTurn, CallOutcome, GoesOn, Answers, KeepAt, Loosens, TakeList, LoadHeld, StoreHeld, Looks, Misses, HideSpan, MarkLeft, MarkTaken}
+use Rattle.inv_shapes.specs.model.Locals.{begun, begun_post, Local, turn, after, settled, settled_by, told_by, rounds_told, busy_in}
+use Rattle.inv_shapes.specs.model.World.{World, step, finds, list_in, offered}
+use Rattle.inv_rows.specs.Rows.{View, Good, RowMove, made, is_settled, Adopts}
 use Rattle.inv_rows.specs.Rows.Status.{Listed}
 use Rattle.inv_rows.specs.Rows.RowMove.{Stays, Claims, Bears, Drops, Links, Replaces, Appends, Pops, Reads, Seals, Lists, Returns}
-use Rattle.inv_rows.specs.Hands.{in_list, stands_at, base_row, work_row, scan_row, row_move}
-use Rattle.inv_rows.specs.Agree.{Plays, rows_after}
+use Rattle.inv_rows.specs.Hands.{in_list, stands_at, base_row, work_row, scan_row, row_move, keep_row}
+use Rattle.inv_rows.specs.Agree.{Plays, rows_after, Agree}
 use Rattle.inv_shapes.specs.Frame.{phase_left}
 use Rattle.inv_shapes.proofs.Frame.{seat_stays, seat_steps}
 use Rattle.inv_rows.proofs.Fits.{MoveFits, phase_fits}
@@ -40,6 +40,7 @@ use Rattle.inv_covers.proofs.Fresh.{works_fresh, resume_fresh, first_begins}
 use Rattle.inv_covers.proofs.Rows.{past_kept, life_kept, birth_kept, listed_other}
 use Rattle.inv_covers.proofs.Scans.{fresh_met, fresh_unmet, scan_met, scan_unmet_kept}
 use Rattle.inv_shapes.proofs.model.Facts.{no_truth}
+use Rattle.inv_shapes.specs.model.Keep.{keep_move}
 
 -- an entry that goes back: its life meets nothing that was read
 record Goes_back (read : List Seen) (list : List Lifetime) (slot : ℕ) : Type 0 where
@@ -95,6 +96,7 @@ moved_other i v (Reads slot birth) s b p r = refl
 moved_other i v (Seals slot birth retire) s b p r = refl
 moved_other i v (Lists slot birth retire) s b p r = refl
 moved_other i v (Returns slot) s b p r = r slot refl
+moved_other i v (Adopts from) s b p r = refl
 
 takes_frees : (m : RowMove) (s : ℕ) → takes_or_frees m s ≡ false → frees m s ≡ false
 takes_frees Stays s h = refl
@@ -109,6 +111,7 @@ takes_frees (Reads slot birth) s h = refl
 takes_frees (Seals slot birth retire) s h = refl
 takes_frees (Lists slot birth retire) s h = refl
 takes_frees (Returns slot) s h = h
+takes_frees (Adopts from) s h = refl
 
 -- only a scan gives back
 claim_returns : (shown : Bool) (s slot : ℕ) → (if shown then Stays else Claims s) ≡ Returns slot → false ≡ true
@@ -145,6 +148,21 @@ pop_returns : (s next slot : ℕ) (same : Bool) → (if same then Pops s next el
 pop_returns s next slot true e = absurd (cc)
 pop_returns s next slot false e = absurd (cc)
 
+take_returns : (place slot : ℕ) (left : Bool) → (if left then Adopts place else Stays) ≡ Returns slot → false ≡ true
+take_returns place slot true e = absurd (cc)
+take_returns place slot false e = absurd (cc)
+
+keep_returns : (at : KeepAt) (x slot : ℕ) → keep_row at x ≡ Returns slot → false ≡ true
+keep_returns (Loosens let_go) x slot e = absurd (cc)
+keep_returns (LoadHeld from index) x slot e = absurd (cc)
+keep_returns (StoreHeld from index era) x slot e = absurd (cc)
+keep_returns (Looks index key at) x slot e = absurd (cc)
+keep_returns (Misses index) x slot e = absurd (cc)
+keep_returns HideSpan x slot e = absurd (cc)
+keep_returns MarkLeft x slot e = absurd (cc)
+keep_returns (MarkTaken place count) x slot e = absurd (cc)
+keep_returns (TakeList place) x slot e = take_returns place slot (x == 1) e
+
 work_returns : (work : Work) (post : Post) (x slot : ℕ) → work_row work post x ≡ Returns slot → false ≡ true
 work_returns (Getting key at) post x slot e = absurd (cc)
 work_returns (Changing kept (LoadVersion s)) post x slot e = absurd (cc)
@@ -162,16 +180,16 @@ work_returns (Dequeuing (SwingTail head next)) post x slot e = absurd (cc)
 work_returns (Dequeuing (TakeNumber head next)) post x slot e = absurd (cc)
 work_returns (Dequeuing (TakeValue head next number)) post x slot e = absurd (cc)
 work_returns (Dequeuing (ExchangeHead head next number value)) post x slot e = pop_returns head next slot (x == head + 1) e
-work_returns (Keeping at) post x slot e = absurd (cc)
+work_returns (Keeping at) post x slot e = keep_returns at x slot e
 
 -- a row that is covered is not given back
-returns_other : (slots i : ℕ) (v : View) (all number : ℕ) (phase : Phase) (post : Post) (x s slot : ℕ) (desk : Desk) → Good slots v → Plays i phase desk.list v → is_unmet phase desk ≡ true → number < all
+returns_other : (slots i : ℕ) (v : View) (all number : ℕ) (phase : Phase) (post : Post) (x s slot : ℕ) (desk : Desk) → Good slots v → (busy_in phase ≡ true → Plays i phase desk.list v) → is_unmet phase desk ≡ true → number < all
     → ((k r : ℕ) → v.status s ≡ Listed k r → k ≡ i → has_met all phase desk.report number (life_of s (v.birth s) r) ≡ true) → row_move phase post x ≡ Returns slot → (s == slot) ≡ false
 returns_other slots i v all number Idle post x s slot desk g p u b c e = absurd (cc)
 returns_other slots i v all number (Runs why base) post x s slot desk g p u b c e = absurd (no_truth (base_returns base x slot e))
 returns_other slots i v all number (Scans later (ReadGuard n)) post x s slot desk g p u b c e = absurd (cc)
 returns_other slots i v all number (Scans later (GiveBack place t)) post x s slot desk g p u b c e =
-    let o = back_other slots i v all number later place t s desk g p u b c in
+    let o = back_other slots i v all number later place t s desk g (p refl) u b c in
     let q : t ≡ slot = cc in subst (λ (y : ℕ). (s == y) ≡ false) q o
 returns_other slots i v all number (Works work) post x s slot desk g p u b c e = absurd (no_truth (work_returns work post x slot e))
 
@@ -179,8 +197,14 @@ returns_other slots i v all number (Works work) post x s slot desk g p u b c e =
 own_met : (w : World) (i : ℕ) (v : View) (guard : Guard) (s : ℕ) → Covers w v guard s → (k r : ℕ) → v.status s ≡ Listed k r → k ≡ i → has_met (guards w.layout.config) (w.seat i).phase (w.seat i).desk.report (number_of w.layout.config guard) (life_of s (v.birth s) r) ≡ true
 own_met w i v guard s c k r h e = subst (λ (j : ℕ). has_met (guards w.layout.config) (w.seat j).phase (w.seat j).desk.report (number_of w.layout.config guard) (life_of s (v.birth s) r) ≡ true) e (c.scans k r h)
 
+-- the list of a seat that is busy is its own
+plays_own : (w : World) (i : ℕ) (v : View) → Agree w v → busy_in (w.seat i).phase ≡ true → Plays i (w.seat i).phase (w.seat i).desk.list v
+plays_own w i v a b =
+    let e : list_in w i ≡ (w.seat i).desk.list = ap (λ (n : ℕ). if nat_lt 1 n then [] else (w.seat i).desk.list) ((a.present i).here b) in
+    subst (λ (list : List Lifetime). Plays i (w.seat i).phase list v) e (a.plays i)
+
 pub before_at : (w : World) (i : ℕ) (v : View) → CoversNeeds w i v → MoveFits i v (row_move (w.seat i).phase (w.seat i).post (finds w i))
-before_at w i v n = phase_fits w.layout.config.slots i w.mem v (w.seat i).phase (w.seat i).post (w.seat i).desk.list n.needs n.rows.good n.rows.words (n.rows.plays i)
+before_at w i v n = phase_fits w.layout.config.slots i w.mem v (w.seat i).phase (w.seat i).post (list_in w i) n.needs n.rows.good n.rows.words (n.rows.plays i)
 
 pub not_reused : NotReused
 not_reused w i v guard s n u f c =
@@ -191,7 +215,7 @@ not_reused w i v guard s n u f c =
     s
     (before_at w i v n)
     c.settled
-    (λ slot e. returns_other w.layout.config.slots i v (guards w.layout.config) (number_of w.layout.config guard) (w.seat i).phase (w.seat i).post (finds w i) s slot (w.seat i).desk n.rows.good (n.rows.plays i) (u.unmet i) f.below (own_met w i v guard s c) e)
+    (λ slot e. returns_other w.layout.config.slots i v (guards w.layout.config) (number_of w.layout.config guard) (w.seat i).phase (w.seat i).post (finds w i) s slot (w.seat i).desk n.rows.good (plays_own w i v n.rows) (u.unmet i) f.below (own_met w i v guard s c) e)
 
 -- the retire era that is loaded is the clock
 late_claims : (shows : Shown) (s : ℕ) (shown : Bool) → Late shows (if shown then Stays else Claims s)
@@ -210,6 +234,21 @@ late_append shows s false = tt
 late_pop : (shows : Shown) (s next : ℕ) (same : Bool) → Late shows (if same then Pops s next else Stays)
 late_pop shows s next true = tt
 late_pop shows s next false = tt
+
+late_take : (shows : Shown) (place : ℕ) (left : Bool) → Late shows (if left then Adopts place else Stays)
+late_take shows place true = tt
+late_take shows place false = tt
+
+late_keep : (shows : Shown) (at : KeepAt) (x : ℕ) → Late shows (keep_row at x)
+late_keep shows (TakeList place) x = late_take shows place (x == 1)
+late_keep shows (Loosens let_go) x = tt
+late_keep shows (LoadHeld from index) x = tt
+late_keep shows (StoreHeld from index era) x = tt
+late_keep shows (Looks index key at) x = tt
+late_keep shows (Misses index) x = tt
+late_keep shows HideSpan x = tt
+late_keep shows MarkLeft x = tt
+late_keep shows (MarkTaken place count) x = tt
 
 seals_late : (shows : Shown) (mem : Place → ℕ) (phase : Phase) (post : Post) → NotBefore shows (mem Clock) → Late shows (row_move phase post (found (phase_move phase post) (mem (place_in (phase_move phase post)))))
 seals_late shows mem Idle post h = tt
@@ -246,7 +285,7 @@ seals_late shows mem (Works (Dequeuing (SwingTail head next))) post h = tt
 seals_late shows mem (Works (Dequeuing (TakeNumber head next))) post h = tt
 seals_late shows mem (Works (Dequeuing (TakeValue head next number))) post h = tt
 seals_late shows mem (Works (Dequeuing (ExchangeHead head next number value))) post h = late_pop shows head next (mem Head == head + 1)
-seals_late shows mem (Works (Keeping at)) post h = tt
+seals_late shows mem (Works (Keeping at)) post h = late_keep shows at (found (keep_move at post) (mem (place_in (keep_move at post))))
 
 pub resumed_fresh : (why : Why) (desk : Desk) (post : Post) (told : List Event) (outcome : Outcome) → is_fresh (phase_left (resumed why desk post told outcome).outcome) ≡ true
 resumed_fresh why desk post told (Goes base) = refl
@@ -305,7 +344,7 @@ listed_phase i k r v phase post x s later at e h = listed_scan i k r v at s (rw 
 met_own : (w : World) (i : ℕ) (v : View) (guard : Guard) (s r : ℕ) → CoversNeeds w i v → GuardFits w.layout.config guard → Covers w v guard s → (rows_after w i v).status s ≡ Listed i r
     → has_met (guards w.layout.config) ((step w i).seat i).phase ((step w i).seat i).desk.report (number_of w.layout.config guard) (life_of s (v.birth s) r) ≡ true
 met_own w i v guard s r n f c h =
-    let l : Local = w.seat i in
+    let l : Local = offered w i in
     let life : Lifetime = life_of s (v.birth s) r in
     let e : l.post.layout ≡ w.layout = n.layouts i in
     let g : GuardFits l.post.layout.config guard = subst (λ (layout : Layout). GuardFits layout.config guard) (sym e) f in
@@ -371,7 +410,7 @@ unmet_pick old new false a b = a
 
 pub scans_kept : ScansKept
 scans_kept w i u = record {
-  unmet = λ k. unmet_pick (w.seat k) (after (w.seat i) (finds w i)) (k == i) (u.unmet k) (settled_unmet (w.seat i) (turn (w.seat i) (finds w i)) (turn_unmet (w.seat i).phase (counted (w.seat i).post) (w.seat i).desk (finds w i)));
+  unmet = λ k. unmet_pick (w.seat k) (after (offered w i) (finds w i)) (k == i) (u.unmet k) (settled_unmet (offered w i) (turn (offered w i) (finds w i)) (turn_unmet (w.seat i).phase (counted (w.seat i).post) (offered w i).desk (finds w i)));
 }
 
 pub scans_start : ScansStart

@@ -1,5 +1,5 @@
 -- The row whose next link is followed, over a call's own steps and what comes after a machine.
-use Rattle.std.proofs.Common.{ℕ, ◌≡◌, ◌+◌, Bool, true, false, List, [], ◌∷◌, ◌++◌, length, Option, Some, None, sym, arith}
+use Rattle.std.proofs.Common.{ℕ, ◌≡◌, ◌+◌, Bool, true, false, List, [], ◌∷◌, ◌++◌, length, Option, Some, None, sym, arith, drop}
 use Rattle.std.proofs.lemmas.Bool.Decides.{nat_tests}
 use Rattle.std.specs.Prelude.{◌==◌, ◌%◌, ◌-◌, nat_lt}
 use Rattle.inv_shapes.specs.defs.declared.call.Answer.{Answer}
@@ -24,8 +24,8 @@ use Rattle.inv_shapes.specs.model.Enqueue as enqueues
 use Rattle.inv_shapes.specs.model.Dequeue as dequeues
 use Rattle.inv_shapes.specs.model.Keep as keeps
 use Rattle.inv_shapes.specs.model.Steps as steps
-use Rattle.inv_shapes.specs.model.Calls.{Task, Gets, Changes, Holds, Enqueues, Dequeues, Again, Answering, Retiring, AfterScan, Why, ChangeKept, EnqueueKept, GetAt, FindVersion, FindCount, FindKey, FindValue, ChangeAt, LoadVersion, LoadCount, LoadKey, LoadValue, ExchangeRoot, EnqueueAt, LoadNumber, LoadNext, PassTail, ExchangeNext, ExchangeTail, DequeueAt, LoadTail, SwingTail, TakeNumber, TakeValue, ExchangeHead, Work, Getting, Changing, Enqueuing, Dequeuing, Opens, FollowsHead, Fills, ClearsNext, Clears, Finishes, GivesUp, Retires, Tidies, Advances, Releases, LetGo, Released, Rehold, Dropped, KeepAt, Loosens, LoadHeld, StoreHeld, Looks, Misses, Keeping, Next, MakeRoom, CallTurn, Works}
-use Rattle.inv_shapes.specs.model.Posts.{stands, withdrawn, cleared, reserves_index}
+use Rattle.inv_shapes.specs.model.Calls.{Task, Gets, Changes, Holds, Enqueues, Dequeues, Again, Answering, Retiring, AfterScan, Why, ChangeKept, EnqueueKept, GetAt, FindVersion, FindCount, FindKey, FindValue, ChangeAt, LoadVersion, LoadCount, LoadKey, LoadValue, ExchangeRoot, EnqueueAt, LoadNumber, LoadNext, PassTail, ExchangeNext, ExchangeTail, DequeueAt, LoadTail, SwingTail, TakeNumber, TakeValue, ExchangeHead, Work, Getting, Changing, Enqueuing, Dequeuing, Opens, FollowsHead, Fills, ClearsNext, Clears, Finishes, GivesUp, Retires, Tidies, Advances, Releases, LetGo, Released, Rehold, Dropped, Parting, KeepAt, Loosens, LoadHeld, StoreHeld, Looks, Misses, HideSpan, MarkLeft, TakeList, MarkTaken, Keeping, Next, MakeRoom, CallTurn, Works}
+use Rattle.inv_shapes.specs.model.Posts.{stands, withdrawn, cleared, reserves_index, standing_from}
 use Rattle.inv_shapes.specs.words.Schemes.{has_one_interval}
 use Rattle.inv_shapes.specs.Frame.{phase_left}
 use Rattle.inv_shapes.specs.model.declared.ends.ProtectEnd.{ProtectEnd}
@@ -184,10 +184,20 @@ dequeue_tends (TakeNumber head next) post desk found p = λ row h. absurd (cc)
 dequeue_tends (TakeValue head next number) post desk found p = λ row h. absurd (cc)
 dequeue_tends (ExchangeHead head next number value) post desk found p = taken_tends head next number value post desk (found == head + 1)
 
+-- a seat leaves
+pub parting_tends : (x : Option ℕ) (post : Post) → Parent (keeps.parting_index x) post
+parting_tends None post = λ row h. absurd (cc)
+parting_tends (Some index) post = λ row h. absurd (cc)
+
+taking_tends : (place : ℕ) (post : Post) (desk : Desk) (left : Bool) (found : ℕ) → Tended (keeps.taking place post desk left found)
+taking_tends place post desk true found = λ row h. absurd (cc)
+taking_tends place post desk false found = λ row h. absurd (cc)
+
 released_tends : (let_go : LetGo) (post : Post) (desk : Desk) (told : List Event) → Tended (keeps.released let_go post desk told)
 released_tends Released post desk told = λ row h. absurd (cc)
 released_tends (Rehold key) post desk told = round_tends (Holds key) post
 released_tends (Dropped index) post desk told = λ row h. absurd (cc)
+released_tends (Parting index) post desk told = parting_tends (standing_from (index + 1) (drop (index + 1) post.standing)) post
 
 copied_tends : (from index : ℕ) (post : Post) (desk : Desk) (reserved : List Event) (x : Option ℕ) → Tended (keeps.copied from index post desk reserved x)
 copied_tends from index post desk reserved None = λ row h. absurd (cc)
@@ -217,6 +227,10 @@ keep_tends (LoadHeld from index) post desk found = load_held_tends from index po
 keep_tends (StoreHeld from index era) post desk found = copied_tends from index post desk (reserves_index post index era) (stands post from)
 keep_tends (Looks index key at) post desk found = look_tends index key at post desk found
 keep_tends (Misses index) post desk found = λ row h. absurd (cc)
+keep_tends HideSpan post desk found = λ row h. absurd (cc)
+keep_tends MarkLeft post desk found = λ row h. absurd (cc)
+keep_tends (TakeList place) post desk found = taking_tends place post desk (found == 1) found
+keep_tends (MarkTaken place count) post desk found = λ row h. absurd (cc)
 
 pub work_tends : (work : Work) (post : Post) (desk : Desk) (found : ℕ) → Parent (Works work) post → Tended (steps.work_turn work post desk found)
 work_tends (Getting key at) post desk found p = get_tends key at post desk found

@@ -16,16 +16,25 @@ use Rattle.inv_shapes.specs.model.Rounds.{scheme_of, index_of, kept_row, release
 use Rattle.inv_shapes.specs.model.Steps.{holding, copying, looking_at, first_phase}
 use Rattle.inv_shapes.specs.model.Calls.{Task, Gets, Changes, Holds, Enqueues, Dequeues, Why, Opens, FollowsHead, Fills, ClearsNext, Clears, Finishes, GivesUp, Retires, Tidies, Advances, Releases, LetGo, Released, Rehold, Dropped, Phase, Idle, CallTurn, CallOutcome, GoesOn, Answers}
 use Rattle.inv_shapes.specs.model.Locals.{Local, busy_in, turn, after, settled, settled_by, told_by, rounds_told, begun, begun_post}
-use Rattle.inv_shapes.specs.model.World.{finds}
+use Rattle.inv_shapes.specs.model.World.{finds, offered, World}
 use Rattle.inv_shapes.specs.Frame.{phase_left}
 use Rattle.inv_shapes.specs.Seats.{Run}
 use Rattle.inv_covers.specs.Held.{rests_protect, rests_base}
-use Rattle.inv_covers.specs.Rests.{spare, bare, vacant_why, vacant, Vacant, RestsStart, RestsBegin, RestsKept, RestsGive}
+use Rattle.inv_covers.specs.Rests.{spare, bare, vacant_why, vacant, Vacant, RestsStart, RestsBegin, RestsKept, RestsGive, vacant_let, SpanRests, SpansRest}
 use Rattle.inv_covers.proofs.Rests.{spare_bare, round_vacant, withdrawn_vacant}
 use Rattle.inv_covers.proofs.Vacant.{turn_vacant}
-use Rattle.inv_shapes.proofs.model.Facts.{no_truth}
-use Rattle.inv_shapes.proofs.model.Schemes.{each_release}
+use Rattle.inv_shapes.proofs.model.Facts.{no_truth, if_by}
+use Rattle.inv_shapes.proofs.model.Schemes.{each_release, interval_guard}
 use Rattle.inv_shapes.proofs.model.Standing.{none_kept, stands-withdrawn_other}
+use Rattle.inv_shapes.specs.model.Keep.{parting, parting_from, parting_span}
+use Rattle.inv_covers.proofs.Rests.{parting_vacant, spare_let}
+use Rattle.inv_shapes.specs.defs.declared.lifetime.Interval.{Interval}
+use Rattle.inv_shapes.specs.words.Schemes.{has_one_interval}
+use Rattle.inv_covers.specs.Covers.{Covers, eras_shown, life_in}
+use Rattle.inv_rows.specs.Rows.{View}
+use Rattle.inv_shapes.specs.defs.declared.event.Guard.{Guard}
+use Rattle.inv_shapes.specs.defs.declared.event.Guard.TheVariants.{Whole}
+use Rattle.inv_shapes.specs.defs.Shown as values
 
 abbrev VacantIn : Local → Type 0
 VacantIn l = Vacant (vacant l.phase) l.post
@@ -43,7 +52,7 @@ vacant_pick old new false a b = a
 
 pub rests_kept : RestsKept
 rests_kept w i n r = record {
-  vacant = λ k. vacant_pick (w.seat k) (after (w.seat i) (finds w i)) (k == i) (r.vacant k) (settled_vacant (w.seat i) (turn (w.seat i) (finds w i)) (turn_vacant w.layout (w.seat i).phase (w.seat i).post (counted (w.seat i).post) (w.seat i).desk (finds w i) n.shape n.right n.kept (r.vacant i)));
+  vacant = λ k. vacant_pick (w.seat k) (after (offered w i) (finds w i)) (k == i) (r.vacant k) (settled_vacant (offered w i) (turn (offered w i) (finds w i)) (turn_vacant w.layout (w.seat i).phase (w.seat i).post (counted (w.seat i).post) (offered w i).desk (finds w i) n.shape n.right n.kept (r.vacant i)));
 }
 
 -- nothing stands in a new post
@@ -72,11 +81,11 @@ none_held key post h n j e = by_two (j == 2) refl where
   by_two true q = let z : j ≡ 2 = grind (arith, nat_tests) in rw z n
   by_two false q = h j (grind (arith, nat_tests))
 
-let_span_vacant : (let_go : LetGo) (post : Post) (x : Option ℕ) → Vacant spare post → Vacant (vacant (letting_by let_go (release_span (let_index let_go) x))) post
+let_span_vacant : (let_go : LetGo) (post : Post) (x : Option ℕ) → Vacant (vacant_let let_go) post → Vacant (vacant (letting_by let_go (release_span (let_index let_go) x))) post
 let_span_vacant let_go post None h = h
 let_span_vacant let_go post (Some slot) h = h
 
-letting_vacant : (let_go : LetGo) (post : Post) → Vacant spare post → Vacant (vacant (letting let_go post)) post
+letting_vacant : (let_go : LetGo) (post : Post) → Vacant (vacant_let let_go) post → Vacant (vacant (letting let_go post)) post
 letting_vacant let_go post h =
     each_release (scheme_of post) post (let_index let_go) (λ (x : Option Base). Vacant (vacant (letting_by let_go x)) post)
     h
@@ -94,24 +103,37 @@ looking_vacant : (index key : ℕ) (post : Post) (x : Option ℕ) → Vacant spa
 looking_vacant index key post None h = h
 looking_vacant index key post (Some slot) h = h
 
-first_vacant : (call : Call) (post : Post) → Vacant spare post → Vacant (vacant (first_phase call post)) post
-first_vacant (names.Get key) post h = round_vacant (Gets key) post h
-first_vacant (names.Put key value) post h = round_vacant (Changes _) post h
-first_vacant (names.Remove key) post h = round_vacant (Changes _) post h
-first_vacant (names.Enqueue value) post h = round_vacant (Enqueues _) post h
-first_vacant names.Dequeue post h = round_vacant Dequeues post h
-first_vacant (names.Hold key) post h = holding_vacant key post (stands post 2) refl h
-first_vacant names.Release post h = letting_vacant Released post h
-first_vacant names.Advance post h = h
-first_vacant names.Scan post h = h
-first_vacant (names.Copy from index) post h = copying_vacant from index post (stands post from) h
-first_vacant (names.DropIndex index) post h = letting_vacant (Dropped index) post h
-first_vacant (names.Look index key) post h = looking_vacant index key post (stands post index) h
-first_vacant (names.PutIf key value version) post h = round_vacant (Changes _) post h
+-- a seat leaves
+parting_span_vacant : (post : Post) (x : Option Interval) → has_one_interval (scheme_of post) ≡ true → post.span ≡ x → SpanRests post → Vacant spare post → Vacant (vacant (parting_span x)) post
+parting_span_vacant post None i e s h = λ j k. s i e j
+parting_span_vacant post (Some span) i e s h = h
+
+leaving_vacant : (post : Post) → SpanRests post → Vacant spare post → Vacant (vacant (parting post)) post
+leaving_vacant post s h =
+    if_by (has_one_interval (scheme_of post)) (parting_span post.span) (parting_from 2 post) (λ (phase : Phase). Vacant (vacant phase) post)
+    (λ i. parting_span_vacant post post.span i refl s h)
+    (λ i. parting_vacant 2 post (λ j e. h j (grind (arith, nat_tests))))
+
+first_vacant : (call : Call) (post : Post) → SpanRests post → Vacant spare post → Vacant (vacant (first_phase call post)) post
+first_vacant (names.Get key) post s h = round_vacant (Gets key) post h
+first_vacant (names.Put key value) post s h = round_vacant (Changes _) post h
+first_vacant (names.Remove key) post s h = round_vacant (Changes _) post h
+first_vacant (names.Enqueue value) post s h = round_vacant (Enqueues _) post h
+first_vacant names.Dequeue post s h = round_vacant Dequeues post h
+first_vacant (names.Hold key) post s h = holding_vacant key post (stands post 2) refl h
+first_vacant names.Release post s h = letting_vacant Released post h
+first_vacant names.Advance post s h = h
+first_vacant names.Scan post s h = h
+first_vacant (names.Copy from index) post s h = copying_vacant from index post (stands post from) h
+first_vacant (names.DropIndex index) post s h = letting_vacant (Dropped index) post h
+first_vacant (names.Look index key) post s h = looking_vacant index key post (stands post index) h
+first_vacant (names.PutIf key value version) post s h = round_vacant (Changes _) post h
+first_vacant names.Leave post s h = leaving_vacant post s h
+first_vacant (names.Adopt place) post s h = h
 
 pub rests_begin : RestsBegin
-rests_begin w i call b r = record {
-  vacant = λ k. vacant_pick (w.seat k) (begun (w.seat i) call) (k == i) (r.vacant k) (first_vacant call (begun_post (w.seat i).post) (idle_spare (w.seat i).phase (w.seat i).post b (r.vacant i)));
+rests_begin w i call b s r = record {
+  vacant = λ k. vacant_pick (w.seat k) (begun (w.seat i) call) (k == i) (r.vacant k) (first_vacant call (begun_post (w.seat i).post) s (idle_spare (w.seat i).phase (w.seat i).post b (r.vacant i)));
 }
 
 -- nothing stands where the next step takes from what a guard publishes
@@ -162,7 +184,7 @@ finish_spare layout (GivesUp answer) post j r e = e
 finish_spare layout (Retires answer) post j r e = e
 finish_spare layout (Tidies later) post j r e = absurd (no_truth r.suited)
 finish_spare layout Advances post j r e = e
-finish_spare layout (Releases let_go) post j r e = e
+finish_spare layout (Releases let_go) post j r e = spare_let let_go j e
 
 release_spare : (layout : Layout) (why : Why) (index : ℕ) (post : Post) (j : ℕ) → Run layout why (Release index) post → spare j ≡ true → vacant_why why (Release index) j ≡ true
 release_spare layout (Opens task) index post j r e = absurd (no_truth r.suited)
@@ -175,7 +197,7 @@ release_spare layout (GivesUp answer) index post j r e = e
 release_spare layout (Retires answer) index post j r e = e
 release_spare layout (Tidies later) index post j r e = absurd (no_truth r.suited)
 release_spare layout Advances index post j r e = e
-release_spare layout (Releases let_go) index post j r e = e
+release_spare layout (Releases let_go) index post j r e = spare_let let_go j e
 
 pub base_rests : (layout : Layout) (why : Why) (base : Base) (post : Post) (j : ℕ) → Run layout why base post → Vacant (vacant_why why base) post → rests_base base j ≡ true → stands post j ≡ None
 base_rests layout why (Protect aim index root steps at) post j r v e = v j (protect_rests layout why aim index root steps at post j r e)
@@ -187,3 +209,20 @@ pub rests_give : RestsGive
 rests_give w i why base j n r e h =
     let v : Vacant (vacant_why why base) (w.seat i).post = subst (λ (p : Phase). Vacant (vacant p) (w.seat i).post) e (r.vacant i) in
     base_rests w.layout why base (w.seat i).post j (n.shape why base e) v h
+
+-- what stands under 2GE is covered by the seat's interval
+not_covered : (w : World) (v : View) (k s : ℕ) → Covers w v (Whole k) s → eras_shown w (Whole k) ≡ None → ⊥
+not_covered w v k s c e =
+    let h : values.keeps (life_in v s) (values.shown None) ≡ true = subst (λ (x : Option Interval). values.keeps (life_in v s) (values.shown x) ≡ true) e c.kept in absurd (cc)
+
+pub spans_rest : SpansRest
+spans_rest w v k l shows held i none j = by_stands (stands (w.seat k).post j) refl where
+  f : has_one_interval w.layout.config.scheme ≡ true
+  f = subst (λ (t : Layout). has_one_interval t.config.scheme ≡ true) l i
+
+  by_stands : (x : Option ℕ) → stands (w.seat k).post j ≡ x → x ≡ None
+  by_stands None e = refl
+  by_stands (Some s) e =
+      let h = (held f).stood k j s e in
+      let c : Covers w v (Whole k) s = subst (λ (g : Guard). Covers w v g s) (interval_guard w.layout.config.scheme k j f) h.covers in
+      absurd (not_covered w v k s c (shows f ∙ none))

@@ -1,7 +1,7 @@
 -- Where nothing stands after a call's own step, and after what comes after a machine.
-use Rattle.std.proofs.Common.{ℕ, ◌≡◌, ◌≢◌, ◌≤◌, ◌+◌, ◌∙◌, Bool, true, false, List, [], ◌∷◌, ◌++◌, length, Option, Some, None, refl, ap, sym, subst, arith}
+use Rattle.std.proofs.Common.{ℕ, ◌≡◌, ◌≢◌, ◌≤◌, ◌+◌, ◌∙◌, Bool, true, false, List, [], ◌∷◌, ◌++◌, length, Option, Some, None, refl, ap, sym, subst, arith, drop}
 use Rattle.std.proofs.lemmas.Bool.Decides.{nat_tests}
-use Rattle.std.specs.Prelude.{◌==◌, ◌%◌, ◌-◌, nat_lt, if◌then◌else◌}
+use Rattle.std.specs.Prelude.{◌==◌, ◌%◌, ◌-◌, nat_lt, if◌then◌else◌, ◌||◌}
 use Rattle.inv_shapes.specs.defs.declared.call.Answer.{Answer}
 use Rattle.inv_shapes.specs.defs.declared.call.Answer.TheVariants as the_answers
 use Rattle.inv_shapes.specs.defs.declared.call.ClockMove.TheVariants as moves
@@ -24,20 +24,22 @@ use Rattle.inv_shapes.specs.model.Enqueue as enqueues
 use Rattle.inv_shapes.specs.model.Dequeue as dequeues
 use Rattle.inv_shapes.specs.model.Keep as keeps
 use Rattle.inv_shapes.specs.model.Steps as steps
-use Rattle.inv_shapes.specs.model.Calls.{Task, Gets, Changes, Holds, Enqueues, Dequeues, Again, Answering, Retiring, AfterScan, Why, Phase, ChangeKept, EnqueueKept, GetAt, FindVersion, FindCount, FindKey, FindValue, ChangeAt, LoadVersion, LoadCount, LoadKey, LoadValue, ExchangeRoot, EnqueueAt, LoadNumber, LoadNext, PassTail, ExchangeNext, ExchangeTail, DequeueAt, LoadTail, SwingTail, TakeNumber, TakeValue, ExchangeHead, Work, Getting, Changing, Enqueuing, Dequeuing, Opens, FollowsHead, Fills, ClearsNext, Clears, Finishes, GivesUp, Retires, Tidies, Advances, Releases, LetGo, Released, Rehold, Dropped, KeepAt, Loosens, LoadHeld, StoreHeld, Looks, Misses, Keeping, Next, MakeRoom, CallTurn}
+use Rattle.inv_shapes.specs.model.Calls.{Task, Gets, Changes, Holds, Enqueues, Dequeues, Again, Answering, Retiring, AfterScan, Why, Phase, ChangeKept, EnqueueKept, GetAt, FindVersion, FindCount, FindKey, FindValue, ChangeAt, LoadVersion, LoadCount, LoadKey, LoadValue, ExchangeRoot, EnqueueAt, LoadNumber, LoadNext, PassTail, ExchangeNext, ExchangeTail, DequeueAt, LoadTail, SwingTail, TakeNumber, TakeValue, ExchangeHead, Work, Getting, Changing, Enqueuing, Dequeuing, Opens, FollowsHead, Fills, ClearsNext, Clears, Finishes, GivesUp, Retires, Tidies, Advances, Releases, LetGo, Released, Rehold, Dropped, Parting, KeepAt, Loosens, LoadHeld, StoreHeld, Looks, Misses, HideSpan, MarkLeft, TakeList, MarkTaken, Keeping, Next, MakeRoom, CallTurn}
 use Rattle.inv_shapes.specs.Slots.{CopyIn, KeepIn}
 use Rattle.inv_shapes.specs.words.declared.config.Config.{Config}
 use Rattle.inv_shapes.specs.words.declared.config.SchemeKind.{SchemeKind}
 use Rattle.inv_shapes.specs.words.declared.config.SchemeKind.TheVariants.{He, Ibr, Wfe}
-use Rattle.inv_shapes.specs.model.Posts.{stands, withdrawn, with_row, cleared, reserves_index}
+use Rattle.inv_shapes.specs.model.Posts.{stands, withdrawn, with_row, cleared, reserves_index, standing_from}
 use Rattle.inv_shapes.specs.defs.declared.event.Root.{Root}
 use Rattle.inv_shapes.specs.defs.declared.lifetime.Interval.{Interval}
 use Rattle.inv_shapes.specs.Frame.{phase_left}
-use Rattle.inv_covers.specs.Rests.{spare, bare, beside, within, deep, vacant_later, vacant_dequeue, vacant_work, vacant, vacant_filled, vacant_opened, vacant_followed, vacant_released, vacant_after, Vacant}
+use Rattle.inv_covers.specs.Rests.{spare, bare, beside, within, deep, vacant_later, vacant_dequeue, vacant_work, vacant, vacant_filled, vacant_opened, vacant_followed, vacant_released, vacant_after, Vacant, vacant_let, vacant_keep}
 use Rattle.inv_shapes.proofs.model.Standing.{stands-withdrawn_same, stands-withdrawn_other, stands-with_row_other}
 use Rattle.inv_shapes.proofs.model.Schemes.{each_begin, each_finish}
 use Rattle.inv_shapes.specs.words.Schemes.{has_one_interval}
 use Rattle.inv_shapes.specs.model.Phases.Base.{Clear}
+use Rattle.inv_covers.proofs.Stands.{bare_stands}
+use Rattle.inv_shapes.proofs.Leaving.{next_stands, none_stand}
 
 -- nothing stands where the next phase says so
 abbrev pub Turned : CallTurn → Type 0
@@ -206,16 +208,43 @@ dequeue_vacant (TakeNumber head next) post desk found h = λ j e. h j (grind (ar
 dequeue_vacant (TakeValue head next number) post desk found h = λ j e. h j (grind (arith, nat_tests))
 dequeue_vacant (ExchangeHead head next number value) post desk found h = taken_vacant head next number value post desk (found == head + 1) (λ j e. h j (grind (arith, nat_tests)))
 
+-- a seat leaves: nothing stands below the next index at which something does
+parting_at : (index : ℕ) (post : Post) (x : Option ℕ) → standing_from index (drop index post.standing) ≡ x → Vacant (λ j. spare j || nat_lt j index) post → Vacant (vacant (keeps.parting_index x)) post
+parting_at index post None e h j k = by_low (nat_lt j index) refl where
+  by_low : (low : Bool) → nat_lt j index ≡ low → stands post j ≡ None
+  by_low true l = h j (grind (arith, nat_tests))
+  by_low false l = none_stand post index e j (grind (arith, nat_tests))
+parting_at index post (Some next) e h j k = by_low (spare j || nat_lt j index) refl where
+  by_low : (low : Bool) → (spare j || nat_lt j index) ≡ low → stands post j ≡ None
+  by_low true l = h j l
+  by_low false l = (next_stands post index next e).none j (grind (arith, nat_tests)) (grind (arith, nat_tests))
+
+pub parting_vacant : (index : ℕ) (post : Post) → Vacant (λ j. spare j || nat_lt j index) post → Vacant (vacant (keeps.parting_from index post)) post
+parting_vacant index post h = parting_at index post (standing_from index (drop index post.standing)) refl h
+
+-- what is vacant between calls is so where something is let go
+pub spare_let : (let_go : LetGo) (j : ℕ) → spare j ≡ true → vacant_let let_go j ≡ true
+spare_let Released j h = h
+spare_let (Rehold key) j h = h
+spare_let (Dropped index) j h = h
+spare_let (Parting index) j h = grind (arith, nat_tests)
+
+taking_vacant : (place : ℕ) (post : Post) (desk : Desk) (left : Bool) (found : ℕ) → Vacant spare post → Turned (keeps.taking place post desk left found)
+taking_vacant place post desk true found h = h
+taking_vacant place post desk false found h = h
+
 released_vacant : (let_go : LetGo) (post : Post) (desk : Desk) (told : List Event) → Vacant (vacant_released let_go) post → Turned (keeps.released let_go post desk told)
 released_vacant Released post desk told h = h
 released_vacant (Rehold key) post desk told h = round_vacant (Holds key) post h
 released_vacant (Dropped index) post desk told h = h
+released_vacant (Parting index) post desk told h = parting_vacant (index + 1) post h
 
 -- what was let go stands no more
-pub let_vacant : (let_go : LetGo) (post : Post) → Vacant spare post → Vacant (vacant_released let_go) (withdrawn post (let_index let_go))
+pub let_vacant : (let_go : LetGo) (post : Post) → Vacant (vacant_let let_go) post → Vacant (vacant_released let_go) (withdrawn post (let_index let_go))
 let_vacant Released post h = withdrawn_vacant spare spare post 2 (λ j n k. k) h
 let_vacant (Rehold key) post h = withdrawn_vacant spare (λ j. nat_lt j 3) post 2 (λ j n k. grind (arith, nat_tests)) h
 let_vacant (Dropped index) post h = withdrawn_vacant spare spare post index (λ j n k. k) h
+let_vacant (Parting index) post h = withdrawn_vacant (vacant_let (Parting index)) (vacant_released (Parting index)) post index (λ j n k. grind (arith, nat_tests)) h
 
 -- a copy goes to an index from 2 on
 row_above : (post : Post) (index slot : ℕ) → 2 ≤ index → Vacant spare post → Vacant spare (with_row post index slot)
@@ -246,12 +275,16 @@ look_vacant index key (FindValue slot version pair) post desk found h = h
 copy_high : (config : Config) (from index : ℕ) → CopyIn config from index → 2 ≤ index
 copy_high config from index c = omega (arith, c.kept, c.rises)
 
-keep_vacant : (config : Config) (at : KeepAt) (post : Post) (desk : Desk) (found : ℕ) → KeepIn config at → Vacant spare post → Turned (keeps.keep_turn at post desk found)
+keep_vacant : (config : Config) (at : KeepAt) (post : Post) (desk : Desk) (found : ℕ) → KeepIn config at → Vacant (vacant_keep at) post → Turned (keeps.keep_turn at post desk found)
 keep_vacant config (Loosens let_go) post desk found k h = released_vacant let_go (withdrawn post (let_index let_go)) desk (cleared (let_index let_go) (stands post (let_index let_go))) (let_vacant let_go post h)
 keep_vacant config (LoadHeld from index) post desk found k h = load_held_vacant from index post desk found (has_one_interval (scheme_of post)) (copy_high config from index k) h
 keep_vacant config (StoreHeld from index era) post desk found k h = copied_vacant from index post desk (reserves_index post index era) (stands post from) (copy_high config from index k) h
 keep_vacant config (Looks index key at) post desk found k h = look_vacant index key at post desk found h
 keep_vacant config (Misses index) post desk found k h = h
+keep_vacant config HideSpan post desk found k h = λ j e. bare_stands post j
+keep_vacant config MarkLeft post desk found k h = λ j e. h j refl
+keep_vacant config (TakeList place) post desk found k h = taking_vacant place post desk (found == 1) found h
+keep_vacant config (MarkTaken place count) post desk found k h = h
 
 pub work_vacant : (config : Config) (work : Work) (post : Post) (desk : Desk) (found : ℕ) → ((at : KeepAt) → work ≡ Keeping at → KeepIn config at) → Vacant (vacant_work work) post → Turned (steps.work_turn work post desk found)
 work_vacant config (Getting key at) post desk found k h = get_vacant key at post desk found (λ j e. h j (grind (arith, nat_tests)))

@@ -1,9 +1,9 @@
 -- What stands at an index after a change of the post.
-use Rattle.std.proofs.Common.{ℕ, ◌≡◌, ◌≢◌, ◌<◌, length, arith, sym, subst, ◌∙◌, true, false, Bool, refl}
+use Rattle.std.proofs.Common.{ℕ, zero, suc, None, ◌≡◌, ◌≢◌, ◌<◌, length, arith, sym, subst, ◌∙◌, true, false, Bool, refl}
 use Rattle.std.proofs.lemmas.Bool.Decides.{nat_tests}
 use Rattle.std.specs.Prelude.{Some, ◌==◌}
 use Rattle.inv_shapes.specs.model.declared.post.Post.{Post}
-use Rattle.inv_shapes.specs.model.Posts.{stands, with_row, withdrawn}
+use Rattle.inv_shapes.specs.model.Posts.{stands, with_row, withdrawn, withdrawn_all}
 use Rattle.inv_covers.specs.Tries.{Shrinks}
 use Rattle.inv_shapes.proofs.model.Standing.{stands-withdrawn_same, stands-with_row_same, stands-withdrawn_other, stands-with_row_other}
 
@@ -21,6 +21,21 @@ pub withdrawn_shrinks : (post : Post) (index : ℕ) → Shrinks post (withdrawn 
 withdrawn_shrinks post index j s h =
     let e = withdrawn_apart post index j s h in
     let q : j ≢ index = grind (arith, nat_tests) in sym (stands-withdrawn_other post index j q) ∙ h
+
+-- nothing stands once all is let go
+pub bare_stands : (post : Post) (j : ℕ) → stands (withdrawn_all post) j ≡ None
+bare_stands post zero = refl
+bare_stands post (suc zero) = refl
+bare_stands post (suc (suc zero)) = refl
+bare_stands post (suc (suc (suc zero))) = refl
+bare_stands post (suc (suc (suc (suc zero)))) = refl
+bare_stands post (suc (suc (suc (suc (suc zero))))) = refl
+bare_stands post (suc (suc (suc (suc (suc (suc zero)))))) = refl
+bare_stands post (suc (suc (suc (suc (suc (suc (suc zero))))))) = refl
+bare_stands post (suc (suc (suc (suc (suc (suc (suc (suc j)))))))) = refl
+
+pub bare_none : (post : Post) (j s : ℕ) → stands (withdrawn_all post) j ≡ Some s → ⊥
+bare_none post j s h = let e : None ≡ Some s = sym (bare_stands post j) ∙ h in absurd (cc)
 
 -- one row more stands, at this index
 pub with_row_apart : (post : Post) (index slot j s : ℕ) → (j == index) ≡ false → stands (with_row post index slot) j ≡ Some s → stands post j ≡ Some s

@@ -28,7 +28,7 @@ use Rattle.inv_shapes.specs.model.WriteRow.{last_written}
 use Rattle.inv_shapes.specs.words.Packed.{reservation_word, read_reservation}
 use Rattle.inv_shapes.specs.defs.declared.event.Event.TheVariants as events
 use Rattle.inv_covers.proofs.Words.{stores_protect}
-use Rattle.inv_rows.specs.Rows.{Status, View, RowMove, made, is_settled}
+use Rattle.inv_rows.specs.Rows.{Status, View, RowMove, made, is_settled, passed, Adopts, Claimed, Born, Linked, Cut, Sealed, Listed, Free, InQueue}
 use Rattle.inv_rows.specs.Rows.RowMove.{Stays, Claims, Bears, Drops, Links, Replaces, Appends, Pops, Reads, Seals, Lists, Returns}
 use Rattle.inv_shapes.specs.words.Schemes.{helps}
 use Rattle.inv_shapes.specs.Seats.{protect_fits}
@@ -137,6 +137,16 @@ start_untried clock status post (Protect aim index root steps at) s h = start_pr
 start_untried clock status post (Reload parent index slot era steps) s h = absurd (cc)
 start_untried clock status post base s h = refl
 
+passed_queued : (from to : ℕ) (status : Status) → in_queue (passed from to status) ≡ true → in_queue status ≡ true
+passed_queued from to Free h = h
+passed_queued from to (Claimed by) h = h
+passed_queued from to (Born by) h = h
+passed_queued from to (Linked bucket) h = h
+passed_queued from to InQueue h = h
+passed_queued from to (Cut by) h = h
+passed_queued from to (Sealed by retire) h = h
+passed_queued from to (Listed by retire) h = h
+
 -- a row that was linked and is in the queue was in it before
 pub queued_back : (i : ℕ) (v : View) (m : RowMove) (p : ℕ) → MoveFits i v m → is_settled (v.status p) ≡ true → in_queue ((made i v m).status p) ≡ true → in_queue (v.status p) ≡ true
 queued_back i v Stays p b l h = h
@@ -151,6 +161,7 @@ queued_back i v (Reads slot birth) p b l h = h
 queued_back i v (Seals slot birth retire) p b l h = grind (arith, nat_tests)
 queued_back i v (Lists slot birth retire) p b l h = grind (arith, nat_tests)
 queued_back i v (Returns slot) p b l h = grind (arith, nat_tests)
+queued_back i v (Adopts from) p b l h = passed_queued from i (v.status p) h
 
 -- a try of a seat that does not step
 pub under_back : (old new : ℕ → Status) (root : Root) → ((p : ℕ) → follows_root root p ≡ true → in_queue (new p) ≡ true → in_queue (old p) ≡ true) → under new root ≡ true → under old root ≡ true

@@ -30,7 +30,7 @@ use Rattle.inv_shapes.specs.model.Steps.{resumed, phase_turn}
 use Rattle.inv_rows.specs.Hands.{runs_right, task_fills}
 use Rattle.inv_shapes.specs.Seats.{Run}
 use Rattle.inv_shapes.specs.Slots.{KeepIn}
-use Rattle.inv_covers.specs.Rests.{spare, bare, beside, within, deep, vacant_later, has_taken, base_taken, vacant_opening, vacant_why, vacant, vacant_filled, vacant_after, Vacant}
+use Rattle.inv_covers.specs.Rests.{spare, bare, beside, within, deep, vacant_later, has_taken, base_taken, vacant_opening, vacant_why, vacant, vacant_filled, vacant_after, Vacant, vacant_let}
 use Rattle.inv_covers.proofs.Rests.{Turned, round_vacant, work_vacant, resume_vacant, withdrawn_vacant, let_vacant, bare_beside}
 use Rattle.inv_covers.proofs.Stands.{with_row_apart}
 use Rattle.inv_covers.proofs.Stood.{begin_stood, allocate_stood, write_stood, retire_stood, move_stood}
@@ -326,7 +326,7 @@ advances_vacant layout (GiveUp slot) last post found r h = absurd (no_truth r.su
 advances_vacant layout (Retire at) last post found r h = absurd (no_truth r.suited)
 advances_vacant layout (Move at) last post found r h = out_of Advances spare (after (Move at) post found).post (after (Move at) post found).outcome (λ b j k. k) (λ e j k. k) (vacant_same spare post (after (Move at) post found).post (λ j s k. move_stood at found post j s k) h)
 
-releases_vacant : (layout : Layout) (let_go : LetGo) (base : Base) (last post : Post) (found : ℕ) → Run layout (Releases let_go) base last → Vacant spare post → Out (Releases let_go) (after base post found).post (after base post found).outcome
+releases_vacant : (layout : Layout) (let_go : LetGo) (base : Base) (last post : Post) (found : ℕ) → Run layout (Releases let_go) base last → Vacant (vacant_let let_go) post → Out (Releases let_go) (after base post found).post (after base post found).outcome
 releases_vacant layout let_go (Begin at) last post found r h = absurd (no_truth r.suited)
 releases_vacant layout let_go (Protect aim index root steps at) last post found r h = absurd (no_truth r.suited)
 releases_vacant layout let_go (Reload parent index slot era steps) last post found r h = absurd (no_truth r.suited)

@@ -27,7 +27,7 @@ use Rattle.inv_shapes.specs.model.Enqueue.{enqueue_move}
 use Rattle.inv_shapes.specs.model.Dequeue.{dequeue_move}
 use Rattle.inv_shapes.specs.model.Keep.{keep_move}
 use Rattle.inv_shapes.specs.model.Steps.{phase_move, work_move}
-use Rattle.inv_shapes.specs.model.Calls.{ChangeKept, EnqueueKept, ScanAt, ReadGuard, GiveBack, GetAt, FindVersion, ChangeAt, LoadVersion, EnqueueAt, LoadNumber, DequeueAt, LoadTail, KeepAt, Loosens, LoadHeld, StoreHeld, Looks, Misses, Work, Getting, Changing, Enqueuing, Dequeuing, Keeping, Phase}
+use Rattle.inv_shapes.specs.model.Calls.{ChangeKept, EnqueueKept, ScanAt, ReadGuard, GiveBack, GetAt, FindVersion, ChangeAt, LoadVersion, EnqueueAt, LoadNumber, DequeueAt, LoadTail, KeepAt, Loosens, LoadHeld, StoreHeld, Looks, Misses, HideSpan, MarkLeft, TakeList, MarkTaken, Work, Getting, Changing, Enqueuing, Dequeuing, Keeping, Phase}
 use Rattle.inv_shapes.specs.model.Locals.{move}
 use Rattle.inv_shapes.specs.model.World.{World, step}
 use Rattle.inv_shapes.specs.words.Schemes.{helps}
@@ -84,9 +84,10 @@ stores_guard Finish = true
 stores_guard (Release index) = true
 stores_guard base = false
 
--- the index whose word a step of a call's own stores
+-- the index whose word a step of a call's own stores; the interval word is that of all indexes
 abbrev pub keep_stores : KeepAt → ℕ → Bool
 keep_stores (StoreHeld from index era) j = j == index
+keep_stores HideSpan j = true
 keep_stores at j = false
 
 abbrev pub work_stores : Work → ℕ → Bool
@@ -151,6 +152,10 @@ keep_index k j (LoadHeld from index) post e = refl
 keep_index k j (StoreHeld from index era) post e = rw e refl
 keep_index k j (Looks index key at) post e = get_index k j at
 keep_index k j (Misses index) post e = refl
+keep_index k j HideSpan post e = refl
+keep_index k j MarkLeft post e = refl
+keep_index k j (TakeList place) post e = refl
+keep_index k j (MarkTaken place count) post e = refl
 
 pub work_index : (k j : ℕ) (work : Work) (post : Post) → (k == post.seat && work_stores work j) ≡ false → keeps (work_move work post) (Index k j) ≡ true
 work_index k j (Getting key at) post e = get_index k j at
@@ -233,19 +238,32 @@ get_span : (k : ℕ) (at : GetAt) → keeps (get_move at) (Interval k) ≡ true
 get_span k (FindVersion slot) = refl
 get_span k at = refl
 
-keep_span : (k : ℕ) (at : KeepAt) (post : Post) → keeps (keep_move at post) (Interval k) ≡ true
-keep_span k (Loosens let_go) post = refl
-keep_span k (LoadHeld from index) post = refl
-keep_span k (StoreHeld from index era) post = refl
-keep_span k (Looks index key at) post = get_span k at
-keep_span k (Misses index) post = refl
+-- what is let go with the interval
+abbrev pub keep_hides : KeepAt → Bool
+keep_hides HideSpan = true
+keep_hides at = false
 
-pub work_span : (k : ℕ) (work : Work) (post : Post) → keeps (work_move work post) (Interval k) ≡ true
-work_span k (Getting key at) post = get_span k at
-work_span k (Changing kept at) post = change_span k kept at post
-work_span k (Enqueuing kept at) post = enqueue_span k kept at
-work_span k (Dequeuing at) post = dequeue_span k at
-work_span k (Keeping at) post = keep_span k at post
+abbrev pub work_hides : Work → Bool
+work_hides (Keeping at) = keep_hides at
+work_hides work = false
+
+keep_span : (k : ℕ) (at : KeepAt) (post : Post) → (k == post.seat && keep_hides at) ≡ false → keeps (keep_move at post) (Interval k) ≡ true
+keep_span k (Loosens let_go) post e = refl
+keep_span k (LoadHeld from index) post e = refl
+keep_span k (StoreHeld from index era) post e = refl
+keep_span k (Looks index key at) post e = get_span k at
+keep_span k (Misses index) post e = refl
+keep_span k HideSpan post e = let o : (k == post.seat) ≡ false = grind (arith, nat_tests) in rw o refl
+keep_span k MarkLeft post e = refl
+keep_span k (TakeList place) post e = refl
+keep_span k (MarkTaken place count) post e = refl
+
+pub work_span : (k : ℕ) (work : Work) (post : Post) → (k == post.seat && work_hides work) ≡ false → keeps (work_move work post) (Interval k) ≡ true
+work_span k (Getting key at) post e = get_span k at
+work_span k (Changing kept at) post e = change_span k kept at post
+work_span k (Enqueuing kept at) post e = enqueue_span k kept at
+work_span k (Dequeuing at) post e = dequeue_span k at
+work_span k (Keeping at) post e = keep_span k at post e
 
 scan_span : (k : ℕ) (at : ScanAt) (post : Post) → keeps (scan_move at post) (Interval k) ≡ true
 scan_span k (ReadGuard number) post = refl
@@ -287,5 +305,15 @@ base_quiet scheme k j config base post n f e =
 pub scan_quiet : (scheme : SchemeKind) (k j : ℕ) (at : ScanAt) (post : Post) → keeps (scan_move at post) (guard_place (own_guard scheme k j)) ≡ true
 scan_quiet scheme k j at post = each_guard scheme k j (λ (g : Guard). keeps (scan_move at post) (guard_place g) ≡ true) (scan_index k j at post) (scan_span k at post)
 
+keep_hides_stores : (own : Bool) (at : KeepAt) (j : ℕ) → (own && keep_stores at j) ≡ false → (own && keep_hides at) ≡ false
+keep_hides_stores own HideSpan j e = e
+keep_hides_stores true at j e = refl
+keep_hides_stores false at j e = refl
+
+hides_stores : (own : Bool) (work : Work) (j : ℕ) → (own && work_stores work j) ≡ false → (own && work_hides work) ≡ false
+hides_stores own (Keeping at) j e = keep_hides_stores own at j e
+hides_stores true work j e = refl
+hides_stores false work j e = refl
+
 pub work_quiet : (scheme : SchemeKind) (k j : ℕ) (work : Work) (post : Post) → (k == post.seat && work_stores work j) ≡ false → keeps (work_move work post) (guard_place (own_guard scheme k j)) ≡ true
-work_quiet scheme k j work post e = each_guard scheme k j (λ (g : Guard). keeps (work_move work post) (guard_place g) ≡ true) (work_index k j work post e) (work_span k work post)
+work_quiet scheme k j work post e = each_guard scheme k j (λ (g : Guard). keeps (work_move work post) (guard_place g) ≡ true) (work_index k j work post e) (work_span k work post (hides_stores (k == post.seat) work j e))

@@ -21,7 +21,7 @@ use Rattle.inv_shapes.specs.words.Place.Place.{Clock}
 use Rattle.inv_shapes.specs.defs.declared.call.Call.{Call}
 use Rattle.inv_rows.specs.Rows.{Status, View, RowMove, is_settled}
 use Rattle.inv_rows.specs.Rows.Status.{Sealed, Listed}
-use Rattle.inv_rows.specs.Rows.RowMove.{Stays, Claims, Bears, Drops, Links, Replaces, Appends, Pops, Reads, Seals, Lists, Returns}
+use Rattle.inv_rows.specs.Rows.RowMove.{Stays, Claims, Bears, Drops, Links, Replaces, Appends, Pops, Reads, Seals, Lists, Returns, Adopts}
 
 -- the retire era of a row, once it is loaded, and 0 before
 abbrev pub retired_at : Status → ℕ
@@ -144,6 +144,7 @@ frees (Reads slot birth) s = false
 frees (Seals slot birth retire) s = false
 frees (Lists slot birth retire) s = false
 frees (Returns slot) s = s == slot
+frees (Adopts from) s = false
 
 -- the row that a move makes free, or claims
 abbrev pub takes_or_frees : RowMove → ℕ → Bool
@@ -159,6 +160,7 @@ takes_or_frees (Reads slot birth) s = false
 takes_or_frees (Seals slot birth retire) s = false
 takes_or_frees (Lists slot birth retire) s = false
 takes_or_frees (Returns slot) s = s == slot
+takes_or_frees (Adopts from) s = false
 
 -- a guard of the table: a scan reads it, under its number
 pub record GuardFits (config : Config) (guard : Guard) : Type 0 where

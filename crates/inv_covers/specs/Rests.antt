@@ -1,20 +1,24 @@
 -- Where nothing stands, by where a call stands.
-use Rattle.std.specs.Prelude.{ℕ, ◌≡◌, ◌==◌, ◌&&◌, nat_lt, not, Bool, true, false, None}
+use Rattle.std.specs.Prelude.{ℕ, ◌≡◌, ◌==◌, ◌+◌, ◌&&◌, ◌||◌, nat_lt, not, Bool, true, false, None}
 use Rattle.inv_shapes.specs.model.declared.post.Post.{Post}
 use Rattle.inv_shapes.specs.model.Posts.{stands}
-use Rattle.inv_shapes.specs.model.Rounds.{index_of}
-use Rattle.inv_shapes.specs.model.Calls.{Task, Gets, Changes, Holds, Enqueues, Dequeues, AfterScan, Answered, Repeated, Counted, Why, Opens, FollowsHead, Fills, ClearsNext, Clears, Finishes, GivesUp, Retires, Tidies, Advances, Releases, LetGo, Released, Rehold, Dropped, DequeueAt, LoadTail, SwingTail, TakeNumber, TakeValue, ExchangeHead, Work, Getting, Changing, Enqueuing, Dequeuing, KeepAt, Keeping, Phase, Idle, Runs, Scans, Works}
+use Rattle.inv_shapes.specs.model.Rounds.{index_of, scheme_of}
+use Rattle.inv_shapes.specs.model.Calls.{Task, Gets, Changes, Holds, Enqueues, Dequeues, AfterScan, Answered, Repeated, Counted, Why, Opens, FollowsHead, Fills, ClearsNext, Clears, Finishes, GivesUp, Retires, Tidies, Advances, Releases, LetGo, Released, Rehold, Dropped, Parting, DequeueAt, LoadTail, SwingTail, TakeNumber, TakeValue, ExchangeHead, Work, Getting, Changing, Enqueuing, Dequeuing, KeepAt, Loosens, LoadHeld, StoreHeld, Looks, Misses, HideSpan, MarkLeft, TakeList, MarkTaken, Keeping, Phase, Idle, Runs, Scans, Works}
 use Rattle.inv_shapes.specs.model.Phases.Ending.{Done, Protected, Followed, Allocated, Retired, Clocked}
 use Rattle.inv_shapes.specs.model.Phases.{Ending, ProtectAt, Base}
 use Rattle.inv_shapes.specs.model.World.{World, start, begin, step, is_busy}
 use Rattle.inv_shapes.specs.model.Phases.ProtectAt.{WithdrawRequest, WithdrawHelper}
 use Rattle.inv_shapes.specs.model.Phases.Base.{Protect}
+use Rattle.inv_shapes.specs.words.Schemes.{has_one_interval}
 use Rattle.inv_shapes.specs.words.declared.layout.Layout.{Layout}
 use Rattle.inv_shapes.specs.defs.declared.call.Call.{Call}
 use Rattle.inv_rows.specs.Hands.{runs_right}
 use Rattle.inv_shapes.specs.Seats.{Run}
 use Rattle.inv_shapes.specs.Slots.{KeepIn}
-use Rattle.inv_covers.specs.Held.{rests_base}
+use Rattle.inv_covers.specs.Held.{rests_base, Held}
+use Rattle.inv_covers.specs.Covers.{eras_shown}
+use Rattle.inv_rows.specs.Rows.{View}
+use Rattle.inv_shapes.specs.defs.declared.event.Guard.TheVariants.{Whole}
 
 -- between rounds only what is kept stands, at indexes from 2 on
 abbrev pub spare : ℕ → Bool
@@ -58,6 +62,25 @@ abbrev pub vacant_opening : Task → (taken : Bool) → ℕ → Bool
 vacant_opening task true j = beside task j
 vacant_opening task false j = bare task j
 
+-- a seat that leaves has let go of what stood at lower indexes
+abbrev pub vacant_let : LetGo → ℕ → Bool
+vacant_let Released j = spare j
+vacant_let (Rehold key) j = spare j
+vacant_let (Dropped index) j = spare j
+vacant_let (Parting index) j = spare j || nat_lt j index
+
+-- and of all before its place is marked
+abbrev pub vacant_keep : KeepAt → ℕ → Bool
+vacant_keep (Loosens let_go) j = vacant_let let_go j
+vacant_keep (LoadHeld from index) j = spare j
+vacant_keep (StoreHeld from index era) j = spare j
+vacant_keep (Looks index key at) j = spare j
+vacant_keep (Misses index) j = spare j
+vacant_keep HideSpan j = spare j
+vacant_keep MarkLeft j = true
+vacant_keep (TakeList place) j = spare j
+vacant_keep (MarkTaken place count) j = spare j
+
 abbrev pub vacant_why : Why → Base → ℕ → Bool
 vacant_why (Opens task) base j = vacant_opening task (base_taken base) j
 vacant_why (FollowsHead head tail) base j = within j
@@ -69,7 +92,7 @@ vacant_why (GivesUp answer) base j = spare j
 vacant_why (Retires answer) base j = spare j
 vacant_why (Tidies later) base j = vacant_later later j
 vacant_why Advances base j = spare j
-vacant_why (Releases let_go) base j = spare j
+vacant_why (Releases let_go) base j = vacant_let let_go j
 
 abbrev pub vacant_dequeue : DequeueAt → ℕ → Bool
 vacant_dequeue (LoadTail head) j = within j
@@ -83,7 +106,7 @@ vacant_work (Getting key at) j = within j
 vacant_work (Changing kept at) j = within j
 vacant_work (Enqueuing kept at) j = within j
 vacant_work (Dequeuing at) j = vacant_dequeue at j
-vacant_work (Keeping at) j = spare j
+vacant_work (Keeping at) j = vacant_keep at j
 
 -- the indexes at which nothing stands
 abbrev pub vacant : Phase → ℕ → Bool
@@ -127,6 +150,7 @@ abbrev pub vacant_released : LetGo → ℕ → Bool
 vacant_released Released j = spare j
 vacant_released (Rehold key) j = nat_lt j 3
 vacant_released (Dropped index) j = spare j
+vacant_released (Parting index) j = spare j || nat_lt j (index + 1)
 
 abbrev pub vacant_after : Why → Ending → ℕ → Bool
 vacant_after (Opens task) ending j = vacant_opened task ending j
@@ -151,11 +175,24 @@ pub record RestsNeeds (w : World) (i : ℕ) : Type 0 where
 abbrev pub RestsStart : Type 0
 RestsStart = (layout : Layout) → Rests (start layout)
 
+-- under 2GE nothing stands where no interval does
+abbrev pub SpanRests : Post → Type 0
+SpanRests post = has_one_interval (scheme_of post) ≡ true → post.span ≡ None → (j : ℕ) → stands post j ≡ None
+
 abbrev pub RestsBegin : Type 0
-RestsBegin = (w : World) (i : ℕ) (call : Call) → is_busy w i ≡ false → Rests w → Rests (begin w i call)
+RestsBegin = (w : World) (i : ℕ) (call : Call) → is_busy w i ≡ false → SpanRests (w.seat i).post → Rests w → Rests (begin w i call)
 
 abbrev pub RestsKept : Type 0
 RestsKept = (w : World) (i : ℕ) → RestsNeeds w i → Rests w → Rests (step w i)
+
+-- under 2GE, where what guards hold is known and the interval word has the seat's interval
+abbrev pub SpansRest : Type 0
+SpansRest =
+    (w : World) (v : View) (k : ℕ)
+    → (w.seat k).post.layout ≡ w.layout
+    → (has_one_interval w.layout.config.scheme ≡ true → eras_shown w (Whole k) ≡ (w.seat k).post.span)
+    → (has_one_interval w.layout.config.scheme ≡ true → Held w v)
+    → SpanRests (w.seat k).post
 
 -- nothing stands where a step takes from what a guard publishes
 abbrev pub RestsGive : Type 0

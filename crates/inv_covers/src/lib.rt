@@ -5,7 +5,7 @@
 ghost use Rattle.inv_covers.specs.Covers.{CoversKept, NotReused, ScansBegin, ScansKept, ScansStart};
 ghost use Rattle.inv_covers.specs.Held.{GuardsFit, HandedCovers, HandedKept, HeldBegin, HeldKept, HeldStart, HelpersFirst, HelpersFit, LoadsCover, StandingStays};
 ghost use Rattle.inv_covers.specs.Parents.{ParentsBegin, ParentsGive, ParentsKept, ParentsStart};
-ghost use Rattle.inv_covers.specs.Rests.{RestsBegin, RestsGive, RestsKept, RestsStart};
+ghost use Rattle.inv_covers.specs.Rests.{RestsBegin, RestsGive, RestsKept, RestsStart, SpansRest};
 
 /// A row that a guard covers stays covered by it over each step of any seat that does not take from
 /// what the guard publishes: the row's life meets the guard's interval, and each scan that has the
@@ -53,12 +53,14 @@ pub fn guards_are_read()
 {}
 
 /// Nothing stands at an index whose guard publishes something else in the next step, from the start
-/// on, and over every step and every call that begins.
+/// on, and over every step and every call that begins; and nothing stands at all where a seat that
+/// leaves marks its place. Under 2GE nothing stands where no interval does.
 pub fn guards_rest()
     ensures start { RestsStart }
     ensures begin { RestsBegin }
     ensures step { RestsKept }
     ensures gives { RestsGive }
+    ensures spans { SpansRest }
 {}
 
 /// Under Hazard Eras and 2GE the row whose next link is followed stands at index 0, from the start on,

@@ -5,6 +5,7 @@ pub use Rattle.inv_handover.specs.covers.model as model
 pub use Rattle.model_history.specs as history
 pub use Rattle.inv_handover.specs.requests as requests
 pub mod Births
+pub mod Lists
 pub mod Moves
 pub mod Nulls
 pub mod Standing

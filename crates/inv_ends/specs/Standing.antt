@@ -18,6 +18,7 @@ use Rattle.inv_handover.specs.covers.shapes.Slots.{Slots}
 use Rattle.inv_handover.specs.covers.words.Place.{is_valid}
 use Rattle.inv_handover.specs.covers.words.Schemes.{has_one_interval}
 use Rattle.inv_handover.specs.covers.words.declared.config.Config.{Config}
+use Rattle.inv_handover.specs.covers.Rests.{Rests}
 use Rattle.inv_handover.specs.covers.rows.Rows.{View}
 use Rattle.inv_handover.specs.covers.model.Guards.{own_guard}
 use Rattle.inv_ends.specs.Stands.{is_clear, is_copied, stood}
@@ -122,4 +123,4 @@ ClearStood = (w : World) (i j s : ℕ) → Seats w → list_any (is_clear j s) (
 
 -- at each index stands what was told last of it
 abbrev pub StandingTold : Type 0
-StandingTold = (w : World) (i j : ℕ) → is_valid w.layout ≡ true → Seats w → Slots w → stands ((step w i).seat i).post j ≡ stood (told_in w i) (stands (w.seat i).post j) j
+StandingTold = (w : World) (i j : ℕ) → is_valid w.layout ≡ true → Seats w → Slots w → Rests w → stands ((step w i).seat i).post j ≡ stood (told_in w i) (stands (w.seat i).post j) j

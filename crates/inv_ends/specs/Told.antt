@@ -7,7 +7,7 @@ use Rattle.inv_handover.specs.covers.model.Phases.{AllocateAt, Base}
 use Rattle.inv_handover.specs.covers.model.Phases.AllocateAt.{ClaimSlot, LoadBirth, StoreLife}
 use Rattle.inv_handover.specs.covers.model.Phases.Base.{Allocate}
 use Rattle.inv_handover.specs.covers.model.Calls.{Phase, Runs}
-use Rattle.inv_handover.specs.covers.rows.Rows.RowMove.{Appends, Bears, Claims, Drops, Links, Lists, Pops, Reads, Replaces, Returns, Seals, Stays}
+use Rattle.inv_handover.specs.covers.rows.Rows.RowMove.{Adopts, Appends, Bears, Claims, Drops, Links, Lists, Pops, Reads, Replaces, Returns, Seals, Stays}
 use Rattle.inv_handover.specs.covers.rows.Rows.{RowMove, View}
 use Rattle.inv_handover.specs.covers.defs.declared.event.Event.TheVariants as events
 use Rattle.inv_handover.specs.covers.model.World.{World, finds, told_in}
@@ -52,6 +52,7 @@ row_events birth (Reads slot born) = []
 row_events birth (Seals slot born retire) = []
 row_events birth (Lists slot born retire) = events.Retire slot born retire ∷ []
 row_events birth (Returns slot) = events.Back slot ∷ []
+row_events birth (Adopts from) = []
 
 -- the move of rows that the step of seat i makes
 abbrev pub move_of : World → ℕ → RowMove
@@ -89,6 +90,7 @@ RowWas clock i v (Reads slot birth) = Unit {0}
 RowWas clock i v (Seals slot birth retire) = RowSeals clock i v slot birth retire
 RowWas clock i v (Lists slot birth retire) = RowRetires clock i v slot birth retire
 RowWas clock i v (Returns slot) = (retire : ℕ) × (v.status slot ≡ Listed i retire)
+RowWas clock i v (Adopts from) = Unit {0}
 
 abbrev pub RowsWere : Type 0
 RowsWere = (w : World) (i : ℕ) (v : View) → RowsNeeds w i v → Eras w → Agree w v → RowWas (w.mem Clock) i v (move_of w i)

@@ -3,6 +3,7 @@
 #![tactic(auto)]
 
 ghost use Rattle.inv_ends.specs.Births.{GivenBegin, GivenKept, GivenStart, RetiresGiven};
+ghost use Rattle.inv_ends.specs.Lists.{AdoptsAlone, AdoptsTold, LeftTold, ListsTold, MarkedTold, NoneTaken};
 ghost use Rattle.inv_ends.specs.Moves.{MeetingBegin, MeetingKept, MeetingStart, MetAnswered, MetOpen};
 ghost use Rattle.inv_ends.specs.Nulls.{NullTold};
 ghost use Rattle.inv_ends.specs.Standing.{ClearStood, CopiedCovered, CopiedStands, CopiedTold, HeldCovered, HeldStands, HeldTold, StandingTold};
@@ -15,6 +16,20 @@ ghost use Rattle.inv_ends.specs.Walks.{FullSeen, SeenTaken, WalkingBegin, Walkin
 pub fn rows_are_told()
     ensures told { RowsTold }
     ensures were { RowsWere }
+{}
+
+/// A step tells that a list is left exactly where it marks its seat's place as left, with the length of the
+/// seat's list, and then the end of its call. It tells that a list is taken over exactly where it finds a
+/// place so marked, with the length of the list that was left there, and nothing besides; and its move of
+/// rows takes that list over, which comes at the end of the seat's own. Where it finds no such list, or has
+/// marked the list, it tells the end of its call.
+pub fn lists_are_told()
+    ensures told { ListsTold }
+    ensures left { LeftTold }
+    ensures adopts { AdoptsTold }
+    ensures alone { AdoptsAlone }
+    ensures none { NoneTaken }
+    ensures marked { MarkedTold }
 {}
 
 /// Where a row stands at an index of a seat, no step of any seat tells that it is given, unused or

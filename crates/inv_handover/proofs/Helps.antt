@@ -22,7 +22,7 @@ use Rattle.inv_covers.specs.model.Machine.{after}
 use Rattle.inv_covers.specs.model.Scan.{scan_turn}
 use Rattle.inv_covers.specs.model.Steps.{phase_turn, resumed}
 use Rattle.inv_covers.specs.model.Calls.{Why, Phase, Idle, Runs, Scans, Works}
-use Rattle.inv_covers.specs.model.World.{World, step, finds}
+use Rattle.inv_covers.specs.model.World.{World, step, finds, offered}
 use Rattle.inv_covers.proofs.model.Roots.{root_at_link}
 use Rattle.inv_covers.specs.shapes.Frame.{phase_left}
 use Rattle.inv_covers.specs.words.Schemes.{helps}
@@ -134,17 +134,17 @@ run_loads w i v z reason one s false p f n g e h =
     absurd (no_truth (sym (other_unheld w.layout ((step w i).mem Clock) (rows_after w i v).status (next_deals w i z.deal) one (counted (w.seat i).post) (finds w i) s p) ∙ h))
 
 phase_loads : (w : World) (i : ℕ) (v : View) (z : Asked) (phase : Phase) (why : Why) (base : Base) (s : ℕ) → helps w.layout.config.scheme ≡ true → HandoverNeeds w i v z → Helped w v z.deal → (w.seat i).phase ≡ phase
-    → phase_left (phase_turn phase (counted (w.seat i).post) (w.seat i).desk (finds w i)).outcome ≡ Runs why base
+    → phase_left (phase_turn phase (counted (w.seat i).post) (offered w i).desk (finds w i)).outcome ≡ Runs why base
     → helper_holds w.layout ((step w i).mem Clock) (rows_after w i v).status (next_deals w i z.deal) base s ≡ true → Holds (step w i) (rows_after w i v) (Helper i) s
 phase_loads w i v z Idle why base s f n g e o h = absurd (cc)
 phase_loads w i v z (Scans later at) why base s f n g e o h =
-    absurd (no_truth (starts_unheld w.layout ((step w i).mem Clock) (rows_after w i v).status (next_deals w i z.deal) (phase_left (scan_turn later at (counted (w.seat i).post) (w.seat i).desk (finds w i)).outcome) why base s (scan_starts later at (counted (w.seat i).post) (w.seat i).desk (finds w i)) o h))
+    absurd (no_truth (starts_unheld w.layout ((step w i).mem Clock) (rows_after w i v).status (next_deals w i z.deal) (phase_left (scan_turn later at (counted (w.seat i).post) (offered w i).desk (finds w i)).outcome) why base s (scan_starts later at (counted (w.seat i).post) (offered w i).desk (finds w i)) o h))
 phase_loads w i v z (Works work) why base s f n g e o h =
-    absurd (no_truth (starts_unheld w.layout ((step w i).mem Clock) (rows_after w i v).status (next_deals w i z.deal) (Runs why base) why base s (works_start work (counted (w.seat i).post) (w.seat i).desk (finds w i) why base o) refl h))
+    absurd (no_truth (starts_unheld w.layout ((step w i).mem Clock) (rows_after w i v).status (next_deals w i z.deal) (Runs why base) why base s (works_start work (counted (w.seat i).post) (offered w i).desk (finds w i) why base o) refl h))
 phase_loads w i v z (Runs reason one) why base s f n g e o h =
     let u : Turn = after one (counted (w.seat i).post) (finds w i) in
     run_loads w i v z reason one s (may_load one) refl f n g e
-    (resumed_holds w.layout ((step w i).mem Clock) (rows_after w i v).status (next_deals w i z.deal) reason (w.seat i).desk u.post u.told u.outcome why base s o h)
+    (resumed_holds w.layout ((step w i).mem Clock) (rows_after w i v).status (next_deals w i z.deal) reason (offered w i).desk u.post u.told u.outcome why base s o h)
 
 pub own_loaded : (w : World) (i : ℕ) (v : View) (z : Asked) (why : Why) (base : Base) (s : ℕ) → helps w.layout.config.scheme ≡ true → HandoverNeeds w i v z → Helped w v z.deal → ((step w i).seat i).phase ≡ Runs why base
     → helper_holds w.layout ((step w i).mem Clock) (rows_after w i v).status (next_deals w i z.deal) base s ≡ true → Holds (step w i) (rows_after w i v) (Helper i) s

@@ -21,8 +21,8 @@ use Rattle.inv_covers.specs.model.Phases.Base.{Begin, Protect, Reload, Clear, Fi
 use Rattle.inv_covers.specs.model.Machine.{protect_move, after}
 use Rattle.inv_covers.specs.model.Scan.{scan_turn}
 use Rattle.inv_covers.specs.model.Steps.{phase_turn}
-use Rattle.inv_covers.specs.model.Calls.{Why, Opens, FollowsHead, Fills, ClearsNext, Clears, Finishes, GivesUp, Retires, Tidies, Advances, Releases, Loosens, LoadHeld, StoreHeld, Looks, Misses, Work, Getting, Changing, Enqueuing, Dequeuing, Keeping, Phase, Idle, Runs, Scans, Works}
-use Rattle.inv_covers.specs.model.World.{World, step, finds}
+use Rattle.inv_covers.specs.model.Calls.{Why, Opens, FollowsHead, Fills, ClearsNext, Clears, Finishes, GivesUp, Retires, Tidies, Advances, Releases, Loosens, LoadHeld, StoreHeld, Looks, Misses, HideSpan, MarkLeft, TakeList, MarkTaken, Work, Getting, Changing, Enqueuing, Dequeuing, Keeping, Phase, Idle, Runs, Scans, Works}
+use Rattle.inv_covers.specs.model.World.{World, step, finds, offered}
 use Rattle.inv_covers.proofs.model.Ranges.{bounds_of}
 use Rattle.inv_covers.specs.shapes.Frame.{phase_left}
 use Rattle.inv_covers.specs.words.Schemes.{helps}
@@ -243,6 +243,10 @@ work_holds w i v z (Keeping (StoreHeld from index era)) j s f n d e (inr y) = rw
 work_holds w i v z (Keeping (Loosens let_go)) j s f n d e y = work_same w i v z (Keeping (Loosens let_go)) j s f n d e refl y
 work_holds w i v z (Keeping (Looks index key at)) j s f n d e y = work_same w i v z (Keeping (Looks index key at)) j s f n d e refl y
 work_holds w i v z (Keeping (Misses index)) j s f n d e y = work_same w i v z (Keeping (Misses index)) j s f n d e refl y
+work_holds w i v z (Keeping HideSpan) j s f n d e y = absurd y
+work_holds w i v z (Keeping MarkLeft) j s f n d e y = work_same w i v z (Keeping MarkLeft) j s f n d e refl y
+work_holds w i v z (Keeping (TakeList place)) j s f n d e y = work_same w i v z (Keeping (TakeList place)) j s f n d e refl y
+work_holds w i v z (Keeping (MarkTaken place count)) j s f n d e y = work_same w i v z (Keeping (MarkTaken place count)) j s f n d e refl y
 work_holds w i v z (Getting key at) j s f n d e y = work_same w i v z (Getting key at) j s f n d e refl y
 work_holds w i v z (Changing kept at) j s f n d e y = work_same w i v z (Changing kept at) j s f n d e refl y
 work_holds w i v z (Enqueuing kept at) j s f n d e y = work_same w i v z (Enqueuing kept at) j s f n d e refl y
@@ -273,7 +277,7 @@ from_holds w i v z (Works work) j s f n d g e y = work_holds w i v z work j s f 
 -- what stands at an index of the seat that steps
 pub own_stands : (w : World) (i : ℕ) (v : View) (z : Asked) (j s : ℕ) → helps w.layout.config.scheme ≡ true → HandoverNeeds w i v z → Held w v → Helped w v z.deal → stands ((step w i).seat i).post j ≡ Some s → Holds (step w i) (rows_after w i v) (Index i j) s
 own_stands w i v z j s f n d g y =
-    from_holds w i v z (w.seat i).phase j s f n d g refl (turn_from (w.seat i).phase (w.seat i).post (w.seat i).desk (finds w i) j s (phase_has w i v z (w.seat i).phase n refl) (subst (λ (p : Post). stands p j ≡ Some s) (stepped_post w i) y))
+    from_holds w i v z (w.seat i).phase j s f n d g refl (turn_from (w.seat i).phase (w.seat i).post (offered w i).desk (finds w i) j s (phase_has w i v z (w.seat i).phase n refl) (subst (λ (p : Post). stands p j ≡ Some s) (stepped_post w i) y))
 
 -- a try of the seat that steps
 next_holds : (w : World) (i : ℕ) (v : View) (z : Asked) (why : Why) (aim : Aim) (index : ℕ) (root : Root) (steps : ℕ) (at : ProtectAt) (s : ℕ) → helps w.layout.config.scheme ≡ true → HandoverNeeds w i v z → Held w v → Helped w v z.deal → (w.seat i).phase ≡ Runs why (Protect aim index root steps at)
@@ -309,7 +313,7 @@ protect_comes w i v z why aim index root steps at base s f n d g e c =
     rw (sym y.at ∙ q.0) (next_holds w i v z why aim index root steps at s f n d g e q.1)
 
 run_comes : (w : World) (i : ℕ) (v : View) (z : Asked) (reason : Why) (one : Base) (why : Why) (base : Base) (s : ℕ) (own : Bool) → is_protect one ≡ own → helps w.layout.config.scheme ≡ true → HandoverNeeds w i v z → Held w v → Helped w v z.deal → (w.seat i).phase ≡ Runs reason one
-    → phase_left (phase_turn (Runs reason one) (counted (w.seat i).post) (w.seat i).desk (finds w i)).outcome ≡ Runs why base
+    → phase_left (phase_turn (Runs reason one) (counted (w.seat i).post) (offered w i).desk (finds w i)).outcome ≡ Runs why base
     → tries_base ((step w i).mem Clock) (rows_after w i v).status ((step w i).seat i).post base s ≡ true
     → Holds (step w i) (rows_after w i v) (Index i (index_base base)) s
 run_comes w i v z reason (Protect aim index root steps at) why base s own p f n d g e o t =
@@ -323,14 +327,14 @@ run_comes w i v z reason one why base s false p f n d g e o t =
     absurd (no_truth (other_comes ((step w i).mem Clock) (rows_after w i v).status ((step w i).seat i).post (counted (w.seat i).post) one base (finds w i) s p (turn_out w i reason one why base ((step w i).mem Clock) (rows_after w i v).status s o t)))
 
 turn_comes : (w : World) (i : ℕ) (v : View) (z : Asked) (phase : Phase) (why : Why) (base : Base) (s : ℕ) → helps w.layout.config.scheme ≡ true → HandoverNeeds w i v z → Held w v → Helped w v z.deal → (w.seat i).phase ≡ phase
-    → phase_left (phase_turn phase (counted (w.seat i).post) (w.seat i).desk (finds w i)).outcome ≡ Runs why base
+    → phase_left (phase_turn phase (counted (w.seat i).post) (offered w i).desk (finds w i)).outcome ≡ Runs why base
     → tries_base ((step w i).mem Clock) (rows_after w i v).status ((step w i).seat i).post base s ≡ true
     → Holds (step w i) (rows_after w i v) (Index i (index_base base)) s
 turn_comes w i v z Idle why base s f n d g e o t = absurd (cc)
 turn_comes w i v z (Scans later at) why base s f n d g e o t =
-    absurd (no_truth (out_start ((step w i).mem Clock) (rows_after w i v).status ((step w i).seat i).post (phase_left (scan_turn later at (counted (w.seat i).post) (w.seat i).desk (finds w i)).outcome) why base s (scan_starts later at (counted (w.seat i).post) (w.seat i).desk (finds w i)) o t))
+    absurd (no_truth (out_start ((step w i).mem Clock) (rows_after w i v).status ((step w i).seat i).post (phase_left (scan_turn later at (counted (w.seat i).post) (offered w i).desk (finds w i)).outcome) why base s (scan_starts later at (counted (w.seat i).post) (offered w i).desk (finds w i)) o t))
 turn_comes w i v z (Works work) why base s f n d g e o t =
-    absurd (no_truth (out_start ((step w i).mem Clock) (rows_after w i v).status ((step w i).seat i).post (Runs why base) why base s (works_start work (counted (w.seat i).post) (w.seat i).desk (finds w i) why base o) refl t))
+    absurd (no_truth (out_start ((step w i).mem Clock) (rows_after w i v).status ((step w i).seat i).post (Runs why base) why base s (works_start work (counted (w.seat i).post) (offered w i).desk (finds w i) why base o) refl t))
 turn_comes w i v z (Runs reason one) why base s f n d g e o t = run_comes w i v z reason one why base s (is_protect one) refl f n d g e o t
 
 pub own_tries : (w : World) (i : ℕ) (v : View) (z : Asked) (why : Why) (base : Base) (s : ℕ) → helps w.layout.config.scheme ≡ true → HandoverNeeds w i v z → Held w v → Helped w v z.deal → ((step w i).seat i).phase ≡ Runs why base → tries_base ((step w i).mem Clock) (rows_after w i v).status ((step w i).seat i).post base s ≡ true

@@ -25,7 +25,7 @@ use Rattle.inv_covers.specs.model.Enqueue.{enqueue_move}
 use Rattle.inv_covers.specs.model.Dequeue.{dequeue_move}
 use Rattle.inv_covers.specs.model.Keep.{keep_move}
 use Rattle.inv_covers.specs.model.Steps.{work_move}
-use Rattle.inv_covers.specs.model.Calls.{ChangeKept, EnqueueKept, ScanAt, ReadGuard, GiveBack, GetAt, FindVersion, ChangeAt, LoadVersion, EnqueueAt, LoadNumber, DequeueAt, LoadTail, KeepAt, Loosens, LoadHeld, StoreHeld, Looks, Misses, Work, Getting, Changing, Enqueuing, Dequeuing, Keeping, Why, Phase, Idle, Runs, Scans, Works}
+use Rattle.inv_covers.specs.model.Calls.{ChangeKept, EnqueueKept, ScanAt, ReadGuard, GiveBack, GetAt, FindVersion, ChangeAt, LoadVersion, EnqueueAt, LoadNumber, DequeueAt, LoadTail, KeepAt, Loosens, LoadHeld, StoreHeld, Looks, Misses, HideSpan, MarkLeft, TakeList, MarkTaken, Work, Getting, Changing, Enqueuing, Dequeuing, Keeping, Why, Phase, Idle, Runs, Scans, Works}
 use Rattle.inv_covers.specs.model.World.{World, step}
 use Rattle.inv_requests.specs.Roles.{shows}
 use Rattle.inv_covers.specs.Covers.{eras_shown}
@@ -192,6 +192,10 @@ keep_shows k (LoadHeld from index) post = refl
 keep_shows k (StoreHeld from index era) post = refl
 keep_shows k (Looks index key at) post = get_shows k at
 keep_shows k (Misses index) post = refl
+keep_shows k HideSpan post = refl
+keep_shows k MarkLeft post = refl
+keep_shows k (TakeList place) post = refl
+keep_shows k (MarkTaken place count) post = refl
 
 work_shows : (k : ℕ) (work : Work) (post : Post) → keeps (work_move work post) (places.Helper k) ≡ true
 work_shows k (Getting key at) post = get_shows k at

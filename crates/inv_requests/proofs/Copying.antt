@@ -17,7 +17,7 @@ use Rattle.inv_shapes.specs.model.Memory as memory
 use Rattle.inv_shapes.specs.model.Posts.{counted, stands, reserves_index}
 use Rattle.inv_shapes.specs.model.Rounds.{scheme_of}
 use Rattle.inv_shapes.specs.model.Keep.{keep_move, keep_turn, copied, load_held}
-use Rattle.inv_shapes.specs.model.Calls.{Getting, Changing, Enqueuing, Dequeuing, KeepAt, Loosens, LoadHeld, StoreHeld, Looks, Misses, Work, Keeping, Works}
+use Rattle.inv_shapes.specs.model.Calls.{Getting, Changing, Enqueuing, Dequeuing, KeepAt, Loosens, LoadHeld, StoreHeld, Looks, Misses, HideSpan, MarkLeft, TakeList, MarkTaken, Work, Keeping, Works}
 use Rattle.inv_shapes.specs.model.Steps.{work_move, work_turn}
 use Rattle.inv_shapes.specs.model.Locals.{Local}
 use Rattle.inv_shapes.specs.Frame.{KeepFits, WorkFits, Left}
@@ -78,6 +78,10 @@ keep_made mem seat i v (LoadHeld from index) a q f = load_copied mem seat i v fr
 keep_made mem seat i v (StoreHeld from index era) a q f = store_copied mem seat i v from index era (found_by mem (keep_move (StoreHeld from index era) (seat i).post)) a q
 keep_made mem seat i v (Looks index key at) a q f = work_made mem seat i v (Keeping (Looks index key at)) (found_by mem (keep_move (Looks index key at) (seat i).post)) a q (get_leaves at) refl f tt
 keep_made mem seat i v (Misses index) a q f = work_made mem seat i v (Keeping (Misses index)) (found_by mem (keep_move (Misses index) (seat i).post)) a q refl refl f tt
+keep_made mem seat i v HideSpan a q f = work_made mem seat i v (Keeping HideSpan) (found_by mem (keep_move HideSpan (seat i).post)) a q refl refl f tt
+keep_made mem seat i v MarkLeft a q f = work_made mem seat i v (Keeping MarkLeft) (found_by mem (keep_move MarkLeft (seat i).post)) a q refl refl f tt
+keep_made mem seat i v (TakeList place) a q f = work_made mem seat i v (Keeping (TakeList place)) (found_by mem (keep_move (TakeList place) (seat i).post)) a q refl refl f tt
+keep_made mem seat i v (MarkTaken place count) a q f = work_made mem seat i v (Keeping (MarkTaken place count)) (found_by mem (keep_move (MarkTaken place count) (seat i).post)) a q refl refl f tt
 
 -- a call's own steps
 pub own_made : (mem : Place → ℕ) (seat : ℕ → Local) (i : ℕ) (v : View) (work : Work) → At mem seat i v → (seat i).phase ≡ Works work → WorkFits (counted (seat i).post) work

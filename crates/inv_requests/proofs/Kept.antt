@@ -1,7 +1,7 @@
 -- Each step of each seat keeps what holds of requests.
-use Rattle.std.proofs.Common.{ℕ, ◌≡◌, ◌≤◌, ◌<◌, ◌+◌, true, false, arith, refl, sym, ap, subst, ◌∙◌}
+use Rattle.std.proofs.Common.{ℕ, ◌≡◌, ◌≤◌, ◌<◌, ◌+◌, true, false, arith, refl, sym, ap, subst, ◌∙◌, Bool}
 use Rattle.std.proofs.lemmas.Bool.Decides.{nat_tests}
-use Rattle.std.specs.Prelude.{◌&&◌, nat_lt}
+use Rattle.std.specs.Prelude.{◌&&◌, nat_lt, if◌then◌else◌, ◌==◌}
 use Rattle.inv_shapes.specs.words.Place.{Place, has, is_valid}
 use Rattle.inv_shapes.specs.words.Place.Place.{Clock, Helper, Index, Request}
 use Rattle.inv_shapes.specs.defs.declared.event.Root.{Root}
@@ -12,24 +12,24 @@ use Rattle.inv_shapes.specs.model.Posts.{counted, tag_of, new_post}
 use Rattle.inv_shapes.specs.model.Phases.{Aim, Tries, Endless, Failed, ProtectAt, MoveAt, Base, Base as bases}
 use Rattle.inv_shapes.specs.model.Calls.{Why, Phase, Idle, Runs, Opens, FollowsHead, Scans, Works}
 use Rattle.inv_shapes.specs.model.Steps.{run_turn, phase_move, phase_turn}
-use Rattle.inv_shapes.specs.model.Locals.{Local, busy_in, begun}
+use Rattle.inv_shapes.specs.model.Locals.{Local, busy_in, begun, settled, turn}
 use Rattle.inv_shapes.specs.model.Machine.{protect_move, protect_turn, move_move, move_turn, base_move, after}
 use Rattle.inv_shapes.specs.Frame.{Moves}
 use Rattle.inv_shapes.specs.words.declared.layout.Layout.{Layout}
 use Rattle.inv_shapes.specs.defs.declared.call.Call.{Call}
 use Rattle.inv_shapes.specs.model.Phases.ProtectAt.{LoadClock, PublishEra, LoadLink, CheckClock, PublishRequest, LoadOwnClock, PublishHelper, LoadOwnLink, CheckOwnClock, AnswerOwn, LoadAnswer, TakeAnswer, WithdrawRequest, WithdrawHelper, LoadWithin, CheckUpper, RaiseUpper}
 use Rattle.inv_shapes.specs.model.Phases.MoveAt.{LoadEra, LoadRequest, ShowEra, LoadAsked, CheckEra, AnswerAsked, LoadReserved, HandOver, HideEra, HideLate, ExchangeClock}
-use Rattle.inv_shapes.specs.model.World.{World, step, begin, start, is_busy}
+use Rattle.inv_shapes.specs.model.World.{World, step, begin, start, is_busy, gift_at, offered, finds}
 use Rattle.inv_shapes.proofs.model.Ranges.{bounds_of}
 use Rattle.inv_shapes.specs.words.Schemes.{helps}
 use Rattle.inv_shapes.specs.Seats.{kind_of, suits, base_fits, protect_fits, Seats, PostFits, PhaseFits, Shaped, root_by}
 use Rattle.inv_shapes.proofs.Inside.{shape_moves}
 use Rattle.inv_shapes.proofs.Kept.{counted_fits, run_counted, work_counted}
-use Rattle.inv_requests.specs.Views.{View, Role, Role as roles}
+use Rattle.inv_requests.specs.Views.{View, Role, Role as roles, Deal}
 use Rattle.inv_requests.specs.Views.Deal.{Quiet}
 use Rattle.inv_requests.specs.Roles.{is_turn}
 use Rattle.inv_requests.specs.Paces.{paced, base_paced, phase_paced, first_paced, Paces}
-use Rattle.inv_requests.specs.Standing.{has_failed, protect_role, move_role, base_role, role_of, Facts}
+use Rattle.inv_requests.specs.Standing.{has_failed, protect_role, move_role, base_role, role_of, Facts, is_there}
 use Rattle.inv_requests.specs.NextDeals.{protect_deals, move_deals, base_deals, phase_deals, next_deals}
 use Rattle.inv_requests.specs.Turns.{Dealt, Made, StandsAfter}
 use Rattle.inv_requests.specs.Context.{At, guards_there, phase_there}
@@ -209,13 +209,46 @@ at_of w i v y b s n f =
       alone = λ k h. subst (λ (r : Role). is_turn r ≡ false) (f.locals.roles k) (phase_alone w.layout (w.seat k).phase (w.seat k).post (s.fits k).phase (subst (λ (l : Layout). helps l.config.scheme ≡ false) (sym e) h));
     }
 
+-- the list that the seat may take over is laid into the desks; requests and helping know none
+abbrev laid : World → ℕ → ℕ → Local
+laid w i = λ k. record (w.seat k) { desk = record (w.seat k).desk { gift = gift_at w.seat (w.seat i).phase } }
+
+laid_facts : (w : World) (i : ℕ) (layout : Layout) (v : View) → Facts layout w.mem w.seat v → Facts layout w.mem (laid w i) v
+laid_facts w i layout v f = record { words = f.words; locals = record { tags = f.locals.tags; roles = f.locals.roles; there = f.locals.there }; parts = f.parts }
+
+laid_at : (w : World) (i : ℕ) (v : View) → At w.mem w.seat i v → At w.mem (laid w i) i v
+laid_at w i v a = record { facts = laid_facts w i (w.seat i).post.layout v a.facts; below = a.below; number = a.number; eight = a.eight; valid = a.valid; inside = a.inside; links = a.links; alone = a.alone }
+
+-- a fact of the seats after a step, but for the desks
+unlaid : (w : World) (i : ℕ) (l : Local) (P : ℕ → Post → Phase → Type 0) → ((k : ℕ) → P k (upd (laid w i) i l k).post (upd (laid w i) i l k).phase) → (k : ℕ) → P k (upd w.seat i l k).post (upd w.seat i l k).phase
+unlaid w i l P h k = by (k == i) (h k)
+  where
+    by : (b : Bool) → P k (if b then l else laid w i k).post (if b then l else laid w i k).phase → P k (if b then l else w.seat k).post (if b then l else w.seat k).phase
+    by true p = p
+    by false p = p
+
+unlaid_facts : (w : World) (i : ℕ) (l : Local) (layout : Layout) (mem : Place → ℕ) (v : View) → Facts layout mem (upd (laid w i) i l) v → Facts layout mem (upd w.seat i l) v
+unlaid_facts w i l layout mem v f = record {
+  words = f.words;
+  locals = record {
+    tags = λ k j. unlaid w i l (λ n post phase. tag_of post j ≡ v.tag n j) (λ n. f.locals.tags n j) k;
+    roles = unlaid w i l (λ n post phase. role_of layout phase ≡ v.role n) f.locals.roles;
+    there = unlaid w i l (λ n post phase. is_there layout phase ≡ true) f.locals.there;
+  };
+  parts = f.parts;
+}
+
+unlaid_dealt : (w : World) (i : ℕ) (l : Local) (layout : Layout) (mem : Place → ℕ) (deals : ℕ → Deal) → (v : View) × Dealt layout mem (upd (laid w i) i l) deals v → (v : View) × Dealt layout mem (upd w.seat i l) deals v
+unlaid_dealt w i l layout mem deals (v, d) = (v, record { facts = unlaid_facts w i l layout mem v d.facts; deal = d.deal })
+
 -- one step of a seat
 pub requests_step : (w : World) (i : ℕ) (v : View) → is_valid w.layout ≡ true → i < w.layout.config.seats → Seats w → Paces w → Needs w → Facts w.layout w.mem w.seat v → StandsAfter (step w i) (next_deals w i v.deal)
 requests_step w i v y b s p n f =
     let q = s.fits i in
     let e = q.post.layout in
     subst (λ (l : Layout). (u : View) × Dealt l (step w i).mem (step w i).seat (next_deals w i v.deal) u) e
-    (phase_made w.mem w.seat i v w.layout (w.seat i).phase y e q.post q.phase (p.paced i) (at_of w i v y b s n f) refl)
+    (unlaid_dealt w i (settled (offered w i) (turn (offered w i) (finds w i))) (w.seat i).post.layout (step w i).mem (next_deals w i v.deal)
+    (phase_made w.mem (laid w i) i v w.layout (w.seat i).phase y e q.post q.phase (p.paced i) (laid_at w i v (at_of w i v y b s n f)) refl))
 
 -- a seat between calls
 pub idle_of : (phase : Phase) → busy_in phase ≡ false → phase ≡ Idle

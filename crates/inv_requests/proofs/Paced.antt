@@ -32,7 +32,7 @@ use Rattle.inv_shapes.specs.model.SlowPath.{asking}
 use Rattle.inv_shapes.specs.model.WriteRow.{last_written}
 use Rattle.inv_shapes.specs.model.Calls.{LoadHeld, Work, Keeping, Why, Phase, Idle, Runs, Scans, Works}
 use Rattle.inv_shapes.specs.model.Locals.{Local}
-use Rattle.inv_shapes.specs.model.World.{World, start, begin, step, finds}
+use Rattle.inv_shapes.specs.model.World.{World, start, begin, step, finds, offered}
 use Rattle.inv_shapes.specs.Frame.{StepsOn, Stores, Grows, Owes, Moves}
 use Rattle.inv_shapes.specs.words.Schemes.{counts_tries}
 use Rattle.inv_shapes.proofs.words.Schemes.{no_counts_by_clock, no_counts_in_interval}
@@ -41,7 +41,7 @@ use Rattle.inv_shapes.specs.Seats.{PostFits, PhaseFits, Run, Seats, protect_fits
 use Rattle.inv_shapes.proofs.Frame.{seat_stays, seat_steps, begin_stays, begin_begins, after_seated, begun_seated, moves_with}
 use Rattle.inv_shapes.proofs.Shapes.{shape_grows}
 use Rattle.inv_shapes.proofs.Inside.{shape_moves}
-use Rattle.inv_shapes.proofs.Kept.{counted_fits, run_counted, work_counted, one_moves, begun_fits}
+use Rattle.inv_shapes.proofs.Kept.{counted_fits, run_counted, work_counted, one_moves, begun_fits, bared_fits}
 use Rattle.inv_requests.specs.Paces.{paced, reload_paced, base_paced, phase_paced, Paces, InTime}
 use Rattle.inv_requests.proofs.Paces.{Any, InPace, bump_near, protect_pace}
 use Rattle.inv_shapes.proofs.model.Facts.{if_by}
@@ -159,12 +159,12 @@ owed layout k v Idle post found q f p = counted_fits layout k post q
 owed layout k v (Runs why base) post found q f p = run_paced layout k v why base (counted post) found (counted_fits layout k post q) (run_counted layout why base post f) p
 owed layout k v (Scans later at) post found q f p = counted_fits layout k post q
 owed layout k v (Works work) post found q f p =
-    record { post = counted_fits layout k post q; fits = work_counted work post f; stores = stores_pace layout.config (counted post) found work }
+    record { post = bared_fits layout k work (counted post) (counted_fits layout k post q); fits = work_counted work post f; stores = stores_pace layout.config (counted post) found work }
 
 seat_paced : (w : World) (i : ℕ) → is_valid w.layout ≡ true → Seats w → Paces w → phase_paced w.layout.config ((step w i).seat i).phase ≡ true
 seat_paced w i v s p =
     let a = s.fits i in
-    let h = after_seated (pace_grows w.layout i v) (w.seat i) (finds w i) (owed w.layout i v (w.seat i).phase (w.seat i).post (finds w i) a.post a.phase (p.paced i)) in
+    let h = after_seated (pace_grows w.layout i v) (offered w i) (finds w i) (owed w.layout i v (w.seat i).phase (w.seat i).post (finds w i) a.post a.phase (p.paced i)) in
     subst (λ (l : Local). phase_paced w.layout.config l.phase ≡ true) (sym (seat_steps w i)) h.phase
 
 pub paces_step : (w : World) (i : ℕ) → is_valid w.layout ≡ true → Seats w → Paces w → Paces (step w i)

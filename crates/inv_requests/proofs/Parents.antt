@@ -13,7 +13,7 @@ use Rattle.inv_shapes.specs.model.Machine.{after}
 use Rattle.inv_shapes.specs.model.Calls.{Why, Opens, FollowsHead, Work, Getting, Changing, Enqueuing, Dequeuing, Keeping, Phase, Idle, Runs, Scans, Works}
 use Rattle.inv_shapes.specs.model.Steps.{resumed, phase_turn}
 use Rattle.inv_shapes.specs.model.Locals.{Local, begun_post, turn}
-use Rattle.inv_shapes.specs.model.World.{World, start, begin, step, finds}
+use Rattle.inv_shapes.specs.model.World.{World, start, begin, step, finds, offered}
 use Rattle.inv_shapes.specs.Seats.{PostFits, PhaseFits, Seats}
 use Rattle.inv_shapes.proofs.Frame.{seat_stays, seat_steps, begin_stays, begin_begins, settled_seated}
 use Rattle.inv_shapes.proofs.Kept.{counted_fits, run_counted, one_moves}
@@ -63,8 +63,8 @@ Stand post phase = phase_stands phase post
 seat_stands : (w : World) (i : ℕ) → Seats w → Parents w → phase_stands ((step w i).seat i).phase ((step w i).seat i).post
 seat_stands w i s p =
     let a = s.fits i in
-    let h = turn_stands w.layout i (w.seat i).phase (w.seat i).post (w.seat i).desk (finds w i) a.post a.phase (p.stand i) in
-    let l = settled_seated {Q = Any} {P = Stand} (w.seat i) (turn (w.seat i) (finds w i)) (record { post = tt; phase = h.stand }) in
+    let h = turn_stands w.layout i (w.seat i).phase (w.seat i).post (offered w i).desk (finds w i) a.post a.phase (p.stand i) in
+    let l = settled_seated {Q = Any} {P = Stand} (offered w i) (turn (offered w i) (finds w i)) (record { post = tt; phase = h.stand }) in
     subst (λ (x : Local). phase_stands x.phase x.post) (sym (seat_steps w i)) l.phase
 
 pub parents_step : (w : World) (i : ℕ) → Seats w → Parents w → Parents (step w i)

@@ -12,11 +12,11 @@ use Rattle.inv_shapes.specs.model.Memory.{upd, written, put, bump, Move}
 use Rattle.inv_shapes.specs.model.Memory as memory
 use Rattle.inv_shapes.specs.model.Posts.{counted, index_word, upper, with_row}
 use Rattle.inv_shapes.specs.model.Phases.{Aim, Base, Turn, goes, ends, BeginAt, AllocateAt, RetireAt, RowOf, Walk, Alone, Follows, Base as bases}
-use Rattle.inv_shapes.specs.model.Calls.{Why, Phase, Idle, Runs, CallTurn, Scans, Works, Work, AfterScan, ScanAt, ReadGuard, GiveBack, GetAt, ChangeAt, EnqueueAt, DequeueAt, ChangeKept, EnqueueKept, FindVersion, FindCount, FindKey, FindValue, LoadVersion, LoadCount, LoadKey, LoadValue, ExchangeRoot, LoadNumber, LoadNext, PassTail, ExchangeNext, ExchangeTail, LoadTail, SwingTail, TakeNumber, TakeValue, ExchangeHead}
+use Rattle.inv_shapes.specs.model.Calls.{Why, Phase, Idle, Runs, CallTurn, Scans, Works, Work, AfterScan, ScanAt, ReadGuard, GiveBack, GetAt, ChangeAt, EnqueueAt, DequeueAt, ChangeKept, EnqueueKept, FindVersion, FindCount, FindKey, FindValue, LoadVersion, LoadCount, LoadKey, LoadValue, ExchangeRoot, LoadNumber, LoadNext, PassTail, ExchangeNext, ExchangeTail, LoadTail, SwingTail, TakeNumber, TakeValue, ExchangeHead, KeepAt, Keeping, HideSpan}
 use Rattle.inv_shapes.specs.model.Steps.{run_turn, work_move, work_turn}
 use Rattle.inv_shapes.specs.model.Locals.{Local}
 use Rattle.inv_shapes.specs.model.Machine.{protect_move, protect_turn, base_move, after}
-use Rattle.inv_shapes.specs.Frame.{WorkFits, Stores, Moves, StepsOn, Left}
+use Rattle.inv_shapes.specs.Frame.{WorkFits, Stores, Moves, StepsOn, Left, bared}
 use Rattle.inv_shapes.specs.words.declared.layout.Layout.{Layout}
 use Rattle.inv_shapes.specs.defs.declared.event.Event.TheVariants as events
 use Rattle.inv_shapes.specs.model.declared.ends.FollowEnd.TheVariants as follow_ends
@@ -250,13 +250,22 @@ dequeue_leaves (TakeNumber head next) = refl
 dequeue_leaves (TakeValue head next number) = refl
 dequeue_leaves (ExchangeHead head next number value) = refl
 
+-- what is let go with the interval leaves table and tags
+keep_bared : (layout : Layout) (tags : List ℕ) (at : KeepAt) (post : Post) → PostOf layout tags post → PostOf layout tags (bared (Keeping at) post)
+keep_bared layout tags HideSpan post p = record { table = p.table; guarded = p.guarded; kept = p.kept }
+keep_bared layout tags at post p = p
+
+work_bared : (layout : Layout) (tags : List ℕ) (work : Work) (post : Post) → PostOf layout tags post → PostOf layout tags (bared work post)
+work_bared layout tags (Keeping at) post p = keep_bared layout tags at post p
+work_bared layout tags work post p = p
+
 -- a call's own step that is none of a copy
 pub work_made : (mem : Place → ℕ) (seat : ℕ → Local) (i : ℕ) (v : View) (work : Work) (found : ℕ) → At mem seat i v → (seat i).phase ≡ Works work → leaves (work_move work (seat i).post) ≡ true → work_role work ≡ roles.Away
     → WorkFits (counted (seat i).post) work
     → Stores (RoleOf (seat i).post.layout roles.Away) (counted (seat i).post) found work
     → Made mem seat i (work_move work (seat i).post) (work_turn work (counted (seat i).post) (seat i).desk found) v.deal
 work_made mem seat i v work found a q h r f n = call_made mem seat i v (Works work) (work_move work (seat i).post) (work_turn work (counted (seat i).post) (seat i).desk found) a q r h
-    (work_left (away (seat i).post.layout (seat i).post.tags) work (counted (seat i).post) (seat i).desk found f n (own_post mem seat i v a))
+    (work_left (away (seat i).post.layout (seat i).post.tags) work (counted (seat i).post) (seat i).desk found f n (work_bared (seat i).post.layout (seat i).post.tags work (counted (seat i).post) (own_post mem seat i v a)))
 
 scan_leaves : (at : ScanAt) (post : Post) → leaves (scan_move at post) ≡ true
 scan_leaves (ReadGuard number) post = refl

@@ -1,5 +1,5 @@
 -- After a machine, and after a call's own step, the parent of a followed link stands.
-use Rattle.std.proofs.Common.{ℕ, ◌≡◌, ◌+◌, Bool, true, false, List, [], ◌∷◌, ◌++◌, length}
+use Rattle.std.proofs.Common.{ℕ, ◌≡◌, ◌+◌, Bool, true, false, List, [], ◌∷◌, ◌++◌, length, drop}
 use Rattle.std.specs.Prelude.{◌==◌, ◌%◌, ◌-◌, nat_lt, Option, Some, None}
 use Rattle.inv_shapes.specs.words.Schemes.{has_one_interval}
 use Rattle.inv_shapes.specs.words.declared.config.SchemeKind.{SchemeKind}
@@ -22,7 +22,8 @@ use Rattle.inv_shapes.specs.model.declared.ends.ProtectEnd.TheVariants as protec
 use Rattle.inv_shapes.specs.model.declared.post.Post.{Post}
 use Rattle.inv_shapes.specs.model.Desks.{Desk, with_life}
 use Rattle.inv_shapes.specs.model.Guards.{guards, guard_at, eras_in}
-use Rattle.inv_shapes.specs.model.Posts.{cleared, reserves_index, stands, withdrawn}
+use Rattle.inv_shapes.specs.model.Posts.{cleared, reserves_index, stands, withdrawn, standing_from}
+use Rattle.inv_shapes.proofs.model.Facts.{if_by}
 use Rattle.inv_shapes.specs.model.Phases.{Base, Ending}
 use Rattle.inv_shapes.specs.model.Phases.Ending.{Done, Protected, Followed, Allocated, Retired, Clocked}
 use Rattle.inv_shapes.specs.model.Rounds.{bucket_of, scheme_of, index_of, taken_of, begin_span, begin_base, protect_at, finish_base, clear_base, clear_post, clear_told, round_by, round, given_up, closed, finishing_by, finishing, clearing_by, clearing, clearing_next_by, clearing_next, let_index, letting_by, letting, release_base}
@@ -33,7 +34,7 @@ use Rattle.inv_shapes.specs.model.Dequeue as dequeues
 use Rattle.inv_shapes.specs.model.Keep as keeps
 use Rattle.inv_shapes.specs.model.Scan as scan
 use Rattle.inv_shapes.specs.model.Steps as steps
-use Rattle.inv_shapes.specs.model.Calls.{Task, Gets, Changes, Holds, Enqueues, Dequeues, Next, Again, MakeRoom, Answering, Retiring, AfterScan, Answered, Repeated, Counted, Why, ChangeKept, EnqueueKept, GetAt, FindVersion, FindCount, FindKey, FindValue, ChangeAt, LoadVersion, LoadCount, LoadKey, LoadValue, ExchangeRoot, EnqueueAt, LoadNumber, LoadNext, PassTail, ExchangeNext, ExchangeTail, DequeueAt, LoadTail, SwingTail, TakeNumber, TakeValue, ExchangeHead, LetGo, Released, Rehold, Dropped, KeepAt, Loosens, LoadHeld, StoreHeld, Looks, Misses, Work, Getting, Changing, Enqueuing, Dequeuing, Keeping, ScanAt, ReadGuard, GiveBack, Opens, FollowsHead, Fills, ClearsNext, Clears, Finishes, GivesUp, Retires, Tidies, Advances, Releases}
+use Rattle.inv_shapes.specs.model.Calls.{Task, Gets, Changes, Holds, Enqueues, Dequeues, Next, Again, MakeRoom, Answering, Retiring, AfterScan, Answered, Repeated, Counted, Why, ChangeKept, EnqueueKept, GetAt, FindVersion, FindCount, FindKey, FindValue, ChangeAt, LoadVersion, LoadCount, LoadKey, LoadValue, ExchangeRoot, EnqueueAt, LoadNumber, LoadNext, PassTail, ExchangeNext, ExchangeTail, DequeueAt, LoadTail, SwingTail, TakeNumber, TakeValue, ExchangeHead, LetGo, Released, Rehold, Dropped, Parting, KeepAt, Loosens, LoadHeld, StoreHeld, Looks, Misses, HideSpan, MarkLeft, TakeList, MarkTaken, Work, Getting, Changing, Enqueuing, Dequeuing, Keeping, ScanAt, ReadGuard, GiveBack, Opens, FollowsHead, Fills, ClearsNext, Clears, Finishes, GivesUp, Retires, Tidies, Advances, Releases, Phase}
 use Rattle.inv_requests.specs.Parents.{protect_stands, phase_stands, head_in, work_stands, ended, why_ended, TurnStands}
 use Rattle.inv_shapes.proofs.model.Schemes.{each_begin}
 
@@ -176,10 +177,30 @@ letting_by_stands let_go (Some base) post = tt
 letting_stands : (let_go : LetGo) (post : Post) → phase_stands (letting let_go post) post
 letting_stands let_go post = letting_by_stands let_go (release_base (scheme_of post) post (let_index let_go)) post
 
+-- a seat leaves
+parting_stands : (x : Option ℕ) (post : Post) → phase_stands (keeps.parting_index x) post
+parting_stands None post = tt
+parting_stands (Some index) post = tt
+
+parting_span_stands : (x : Option Interval) (post : Post) → phase_stands (keeps.parting_span x) post
+parting_span_stands None post = tt
+parting_span_stands (Some span) post = tt
+
+leaving_stands : (post : Post) → phase_stands (keeps.parting post) post
+leaving_stands post =
+    if_by (has_one_interval (scheme_of post)) (keeps.parting_span post.span) (keeps.parting_from 2 post) (λ (phase : Phase). phase_stands phase post)
+    (λ e. parting_span_stands post.span post)
+    (λ e. parting_stands (standing_from 2 (drop 2 post.standing)) post)
+
+taking_stands : (place : ℕ) (post : Post) (desk : Desk) (left : Bool) (found : ℕ) → TurnStands (keeps.taking place post desk left found)
+taking_stands place post desk true found = record { stand = tt }
+taking_stands place post desk false found = record { stand = tt }
+
 released_stands : (let_go : LetGo) (post : Post) (desk : Desk) (told : List Event) → TurnStands (keeps.released let_go post desk told)
 released_stands Released post desk told = record { stand = tt }
 released_stands (Rehold key) post desk told = record { stand = round_stands (Holds key) post }
 released_stands (Dropped index) post desk told = record { stand = tt }
+released_stands (Parting index) post desk told = record { stand = parting_stands (standing_from (index + 1) (drop (index + 1) post.standing)) post }
 
 copied_stands : (from index : ℕ) (post : Post) (desk : Desk) (reserved : List Event) (kept : Option ℕ) → TurnStands (keeps.copied from index post desk reserved kept)
 copied_stands from index post desk reserved None = record { stand = tt }
@@ -209,6 +230,10 @@ keep_stands (LoadHeld from index) post desk found = load_held_stands from index 
 keep_stands (StoreHeld from index era) post desk found = copied_stands from index post desk (reserves_index post index era) (stands post from)
 keep_stands (Looks index key at) post desk found = look_stands index key at post desk found
 keep_stands (Misses index) post desk found = record { stand = tt }
+keep_stands HideSpan post desk found = record { stand = tt }
+keep_stands MarkLeft post desk found = record { stand = tt }
+keep_stands (TakeList place) post desk found = taking_stands place post desk (found == 1) found
+keep_stands (MarkTaken place count) post desk found = record { stand = tt }
 
 pub work_turn_stands : (work : Work) (post : Post) (desk : Desk) (found : ℕ) → work_stands work post → TurnStands (steps.work_turn work post desk found)
 work_turn_stands (Getting key at) post desk found h = get_stands key at post desk found
@@ -375,3 +400,5 @@ first_stands (names.Copy from index) post = copying_stands from index post (stan
 first_stands (names.DropIndex index) post = letting_stands (Dropped index) post
 first_stands (names.Look index key) post = looking_at_stands index key post (stands post index)
 first_stands (names.PutIf key value version) post = begin_stands _ post (scheme_of post)
+first_stands names.Leave post = leaving_stands post
+first_stands (names.Adopt place) post = tt

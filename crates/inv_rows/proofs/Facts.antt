@@ -1,10 +1,12 @@
 -- What is known of the rows gives what the code of a step rests on.
-use Rattle.std.proofs.Common.{ℕ, zero, suc, ◌≤◌, ◌+◌, ◌<◌, ◌≡◌, Bool, true, false, arith, refl, ap, sym, subst, List, [], ◌∷◌, ◌∙◌, ◌||◌, slice_get, None, ◌&&◌}
+use Rattle.std.proofs.Common.{ℕ, zero, suc, ◌≤◌, ◌+◌, ◌<◌, ◌≡◌, Bool, true, false, arith, refl, ap, sym, subst, List, [], ◌∷◌, ◌∙◌, ◌||◌, slice_get, None, ◌&&◌, ◌++◌, ◌⊎◌, inl, inr}
+use Rattle.std.proofs.lemmas.Map.Steps.{length-le_from_distinct_below}
+use Rattle.wfe_core.proofs.Lists.{slots_length}
 use Rattle.std.proofs.lemmas.Bool.Decides.{nat_tests}
 use Rattle.std.specs.Prelude.{◌==◌, Some}
 use Rattle.std.specs.List.{IsDistinct, AllByRecursion, list_any}
 use Rattle.wfe_core.specs.words.Place.{Place}
-use Rattle.wfe_core.specs.words.Place.Place.{Life, Row}
+use Rattle.wfe_core.specs.words.Place.Place.{Life, Row, PlaceOf}
 use Rattle.wfe_core.specs.words.Packed.{halves}
 use Rattle.wfe_core.specs.defs.declared.call.Answer.{Answer}
 use Rattle.wfe_core.specs.defs.declared.lifetime.Lifetime.{Lifetime}
@@ -15,22 +17,28 @@ use Rattle.wfe_core.specs.Machine as machine
 use Rattle.wfe_core.specs.Phases.{Base}
 use Rattle.wfe_core.specs.Phases.RetireAt.{LoadLife, LoadRetire, StoreRetired}
 use Rattle.wfe_core.specs.Phases.Base.{Begin, Protect, Reload, Clear, Finish, Release, Allocate, Write, GiveUp, Retire, Move}
-use Rattle.wfe_core.specs.Calls.{Why, Opens, FollowsHead, Fills, ClearsNext, Clears, Finishes, GivesUp, Retires, Tidies, Advances, Releases, AfterScan, GiveBack, Phase, Runs, Scans, EnqueueKept, LoadNumber, PassTail, LoadTail, Enqueuing, Dequeuing, Works}
-use Rattle.wfe_core.specs.World.{finds, step}
+use Rattle.wfe_core.specs.Calls.{Why, Opens, FollowsHead, Fills, ClearsNext, Clears, Finishes, GivesUp, Retires, Tidies, Advances, Releases, AfterScan, GiveBack, Phase, Runs, Scans, EnqueueKept, LoadNumber, PassTail, LoadTail, Enqueuing, Dequeuing, Works, Keeping, TakeList}
+use Rattle.wfe_core.specs.Memory as memory
+use Rattle.wfe_core.specs.Memory.{place_in}
+use Rattle.wfe_core.specs.Steps.{phase_move}
+use Rattle.wfe_core.specs.Locals.{busy_in}
+use Rattle.wfe_core.specs.World.{finds, step, offered, list_in}
 use Rattle.inv_rows.specs.Rows.{Status, View, Good, has_life}
 use Rattle.inv_rows.specs.Rows.Status.{Cut, Sealed, Listed}
 use Rattle.inv_rows.specs.Rows.Hand.{Old}
 use Rattle.inv_rows.specs.Hands.{in_list, no_entry, each_once, stands_at}
 use Rattle.inv_rows.specs.Agree.{Words, Plays, rows_after}
-use Rattle.inv_rows.specs.Facts.{RowsShow, QueueShows, LinedStays, QueueEnds}
-use Rattle.inv_rows.proofs.Lists.{no_entry_from}
+use Rattle.inv_rows.specs.Facts.{Listing, RowsShow, QueueShows, LinedStays, QueueEnds}
+use Rattle.inv_rows.proofs.Lists.{no_entry_from, in_list_joined, once_joined}
+use Rattle.inv_rows.proofs.Kept.{list_here, offers, busy_plays}
+use Rattle.inv_rows.proofs.Phases.{Offers, gift_apart}
 use Rattle.inv_rows.proofs.Runs.{only_fills}
 use Rattle.inv_rows.proofs.Steps.{of_old, of_known, of_dated, life_cut, old_life}
 use Rattle.inv_rows.proofs.Queued.{queue_needs, far_by, world_went}
 use Rattle.inv_rows.proofs.Went.{Others, Went}
 use Rattle.inv_rows.specs.Queue.{Line, in_queue, blanks_in, line_move}
 use Rattle.wfe_core.specs.Locals.{turn}
-use Rattle.wfe_core.proofs.Facts.{same_number, value_there, same_both, no_truth}
+use Rattle.wfe_core.proofs.Facts.{same_number, value_there, same_both, same_test, no_truth, either_true}
 
 -- the list as contracts see it
 not_listed : (s : ℕ) (lives : List Lifetime) → no_entry s lives ≡ true → list_any (◌==◌ s) (slots_of lives) ≡ false
@@ -137,16 +145,52 @@ loads_life slots k mem v (Releases let_go) slot lives g w p = absurd (no_truth p
 loads_life slots k mem v (Retires answer) slot lives g w p = life_stored slots k mem v slot g w p.hand
 loads_life slots k mem v (Fills task) slot lives g w p = absurd (no_truth (only_fills task (Retire (LoadLife slot)) p.right))
 
+-- of a list in which no row is twice
+listing : (slots : ℕ) (lives : List Lifetime) → each_once lives ≡ true → ((slot : ℕ) → list_any (◌==◌ slot) (slots_of lives) ≡ true → slot < slots + 1) → Listing slots lives
+listing slots lives o f =
+    let apart : IsDistinct ◌==◌ (slots_of lives) = once_apart lives o in
+    record { apart = apart; below = f; short = rw (← slots_length lives) (length-le_from_distinct_below (slots_of lives) (slots + 1) apart f) }
+
+-- each entry of a list and of one that is taken over is one of the table's
+listed_below : (slots k s b r : ℕ) (v : View) → Good slots v → v.lists k s b r ≡ true → s < slots + 1
+listed_below slots k s b r v g h =
+    let listed : v.status s ≡ Listed k r = g.listed k s b r h in
+    let inside : s ≤ slots = g.inside s (rw listed refl) in omega arith
+
+gained_below : (slots k place : ℕ) (v : View) (phase : Phase) (list gift : List Lifetime) (s : ℕ) → Good slots v → Plays k phase list v → ((s b r : ℕ) → v.lists place s b r ≡ in_list gift s b r) → list_any (◌==◌ s) (slots_of (list ++ gift)) ≡ true → s < slots + 1
+gained_below slots k place v phase list gift s g p f h =
+    let e : Entry s (list ++ gift) = any_entry s (list ++ gift) h in
+    by_list e.birth e.retire (either_true (in_list list s e.birth e.retire) (in_list gift s e.birth e.retire) (sym (in_list_joined list gift s e.birth e.retire) ∙ e.listed))
+  where
+    by_list : (b r : ℕ) → (in_list list s b r ≡ true) ⊎ (in_list gift s b r ≡ true) → s < slots + 1
+    by_list b r (inl u) = listed_below slots k s b r v g (p.lists s b r ∙ u)
+    by_list b r (inr u) = listed_below slots place s b r v g (f s b r ∙ u)
+
+gained : (slots k : ℕ) (mem : Place → ℕ) (v : View) (list gift : List Lifetime) (phase : Phase) (place : ℕ) → phase ≡ Works (Keeping (TakeList place)) → mem (PlaceOf place) ≡ 1 → Offers k mem v phase gift → Good slots v → Plays k phase list v → Listing slots (list ++ gift)
+gained slots k mem v list gift phase place e one o g p =
+    listing
+    slots
+    (list ++ gift)
+    (once_joined list gift (gift_apart slots k v phase list gift place g p (λ s b r. o.lists place s b r e one) (o.apart place e one)) p.once (o.once place e one))
+    (λ slot h. gained_below slots k place v phase list gift slot g p (λ s b r. o.lists place s b r e one) h)
+
 pub rows_show : RowsShow
 rows_show w v k a =
-    let plays : Plays k (w.seat k).phase (w.seat k).desk.list v = a.plays k in
+    let slots : ℕ = w.layout.config.slots in
+    let plays : Plays k (w.seat k).phase (list_in w k) v = a.plays k in
     let P : Phase → Type 0 = λ y. Plays k y (w.seat k).desk.list v in
+    let Q : Phase → Type 0 = λ y. Plays k y (list_in w k) v in
+    let found_at : Phase → ℕ = λ y. memory.found (phase_move y (w.seat k).post) (w.mem (place_in (phase_move y (w.seat k).post))) in
     record {
-      apart = once_apart (w.seat k).desk.list plays.once;
-      below = λ slot e. list_below w.layout.config.slots k v (w.seat k).phase (w.seat k).desk.list slot a.good plays e;
-      retires = λ answer base e. retire_apart w.layout.config.slots k v answer base (w.seat k).desk a.good (subst P e plays);
-      lives = λ why slot e. loads_life w.layout.config.slots k w.mem v why slot (w.seat k).desk.list a.good a.words (subst P e plays);
-      backs = λ later place slot e. back_there k v later place slot (w.seat k).desk.list (subst P e plays);
+      here = λ b. same_test (w.mem (PlaceOf k)) 0 ((a.present k).here b);
+      own = λ b. list_here (w.mem (PlaceOf k)) (w.seat k).desk.list ((a.present k).here b);
+      apart = once_apart (list_in w k) plays.once;
+      below = λ slot e. list_below slots k v (w.seat k).phase (list_in w k) slot a.good plays e;
+      kept = λ b. let p : Plays k (w.seat k).phase (w.seat k).desk.list v = busy_plays w k v b a in listing slots (w.seat k).desk.list p.once (λ slot e. list_below slots k v (w.seat k).phase (w.seat k).desk.list slot a.good p e);
+      gains = λ place e one. gained slots k w.mem v (w.seat k).desk.list (offered w k).desk.gift (w.seat k).phase place e (sym (ap found_at e) ∙ one) (offers w k v (ap busy_in e) a) a.good (busy_plays w k v (ap busy_in e) a);
+      retires = λ answer base e. retire_apart slots k v answer base (w.seat k).desk a.good (subst P e (busy_plays w k v (ap busy_in e) a));
+      lives = λ why slot e. loads_life slots k w.mem v why slot (list_in w k) a.good a.words (subst Q e plays);
+      backs = λ later place slot e. back_there k v later place slot (w.seat k).desk.list (subst P e (busy_plays w k v (ap busy_in e) a));
     }
 
 pub queue_shows : QueueShows
@@ -170,7 +214,7 @@ link_some s link h x p u = grind (arith, nat_tests)
 
 pub lined_stays : LinedStays
 lined_stays w i v l s n b far e =
-    let went : Went i v (rows_after w i v) l (line_move (w.seat i).phase (finds w i)) w.mem (step w i).mem (turn (w.seat i) (finds w i)) = world_went w i v l n b in
+    let went : Went i v (rows_after w i v) l (line_move (w.seat i).phase (finds w i)) w.mem (step w i).mem (turn (offered w i) (finds w i)) = world_went w i v l n b in
     record {
       lined = (went.others (Works (Enqueuing (tail_kept s) LoadNumber)) (record { stood = λ h u. at_row l.lined s h e u; heads = λ h u k. cc; follows = λ h link u. cc; some = λ h link u. cc; leads = λ h u k. cc; blank = λ x u. cc; items = refl; loads = tt }) (far_by (w.seat i).phase (Works (Enqueuing (tail_kept s) LoadNumber)) (finds w i) far) (alone i v l (Works (Enqueuing (tail_kept s) LoadNumber)) (λ x. refl))).stood s (same_number s);
       heads = λ f q. (went.others (Works (Dequeuing (LoadTail s))) (record { stood = λ h u. at_row l.lined s h e u; heads = λ h u k. head_row v.head s h (λ y. in_queue (v.status y)) f u k; follows = λ h link u. cc; some = λ h link u. cc; leads = λ h u k. cc; blank = λ x u. cc; items = refl; loads = tt }) (far_by (w.seat i).phase (Works (Dequeuing (LoadTail s))) (finds w i) far) (alone i v l (Works (Dequeuing (LoadTail s))) (λ x. refl))).heads s (same_number s) q;

@@ -7,11 +7,11 @@ use Rattle.wfe_core.specs.defs.declared.lifetime.Lifetime.{Lifetime}
 use Rattle.wfe_core.specs.declared.post.Post.{Post}
 use Rattle.wfe_core.specs.Phases.{Base}
 use Rattle.wfe_core.specs.Change as alters
-use Rattle.wfe_core.specs.Calls.{Task, AfterScan, Why, Opens, FollowsHead, Fills, ClearsNext, Clears, Finishes, GivesUp, Retires, Tidies, Advances, Releases, ScanAt, ReadGuard, GiveBack, LoadVersion, LoadCount, LoadKey, LoadValue, ExchangeRoot, LoadNumber, LoadNext, PassTail, ExchangeNext, ExchangeTail, LoadTail, SwingTail, TakeNumber, TakeValue, ExchangeHead, Work, Getting, Changing, Enqueuing, Dequeuing, Phase, Idle, Runs, Scans, Works, Keeping}
+use Rattle.wfe_core.specs.Calls.{Task, AfterScan, Why, Opens, FollowsHead, Fills, ClearsNext, Clears, Finishes, GivesUp, Retires, Tidies, Advances, Releases, ScanAt, ReadGuard, GiveBack, LoadVersion, LoadCount, LoadKey, LoadValue, ExchangeRoot, LoadNumber, LoadNext, PassTail, ExchangeNext, ExchangeTail, LoadTail, SwingTail, TakeNumber, TakeValue, ExchangeHead, Work, Getting, Changing, Enqueuing, Dequeuing, Phase, Idle, Runs, Scans, Works, Loosens, LoadHeld, StoreHeld, Looks, Misses, HideSpan, MarkLeft, TakeList, MarkTaken, Keeping}
 use Rattle.inv_rows.specs.Hands.{is_plain, base_row, row_move, linked_row, work_row, scan_row}
 use Rattle.std.specs.Int.{bit_at}
 use Rattle.wfe_core.specs.words.Place.{Place, claim_word}
-use Rattle.wfe_core.specs.words.Place.Place.{Bucket, Head, Claim, Row}
+use Rattle.wfe_core.specs.words.Place.Place.{Bucket, Head, Claim, Row, PlaceOf}
 use Rattle.wfe_core.specs.Memory as memory
 use Rattle.wfe_core.specs.Memory.{place_in, written, upd}
 use Rattle.wfe_core.specs.Phases.AllocateAt.{LoadBirth, ClaimSlot, StoreLife}
@@ -20,9 +20,10 @@ use Rattle.wfe_core.specs.Phases.Base.{Begin, Protect, Reload, Clear, Finish, Re
 use Rattle.wfe_core.specs.Machine.{base_move}
 use Rattle.wfe_core.specs.Allocate.{is_claimed}
 use Rattle.wfe_core.specs.Steps.{phase_move, work_move}
-use Rattle.inv_rows.specs.Rows.{View, Good, RowMove, made}
+use Rattle.inv_rows.specs.Rows.{Status, View, Good, RowMove, made, passed}
+use Rattle.inv_rows.specs.Queue.{in_queue, is_past}
 use Rattle.inv_rows.specs.Rows.Status.{Free, Claimed, Born, Linked, InQueue, Cut, Sealed, Listed}
-use Rattle.inv_rows.specs.Rows.RowMove.{Stays, Claims, Bears, Drops, Links, Replaces, Appends, Pops, Reads, Seals, Lists, Returns}
+use Rattle.inv_rows.specs.Rows.RowMove.{Stays, Claims, Bears, Drops, Links, Replaces, Appends, Pops, Reads, Seals, Lists, Returns, Adopts}
 use Rattle.inv_rows.specs.Agree.{Words, Plays, Needs, claim_of}
 use Rattle.inv_rows.proofs.Lists.{Entered, stands_entered}
 use Rattle.inv_rows.proofs.Runs.{only_fills, taken_slot}
@@ -44,6 +45,7 @@ MoveFits i v (Reads slot birth) = Unit {0}
 MoveFits i v (Seals slot birth retire) = v.status slot ≡ Cut i
 MoveFits i v (Lists slot birth retire) = v.status slot ≡ Sealed i retire
 MoveFits i v (Returns slot) = (retire : ℕ) × (v.status slot ≡ Listed i retire)
+MoveFits i v (Adopts from) = Unit {0}
 
 claim_fits : (slots i word : ℕ) (v : View) (slot : ℕ) (shown : Bool) → is_claimed word slot ≡ shown → slot ≤ slots → bit_at word (slot % 64) ≡ claim_of slots (v.status slot) slot → MoveFits i v (if shown then Stays else Claims slot)
 claim_fits slots i word v slot true e below w = tt
@@ -126,6 +128,10 @@ run_fits slots i mem v (Tidies later) base post list n g w p = plain_fits i v ba
 run_fits slots i mem v Advances base post list n g w p = plain_fits i v base (memory.found (base_move base post) (mem (place_in (base_move base post)))) p.right
 run_fits slots i mem v (Releases let_go) base post list n g w p = plain_fits i v base (memory.found (base_move base post) (mem (place_in (base_move base post)))) p.right
 
+take_fits : (i : ℕ) (v : View) (place : ℕ) (left : Bool) → MoveFits i v (if left then Adopts place else Stays)
+take_fits i v place true = tt
+take_fits i v place false = tt
+
 work_fits : (slots i : ℕ) (mem : Place → ℕ) (v : View) (work : Work) (post : Post) (list : List Lifetime) → Good slots v → Words slots mem v → Plays i (Works work) list v → MoveFits i v (work_row work post (memory.found (work_move work post) (mem (place_in (work_move work post)))))
 work_fits slots i mem v (Getting key at) post list g w p = tt
 work_fits slots i mem v (Changing kept (LoadVersion slot)) post list g w p = tt
@@ -140,7 +146,15 @@ work_fits slots i mem v (Enqueuing kept (PassTail next)) post list g w p = tt
 work_fits slots i mem v (Enqueuing kept (ExchangeNext slot)) post list g w p =
     append_fits i v slot (mem (Row kept.tail 0) == 0) (of_taken slots v i slot g (p.hand ∙ taken_slot kept.taken slot p.right))
 work_fits slots i mem v (Enqueuing kept (ExchangeTail slot)) post list g w p = tt
-work_fits slots i mem v (Keeping at) post list g w p = tt
+work_fits slots i mem v (Keeping (Loosens let_go)) post list g w p = tt
+work_fits slots i mem v (Keeping (LoadHeld from index)) post list g w p = tt
+work_fits slots i mem v (Keeping (StoreHeld from index era)) post list g w p = tt
+work_fits slots i mem v (Keeping (Looks index key at)) post list g w p = tt
+work_fits slots i mem v (Keeping (Misses index)) post list g w p = tt
+work_fits slots i mem v (Keeping HideSpan) post list g w p = tt
+work_fits slots i mem v (Keeping MarkLeft) post list g w p = tt
+work_fits slots i mem v (Keeping (TakeList place)) post list g w p = take_fits i v place (mem (PlaceOf place) == 1)
+work_fits slots i mem v (Keeping (MarkTaken place count)) post list g w p = tt
 work_fits slots i mem v (Dequeuing (LoadTail head)) post list g w p = tt
 work_fits slots i mem v (Dequeuing (SwingTail head next)) post list g w p = tt
 work_fits slots i mem v (Dequeuing (TakeNumber head next)) post list g w p = tt
@@ -172,12 +186,33 @@ is_calm (Reads slot birth) = true
 is_calm (Seals slot birth retire) = true
 is_calm (Lists slot birth retire) = true
 is_calm (Returns slot) = false
+is_calm (Adopts from) = true
 
 -- the rows of the queue stay, and what was in it stays so
 pub record Calm (v u : View) : Type 0 where
   pub queue : (s : ℕ) → queue_of u s ≡ queue_of v s
   pub past : (s : ℕ) → past_of v s ≡ true → past_of u s ≡ true
   pub head : u.head ≡ v.head
+
+pub passed_queue : (from to : ℕ) (x : Status) → in_queue (passed from to x) ≡ in_queue x
+passed_queue from to Free = refl
+passed_queue from to (Claimed by) = refl
+passed_queue from to (Born by) = refl
+passed_queue from to (Linked bucket) = refl
+passed_queue from to InQueue = refl
+passed_queue from to (Cut by) = refl
+passed_queue from to (Sealed by retire) = refl
+passed_queue from to (Listed by retire) = refl
+
+passed_past : (from to : ℕ) (x : Status) → is_past (passed from to x) ≡ is_past x
+passed_past from to Free = refl
+passed_past from to (Claimed by) = refl
+passed_past from to (Born by) = refl
+passed_past from to (Linked bucket) = refl
+passed_past from to InQueue = refl
+passed_past from to (Cut by) = refl
+passed_past from to (Sealed by retire) = refl
+passed_past from to (Listed by retire) = refl
 
 pub calm_made : (i : ℕ) (v : View) (m : RowMove) → MoveFits i v m → is_calm m ≡ true → Calm v (made i v m)
 calm_made i v Stays h c = record { queue = λ s. refl; past = λ s e. e; head = refl }
@@ -192,3 +227,4 @@ calm_made i v (Lists slot birth retire) h c = record { queue = λ s. grind (arit
 calm_made i v (Appends slot) h c = absurd (no_truth c)
 calm_made i v (Pops slot next) h c = absurd (no_truth c)
 calm_made i v (Returns slot) h c = absurd (no_truth c)
+calm_made i v (Adopts from) h c = record { queue = λ s. passed_queue from i (v.status s); past = λ s e. passed_past from i (v.status s) ∙ e; head = refl }

@@ -9,6 +9,7 @@ pub mod Made
 pub mod Opened
 pub mod Own
 pub mod Phases
+pub mod Places
 pub mod Queued
 pub mod Quiet
 pub mod Rounds

@@ -5,7 +5,7 @@ use Rattle.std.specs.Prelude.{◌==◌}
 use Rattle.std.specs.List.{remove}
 use Rattle.wfe_core.specs.defs.declared.lifetime.Lifetime.{Lifetime}
 use Rattle.wfe_core.proofs.Facts.{number_is}
-use Rattle.inv_rows.specs.Rows.{with, without}
+use Rattle.inv_rows.specs.Rows.{with, without, joined}
 use Rattle.inv_rows.specs.Hands.{in_list, no_entry, each_once, stands_at}
 
 in_list_tail : (x : Lifetime) (xs : List Lifetime) (s b r : ℕ) → in_list (x ∷ xs) s b r ≡ false → in_list xs s b r ≡ false
@@ -95,3 +95,27 @@ stands_entered (x ∷ xs) (suc place) slot e = more_entered x xs slot (stands_en
 pub apart_by : (f : ℕ → Bool) (s slot : ℕ) (same : Bool) → (s == slot) ≡ same → f s ≡ true → f slot ≡ false → same ≡ false
 apart_by f s slot true e y z = let is : f s ≡ f slot = ap f (number_is s slot e) in absurd (cc)
 apart_by f s slot false e y z = refl
+
+-- the entries of two lists, one after the other
+pub in_list_joined : (xs ys : List Lifetime) (s b r : ℕ) → in_list (xs ++ ys) s b r ≡ joined (in_list xs) (in_list ys) s b r
+in_list_joined [] ys s b r = refl
+in_list_joined (x ∷ xs) ys s b r = let h = in_list_joined xs ys s b r in grind (arith, nat_tests, h)
+
+no_entry_joined : (xs ys : List Lifetime) (s : ℕ) → no_entry s xs ≡ true → no_entry s ys ≡ true → no_entry s (xs ++ ys) ≡ true
+no_entry_joined [] ys s h k = k
+no_entry_joined (x ∷ xs) ys s h k =
+    let e : no_entry s xs ≡ true = grind (arith, nat_tests) in
+    let o : (s == x.slot) ≡ false = grind (arith, nat_tests) in rw (o, no_entry_joined xs ys s e k) refl
+
+-- no slot has an entry in both
+pub once_joined : (xs ys : List Lifetime) → ((s b r c q : ℕ) → in_list xs s b r ≡ true → in_list ys s c q ≡ false) → each_once xs ≡ true → each_once ys ≡ true → each_once (xs ++ ys) ≡ true
+once_joined [] ys f h k = k
+once_joined (x ∷ xs) ys f h k =
+    let e : each_once xs ≡ true = grind (arith, nat_tests) in
+    let o : no_entry x.slot xs ≡ true = grind (arith, nat_tests) in
+    let first : in_list (x ∷ xs) x.slot x.birth x.retire ≡ true = grind (arith, nat_tests) in
+    let apart : no_entry x.slot ys ≡ true = no_entry_from ys x.slot (λ c q. f x.slot x.birth x.retire c q first) in
+    rw (no_entry_joined xs ys x.slot o apart, once_joined xs ys (λ s b r c q u. f s b r c q (later_in x xs s b r u)) e k) refl
+  where
+    later_in : (x : Lifetime) (xs : List Lifetime) (s b r : ℕ) → in_list xs s b r ≡ true → in_list (x ∷ xs) s b r ≡ true
+    later_in x xs s b r h = grind (arith, nat_tests, h)

@@ -1,5 +1,7 @@
 -- The call's own steps, and each step of a seat.
-use Rattle.std.proofs.Common.{ℕ, ◌+◌, ◌-◌, ◌≡◌, Bool, true, false, refl, ◌∙◌, sym, length}
+use Rattle.std.proofs.Common.{ℕ, ◌+◌, ◌-◌, ◌<◌, ◌≡◌, Bool, true, false, arith, refl, ◌∙◌, sym, subst, length, List}
+use Rattle.std.proofs.lemmas.Bool.Decides.{nat_tests}
+use Rattle.wfe_core.specs.defs.declared.lifetime.Lifetime.{Lifetime}
 use Rattle.std.specs.Prelude.{◌==◌, nat_lt, if◌then◌else◌}
 use Rattle.wfe_core.specs.defs.declared.call.Answer.TheVariants as the_answers
 use Rattle.wfe_core.specs.declared.post.Post.{Post}
@@ -10,28 +12,29 @@ use Rattle.wfe_core.specs.Keep as keeps
 use Rattle.wfe_core.specs.Change as alters
 use Rattle.wfe_core.specs.Enqueue as enqueues
 use Rattle.wfe_core.specs.Dequeue as dequeues
-use Rattle.wfe_core.specs.Calls.{ChangeKept, EnqueueKept, Enqueues, Again, Answering, Why, Opens, FollowsHead, Fills, ClearsNext, Clears, Finishes, GivesUp, Retires, Tidies, Advances, Releases, GetAt, FindVersion, FindCount, FindKey, FindValue, ChangeAt, LoadVersion, LoadCount, LoadKey, LoadValue, ExchangeRoot, EnqueueAt, LoadNumber, LoadNext, PassTail, ExchangeNext, ExchangeTail, DequeueAt, LoadTail, SwingTail, TakeNumber, TakeValue, ExchangeHead, Work, Getting, Changing, Enqueuing, Dequeuing, Phase, Idle, Runs, Scans, Works, KeepAt, Loosens, LoadHeld, StoreHeld, Looks, Misses, Keeping}
+use Rattle.wfe_core.specs.Calls.{ChangeKept, EnqueueKept, Enqueues, Again, Answering, Why, Opens, FollowsHead, Fills, ClearsNext, Clears, Finishes, GivesUp, Retires, Tidies, Advances, Releases, GetAt, FindVersion, FindCount, FindKey, FindValue, ChangeAt, LoadVersion, LoadCount, LoadKey, LoadValue, ExchangeRoot, EnqueueAt, LoadNumber, LoadNext, PassTail, ExchangeNext, ExchangeTail, DequeueAt, LoadTail, SwingTail, TakeNumber, TakeValue, ExchangeHead, Work, Getting, Changing, Enqueuing, Dequeuing, Phase, Idle, Runs, Scans, Works, KeepAt, Loosens, LoadHeld, StoreHeld, Looks, Misses, HideSpan, MarkLeft, TakeList, MarkTaken, Keeping, GoesOn}
 use Rattle.inv_rows.specs.Rows.Hand.{Empty, Taken, Old}
-use Rattle.inv_rows.specs.Hands.{base_row, row_move, linked_row, change_row, enqueue_row, dequeue_row, work_row}
+use Rattle.inv_rows.specs.Hands.{in_list, each_once, base_row, row_move, linked_row, change_row, enqueue_row, dequeue_row, keep_row, work_row}
+use Rattle.inv_rows.proofs.Lists.{in_list_joined, once_joined}
 use Rattle.wfe_core.specs.words.Place.{Place}
-use Rattle.wfe_core.specs.words.Place.Place.{Clock, Bucket, Head, Tail, Row}
+use Rattle.wfe_core.specs.words.Place.Place.{Clock, Bucket, Head, Tail, Row, PlaceOf}
 use Rattle.wfe_core.specs.Memory as memory
 use Rattle.wfe_core.specs.Memory.{place_in, written, upd}
 use Rattle.wfe_core.specs.Machine as machine
 use Rattle.wfe_core.specs.Machine.{base_move}
 use Rattle.wfe_core.specs.Steps.{run_turn, phase_move, phase_turn, work_move, work_turn}
-use Rattle.inv_rows.specs.Rows.{View, Good, made}
-use Rattle.inv_rows.specs.Rows.Status.{InQueue}
-use Rattle.inv_rows.specs.Rows.RowMove.{Stays, Links, Replaces, Appends, Pops}
+use Rattle.inv_rows.specs.Rows.{Status, View, Good, made, joined}
+use Rattle.inv_rows.specs.Rows.Status.{InQueue, Listed}
+use Rattle.inv_rows.specs.Rows.RowMove.{Stays, Links, Replaces, Appends, Pops, Adopts}
 use Rattle.inv_rows.specs.Agree.{Words, Plays, Needs}
-use Rattle.inv_rows.proofs.Made.{links_good, replaces_good, appends_good, pops_good}
-use Rattle.inv_rows.proofs.Words.{is_writing, words_plain, words_missed, words_links, words_replaces, words_appends, words_pops}
+use Rattle.inv_rows.proofs.Made.{links_good, replaces_good, appends_good, pops_good, adopts_good}
+use Rattle.inv_rows.proofs.Words.{is_writing, words_plain, words_missed, words_links, words_replaces, words_appends, words_pops, words_adopts}
 use Rattle.inv_rows.proofs.Rounds.{get_leaves, reading_leaves, at_next_leaves, clearing_leaves, clearing_next_leaves}
-use Rattle.inv_rows.proofs.Turns.{linked_leaves, replaced_leaves, missed_leaves, appended_leaves, unappended_leaves, popped_leaves, unpopped_leaves, keep_leaves}
+use Rattle.inv_rows.proofs.Turns.{linked_leaves, replaced_leaves, missed_leaves, appended_leaves, unappended_leaves, popped_leaves, unpopped_leaves, takes_list, not_taken_leaves, keep_leaves}
 use Rattle.wfe_core.specs.defs.declared.event.Root.TheVariants as roots
 use Rattle.inv_rows.proofs.Steps.{Did, did_stays, did_hand, did_plain, did_fills, did_gives_up, did_retires, did_scans, of_taken}
 use Rattle.inv_rows.proofs.Runs.{taken_slot}
-use Rattle.wfe_core.proofs.Facts.{one_less_one_more, number_is}
+use Rattle.wfe_core.proofs.Facts.{one_less_one_more, number_is, false_by}
 
 -- the root is exchanged
 did_links : (slots i : ℕ) (mem : Place → ℕ) (v : View) (kept : ChangeKept) (slot bucket : ℕ) (post : Post) (desk : Desk) (null : Bool) → (kept.link == 0) ≡ null → (mem (Bucket bucket) == kept.link) ≡ true → Good slots v → Words slots mem v → Plays i (Works (Changing kept (ExchangeRoot slot))) desk.list v
@@ -253,10 +256,85 @@ keep_loads (LoadHeld from index) post = refl
 keep_loads (StoreHeld from index era) post = refl
 keep_loads (Looks index key at) post = get_loads at
 keep_loads (Misses index) post = refl
+keep_loads HideSpan post = refl
+keep_loads MarkLeft post = refl
+keep_loads (TakeList place) post = refl
+keep_loads (MarkTaken place count) post = refl
 
-did_works : (slots i : ℕ) (mem : Place → ℕ) (v : View) (work : Work) (post next : Post) (desk : Desk) → Needs slots mem v (Works work) → Good slots v → Words slots mem v → Plays i (Works work) desk.list v
+-- the list that a step may take over: it is that of another seat, which has left
+pub record Offers (i : ℕ) (mem : Place → ℕ) (v : View) (phase : Phase) (gift : List Lifetime) : Type 0 where
+  pub lists : (place s b r : ℕ) → phase ≡ Works (Keeping (TakeList place)) → mem (PlaceOf place) ≡ 1 → v.lists place s b r ≡ in_list gift s b r
+  pub once : (place : ℕ) → phase ≡ Works (Keeping (TakeList place)) → mem (PlaceOf place) ≡ 1 → each_once gift ≡ true
+  pub apart : (place : ℕ) → phase ≡ Works (Keeping (TakeList place)) → mem (PlaceOf place) ≡ 1 → (place == i) ≡ false
+
+adopted_own : (i from : ℕ) (v : View) (s b r : ℕ) → (from == i) ≡ false → (made i v (Adopts from)).lists i s b r ≡ joined (v.lists i) (v.lists from) s b r
+adopted_own i from v s b r o = grind (arith, nat_tests, o)
+
+listed_apart : (x : Status) (i from r q : ℕ) → x ≡ Listed i r → x ≡ Listed from q → (from == i) ≡ false → ⊥
+listed_apart x i from r q e f o = let same : Listed i r ≡ Listed from q = sym e ∙ f in let number : i ≡ from = cc in grind (arith, nat_tests)
+
+-- no row is in both lists
+pub gift_apart : (slots i : ℕ) (v : View) (phase : Phase) (list gift : List Lifetime) (from : ℕ) → Good slots v → Plays i phase list v → ((s b r : ℕ) → v.lists from s b r ≡ in_list gift s b r) → (from == i) ≡ false → (s b r c q : ℕ) → in_list list s b r ≡ true → in_list gift s c q ≡ false
+gift_apart slots i v phase list gift from g p f o s b r c q u =
+    false_by (in_list gift s c q) (λ h. listed_apart (v.status s) i from r q (g.listed i s b r (p.lists s b r ∙ u)) (g.listed from s c q (f s c q ∙ h)) o)
+
+marked_word : (mem : Place → ℕ) (place : ℕ) → (mem (PlaceOf place) == 1) ≡ true → 1 < written mem (memory.Cas (PlaceOf place) 1 2) (PlaceOf place)
+marked_word mem place e = grind (arith, nat_tests, e)
+
+marked_place : (mem : Place → ℕ) (place many other count : ℕ) → GoesOn (Works (Keeping (MarkTaken place many))) ≡ GoesOn (Works (Keeping (MarkTaken other count))) → 1 < mem (PlaceOf place) → 1 < mem (PlaceOf other)
+marked_place mem place many other count e h = let same : place ≡ other = cc in subst (λ (x : ℕ). 1 < mem (PlaceOf x)) same h
+
+did_takes : (slots i : ℕ) (mem : Place → ℕ) (v : View) (place : ℕ) (next : Post) (desk : Desk) (left : Bool) → (mem (PlaceOf place) == 1) ≡ left → Offers i mem v (Works (Keeping (TakeList place))) desk.gift → Good slots v → Words slots mem v → Plays i (Works (Keeping (TakeList place))) desk.list v
+    → Did slots i (written mem (memory.Cas (PlaceOf place) 1 2)) (made i v (if left then Adopts place else Stays)) (keeps.taking place next desk left (mem (PlaceOf place)))
+did_takes slots i mem v place next desk true e o g w p =
+    let one : mem (PlaceOf place) ≡ 1 = number_is (mem (PlaceOf place)) 1 e in
+    let other : (place == i) ≡ false = o.apart place refl one in
+    record {
+      good = adopts_good slots v i place g other;
+      words = words_adopts slots (written mem (memory.Cas (PlaceOf place) 1 2)) v i place (words_plain slots mem v (memory.Cas (PlaceOf place) 1 2) refl w);
+      hand = p.hand;
+      lists = λ s b r. adopted_own i place v s b r other ∙ (rw (p.lists s b r, o.lists place s b r refl one) (sym (in_list_joined desk.list desk.gift s b r)));
+      once = once_joined desk.list desk.gift (gift_apart slots i v (Works (Keeping (TakeList place))) desk.list desk.gift place g p (λ s b r. o.lists place s b r refl one) other) p.once (o.once place refl one);
+      right = refl;
+      marks = λ more count q. marked_place (written mem (memory.Cas (PlaceOf place) 1 2)) place (length desk.gift) more count q (marked_word mem place e);
+    }
+did_takes slots i mem v place next desk false e o g w p =
+    did_stays
+    slots
+    i
+    mem
+    (written mem (memory.Cas (PlaceOf place) 1 2))
+    v
+    (Works (Keeping (TakeList place)))
+    desk.list
+    (keeps.taking place next desk false (mem (PlaceOf place)))
+    g
+    (words_plain slots mem v (memory.Cas (PlaceOf place) 1 2) refl w)
+    p
+    (not_taken_leaves place next desk (mem (PlaceOf place)))
+
+-- the others move no row
+did_keep : (slots i : ℕ) (mem : Place → ℕ) (v : View) (at : KeepAt) (post next : Post) (desk : Desk) → takes_list at ≡ false → Good slots v → Words slots mem v → Plays i (Works (Keeping at)) desk.list v
+    → Did slots i (written mem (keeps.keep_move at post)) v (keeps.keep_turn at next desk (memory.found (keeps.keep_move at post) (mem (place_in (keeps.keep_move at post)))))
+did_keep slots i mem v at post next desk h g w p =
+    let found : ℕ = memory.found (keeps.keep_move at post) (mem (place_in (keeps.keep_move at post))) in
+    did_stays slots i mem (written mem (keeps.keep_move at post)) v (Works (Keeping at)) desk.list (keeps.keep_turn at next desk found) g (words_plain slots mem v (keeps.keep_move at post) (keep_loads at post) w) p (keep_leaves at next desk found h)
+
+did_keeps : (slots i : ℕ) (mem : Place → ℕ) (v : View) (at : KeepAt) (post next : Post) (desk : Desk) → Offers i mem v (Works (Keeping at)) desk.gift → Good slots v → Words slots mem v → Plays i (Works (Keeping at)) desk.list v
+    → Did slots i (written mem (keeps.keep_move at post)) (made i v (keep_row at (memory.found (keeps.keep_move at post) (mem (place_in (keeps.keep_move at post)))))) (keeps.keep_turn at next desk (memory.found (keeps.keep_move at post) (mem (place_in (keeps.keep_move at post)))))
+did_keeps slots i mem v (Loosens let_go) post next desk o g w p = did_keep slots i mem v (Loosens let_go) post next desk refl g w p
+did_keeps slots i mem v (LoadHeld from index) post next desk o g w p = did_keep slots i mem v (LoadHeld from index) post next desk refl g w p
+did_keeps slots i mem v (StoreHeld from index era) post next desk o g w p = did_keep slots i mem v (StoreHeld from index era) post next desk refl g w p
+did_keeps slots i mem v (Looks index key at) post next desk o g w p = did_keep slots i mem v (Looks index key at) post next desk refl g w p
+did_keeps slots i mem v (Misses index) post next desk o g w p = did_keep slots i mem v (Misses index) post next desk refl g w p
+did_keeps slots i mem v HideSpan post next desk o g w p = did_keep slots i mem v HideSpan post next desk refl g w p
+did_keeps slots i mem v MarkLeft post next desk o g w p = did_keep slots i mem v MarkLeft post next desk refl g w p
+did_keeps slots i mem v (TakeList place) post next desk o g w p = did_takes slots i mem v place next desk (mem (PlaceOf place) == 1) refl o g w p
+did_keeps slots i mem v (MarkTaken place count) post next desk o g w p = did_keep slots i mem v (MarkTaken place count) post next desk refl g w p
+
+did_works : (slots i : ℕ) (mem : Place → ℕ) (v : View) (work : Work) (post next : Post) (desk : Desk) → Needs slots mem v (Works work) → Offers i mem v (Works work) desk.gift → Good slots v → Words slots mem v → Plays i (Works work) desk.list v
     → Did slots i (written mem (work_move work post)) (made i v (work_row work post (memory.found (work_move work post) (mem (place_in (work_move work post)))))) (work_turn work next desk (memory.found (work_move work post) (mem (place_in (work_move work post)))))
-did_works slots i mem v (Getting key at) post next desk n g w p =
+did_works slots i mem v (Getting key at) post next desk n o g w p =
     did_stays
     slots
     i
@@ -270,12 +348,10 @@ did_works slots i mem v (Getting key at) post next desk n g w p =
     (words_plain slots mem v (gets.get_move at) (get_loads at) w)
     p
     (get_leaves key at next desk (memory.found (gets.get_move at) (mem (place_in (gets.get_move at)))))
-did_works slots i mem v (Changing kept at) post next desk n g w p = did_changes slots i mem v kept at post next desk g w p
-did_works slots i mem v (Enqueuing kept at) post next desk n g w p = did_enqueues slots i mem v kept at next desk g w p
-did_works slots i mem v (Dequeuing at) post next desk n g w p = did_dequeues slots i mem v at next desk n g w p
-did_works slots i mem v (Keeping at) post next desk n g w p =
-    let found : ℕ = memory.found (keeps.keep_move at post) (mem (place_in (keeps.keep_move at post))) in
-    did_stays slots i mem (written mem (keeps.keep_move at post)) v (Works (Keeping at)) desk.list (keeps.keep_turn at next desk found) g (words_plain slots mem v (keeps.keep_move at post) (keep_loads at post) w) p (keep_leaves at next desk found)
+did_works slots i mem v (Changing kept at) post next desk n o g w p = did_changes slots i mem v kept at post next desk g w p
+did_works slots i mem v (Enqueuing kept at) post next desk n o g w p = did_enqueues slots i mem v kept at next desk g w p
+did_works slots i mem v (Dequeuing at) post next desk n o g w p = did_dequeues slots i mem v at next desk n g w p
+did_works slots i mem v (Keeping at) post next desk n o g w p = did_keeps slots i mem v at post next desk o g w p
 
 did_runs : (slots i : ℕ) (mem : Place → ℕ) (v : View) (why : Why) (base : Base) (post next : Post) (desk : Desk) → Needs slots mem v (Runs why base) → Good slots v → Words slots mem v → Plays i (Runs why base) desk.list v
     → Did slots i (written mem (base_move base post)) (made i v (base_row base (memory.found (base_move base post) (mem (place_in (base_move base post)))))) (run_turn why desk (machine.after base next (memory.found (base_move base post) (mem (place_in (base_move base post))))))
@@ -292,10 +368,10 @@ did_runs slots i mem v Advances base post next desk n g w p = did_plain slots i 
 did_runs slots i mem v (Releases let_go) base post next desk n g w p = did_plain slots i mem v (Releases let_go) base post next desk (memory.found (base_move base post) (mem (place_in (base_move base post)))) g w p refl p.right
 
 -- one step of a seat that stands at a phase
-pub phase_did : (slots i : ℕ) (mem : Place → ℕ) (v : View) (phase : Phase) (post next : Post) (desk : Desk) → Needs slots mem v phase → Good slots v → Words slots mem v → Plays i phase desk.list v
+pub phase_did : (slots i : ℕ) (mem : Place → ℕ) (v : View) (phase : Phase) (post next : Post) (desk : Desk) → Needs slots mem v phase → Offers i mem v phase desk.gift → Good slots v → Words slots mem v → Plays i phase desk.list v
     → Did slots i (written mem (phase_move phase post)) (made i v (row_move phase post (memory.found (phase_move phase post) (mem (place_in (phase_move phase post)))))) (phase_turn phase next desk (memory.found (phase_move phase post) (mem (place_in (phase_move phase post)))))
-phase_did slots i mem v Idle post next desk n g w p =
+phase_did slots i mem v Idle post next desk n o g w p =
     did_stays slots i mem mem v Idle desk.list (phase_turn Idle next desk (mem Clock)) g w p (record { hand = refl; right = refl; list = refl })
-phase_did slots i mem v (Runs why base) post next desk n g w p = did_runs slots i mem v why base post next desk n g w p
-phase_did slots i mem v (Scans later at) post next desk n g w p = did_scans slots i mem v later at post next desk g w p
-phase_did slots i mem v (Works work) post next desk n g w p = did_works slots i mem v work post next desk n g w p
+phase_did slots i mem v (Runs why base) post next desk n o g w p = did_runs slots i mem v why base post next desk n g w p
+phase_did slots i mem v (Scans later at) post next desk n o g w p = did_scans slots i mem v later at post next desk g w p
+phase_did slots i mem v (Works work) post next desk n o g w p = did_works slots i mem v work post next desk n o g w p

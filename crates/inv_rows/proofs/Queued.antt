@@ -16,9 +16,9 @@ use Rattle.wfe_core.specs.Change as alters
 use Rattle.wfe_core.specs.Enqueue as enqueues
 use Rattle.wfe_core.specs.Dequeue as dequeues
 use Rattle.wfe_core.specs.Scan as scan
-use Rattle.wfe_core.specs.Calls.{ChangeKept, EnqueueKept, Task, Gets, Changes, Holds, Enqueues, Dequeues, Again, Answering, AfterScan, Why, Opens, FollowsHead, Fills, ClearsNext, Clears, Finishes, GivesUp, Retires, Tidies, Advances, Releases, ScanAt, ReadGuard, GiveBack, GetAt, FindVersion, FindCount, FindKey, FindValue, ChangeAt, LoadVersion, LoadCount, LoadKey, LoadValue, ExchangeRoot, EnqueueAt, LoadNumber, LoadNext, PassTail, ExchangeNext, ExchangeTail, DequeueAt, LoadTail, SwingTail, TakeNumber, TakeValue, ExchangeHead, Work, Getting, Changing, Enqueuing, Dequeuing, Phase, Idle, Runs, Scans, Works, CallTurn, CallOutcome, GoesOn, Answers, LetGo, Released, Rehold, Dropped, KeepAt, Loosens, LoadHeld, StoreHeld, Looks, Misses, Keeping}
+use Rattle.wfe_core.specs.Calls.{ChangeKept, EnqueueKept, Task, Gets, Changes, Holds, Enqueues, Dequeues, Again, Answering, AfterScan, Why, Opens, FollowsHead, Fills, ClearsNext, Clears, Finishes, GivesUp, Retires, Tidies, Advances, Releases, ScanAt, ReadGuard, GiveBack, GetAt, FindVersion, FindCount, FindKey, FindValue, ChangeAt, LoadVersion, LoadCount, LoadKey, LoadValue, ExchangeRoot, EnqueueAt, LoadNumber, LoadNext, PassTail, ExchangeNext, ExchangeTail, DequeueAt, LoadTail, SwingTail, TakeNumber, TakeValue, ExchangeHead, Work, Getting, Changing, Enqueuing, Dequeuing, Phase, Idle, Runs, Scans, Works, CallTurn, LetGo, Released, Rehold, Dropped, KeepAt, Loosens, LoadHeld, StoreHeld, Looks, Misses, HideSpan, MarkLeft, TakeList, MarkTaken, Keeping}
 use Rattle.inv_rows.specs.Rows.Hand.{Taken}
-use Rattle.inv_rows.specs.Hands.{hand_base, is_plain, runs_right, is_giving_up, is_retiring, task_fills, base_row, row_move, linked_row, change_row, enqueue_row, dequeue_row, work_row, scan_row, allocate_row, retire_row}
+use Rattle.inv_rows.specs.Hands.{hand_base, is_plain, runs_right, is_giving_up, is_retiring, task_fills, base_row, row_move, linked_row, change_row, enqueue_row, dequeue_row, keep_row, work_row, scan_row, allocate_row, retire_row}
 use Rattle.wfe_core.specs.words.Place.{Place, claim_word}
 use Rattle.wfe_core.specs.words.Place.Place.{Clock, Head, Tail, Claim, Row}
 use Rattle.wfe_core.specs.Memory as memory
@@ -34,7 +34,7 @@ use Rattle.wfe_core.specs.WriteRow.{row_word}
 use Rattle.wfe_core.specs.Steps.{run_turn, phase_move, phase_turn, work_move, work_turn, copying, first_phase, holding, looking_at}
 use Rattle.inv_rows.specs.Rows.{Status, View, Good, made}
 use Rattle.inv_rows.specs.Rows.Status.{Free, Claimed, Born, Linked, InQueue, Cut, Sealed, Listed}
-use Rattle.inv_rows.specs.Rows.RowMove.{Stays, Claims, Links, Replaces}
+use Rattle.inv_rows.specs.Rows.RowMove.{Stays, Claims, Links, Replaces, Adopts}
 use Rattle.inv_rows.specs.Agree.{Words, Plays, Needs, RowsNeeds, rows_after, first_rows}
 use Rattle.inv_rows.proofs.Runs.{only_fills, taken_slot}
 use Rattle.wfe_core.specs.defs.declared.event.Root.TheVariants as roots
@@ -43,17 +43,17 @@ use Rattle.inv_rows.specs.Queue.LineMove.{Keeps, Joins}
 use Rattle.inv_rows.specs.Chain.{queue_of, next_of, PhaseNeeds, Both, QueueNeeds, line_after, first_line, QueueStart, QueueBegin, QueueKept}
 use Rattle.inv_rows.proofs.Steps.{of_taken}
 use Rattle.inv_rows.proofs.Fits.{MoveFits, phase_fits, is_calm, calm_made}
-use Rattle.inv_rows.proofs.Quiet.{phase_of, is_quiet, quiet_walks, clearing_quiet, clearing_next_quiet, change_quiet, scan_quiet, get_quiet, keep_quiet, round_quiet}
+use Rattle.inv_rows.proofs.Quiet.{phase_of, is_quiet, quiet_walks, clearing_quiet, clearing_next_quiet, change_quiet, scan_quiet, get_quiet, keep_quiet, round_quiet, parting_quiet}
 use Rattle.inv_rows.proofs.Own.{is_linking, is_write, base_links, Left, fills_none, resumed_walks, takes_walks, writes_walks}
 use Rattle.inv_rows.specs.Follow.{LoadsBase, WhyLoads}
 use Rattle.inv_rows.proofs.Follow.{OutLoads, base_loads, base_follows, follow_begins}
 use Rattle.wfe_core.specs.Rounds as rounds
 use Rattle.wfe_core.specs.Rounds.{scheme_of}
 use Rattle.inv_rows.proofs.Went.{Far, Others, Went, LineIn, WalksIn, calm_self, went_same, went_calm, went_returns, went_writes_by, went_swings, went_joins, went_pops, born_unlined}
-use Rattle.inv_rows.proofs.Kept.{rows_kept}
+use Rattle.inv_rows.proofs.Kept.{rows_kept, settled_phase}
 use Rattle.wfe_core.specs.words.declared.layout.Layout.{Layout}
-use Rattle.wfe_core.specs.Locals.{Local, turn, settled, settled_by, told_by, rounds_told, begun, begun_post}
-use Rattle.wfe_core.specs.World.{World, start, step, finds}
+use Rattle.wfe_core.specs.Locals.{Local, turn, settled, told_by, rounds_told, begun, begun_post}
+use Rattle.wfe_core.specs.World.{World, start, step, finds, offered, list_in}
 use Rattle.inv_rows.proofs.Tries.{finds_base}
 use Rattle.wfe_core.proofs.Facts.{first_of, same_both, no_truth}
 
@@ -240,19 +240,19 @@ went_fills slots i mem v l task (GiveUp slot) post next desk d p r f g w = absur
 went_fills slots i mem v l task (Retire at) post next desk d p r f g w = absurd (no_truth (only_fills task (Retire at) r))
 went_fills slots i mem v l task (Move at) post next desk d p r f g w = absurd (no_truth (only_fills task (Move at) r))
 
-run_went : (slots i : ℕ) (mem : Place → ℕ) (v : View) (l : Line) (why : Why) (base : Base) (post next : Post) (desk : Desk) → PhaseNeeds slots mem v l (Runs why base) (λ other. (machine.after other next (finds_base mem base post)).outcome) (finds_base mem base post) → Good slots v → Words slots mem v → Plays i (Runs why base) desk.list v → MoveFits i v (base_row base (finds_base mem base post)) → LineIn v l mem → WalksIn (Runs why base) v l mem
+run_went : (slots i : ℕ) (mem : Place → ℕ) (v : View) (l : Line) (why : Why) (base : Base) (post next : Post) (desk : Desk) (list : List Lifetime) → PhaseNeeds slots mem v l (Runs why base) (λ other. (machine.after other next (finds_base mem base post)).outcome) (finds_base mem base post) → Good slots v → Words slots mem v → Plays i (Runs why base) list v → MoveFits i v (base_row base (finds_base mem base post)) → LineIn v l mem → WalksIn (Runs why base) v l mem
     → Went i v (made i v (base_row base (finds_base mem base post))) l Keeps mem (written mem (base_move base post)) (run_turn why desk (base_turn mem base post next))
-run_went slots i mem v l (Fills task) base post next desk n d c p f g w = went_fills slots i mem v l task base post next desk d p.hand p.right f g w
-run_went slots i mem v l (Opens task) base post next desk n d c p f g w = went_runs slots i mem v l (Opens task) base post next desk refl n c.head p.right f g w
-run_went slots i mem v l (FollowsHead parent last) base post next desk n d c p f g w = went_runs slots i mem v l (FollowsHead parent last) base post next desk refl n c.head p.right f g w
-run_went slots i mem v l (ClearsNext after) base post next desk n d c p f g w = went_runs slots i mem v l (ClearsNext after) base post next desk refl n c.head p.right f g w
-run_went slots i mem v l (Clears task after) base post next desk n d c p f g w = went_runs slots i mem v l (Clears task after) base post next desk refl n c.head p.right f g w
-run_went slots i mem v l (Finishes task after) base post next desk n d c p f g w = went_runs slots i mem v l (Finishes task after) base post next desk refl n c.head p.right f g w
-run_went slots i mem v l (GivesUp answer) base post next desk n d c p f g w = went_runs slots i mem v l (GivesUp answer) base post next desk refl n c.head p.right f g w
-run_went slots i mem v l (Retires answer) base post next desk n d c p f g w = went_runs slots i mem v l (Retires answer) base post next desk refl n c.head p.right f g w
-run_went slots i mem v l (Tidies later) base post next desk n d c p f g w = went_runs slots i mem v l (Tidies later) base post next desk refl n c.head p.right f g w
-run_went slots i mem v l Advances base post next desk n d c p f g w = went_runs slots i mem v l Advances base post next desk refl n c.head p.right f g w
-run_went slots i mem v l (Releases let_go) base post next desk n d c p f g w = went_runs slots i mem v l (Releases let_go) base post next desk refl n c.head p.right f g w
+run_went slots i mem v l (Fills task) base post next desk list n d c p f g w = went_fills slots i mem v l task base post next desk d p.hand p.right f g w
+run_went slots i mem v l (Opens task) base post next desk list n d c p f g w = went_runs slots i mem v l (Opens task) base post next desk refl n c.head p.right f g w
+run_went slots i mem v l (FollowsHead parent last) base post next desk list n d c p f g w = went_runs slots i mem v l (FollowsHead parent last) base post next desk refl n c.head p.right f g w
+run_went slots i mem v l (ClearsNext after) base post next desk list n d c p f g w = went_runs slots i mem v l (ClearsNext after) base post next desk refl n c.head p.right f g w
+run_went slots i mem v l (Clears task after) base post next desk list n d c p f g w = went_runs slots i mem v l (Clears task after) base post next desk refl n c.head p.right f g w
+run_went slots i mem v l (Finishes task after) base post next desk list n d c p f g w = went_runs slots i mem v l (Finishes task after) base post next desk refl n c.head p.right f g w
+run_went slots i mem v l (GivesUp answer) base post next desk list n d c p f g w = went_runs slots i mem v l (GivesUp answer) base post next desk refl n c.head p.right f g w
+run_went slots i mem v l (Retires answer) base post next desk list n d c p f g w = went_runs slots i mem v l (Retires answer) base post next desk refl n c.head p.right f g w
+run_went slots i mem v l (Tidies later) base post next desk list n d c p f g w = went_runs slots i mem v l (Tidies later) base post next desk refl n c.head p.right f g w
+run_went slots i mem v l Advances base post next desk list n d c p f g w = went_runs slots i mem v l Advances base post next desk refl n c.head p.right f g w
+run_went slots i mem v l (Releases let_go) base post next desk list n d c p f g w = went_runs slots i mem v l (Releases let_go) base post next desk refl n c.head p.right f g w
 
 -- the call's own steps
 load_went : (i : ℕ) (v : View) (l : Line) (mem : Place → ℕ) (t : CallTurn) → LineIn v l mem → Left t (queue_of v) l (next_of mem) v.head (mem Tail) → Went i v v l Keeps mem mem t
@@ -270,6 +270,10 @@ keep_links (LoadHeld from index) post = refl
 keep_links (StoreHeld from index era) post = refl
 keep_links (Looks index key at) post = get_links at
 keep_links (Misses index) post = refl
+keep_links HideSpan post = refl
+keep_links MarkLeft post = refl
+keep_links (TakeList place) post = refl
+keep_links (MarkTaken place count) post = refl
 
 change_links : (kept : ChangeKept) (at : ChangeAt) (post : Post) → is_linking (alters.change_move kept at post) ≡ false
 change_links kept (LoadVersion slot) post = refl
@@ -303,17 +307,17 @@ next_walks kept post desk true q l next head tail e w = last_walks kept post des
 next_walks kept post desk false q l next head tail e w =
     record { stood = w.stood; heads = λ h u k. cc; follows = λ h link u. found_follows next kept.tail h link u; some = λ h link u. found_some (next kept.tail) kept.tail h link e u; leads = λ h u k. cc; blank = λ s u. cc; items = refl; loads = tt }
 
-enqueue_went : (slots i : ℕ) (mem : Place → ℕ) (v : View) (l : Line) (kept : EnqueueKept) (at : EnqueueAt) (next : Post) (desk : Desk) → Good slots v → Plays i (Works (Enqueuing kept at)) desk.list v → LineIn v l mem → WalksIn (Works (Enqueuing kept at)) v l mem
+enqueue_went : (slots i : ℕ) (mem : Place → ℕ) (v : View) (l : Line) (kept : EnqueueKept) (at : EnqueueAt) (next : Post) (desk : Desk) (list : List Lifetime) → Good slots v → Plays i (Works (Enqueuing kept at)) list v → LineIn v l mem → WalksIn (Works (Enqueuing kept at)) v l mem
     → Went i v (made i v (enqueue_row at (memory.found (enqueues.enqueue_move kept at) (mem (place_in (enqueues.enqueue_move kept at)))))) l (enqueue_line kept at (memory.found (enqueues.enqueue_move kept at) (mem (place_in (enqueues.enqueue_move kept at))))) mem (written mem (enqueues.enqueue_move kept at)) (enqueues.enqueue_turn kept at next desk (memory.found (enqueues.enqueue_move kept at) (mem (place_in (enqueues.enqueue_move kept at)))))
-enqueue_went slots i mem v l kept LoadNumber next desk d p g w =
+enqueue_went slots i mem v l kept LoadNumber next desk list d p g w =
     load_went i v l mem (enqueues.enqueue_turn kept LoadNumber next desk (mem (Row kept.tail 1))) g (record { stood = w.stood; heads = λ h u k. cc; follows = λ h link u. cc; some = λ h link u. cc; leads = λ h u k. cc; blank = λ s u. cc; items = refl; loads = tt })
-enqueue_went slots i mem v l kept LoadNext next desk d p g w =
+enqueue_went slots i mem v l kept LoadNext next desk list d p g w =
     load_went i v l mem (enqueues.enqueue_turn kept LoadNext next desk (mem (Row kept.tail 0))) g (next_walks kept next desk (mem (Row kept.tail 0) == 0) (queue_of v) l (next_of mem) v.head (mem Tail) refl w)
-enqueue_went slots i mem v l kept (PassTail link) next desk d p g w =
+enqueue_went slots i mem v l kept (PassTail link) next desk list d p g w =
     went_swings i v l mem kept.tail link (enqueues.enqueue_turn kept (PassTail link) next desk (mem Tail)) (mem Tail == kept.tail + 1) refl (w.follows kept.tail link (same_both kept.tail link)) (w.some kept.tail link (same_both kept.tail link)) g (clearing_quiet (Enqueues kept) Again next desk (enqueues.told_link roots.Tail (link - 1) (mem Tail == kept.tail + 1)))
-enqueue_went slots i mem v l kept (ExchangeNext slot) next desk d p g w =
+enqueue_went slots i mem v l kept (ExchangeNext slot) next desk list d p g w =
     went_joins i v l mem kept slot next desk (mem (Row kept.tail 0) == 0) refl (of_taken slots v i slot d (p.hand ∙ taken_slot kept.taken slot p.right)) g w
-enqueue_went slots i mem v l kept (ExchangeTail slot) next desk d p g w =
+enqueue_went slots i mem v l kept (ExchangeTail slot) next desk list d p g w =
     went_swings i v l mem kept.tail (slot + 1) (enqueues.enqueue_turn kept (ExchangeTail slot) next desk (mem Tail)) (mem Tail == kept.tail + 1) refl (w.follows kept.tail (slot + 1) (same_both kept.tail (slot + 1))) (omega arith) g (clearing_quiet (Enqueues kept) (Answering (the_answers.Queued (kept.number + 1))) next desk (enqueues.told_link roots.Tail slot (mem Tail == kept.tail + 1)))
 
 tail_loaded : (mem : Place → ℕ) (parent h : ℕ) → (parent == h && not (mem Tail == parent + 1)) ≡ true → (mem Tail == h + 1) ≡ false
@@ -332,18 +336,33 @@ dequeue_went slots i mem v l (TakeValue parent slot number) next desk c g w =
 dequeue_went slots i mem v l (ExchangeHead parent row number value) next desk c g w =
     went_pops i v l mem parent row number value next desk (mem Head == parent + 1) refl c g w
 
-work_went : (slots i : ℕ) (mem : Place → ℕ) (v : View) (l : Line) (work : Work) (post next : Post) (desk : Desk) → Good slots v → Words slots mem v → Plays i (Works work) desk.list v → MoveFits i v (work_row work post (memory.found (work_move work post) (mem (place_in (work_move work post))))) → LineIn v l mem → WalksIn (Works work) v l mem
+take_calm : (place : ℕ) (left : Bool) → is_calm (if left then Adopts place else Stays) ≡ true
+take_calm place true = refl
+take_calm place false = refl
+
+keep_calm : (at : KeepAt) (found : ℕ) → is_calm (keep_row at found) ≡ true
+keep_calm (Loosens let_go) found = refl
+keep_calm (LoadHeld from index) found = refl
+keep_calm (StoreHeld from index era) found = refl
+keep_calm (Looks index key at) found = refl
+keep_calm (Misses index) found = refl
+keep_calm HideSpan found = refl
+keep_calm MarkLeft found = refl
+keep_calm (TakeList place) found = take_calm place (found == 1)
+keep_calm (MarkTaken place count) found = refl
+
+work_went : (slots i : ℕ) (mem : Place → ℕ) (v : View) (l : Line) (work : Work) (post next : Post) (desk : Desk) (list : List Lifetime) → Good slots v → Words slots mem v → Plays i (Works work) list v → MoveFits i v (work_row work post (memory.found (work_move work post) (mem (place_in (work_move work post))))) → LineIn v l mem → WalksIn (Works work) v l mem
     → Went i v (made i v (work_row work post (memory.found (work_move work post) (mem (place_in (work_move work post)))))) l (work_line work (memory.found (work_move work post) (mem (place_in (work_move work post))))) mem (written mem (work_move work post)) (work_turn work next desk (memory.found (work_move work post) (mem (place_in (work_move work post)))))
-work_went slots i mem v l (Getting key at) post next desk d c p f g w =
+work_went slots i mem v l (Getting key at) post next desk list d c p f g w =
     went_calm i v v l mem (gets.get_move at) (gets.get_turn key at next desk (memory.found (gets.get_move at) (mem (place_in (gets.get_move at))))) (calm_self v) (get_links at) g (quiet_walks (phase_of (gets.get_turn key at next desk (memory.found (gets.get_move at) (mem (place_in (gets.get_move at))))).outcome) (queue_of v) l (next_of mem) v.head (mem Tail) (get_quiet key at next desk (memory.found (gets.get_move at) (mem (place_in (gets.get_move at))))))
-work_went slots i mem v l (Changing kept at) post next desk d c p f g w =
+work_went slots i mem v l (Changing kept at) post next desk list d c p f g w =
     let found : ℕ = memory.found (alters.change_move kept at post) (mem (place_in (alters.change_move kept at post))) in
     went_calm i v (made i v (change_row kept at post found)) l mem (alters.change_move kept at post) (alters.change_turn kept at next desk found) (calm_made i v (change_row kept at post found) f (change_calm kept at post found)) (change_links kept at post) g (quiet_walks (phase_of (alters.change_turn kept at next desk found).outcome) (queue_of v) l (next_of mem) v.head (mem Tail) (change_quiet kept at next desk found))
-work_went slots i mem v l (Enqueuing kept at) post next desk d c p f g w = enqueue_went slots i mem v l kept at next desk d p g w
-work_went slots i mem v l (Dequeuing at) post next desk d c p f g w = dequeue_went slots i mem v l at next desk c.head g w
-work_went slots i mem v l (Keeping at) post next desk d c p f g w =
+work_went slots i mem v l (Enqueuing kept at) post next desk list d c p f g w = enqueue_went slots i mem v l kept at next desk list d p g w
+work_went slots i mem v l (Dequeuing at) post next desk list d c p f g w = dequeue_went slots i mem v l at next desk c.head g w
+work_went slots i mem v l (Keeping at) post next desk list d c p f g w =
     let found : ℕ = memory.found (keeps.keep_move at post) (mem (place_in (keeps.keep_move at post))) in
-    went_calm i v v l mem (keeps.keep_move at post) (keeps.keep_turn at next desk found) (calm_self v) (keep_links at post) g (quiet_walks (phase_of (keeps.keep_turn at next desk found).outcome) (queue_of v) l (next_of mem) v.head (mem Tail) (keep_quiet at next desk found))
+    went_calm i v (made i v (keep_row at found)) l mem (keeps.keep_move at post) (keeps.keep_turn at next desk found) (calm_made i v (keep_row at found) f (keep_calm at found)) (keep_links at post) g (quiet_walks (phase_of (keeps.keep_turn at next desk found).outcome) (queue_of v) l (next_of mem) v.head (mem Tail) (keep_quiet at next desk found))
 
 scan_went : (i : ℕ) (mem : Place → ℕ) (v : View) (l : Line) (later : AfterScan) (at : ScanAt) (post next : Post) (desk : Desk) → MoveFits i v (scan_row at) → LineIn v l mem
     → Went i v (made i v (scan_row at)) l (scan_line at) mem (written mem (scan.scan_move at post)) (scan.scan_turn later at next desk (memory.found (scan.scan_move at post) (mem (place_in (scan.scan_move at post)))))
@@ -356,13 +375,13 @@ scan_went i mem v l later (GiveBack place slot) post next desk f g =
 abbrev pub finds_phase : (Place → ℕ) → Phase → Post → ℕ
 finds_phase mem phase post = memory.found (phase_move phase post) (mem (place_in (phase_move phase post)))
 
-pub phase_went : (slots i : ℕ) (mem : Place → ℕ) (v : View) (l : Line) (phase : Phase) (post next : Post) (desk : Desk) → PhaseNeeds slots mem v l phase (λ other. (machine.after other next (finds_phase mem phase post)).outcome) (finds_phase mem phase post) → Good slots v → Words slots mem v → Plays i phase desk.list v → MoveFits i v (row_move phase post (finds_phase mem phase post)) → LineIn v l mem → WalksIn phase v l mem
+pub phase_went : (slots i : ℕ) (mem : Place → ℕ) (v : View) (l : Line) (phase : Phase) (post next : Post) (desk : Desk) (list : List Lifetime) → PhaseNeeds slots mem v l phase (λ other. (machine.after other next (finds_phase mem phase post)).outcome) (finds_phase mem phase post) → Good slots v → Words slots mem v → Plays i phase list v → MoveFits i v (row_move phase post (finds_phase mem phase post)) → LineIn v l mem → WalksIn phase v l mem
     → Went i v (made i v (row_move phase post (finds_phase mem phase post))) l (line_move phase (finds_phase mem phase post)) mem (written mem (phase_move phase post)) (phase_turn phase next desk (finds_phase mem phase post))
-phase_went slots i mem v l Idle post next desk n d c p f g w =
+phase_went slots i mem v l Idle post next desk list n d c p f g w =
     load_went i v l mem (phase_turn Idle next desk (mem Clock)) g (quiet_walks Idle (queue_of v) l (next_of mem) v.head (mem Tail) refl)
-phase_went slots i mem v l (Runs why base) post next desk n d c p f g w = run_went slots i mem v l why base post next desk n d c p f g w
-phase_went slots i mem v l (Scans later at) post next desk n d c p f g w = scan_went i mem v l later at post next desk f g
-phase_went slots i mem v l (Works work) post next desk n d c p f g w = work_went slots i mem v l work post next desk d c p f g w
+phase_went slots i mem v l (Runs why base) post next desk list n d c p f g w = run_went slots i mem v l why base post next desk list n d c p f g w
+phase_went slots i mem v l (Scans later at) post next desk list n d c p f g w = scan_went i mem v l later at post next desk f g
+phase_went slots i mem v l (Works work) post next desk list n d c p f g w = work_went slots i mem v l work post next desk list d c p f g w
 
 born_at : (slots k : ℕ) (v : View) (slot s : ℕ) → Good slots v → v.hand k ≡ Taken slot → (slot == s) ≡ true → v.status s ≡ Born k
 born_at slots k v slot s d h e = let same : slot ≡ s = grind (arith, nat_tests) in subst (λ (x : ℕ). v.status x ≡ Born k) same (of_taken slots v k slot d h)
@@ -449,10 +468,6 @@ queue_needs slots mem v l phase outcome found n c g w = record {
 }
 
 -- the seat after its step
-settled_phase : (l : Local) (post : Post) (desk : Desk) (count : ℕ) (outcome : CallOutcome) → phase_of outcome ≡ (settled_by l post desk count outcome).phase
-settled_phase l post desk count (GoesOn phase) = refl
-settled_phase l post desk count (Answers answer) = refl
-
 walks_at : (i k : ℕ) (v : View) (l : Line) (mem : Place → ℕ) (old new : Local) (same : Bool) → (k == i) ≡ same → WalksIn new.phase v l mem → ((k == i) ≡ false → WalksIn old.phase v l mem) → WalksIn (if same then new else old).phase v l mem
 walks_at i k v l mem old new true e p q = p
 walks_at i k v l mem old new false e p q = q e
@@ -477,16 +492,16 @@ far_by (Works (Dequeuing at)) other found f = tt
 far_by (Works (Keeping at)) other found f = tt
 
 -- the queue after a step of the World
-pub world_went : (w : World) (i : ℕ) (v : View) (l : Line) → QueueNeeds w i v l → Both w v l → Went i v (rows_after w i v) l (line_move (w.seat i).phase (finds w i)) w.mem (step w i).mem (turn (w.seat i) (finds w i))
+pub world_went : (w : World) (i : ℕ) (v : View) (l : Line) → QueueNeeds w i v l → Both w v l → Went i v (rows_after w i v) l (line_move (w.seat i).phase (finds w i)) w.mem (step w i).mem (turn (offered w i) (finds w i))
 world_went w i v l n b =
-    let own : Local = w.seat i in
+    let own : Local = offered w i in
     let needs : RowsNeeds w i v = queue_needs (SlotsOf w) w.mem v l own.phase (λ base. (machine.after base (counted own.post) (finds w i)).outcome) (finds w i) n.own b.rows.words.head b.queue.line (b.queue.walks i) in
-    let fits : MoveFits i v (row_move own.phase own.post (finds w i)) = phase_fits (SlotsOf w) i w.mem v own.phase own.post own.desk.list needs b.rows.good b.rows.words (b.rows.plays i) in
-    phase_went (SlotsOf w) i w.mem v l own.phase own.post (counted own.post) own.desk n.own b.rows.good b.rows.words (b.rows.plays i) fits b.queue.line (b.queue.walks i)
+    let fits : MoveFits i v (row_move own.phase own.post (finds w i)) = phase_fits (SlotsOf w) i w.mem v own.phase own.post (list_in w i) needs b.rows.good b.rows.words (b.rows.plays i) in
+    phase_went (SlotsOf w) i w.mem v l own.phase own.post (counted own.post) own.desk (list_in w i) n.own b.rows.good b.rows.words (b.rows.plays i) fits b.queue.line (b.queue.walks i)
 
 pub queue_kept : QueueKept
 queue_kept w i v l n b =
-    let own : Local = w.seat i in
+    let own : Local = offered w i in
     let needs : RowsNeeds w i v = queue_needs (SlotsOf w) w.mem v l own.phase (λ base. (machine.after base (counted own.post) (finds w i)).outcome) (finds w i) n.own b.rows.words.head b.queue.line (b.queue.walks i) in
     let t : CallTurn = turn own (finds w i) in
     let went : Went i v (rows_after w i v) l (line_move own.phase (finds w i)) w.mem (step w i).mem (turn own (finds w i)) = world_went w i v l n b in
@@ -495,7 +510,7 @@ queue_kept w i v l n b =
       rows = rows_kept w i v needs b.rows;
       queue = record {
         line = went.line;
-        walks = λ k. walks_at i k (rows_after w i v) (line_after w i l) (step w i).mem (w.seat k) (settled own t) (k == i) refl (subst P (settled_phase own t.post (noting t.desk (told_by t)) (rounds_told own.rounds (told_by t)) t.outcome) went.own) (λ e. went.others (w.seat k).phase (b.queue.walks k) (far_by own.phase (w.seat k).phase (finds w i) (λ later place slot q. n.backs later place slot k q)) (others_of (SlotsOf w) k i v l w.mem (w.seat k).phase (w.seat k).desk.list e b.rows.good (b.rows.plays k) b.queue.line));
+        walks = λ k. walks_at i k (rows_after w i v) (line_after w i l) (step w i).mem (w.seat k) (settled own t) (k == i) refl (subst P (settled_phase own t.post (noting t.desk (told_by t)) (rounds_told own.rounds (told_by t)) t.outcome) went.own) (λ e. went.others (w.seat k).phase (b.queue.walks k) (far_by own.phase (w.seat k).phase (finds w i) (λ later place slot q. n.backs later place slot k q)) (others_of (SlotsOf w) k i v l w.mem (w.seat k).phase (list_in w k) e b.rows.good (b.rows.plays k) b.queue.line));
       };
     }
 
@@ -533,6 +548,8 @@ first_quiet (names.Copy from index) post = copying_quiet from index (stands post
 first_quiet (names.DropIndex index) post = letting_quiet (Dropped index) post
 first_quiet (names.Look index key) post = looking_quiet index key (stands post index)
 first_quiet (names.PutIf key value version) post = round_quiet (Changes _) post
+first_quiet names.Leave post = parting_quiet post
+first_quiet (names.Adopt place) post = refl
 
 pub queue_begin : QueueBegin
 queue_begin w i call v l b = record {

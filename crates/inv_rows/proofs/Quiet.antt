@@ -9,7 +9,7 @@ use Rattle.wfe_core.specs.Phases.BeginAt.{LoadLower}
 use Rattle.wfe_core.specs.Phases.ProtectAt.{LoadClock, PublishEra, LoadLink, CheckClock, PublishRequest, LoadOwnClock, PublishHelper, LoadOwnLink, CheckOwnClock, AnswerOwn, LoadAnswer, TakeAnswer, WithdrawRequest, WithdrawHelper, LoadWithin, CheckUpper, RaiseUpper}
 use Rattle.wfe_core.specs.Phases.Base.{Begin, Protect}
 use Rattle.inv_rows.specs.Tries.{is_alone, is_tail, is_head}
-use Rattle.std.specs.Prelude.{◌==◌, nat_lt, Option, Some, None}
+use Rattle.std.specs.Prelude.{◌==◌, nat_lt, Option, Some, None, drop}
 use Rattle.wfe_core.specs.defs.declared.call.Answer.{Answer}
 use Rattle.wfe_core.specs.defs.declared.call.Answer.TheVariants as the_answers
 use Rattle.wfe_core.specs.defs.declared.event.Event.TheVariants as events
@@ -25,15 +25,16 @@ use Rattle.wfe_core.specs.Rounds.{scheme_of, taken_of, round, round_by, begin_ba
 use Rattle.wfe_core.specs.Get as gets
 use Rattle.wfe_core.specs.Change as alters
 use Rattle.wfe_core.specs.Keep as keeps
-use Rattle.wfe_core.specs.Posts.{cleared, reserves_index, stands, withdrawn}
+use Rattle.wfe_core.specs.Posts.{cleared, reserves_index, stands, standing_from, withdrawn}
 use Rattle.wfe_core.specs.Scan as scan
 use Rattle.wfe_core.specs.Steps as steps
-use Rattle.wfe_core.specs.Calls.{ChangeKept, Task, Gets, Changes, Holds, Enqueues, Dequeues, Next, Again, MakeRoom, Answering, Retiring, AfterScan, Answered, Repeated, Counted, Why, Opens, FollowsHead, Fills, ClearsNext, Clears, Finishes, GivesUp, Retires, Tidies, Advances, Releases, ScanAt, ReadGuard, GiveBack, GetAt, FindVersion, FindCount, FindKey, FindValue, ChangeAt, LoadVersion, LoadCount, LoadKey, LoadValue, ExchangeRoot, Work, Getting, Changing, Enqueuing, Dequeuing, Phase, Idle, Runs, Scans, Works, CallTurn, CallOutcome, GoesOn, LetGo, Released, Rehold, Dropped, KeepAt, Loosens, LoadHeld, StoreHeld, Looks, Misses, Keeping}
+use Rattle.wfe_core.specs.Calls.{ChangeKept, Task, Gets, Changes, Holds, Enqueues, Dequeues, Next, Again, MakeRoom, Answering, Retiring, AfterScan, Answered, Repeated, Counted, Why, Opens, FollowsHead, Fills, ClearsNext, Clears, Finishes, GivesUp, Retires, Tidies, Advances, Releases, ScanAt, ReadGuard, GiveBack, GetAt, FindVersion, FindCount, FindKey, FindValue, ChangeAt, LoadVersion, LoadCount, LoadKey, LoadValue, ExchangeRoot, Work, Getting, Changing, Enqueuing, Dequeuing, Phase, Idle, Runs, Scans, Works, CallTurn, CallOutcome, GoesOn, LetGo, Released, Rehold, Dropped, Parting, KeepAt, Loosens, LoadHeld, StoreHeld, Looks, Misses, HideSpan, MarkLeft, TakeList, MarkTaken, Keeping}
 use Rattle.wfe_core.specs.defs.declared.event.Guard.{Guard}
 use Rattle.wfe_core.specs.defs.Shown.{shown}
 use Rattle.wfe_core.specs.Guards as the_guards
 use Rattle.wfe_core.specs.Calls as calls
 use Rattle.inv_rows.specs.Queue.{Line, Walks}
+use Rattle.wfe_core.proofs.Facts.{if_by}
 use Rattle.wfe_core.proofs.Schemes.{each_begin}
 
 abbrev pub quiet_task : Task → Bool
@@ -272,10 +273,25 @@ advanced_quiet (Followed end) post desk told = refl
 advanced_quiet (Allocated end) post desk told = refl
 advanced_quiet (endings.Retired life) post desk told = refl
 
+parting_by_quiet : (x : Option ℕ) → is_quiet (keeps.parting_index x) ≡ true
+parting_by_quiet None = refl
+parting_by_quiet (Some index) = refl
+
+parting_from_quiet : (index : ℕ) (post : Post) → is_quiet (keeps.parting_from index post) ≡ true
+parting_from_quiet index post = parting_by_quiet (standing_from index (drop index post.standing))
+
+parting_span_quiet : (x : Option Interval) → is_quiet (keeps.parting_span x) ≡ true
+parting_span_quiet None = refl
+parting_span_quiet (Some span) = refl
+
+pub parting_quiet : (post : Post) → is_quiet (keeps.parting post) ≡ true
+parting_quiet post = if_by (has_one_interval (scheme_of post)) (keeps.parting_span post.span) (keeps.parting_from 2 post) (λ phase. is_quiet phase ≡ true) (λ e. parting_span_quiet post.span) (λ e. parting_from_quiet 2 post)
+
 pub released_quiet : (let_go : LetGo) (post : Post) (desk : Desk) (told : List Event) → Quiet (keeps.released let_go post desk told)
 released_quiet Released post desk told = refl
 released_quiet (Rehold key) post desk told = round_quiet (Holds key) post
 released_quiet (Dropped index) post desk told = refl
+released_quiet (Parting index) post desk told = parting_from_quiet (index + 1) post
 
 copied_quiet : (from index : ℕ) (post : Post) (desk : Desk) (reserved : List Event) (x : Option ℕ) → Quiet (keeps.copied from index post desk reserved x)
 copied_quiet from index post desk reserved None = refl
@@ -299,6 +315,10 @@ look_quiet index key (FindCount slot version) post desk found = looking_quiet in
 look_quiet index key (FindKey slot version count pair) post desk found = looked_key_quiet index key slot version count pair post desk (found == key)
 look_quiet index key (FindValue slot version pair) post desk found = refl
 
+taking_quiet : (place : ℕ) (post : Post) (desk : Desk) (left : Bool) (found : ℕ) → Quiet (keeps.taking place post desk left found)
+taking_quiet place post desk true found = refl
+taking_quiet place post desk false found = refl
+
 pub keep_quiet : (at : KeepAt) (post : Post) (desk : Desk) (found : ℕ) → Quiet (keeps.keep_turn at post desk found)
 keep_quiet (Loosens let_go) post desk found =
     released_quiet let_go (withdrawn post (rounds.let_index let_go)) desk (cleared (rounds.let_index let_go) (stands post (rounds.let_index let_go)))
@@ -306,6 +326,10 @@ keep_quiet (LoadHeld from index) post desk found = load_held_quiet from index po
 keep_quiet (StoreHeld from index era) post desk found = copied_quiet from index post desk (reserves_index post index era) (stands post from)
 keep_quiet (Looks index key at) post desk found = look_quiet index key at post desk found
 keep_quiet (Misses index) post desk found = refl
+keep_quiet HideSpan post desk found = refl
+keep_quiet MarkLeft post desk found = refl
+keep_quiet (TakeList place) post desk found = taking_quiet place post desk (found == 1) found
+keep_quiet (MarkTaken place count) post desk found = refl
 
 tidying_quiet : (answer : Answer) (post : Post) (desk : Desk) (told : List Event) (due : Bool) → Quiet (steps.tidying answer post desk told due)
 tidying_quiet answer post desk told true = refl

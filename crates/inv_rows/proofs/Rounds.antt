@@ -1,6 +1,7 @@
 -- Where a round ends and where the call goes on, what was in hand is in hand, and the list stays.
 use Rattle.std.proofs.Common.{ℕ, ◌+◌, ◌≡◌, Bool, true, false, refl, ◌∙◌, List, [], ◌∷◌, ◌++◌}
-use Rattle.std.specs.Prelude.{◌==◌, nat_lt, Option, Some, None}
+use Rattle.std.specs.Prelude.{◌==◌, nat_lt, Option, Some, None, drop}
+use Rattle.wfe_core.specs.words.Schemes.{has_one_interval}
 use Rattle.wfe_core.specs.words.declared.config.SchemeKind.{SchemeKind}
 use Rattle.wfe_core.specs.defs.declared.call.Answer.{Answer}
 use Rattle.wfe_core.specs.defs.declared.call.Answer.TheVariants as the_answers
@@ -12,19 +13,20 @@ use Rattle.wfe_core.specs.declared.ends.FollowEnd.{FollowEnd}
 use Rattle.wfe_core.specs.declared.ends.FollowEnd.TheVariants as follow_ends
 use Rattle.wfe_core.specs.declared.post.Post.{Post}
 use Rattle.wfe_core.specs.Desks.{Desk}
-use Rattle.wfe_core.specs.Posts.{withdrawn}
+use Rattle.wfe_core.specs.Posts.{withdrawn, standing_from}
 use Rattle.wfe_core.specs.Phases.{Base}
 use Rattle.wfe_core.specs.Rounds as rounds
 use Rattle.wfe_core.specs.Rounds.{scheme_of, taken_of, round, round_by, begin_base, begin_span, finish_base, finish_span, clear_base, clear_post, clear_told, index_of, closed, given_up, finishing, finishing_by, clearing, clearing_by, clearing_next, clearing_next_by}
 use Rattle.wfe_core.specs.Get as gets
+use Rattle.wfe_core.specs.Keep as keeps
 use Rattle.wfe_core.specs.Change as alters
 use Rattle.wfe_core.specs.Enqueue as enqueues
 use Rattle.wfe_core.specs.Dequeue as dequeues
-use Rattle.wfe_core.specs.Calls.{ChangeKept, EnqueueKept, Task, Gets, Changes, Enqueues, Dequeues, Next, Again, MakeRoom, Answering, Retiring, GetAt, FindVersion, FindCount, FindKey, FindValue, CallTurn, LetGo}
+use Rattle.wfe_core.specs.Calls.{ChangeKept, EnqueueKept, Task, Gets, Changes, Enqueues, Dequeues, Next, Again, MakeRoom, Answering, Retiring, GetAt, FindVersion, FindCount, FindKey, FindValue, CallTurn, LetGo, Parting}
 use Rattle.inv_rows.specs.Rows.{Hand}
 use Rattle.inv_rows.specs.Rows.Hand.{Empty}
-use Rattle.inv_rows.specs.Hands.{hand_of, hand_task, hand_next, hand_base, hand_in, is_plain, is_right, fills_right, Leaves}
-use Rattle.wfe_core.proofs.Facts.{same_number}
+use Rattle.inv_rows.specs.Hands.{hand_of, hand_task, hand_next, hand_base, hand_in, is_plain, goes_right, fills_right, Leaves}
+use Rattle.wfe_core.proofs.Facts.{same_number, if_by}
 use Rattle.wfe_core.proofs.Schemes.{each_begin, each_clear, each_finish, each_release}
 
 -- a scheme's machine, where it takes a step, handles no row
@@ -63,11 +65,11 @@ let_by_hand let_go (Some base) = refl
 pub letting_hand : (let_go : LetGo) (post : Post) → hand_in (rounds.letting let_go post) ≡ Empty
 letting_hand let_go post = let_by_hand let_go (rounds.release_base (scheme_of post) post (rounds.let_index let_go))
 
-let_by_right : (let_go : LetGo) (x : Option Base) (list : List Lifetime) → plain_some x ≡ true → is_right (rounds.letting_by let_go x) list ≡ true
+let_by_right : (let_go : LetGo) (x : Option Base) (list : List Lifetime) → plain_some x ≡ true → goes_right (rounds.letting_by let_go x) list ≡ true
 let_by_right let_go None list h = refl
 let_by_right let_go (Some base) list h = h
 
-pub letting_right : (let_go : LetGo) (post : Post) (list : List Lifetime) → is_right (rounds.letting let_go post) list ≡ true
+pub letting_right : (let_go : LetGo) (post : Post) (list : List Lifetime) → goes_right (rounds.letting let_go post) list ≡ true
 letting_right let_go post list =
     let_by_right let_go (rounds.release_base (scheme_of post) post (rounds.let_index let_go)) list (release_plain (scheme_of post) post (rounds.let_index let_go))
 
@@ -78,12 +80,44 @@ round_by_hand task post (Some base) = refl
 pub round_hand : (task : Task) (post : Post) → hand_in (round task post) ≡ hand_task task
 round_hand task post = round_by_hand task post (begin_base (scheme_of post) post)
 
-round_by_right : (task : Task) (post : Post) (x : Option Base) (list : List Lifetime) → plain_some x ≡ true → is_right (round_by task post x) list ≡ true
+round_by_right : (task : Task) (post : Post) (x : Option Base) (list : List Lifetime) → plain_some x ≡ true → goes_right (round_by task post x) list ≡ true
 round_by_right task post None list h = refl
 round_by_right task post (Some base) list h = h
 
-pub round_right : (task : Task) (post : Post) (list : List Lifetime) → is_right (round task post) list ≡ true
+pub round_right : (task : Task) (post : Post) (list : List Lifetime) → goes_right (round task post) list ≡ true
 round_right task post list = round_by_right task post (begin_base (scheme_of post) post) list (begin_plain (scheme_of post) post)
+
+-- a seat that leaves lets go of what stands, and then marks its place
+parting_by_hand : (x : Option ℕ) → hand_in (keeps.parting_index x) ≡ Empty
+parting_by_hand None = refl
+parting_by_hand (Some index) = refl
+
+parting_from_hand : (index : ℕ) (post : Post) → hand_in (keeps.parting_from index post) ≡ Empty
+parting_from_hand index post = parting_by_hand (standing_from index (drop index post.standing))
+
+parting_span_hand : (x : Option Interval) → hand_in (keeps.parting_span x) ≡ Empty
+parting_span_hand None = refl
+parting_span_hand (Some span) = refl
+
+pub parting_hand : (post : Post) → hand_in (keeps.parting post) ≡ Empty
+parting_hand post = if_by (has_one_interval (scheme_of post)) (keeps.parting_span post.span) (keeps.parting_from 2 post) (λ phase. hand_in phase ≡ Empty) (λ e. parting_span_hand post.span) (λ e. parting_from_hand 2 post)
+
+parting_by_right : (x : Option ℕ) (list : List Lifetime) → goes_right (keeps.parting_index x) list ≡ true
+parting_by_right None list = refl
+parting_by_right (Some index) list = refl
+
+parting_from_right : (index : ℕ) (post : Post) (list : List Lifetime) → goes_right (keeps.parting_from index post) list ≡ true
+parting_from_right index post list = parting_by_right (standing_from index (drop index post.standing)) list
+
+parting_span_right : (x : Option Interval) (list : List Lifetime) → goes_right (keeps.parting_span x) list ≡ true
+parting_span_right None list = refl
+parting_span_right (Some span) list = refl
+
+pub parting_right : (post : Post) (list : List Lifetime) → goes_right (keeps.parting post) list ≡ true
+parting_right post list = if_by (has_one_interval (scheme_of post)) (keeps.parting_span post.span) (keeps.parting_from 2 post) (λ phase. goes_right phase list ≡ true) (λ e. parting_span_right post.span list) (λ e. parting_from_right 2 post list)
+
+pub parting_leaves : (index : ℕ) (post : Post) (desk : Desk) (told : List Event) → Leaves Empty desk.list (keeps.released (Parting index) post desk told)
+parting_leaves index post desk told = record { hand = parting_from_hand (index + 1) post; right = parting_from_right (index + 1) post desk.list; list = refl }
 
 given_up_leaves : (answer : Answer) (post : Post) (desk : Desk) (told : List Event) (x : Option ℕ) → Leaves (hand_of x) desk.list (given_up answer post desk told x)
 given_up_leaves answer post desk told None = record { hand = refl; right = refl; list = refl }

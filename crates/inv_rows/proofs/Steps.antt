@@ -1,7 +1,7 @@
 -- One step of a seat, by the phase in which it stands.
-use Rattle.std.proofs.Common.{ℕ, ◌≤◌, ◌+◌, ◌<◌, ◌%◌, ◌≡◌, Bool, true, false, arith, refl, ap, ◌∙◌, sym, List, [], ◌∷◌, ◌++◌}
+use Rattle.std.proofs.Common.{ℕ, ◌≤◌, ◌+◌, ◌<◌, ◌%◌, ◌≡◌, Bool, true, false, arith, refl, ap, ◌∙◌, sym, subst, List, [], ◌∷◌, ◌++◌}
 use Rattle.std.proofs.lemmas.Bool.Decides.{nat_tests}
-use Rattle.std.specs.Prelude.{◌==◌, if◌then◌else◌, Option, Some, None}
+use Rattle.std.specs.Prelude.{◌==◌, not, if◌then◌else◌, Option, Some, None}
 use Rattle.wfe_core.specs.defs.declared.call.Answer.{Answer}
 use Rattle.wfe_core.specs.defs.declared.event.Event.TheVariants as events
 use Rattle.wfe_core.specs.defs.declared.event.Event.{Event}
@@ -12,14 +12,15 @@ use Rattle.wfe_core.specs.Desks.{Desk}
 use Rattle.wfe_core.specs.Phases.{Base, Ending as endings, goes, ends, AllocateAt, RowOf, Walk, Turn}
 use Rattle.wfe_core.specs.Phases.Ending.{Done, Allocated}
 use Rattle.wfe_core.specs.Scan as scan
-use Rattle.wfe_core.specs.Calls.{Task, Gets, Changes, Holds, Enqueues, Dequeues, AfterScan, Why, Fills, GivesUp, Retires, ScanAt, ReadGuard, GiveBack, Phase, Runs, Scans, CallTurn}
+use Rattle.wfe_core.specs.Calls.{Task, Gets, Changes, Holds, Enqueues, Dequeues, AfterScan, Why, Fills, GivesUp, Retires, ScanAt, ReadGuard, GiveBack, Phase, Runs, Scans, Works, Keeping, MarkTaken, CallTurn, CallOutcome, GoesOn}
+use Rattle.wfe_core.specs.Calls as calls
 use Rattle.inv_rows.specs.Rows.{Hand, Status, View, Good, made, is_taken, has_life, retire_in}
 use Rattle.inv_rows.specs.Rows.Hand.{Empty, New, Taken, Old, Known, Dated}
-use Rattle.inv_rows.specs.Hands.{hand_later, hand_in, is_plain, Leaves, hand_left, right_left, in_list, each_once, stands_at, task_fills, base_row, scan_row}
+use Rattle.inv_rows.specs.Hands.{hand_later, hand_in, is_plain, Leaves, hand_left, is_marking, is_right, right_left, unmarked_left, in_list, each_once, stands_at, task_fills, base_row, scan_row}
 use Rattle.std.specs.Int.{bit_at}
 use Rattle.std.specs.List.{remove}
 use Rattle.wfe_core.specs.words.Place.{Place, claim_word, claim_mask, claim_others}
-use Rattle.wfe_core.specs.words.Place.Place.{Clock, Claim, Life, Row}
+use Rattle.wfe_core.specs.words.Place.Place.{Clock, Claim, Life, Row, PlaceOf}
 use Rattle.wfe_core.specs.words.Packed.{read_life, life_word, halves}
 use Rattle.wfe_core.proofs.words.Parts.{read_life-open}
 use Rattle.wfe_core.specs.Memory as memory
@@ -42,7 +43,7 @@ use Rattle.inv_rows.proofs.Words.{words_plain, words_shown, words_claims, words_
 use Rattle.inv_rows.proofs.Lists.{no_entry_from, in_list_last, once_last, once_remove, in_list_remove, Entered, stands_entered}
 use Rattle.inv_rows.proofs.Turns.{read_leaves, back_leaves}
 use Rattle.inv_rows.proofs.Runs.{is_plain_why, plain_goes, plain_writes, plain_leaves, spent_leaves, given_leaves, written_leaves, retired_leaves, only_fills}
-use Rattle.wfe_core.proofs.Facts.{words_below, no_truth}
+use Rattle.wfe_core.proofs.Facts.{words_below, no_truth, rest_of}
 
 -- what the step of seat i leaves agrees with the rows
 pub record Did (slots i : ℕ) (mem : Place → ℕ) (v : View) (t : CallTurn) : Type 0 where
@@ -52,6 +53,15 @@ pub record Did (slots i : ℕ) (mem : Place → ℕ) (v : View) (t : CallTurn) :
   pub lists : (s b r : ℕ) → v.lists i s b r ≡ in_list t.desk.list s b r
   pub once : each_once t.desk.list ≡ true
   pub right : right_left t.outcome t.desk.list ≡ true
+  pub marks : (place count : ℕ) → t.outcome ≡ GoesOn (Works (Keeping (MarkTaken place count))) → 1 < mem (PlaceOf place)
+
+-- a turn that does not take a list over goes on to no phase that marks one
+left_right : (outcome : CallOutcome) (list : List Lifetime) → unmarked_left outcome list ≡ true → right_left outcome list ≡ true
+left_right (GoesOn phase) list h = rest_of (not (is_marking phase)) (is_right phase list) h
+left_right (calls.Answers answer) list h = refl
+
+left_unmarked : (outcome : CallOutcome) (list : List Lifetime) (place count : ℕ) → unmarked_left outcome list ≡ true → outcome ≡ GoesOn (Works (Keeping (MarkTaken place count))) → ⊥
+left_unmarked outcome list place count h e = let P : CallOutcome → Type 0 = λ y. unmarked_left y list ≡ true in no_truth (subst P e h)
 
 pub upd_own : {A : Type 0} (f : ℕ → A) (i : ℕ) (x : A) → upd f i x i ≡ x
 upd_own f i x = let e : (i == i) ≡ true = grind (arith, nat_tests) in rw e refl
@@ -64,7 +74,8 @@ did_kept slots i mem v h list t g w e f o l = record {
   hand = e ∙ sym l.hand;
   lists = λ s b r. rw l.list (f s b r);
   once = rw l.list o;
-  right = l.right;
+  right = left_right t.outcome t.desk.list l.right;
+  marks = λ place count q. absurd (left_unmarked t.outcome t.desk.list place count l.right q);
 }
 
 -- a step that moves no row

@@ -24,14 +24,14 @@ use Rattle.wfe_core.specs.Keep as keeps
 use Rattle.wfe_core.specs.Posts.{cleared, reserves_index, stands, withdrawn}
 use Rattle.wfe_core.specs.words.Schemes.{has_one_interval}
 use Rattle.wfe_core.specs.Steps as steps
-use Rattle.wfe_core.specs.Calls.{ChangeKept, EnqueueKept, Task, Gets, Changes, Holds, Enqueues, Dequeues, Again, Answering, Retiring, AfterScan, Answered, Repeated, Counted, GiveBack, LetGo, Released, Rehold, Dropped, GetAt, FindVersion, FindCount, FindKey, FindValue, KeepAt, Loosens, LoadHeld, StoreHeld, Looks, Misses}
+use Rattle.wfe_core.specs.Calls.{ChangeKept, EnqueueKept, Task, Gets, Changes, Holds, Enqueues, Dequeues, Again, Answering, Retiring, AfterScan, Answered, Repeated, Counted, GiveBack, LetGo, Released, Rehold, Dropped, Parting, GetAt, FindVersion, FindCount, FindKey, FindValue, KeepAt, Loosens, LoadHeld, StoreHeld, Looks, Misses, HideSpan, MarkLeft, TakeList, MarkTaken}
 use Rattle.inv_rows.specs.Rows.Hand.{Empty, Old}
 use Rattle.inv_rows.specs.Hands.{hand_of, hand_task, hand_next, hand_later, Leaves, stands_at}
 use Rattle.std.specs.List.{remove}
 use Rattle.wfe_core.specs.defs.declared.event.Guard.{Guard}
 use Rattle.wfe_core.specs.defs.declared.event.Root.TheVariants as roots
-use Rattle.wfe_core.proofs.Facts.{same_number}
-use Rattle.inv_rows.proofs.Rounds.{round_hand, round_right, closed_leaves, clearing_leaves, clearing_next_leaves, leaves_along, deciding_leaves, got_leaves, followed_leaves}
+use Rattle.wfe_core.proofs.Facts.{same_number, no_truth}
+use Rattle.inv_rows.proofs.Rounds.{round_hand, round_right, closed_leaves, clearing_leaves, clearing_next_leaves, leaves_along, deciding_leaves, got_leaves, followed_leaves, parting_leaves}
 
 -- the change's root is exchanged: its row is no longer in hand, and the one that it replaces is
 done_first : (version link : ℕ) (task : Task) → taken_of task ≡ None → (link == 0) ≡ true → hand_next task (alters.answer_done version link) ≡ Empty
@@ -204,6 +204,7 @@ advanced_leaves (endings.Retired life) post desk told = record { hand = refl; ri
 pub released_leaves : (let_go : LetGo) (post : Post) (desk : Desk) (told : List Event) → Leaves Empty desk.list (keeps.released let_go post desk told)
 released_leaves Released post desk told = record { hand = refl; right = refl; list = refl }
 released_leaves (Dropped index) post desk told = record { hand = refl; right = refl; list = refl }
+released_leaves (Parting index) post desk told = parting_leaves index post desk told
 released_leaves (Rehold key) post desk told = record { hand = round_hand (Holds key) post; right = round_right (Holds key) post desk.list; list = refl }
 
 -- calls on what is kept
@@ -229,10 +230,30 @@ look_leaves index key (FindCount slot version) post desk found = looking_leaves 
 look_leaves index key (FindKey slot version count pair) post desk found = looked_key_leaves index key slot version count pair post desk (found == key)
 look_leaves index key (FindValue slot version pair) post desk found = record { hand = refl; right = refl; list = refl }
 
-pub keep_leaves : (at : KeepAt) (post : Post) (desk : Desk) (found : ℕ) → Leaves Empty desk.list (keeps.keep_turn at post desk found)
-keep_leaves (Loosens let_go) post desk found =
+-- a place from which no list can be taken
+pub not_taken_leaves : (place : ℕ) (post : Post) (desk : Desk) (found : ℕ) → Leaves Empty desk.list (keeps.taking place post desk false found)
+not_taken_leaves place post desk found = record { hand = refl; right = refl; list = refl }
+
+abbrev pub takes_list : KeepAt → Bool
+takes_list (Loosens let_go) = false
+takes_list (LoadHeld from index) = false
+takes_list (StoreHeld from index era) = false
+takes_list (Looks index key at) = false
+takes_list (Misses index) = false
+takes_list HideSpan = false
+takes_list MarkLeft = false
+takes_list (TakeList place) = true
+takes_list (MarkTaken place count) = false
+
+-- not of the step that may take a list over
+pub keep_leaves : (at : KeepAt) (post : Post) (desk : Desk) (found : ℕ) → takes_list at ≡ false → Leaves Empty desk.list (keeps.keep_turn at post desk found)
+keep_leaves (Loosens let_go) post desk found h =
     released_leaves let_go (withdrawn post (let_index let_go)) desk (cleared (let_index let_go) (stands post (let_index let_go)))
-keep_leaves (LoadHeld from index) post desk found = load_held_leaves from index post desk found (has_one_interval (scheme_of post))
-keep_leaves (StoreHeld from index era) post desk found = copied_leaves from index post desk (reserves_index post index era) (stands post from)
-keep_leaves (Looks index key at) post desk found = look_leaves index key at post desk found
-keep_leaves (Misses index) post desk found = record { hand = refl; right = refl; list = refl }
+keep_leaves (LoadHeld from index) post desk found h = load_held_leaves from index post desk found (has_one_interval (scheme_of post))
+keep_leaves (StoreHeld from index era) post desk found h = copied_leaves from index post desk (reserves_index post index era) (stands post from)
+keep_leaves (Looks index key at) post desk found h = look_leaves index key at post desk found
+keep_leaves (Misses index) post desk found h = record { hand = refl; right = refl; list = refl }
+keep_leaves HideSpan post desk found h = record { hand = refl; right = refl; list = refl }
+keep_leaves MarkLeft post desk found h = record { hand = refl; right = refl; list = refl }
+keep_leaves (TakeList place) post desk found h = absurd (no_truth (sym h))
+keep_leaves (MarkTaken place count) post desk found h = record { hand = refl; right = refl; list = refl }

@@ -30,7 +30,7 @@ use Rattle.inv_rows.specs.Queue.{Line, line_move, moved_line}
 use Rattle.inv_rows.specs.Tries.{base_tries, is_alone, is_tail, is_head, opens_by, FromTail, FromHead, TriesBase, PhaseTries, Whole, WholeNeeds, WholeKept, WholeBegin, WholeStart, EraIn}
 use Rattle.inv_rows.proofs.Quiet.{phase_of, scan_quiet}
 use Rattle.wfe_core.specs.Locals.{Local, turn, settled, settled_by, told_by, rounds_told, begun, begun_post}
-use Rattle.wfe_core.specs.World.{World, step, finds}
+use Rattle.wfe_core.specs.World.{World, step, finds, offered}
 use Rattle.inv_rows.specs.Agree.{rows_after}
 use Rattle.inv_rows.specs.Chain.{Both, QueueNeeds, line_after, queue_of}
 use Rattle.inv_rows.specs.Facts.{RowStays}
@@ -157,16 +157,16 @@ run_new w i v l (Tidies later) base upto found n b e = tt
 run_new w i v l Advances base upto found n b e = tt
 run_new w i v l (Releases let_go) base upto found n b e = tt
 
-own_new : (w : World) (i : ℕ) (v : View) (l : Line) (phase : Phase) (upto found : ℕ) → WholeNeeds w i v l → Whole w v l → (w.seat i).phase ≡ phase → NewTries (phase_turn phase (counted (w.seat i).post) (w.seat i).desk (finds w i)) (written w.mem (phase_move phase (w.seat i).post) Clock) upto (queue_of (made i v (row_move phase (w.seat i).post found))) (moved_line l (line_move phase found)) (made i v (row_move phase (w.seat i).post found)).head
+own_new : (w : World) (i : ℕ) (v : View) (l : Line) (phase : Phase) (upto found : ℕ) → WholeNeeds w i v l → Whole w v l → (w.seat i).phase ≡ phase → NewTries (phase_turn phase (counted (w.seat i).post) (offered w i).desk (finds w i)) (written w.mem (phase_move phase (w.seat i).post) Clock) upto (queue_of (made i v (row_move phase (w.seat i).post found))) (moved_line l (line_move phase found)) (made i v (row_move phase (w.seat i).post found)).head
 own_new w i v l Idle upto found n b e = tt
 own_new w i v l (Runs why base) upto found n b e =
     let t : Turn = machine.after base (counted (w.seat i).post) (finds w i) in
-    resumed_tries why (w.seat i).desk t.post t.told t.outcome (written w.mem (base_move base (w.seat i).post) Clock) upto (queue_of (made i v (base_row base found))) l (made i v (base_row base found)).head (run_new w i v l why base upto found n b e)
+    resumed_tries why (offered w i).desk t.post t.told t.outcome (written w.mem (base_move base (w.seat i).post) Clock) upto (queue_of (made i v (base_row base found))) l (made i v (base_row base found)).head (run_new w i v l why base upto found n b e)
 own_new w i v l (Scans later at) upto found n b e =
     let p : Post = counted (w.seat i).post in
-    by_quiet (scan.scan_turn later at p (w.seat i).desk (finds w i)) (written w.mem (phase_move (Scans later at) (w.seat i).post) Clock) upto (queue_of (made i v (row_move (Scans later at) (w.seat i).post found))) (moved_line l (line_move (Scans later at) found)) (made i v (row_move (Scans later at) (w.seat i).post found)).head (scan_quiet later at p (w.seat i).desk (finds w i))
+    by_quiet (scan.scan_turn later at p (offered w i).desk (finds w i)) (written w.mem (phase_move (Scans later at) (w.seat i).post) Clock) upto (queue_of (made i v (row_move (Scans later at) (w.seat i).post found))) (moved_line l (line_move (Scans later at) found)) (made i v (row_move (Scans later at) (w.seat i).post found)).head (scan_quiet later at p (offered w i).desk (finds w i))
 own_new w i v l (Works work) upto found n b e =
-    work_tries work (counted (w.seat i).post) (w.seat i).desk (finds w i) (written w.mem (phase_move (Works work) (w.seat i).post) Clock) upto (queue_of (made i v (row_move (Works work) (w.seat i).post found))) (moved_line l (line_move (Works work) found)) (made i v (row_move (Works work) (w.seat i).post found)).head
+    work_tries work (counted (w.seat i).post) (offered w i).desk (finds w i) (written w.mem (phase_move (Works work) (w.seat i).post) Clock) upto (queue_of (made i v (row_move (Works work) (w.seat i).post found))) (moved_line l (line_move (Works work) found)) (made i v (row_move (Works work) (w.seat i).post found)).head
 
 settled_tries : (l0 : Local) (post : Post) (desk : Desk) (count : ℕ) (outcome : CallOutcome) (clock : ℕ) (q : ℕ → Bool) (l : Line) (head : ℕ) → PhaseTries (phase_of outcome) clock (upper post.span) q l head → PhaseTries (settled_by l0 post desk count outcome).phase clock (upper (settled_by l0 post desk count outcome).post.span) q l head
 settled_tries l0 post desk count (GoesOn phase) clock q l head t = t
@@ -192,7 +192,7 @@ apart_by s slot false f e h g = refl
 pub whole_kept : WholeKept
 whole_kept w i v l n b =
     let needs : QueueNeeds w i v l = whole_needs w i v l n b in
-    let own : Local = w.seat i in
+    let own : Local = offered w i in
     let t : CallTurn = turn own (finds w i) in
     record {
       both = queue_kept w i v l needs b.both;
@@ -204,8 +204,8 @@ whole_kept w i v l n b =
     }
 
 pub whole_begin : WholeBegin
-whole_begin w i call v l h b = record {
-  both = record { rows = rows_begin w i call v h b.both.rows; queue = queue_begin w i call v l b.both.queue };
+whole_begin w i call v l h there b = record {
+  both = record { rows = rows_begin w i call v h there b.both.rows; queue = queue_begin w i call v l b.both.queue };
   tries = λ k. seat_tries i k (w.seat k) (begun (w.seat i) call) (k == i) (w.mem Clock) (queue_of v) l v.head refl (quiet_tries (first_phase call (begun_post (w.seat i).post)) (w.mem Clock) (upper (w.seat i).post.span) (queue_of v) l v.head (first_quiet call (begun_post (w.seat i).post))) (λ e. b.tries k);
 }
 

@@ -1,7 +1,7 @@
 -- The words by which rows are known, after each operation.
 use Rattle.std.proofs.Common.{ℕ, ◌≤◌, ◌+◌, ◌<◌, ◌/◌, ◌%◌, ◌≡◌, ◌≢◌, Bool, true, false, arith, refl, ap, ◌∙◌, sym, bit_and, bit_or}
 use Rattle.std.proofs.lemmas.Bool.Decides.{nat_tests}
-use Rattle.std.specs.Prelude.{◌==◌, if◌then◌else◌}
+use Rattle.std.specs.Prelude.{◌==◌, nat_le, if◌then◌else◌}
 use Rattle.std.specs.Int.{bit_at}
 use Rattle.wfe_core.specs.words.Place.{Place, same, claim_mask, claim_others}
 use Rattle.wfe_core.specs.words.Place.Place.{Clock, Helper, Index, Interval, Request, Bucket, Head, Tail, Claim, Life, Row, PlaceOf}
@@ -9,10 +9,11 @@ use Rattle.wfe_core.specs.words.Packed.{life_word}
 use Rattle.wfe_core.proofs.words.Claims.{claimed_same, claimed_other, freed_same, freed_other, bits_apart}
 use Rattle.wfe_core.proofs.words.Places.{same_one}
 use Rattle.wfe_core.specs.Memory.{Move, Load, Store, Cas, Or, And, place_in, change, written, put}
-use Rattle.inv_rows.specs.Rows.{Hand, View, set_status, set_hand, made}
+use Rattle.inv_rows.specs.Rows.{Hand, Status, View, set_status, set_hand, made, passed}
 use Rattle.inv_rows.specs.Rows.Status.{Free, Claimed, Born, Linked, InQueue, Cut, Sealed}
-use Rattle.inv_rows.specs.Rows.RowMove.{Claims, Bears, Drops, Links, Replaces, Appends, Pops, Seals, Lists, Returns}
-use Rattle.inv_rows.specs.Agree.{Words}
+use Rattle.inv_rows.specs.Rows.RowMove.{Claims, Bears, Drops, Links, Replaces, Appends, Pops, Seals, Lists, Returns, Adopts}
+use Rattle.inv_rows.specs.Agree.{Words, claim_of, bit_of}
+use Rattle.inv_rows.proofs.Made.{passed_taken, passed_life, passed_retire}
 
 -- a place by which rows are known
 abbrev pub is_rowish : Place → Bool
@@ -254,3 +255,15 @@ words_drops slots mem v i t below w = let f = words_frees slots mem v t below w 
 
 pub words_returns : (slots : ℕ) (mem : Place → ℕ) (v : View) (i t : ℕ) → t ≤ slots → Words slots mem v → Words slots (written mem (And (Claim (t / 64)) (claim_others t))) (made i v (Returns t))
 words_returns slots mem v i t below w = let f = words_frees slots mem v t below w in record { claims = f.claims; lives = f.lives; roots = f.roots; head = f.head }
+
+claim_passed : (slots from to : ℕ) (x : Status) (slot : ℕ) → claim_of slots (passed from to x) slot ≡ claim_of slots x slot
+claim_passed slots from to x slot = ap (λ (taken : Bool). if nat_le slot slots then bit_of taken else 1) (passed_taken from to x)
+
+-- a list changes hands
+pub words_adopts : (slots : ℕ) (mem : Place → ℕ) (v : View) (i from : ℕ) → Words slots mem v → Words slots mem (made i v (Adopts from))
+words_adopts slots mem v i from w = record {
+  claims = λ s e. w.claims s e ∙ sym (claim_passed slots from i (v.status s) s);
+  lives = λ s e. w.lives s (sym (passed_life from i (v.status s)) ∙ e) ∙ sym (ap (λ (r : ℕ). life_word (record { birth = v.birth s; retire = r })) (passed_retire from i (v.status s)));
+  roots = w.roots;
+  head = w.head;
+}

@@ -10,7 +10,7 @@ use Rattle.wfe_core.specs.Keep as keeps
 use Rattle.wfe_core.specs.Change as alters
 use Rattle.wfe_core.specs.Enqueue as enqueues
 use Rattle.wfe_core.specs.Dequeue as dequeues
-use Rattle.wfe_core.specs.Calls.{ChangeKept, EnqueueKept, Why, Opens, FollowsHead, Fills, ClearsNext, Clears, Finishes, GivesUp, Retires, Tidies, Advances, Releases, ReadGuard, GiveBack, GetAt, FindVersion, FindCount, FindKey, FindValue, ChangeAt, LoadVersion, LoadCount, LoadKey, LoadValue, ExchangeRoot, EnqueueAt, LoadNumber, LoadNext, PassTail, ExchangeNext, ExchangeTail, DequeueAt, LoadTail, SwingTail, TakeNumber, TakeValue, ExchangeHead, Getting, Changing, Enqueuing, Dequeuing, Phase, Idle, Runs, Scans, Works, KeepAt, Loosens, LoadHeld, StoreHeld, Looks, Misses, Keeping}
+use Rattle.wfe_core.specs.Calls.{ChangeKept, EnqueueKept, Why, Opens, FollowsHead, Fills, ClearsNext, Clears, Finishes, GivesUp, Retires, Tidies, Advances, Releases, ReadGuard, GiveBack, GetAt, FindVersion, FindCount, FindKey, FindValue, ChangeAt, LoadVersion, LoadCount, LoadKey, LoadValue, ExchangeRoot, EnqueueAt, LoadNumber, LoadNext, PassTail, ExchangeNext, ExchangeTail, DequeueAt, LoadTail, SwingTail, TakeNumber, TakeValue, ExchangeHead, Getting, Changing, Enqueuing, Dequeuing, Phase, Idle, Runs, Scans, Works, KeepAt, Loosens, LoadHeld, StoreHeld, Looks, Misses, HideSpan, MarkLeft, TakeList, MarkTaken, Keeping}
 use Rattle.inv_rows.specs.Rows.Hand.{Taken}
 use Rattle.wfe_core.specs.words.Place.{Place, same}
 use Rattle.wfe_core.specs.words.Place.Place.{Clock, Bucket, Head, Tail, Claim, Life, Row, Helper, Index, Interval, Request, PlaceOf}
@@ -23,6 +23,7 @@ use Rattle.wfe_core.specs.Steps.{phase_move}
 use Rattle.inv_rows.specs.Rows.{Status, View, Good}
 use Rattle.inv_rows.specs.Rows.Status.{Born}
 use Rattle.inv_rows.specs.Agree.{Plays}
+use Rattle.wfe_core.specs.World.{list_in}
 use Rattle.wfe_core.proofs.Facts.{same_number, no_truth}
 use Rattle.inv_rows.specs.Facts.{is_born_by, RowWordsStay}
 use Rattle.inv_rows.proofs.Words.{put_other}
@@ -97,6 +98,10 @@ keep_stays mem (LoadHeld from index) post s p = refl
 keep_stays mem (StoreHeld from index era) post s p = refl
 keep_stays mem (Looks index key at) post s p = get_stays mem at s p
 keep_stays mem (Misses index) post s p = refl
+keep_stays mem HideSpan post s p = refl
+keep_stays mem MarkLeft post s p = refl
+keep_stays mem (TakeList place) post s p = refl
+keep_stays mem (MarkTaken place count) post s p = refl
 
 pub change_stays : (mem : Place → ℕ) (kept : ChangeKept) (at : ChangeAt) (post : Post) (s p : ℕ) → written mem (alters.change_move kept at post) (Row s p) ≡ mem (Row s p)
 change_stays mem kept (LoadVersion slot) post s p = refl
@@ -134,4 +139,4 @@ phase_stays slots i mem v (Works (Dequeuing at)) post list s p g l h n = dequeue
 phase_stays slots i mem v (Works (Keeping at)) post list s p g l h n = keep_stays mem at post s p
 
 pub row_words_stay : RowWordsStay
-row_words_stay w i v s place a h n = phase_stays w.layout.config.slots i w.mem v (w.seat i).phase (w.seat i).post (w.seat i).desk.list s place a.good (a.plays i) h n
+row_words_stay w i v s place a h n = phase_stays w.layout.config.slots i w.mem v (w.seat i).phase (w.seat i).post (list_in w i) s place a.good (a.plays i) h n

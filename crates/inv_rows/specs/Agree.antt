@@ -2,7 +2,7 @@
 use Rattle.std.specs.Prelude.{ℕ, ◌≡◌, ◌≤◌, ◌<◌, ◌+◌, ◌/◌, ◌%◌, ◌==◌, nat_le, Bool, true, false, if◌then◌else◌, List}
 use Rattle.std.specs.Int.{bit_at}
 use Rattle.wfe_core.specs.words.Place.{Place, is_valid}
-use Rattle.wfe_core.specs.words.Place.Place.{Bucket, Head, Claim, Life}
+use Rattle.wfe_core.specs.words.Place.Place.{Bucket, Head, Claim, Life, PlaceOf}
 use Rattle.wfe_core.specs.words.Packed.{life_word}
 use Rattle.wfe_core.specs.words.declared.layout.Layout.{Layout}
 use Rattle.wfe_core.specs.defs.declared.call.Call.{Call}
@@ -10,8 +10,9 @@ use Rattle.wfe_core.specs.defs.declared.lifetime.Lifetime.{Lifetime}
 use Rattle.wfe_core.specs.Phases.{Walk}
 use Rattle.wfe_core.specs.Phases.AllocateAt.{ClaimSlot, StoreLife}
 use Rattle.wfe_core.specs.Phases.Base.{Allocate}
-use Rattle.wfe_core.specs.Calls.{Why, Phase, Runs, Works, Dequeuing, ExchangeHead}
-use Rattle.wfe_core.specs.World.{World, start, step, begin, is_busy, finds}
+use Rattle.wfe_core.specs.Calls.{Why, Phase, Runs, Works, Dequeuing, ExchangeHead, Keeping, MarkTaken}
+use Rattle.wfe_core.specs.Locals.{busy_in}
+use Rattle.wfe_core.specs.World.{World, start, step, begin, is_busy, is_here, list_in, finds}
 use Rattle.inv_rows.specs.Rows.{Status, View, Good, made, is_taken, has_life, retire_in}
 use Rattle.inv_rows.specs.Rows.Status.{Free, InQueue}
 use Rattle.inv_rows.specs.Rows.Hand.{Empty}
@@ -38,10 +39,18 @@ pub record Plays (k : ℕ) (phase : Phase) (list : List Lifetime) (v : View) : T
   pub once : each_once list ≡ true
   pub right : is_right phase list ≡ true
 
+-- what a seat's phase says of place words: a seat that is busy has not left, and a list that a seat marks as taken over is
+pub record Present (mem : Place → ℕ) (k : ℕ) (phase : Phase) : Type 0 where
+  pub here : busy_in phase ≡ true → mem (PlaceOf k) ≡ 0
+  pub marks : (place count : ℕ) → phase ≡ Works (Keeping (MarkTaken place count)) → 1 < mem (PlaceOf place)
+
+-- each seat has its number, and its list is the one that is its own: none once another seat has taken it over
 pub record Agree (w : World) (v : View) : Type 0 where
   pub good : Good w.layout.config.slots v
   pub words : Words w.layout.config.slots w.mem v
-  pub plays : (k : ℕ) → Plays k (w.seat k).phase (w.seat k).desk.list v
+  pub plays : (k : ℕ) → Plays k (w.seat k).phase (list_in w k) v
+  pub numbers : (k : ℕ) → (w.seat k).post.seat ≡ k
+  pub present : (k : ℕ) → Present w.mem k (w.seat k).phase
 
 -- what a step of a seat needs of the other parts: a walk stays within the table; the birth era that is stored is positive;
 -- and where the head can be exchanged the row after it is another one in the queue
@@ -79,9 +88,9 @@ first_rows layout =
 abbrev pub RowsStart : Type 0
 RowsStart = (layout : Layout) → is_valid layout ≡ true → Agree (start layout) (first_rows layout)
 
--- the start of a call changes nothing of it
+-- the start of a call on a seat that has not left changes nothing of it
 abbrev pub RowsBegin : Type 0
-RowsBegin = (w : World) (i : ℕ) (call : Call) (v : View) → is_busy w i ≡ false → Agree w v → Agree (begin w i call) v
+RowsBegin = (w : World) (i : ℕ) (call : Call) (v : View) → is_busy w i ≡ false → is_here w i ≡ true → Agree w v → Agree (begin w i call) v
 
 -- each step keeps it, by its move of rows
 abbrev pub RowsKept : Type 0

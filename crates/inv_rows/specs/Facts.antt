@@ -1,24 +1,37 @@
 -- What the code of a seat's step may rest on, because of what is known of the rows.
-use Rattle.std.specs.Prelude.{Bool, ℕ, ◌≡◌, ◌<◌, ◌+◌, ◌==◌, true, false, slice_get, Some}
+use Rattle.std.specs.Prelude.{Bool, ℕ, ◌≡◌, ◌<◌, ◌≤◌, ◌+◌, ◌==◌, true, false, slice_get, Some, List, ◌++◌, length}
 use Rattle.std.specs.List.{IsDistinct, list_any}
 use Rattle.wfe_core.specs.words.Place.Place.{Head, Tail, Life, Row}
 use Rattle.wfe_core.specs.defs.declared.call.Answer.{Answer}
+use Rattle.wfe_core.specs.defs.declared.lifetime.Lifetime.{Lifetime}
 use Rattle.wfe_core.specs.CallReady.{slots_of, RetireFits}
 use Rattle.wfe_core.specs.Phases.{Base}
 use Rattle.wfe_core.specs.Phases.RetireAt.{LoadLife}
 use Rattle.wfe_core.specs.Phases.Base.{Retire}
-use Rattle.wfe_core.specs.Calls.{Why, Retires, AfterScan, GiveBack, Runs, Scans}
-use Rattle.wfe_core.specs.World.{World, step}
+use Rattle.wfe_core.specs.Calls.{Why, Retires, AfterScan, GiveBack, Runs, Scans, Works, Keeping, TakeList}
+use Rattle.wfe_core.specs.World.{World, step, is_busy, is_here, list_in, offered, finds}
 use Rattle.inv_rows.specs.Rows.{Status, View}
 use Rattle.inv_rows.specs.Rows.Status.{Free, Claimed, Born, Linked, InQueue, Cut, Sealed, Listed}
 use Rattle.inv_rows.specs.Agree.{Agree, RowsNeeds, rows_after}
 use Rattle.inv_rows.specs.Queue.{Line, in_queue}
 use Rattle.inv_rows.specs.Chain.{Both, QueueNeeds, line_after}
 
+-- a list in which no row is twice, and each row is one of the table's
+pub record Listing (slots : ℕ) (list : List Lifetime) : Type 0 where
+  pub apart : IsDistinct ◌==◌ (slots_of list)
+  pub below : (slot : ℕ) → list_any (◌==◌ slot) (slots_of list) ≡ true → slot < slots + 1
+  pub short : length list ≤ slots + 1
+
 pub record SeatShows (w : World) (k : ℕ) : Type 0 where
+  -- a busy seat has not left, and the list that it keeps is its own
+  pub here : is_busy w k ≡ true → is_here w k ≡ true
+  pub own : is_busy w k ≡ true → list_in w k ≡ (w.seat k).desk.list
   -- no row is twice in the seat's list, and each is one of the table's
-  pub apart : IsDistinct ◌==◌ (slots_of (w.seat k).desk.list)
-  pub below : (slot : ℕ) → list_any (◌==◌ slot) (slots_of (w.seat k).desk.list) ≡ true → slot < w.layout.config.slots + 1
+  pub apart : IsDistinct ◌==◌ (slots_of (list_in w k))
+  pub below : (slot : ℕ) → list_any (◌==◌ slot) (slots_of (list_in w k)) ≡ true → slot < w.layout.config.slots + 1
+  pub kept : is_busy w k ≡ true → Listing w.layout.config.slots (w.seat k).desk.list
+  -- nor in the list that it has once it has taken another over
+  pub gains : (place : ℕ) → (w.seat k).phase ≡ Works (Keeping (TakeList place)) → finds w k ≡ 1 → Listing w.layout.config.slots ((w.seat k).desk.list ++ (offered w k).desk.gift)
   -- a row that is being retired is not on it, and its lifetime was stored
   pub retires : (answer : Answer) (base : Base) → (w.seat k).phase ≡ Runs (Retires answer) base → RetireFits base (w.seat k).desk
   pub lives : (why : Why) (slot : ℕ) → (w.seat k).phase ≡ Runs why (Retire (LoadLife slot)) → 0 < w.mem (Life slot)

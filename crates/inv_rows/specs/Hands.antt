@@ -12,11 +12,11 @@ use Rattle.wfe_core.specs.Phases.{AllocateAt, RetireAt, Base}
 use Rattle.wfe_core.specs.Phases.AllocateAt.{LoadBirth, ClaimSlot, StoreLife}
 use Rattle.wfe_core.specs.Phases.RetireAt.{LoadLife, LoadRetire, StoreRetired}
 use Rattle.wfe_core.specs.Phases.Base.{Begin, Protect, Reload, Clear, Finish, Release, Allocate, Write, GiveUp, Retire, Move}
-use Rattle.wfe_core.specs.Calls.{ChangeKept, Task, Gets, Changes, Holds, Enqueues, Dequeues, Next, Again, MakeRoom, Answering, Retiring, AfterScan, Answered, Repeated, Counted, Why, Opens, FollowsHead, Fills, ClearsNext, Clears, Finishes, GivesUp, Retires, Tidies, Advances, Releases, ScanAt, ReadGuard, GiveBack, ChangeAt, LoadVersion, LoadCount, LoadKey, LoadValue, ExchangeRoot, EnqueueAt, LoadNumber, LoadNext, PassTail, ExchangeNext, ExchangeTail, DequeueAt, LoadTail, SwingTail, TakeNumber, TakeValue, ExchangeHead, Work, Getting, Changing, Enqueuing, Dequeuing, Phase, Idle, Runs, Scans, Works, CallTurn, CallOutcome, GoesOn, Keeping}
+use Rattle.wfe_core.specs.Calls.{ChangeKept, Task, Gets, Changes, Holds, Enqueues, Dequeues, Next, Again, MakeRoom, Answering, Retiring, AfterScan, Answered, Repeated, Counted, Why, Opens, FollowsHead, Fills, ClearsNext, Clears, Finishes, GivesUp, Retires, Tidies, Advances, Releases, ScanAt, ReadGuard, GiveBack, ChangeAt, LoadVersion, LoadCount, LoadKey, LoadValue, ExchangeRoot, EnqueueAt, LoadNumber, LoadNext, PassTail, ExchangeNext, ExchangeTail, DequeueAt, LoadTail, SwingTail, TakeNumber, TakeValue, ExchangeHead, Work, Getting, Changing, Enqueuing, Dequeuing, Phase, Idle, Runs, Scans, Works, CallTurn, CallOutcome, GoesOn, KeepAt, Loosens, LoadHeld, StoreHeld, Looks, Misses, HideSpan, MarkLeft, TakeList, MarkTaken, Keeping}
 use Rattle.wfe_core.specs.Calls as calls
 use Rattle.inv_rows.specs.Rows.{Hand, RowMove}
 use Rattle.inv_rows.specs.Rows.Hand.{Empty, New, Taken, Old, Known, Dated}
-use Rattle.inv_rows.specs.Rows.RowMove.{Stays, Claims, Bears, Drops, Links, Replaces, Appends, Pops, Reads, Seals, Lists, Returns}
+use Rattle.inv_rows.specs.Rows.RowMove.{Stays, Claims, Bears, Drops, Links, Replaces, Appends, Pops, Reads, Seals, Lists, Returns, Adopts}
 
 -- a row that a task has taken
 abbrev pub hand_of : Option ℕ → Hand
@@ -231,9 +231,22 @@ is_right (Runs why base) list = runs_right why base
 is_right (Scans later at) list = scans_right at list
 is_right (Works work) list = works_right work
 
+-- the seat has taken a list over, and marks it so
+abbrev pub is_marking : Phase → Bool
+is_marking (Works (Keeping (MarkTaken place count))) = true
+is_marking phase = false
+
 abbrev pub right_left : CallOutcome → List Lifetime → Bool
 right_left (GoesOn phase) list = is_right phase list
 right_left (calls.Answers answer) list = true
+
+-- the same, and the phase is none that marks a list
+abbrev pub goes_right : Phase → List Lifetime → Bool
+goes_right phase list = not (is_marking phase) && is_right phase list
+
+abbrev pub unmarked_left : CallOutcome → List Lifetime → Bool
+unmarked_left (GoesOn phase) list = goes_right phase list
+unmarked_left (calls.Answers answer) list = true
 
 abbrev pub allocate_row : AllocateAt → ℕ → RowMove
 allocate_row LoadBirth found = Stays
@@ -288,12 +301,24 @@ dequeue_row (TakeNumber head next) found = Stays
 dequeue_row (TakeValue head next number) found = Stays
 dequeue_row (ExchangeHead head next number value) found = if found == head + 1 then Pops head next else Stays
 
+-- a list that was left is taken over
+abbrev pub keep_row : KeepAt → ℕ → RowMove
+keep_row (Loosens let_go) found = Stays
+keep_row (LoadHeld from index) found = Stays
+keep_row (StoreHeld from index era) found = Stays
+keep_row (Looks index key at) found = Stays
+keep_row (Misses index) found = Stays
+keep_row HideSpan found = Stays
+keep_row MarkLeft found = Stays
+keep_row (TakeList place) found = if found == 1 then Adopts place else Stays
+keep_row (MarkTaken place count) found = Stays
+
 abbrev pub work_row : Work → Post → ℕ → RowMove
 work_row (Getting key at) post found = Stays
 work_row (Changing kept at) post found = change_row kept at post found
 work_row (Enqueuing kept at) post found = enqueue_row at found
 work_row (Dequeuing at) post found = dequeue_row at found
-work_row (Keeping at) post found = Stays
+work_row (Keeping at) post found = keep_row at found
 
 -- the move of rows that a step of a seat makes which found this
 abbrev pub row_move : Phase → Post → ℕ → RowMove
@@ -302,8 +327,8 @@ row_move (Runs why base) post found = base_row base found
 row_move (Scans later at) post found = scan_row at
 row_move (Works work) post found = work_row work post found
 
--- what a turn leaves in hand and on the list
+-- what a turn leaves in hand and on the list, of all turns but that which takes a list over
 pub record Leaves (h : Hand) (lives : List Lifetime) (t : CallTurn) : Type 0 where
   pub hand : hand_left t.outcome ≡ h
-  pub right : right_left t.outcome t.desk.list ≡ true
+  pub right : unmarked_left t.outcome t.desk.list ≡ true
   pub list : t.desk.list ≡ lives

@@ -1,6 +1,6 @@
 -- What is known of each row, and the changes that steps make of it: a row is free, or one seat has claimed it, or a root
 -- leads to it, or it is in the queue, or one seat has cut it, or it is in the retire list of one seat.
-use Rattle.std.specs.Prelude.{ℕ, ◌≡◌, ◌≤◌, ◌<◌, ◌+◌, ◌==◌, ◌&&◌, ◌||◌, not, Bool, true, false}
+use Rattle.std.specs.Prelude.{ℕ, ◌≡◌, ◌≤◌, ◌<◌, ◌+◌, ◌==◌, ◌&&◌, ◌||◌, not, if◌then◌else◌, Bool, true, false}
 use Rattle.wfe_core.specs.Memory.{upd}
 
 -- where a row is in its life. `Claimed`: its lifetime is not stored yet; `Born`: it is, and the row is not linked. `Sealed`:
@@ -125,6 +125,21 @@ with lists slot birth retire s b r = ((s == slot) && ((b == birth) && (r == reti
 abbrev pub without : (ℕ → ℕ → ℕ → Bool) → ℕ → ℕ → ℕ → ℕ → Bool
 without lists slot s b r = not (s == slot) && lists s b r
 
+-- the entries of two lists
+abbrev pub joined : (ℕ → ℕ → ℕ → Bool) → (ℕ → ℕ → ℕ → Bool) → ℕ → ℕ → ℕ → Bool
+joined own more s b r = own s b r || more s b r
+
+-- a row in the list of one seat is in that of another
+abbrev pub passed : (from to : ℕ) → Status → Status
+passed from to Free = Free
+passed from to (Claimed by) = Claimed by
+passed from to (Born by) = Born by
+passed from to (Linked bucket) = Linked bucket
+passed from to InQueue = InQueue
+passed from to (Cut by) = Cut by
+passed from to (Sealed by retire) = Sealed by retire
+passed from to (Listed by retire) = Listed (if by == from then to else by) retire
+
 -- the parts: what a seat has in hand, what is in hand is in the hand of just that seat, the lists, the roots, the head, that
 -- there are no other rows than the table's, and that each birth era is positive
 pub record Good (slots : ℕ) (v : View) : Type 0 where
@@ -144,7 +159,8 @@ pub record Good (slots : ℕ) (v : View) : Type 0 where
 -- what a step of a seat does with rows. `Claims`: a row is claimed; `Bears`: its lifetime is stored; `Drops`: it is given up;
 -- `Links`: it becomes the row of an empty bucket; `Replaces`: it takes the place of another row of the bucket; `Appends`: it
 -- goes into the queue; `Pops`: the head is cut, and another row is the head; `Reads`: the birth era of a row that was cut is
--- loaded; `Seals`: the retire era; `Lists`: the row goes into the list; `Returns`: it leaves the list
+-- loaded; `Seals`: the retire era; `Lists`: the row goes into the list; `Returns`: it leaves the list; `Adopts`: the list of
+-- another seat, and each row in it, is this seat's from here on
 pub data RowMove : Type 0 where
   Stays : RowMove
   Claims : (slot : ℕ) → RowMove
@@ -158,6 +174,7 @@ pub data RowMove : Type 0 where
   Seals : (slot : ℕ) → (birth : ℕ) → (retire : ℕ) → RowMove
   Lists : (slot : ℕ) → (birth : ℕ) → (retire : ℕ) → RowMove
   Returns : (slot : ℕ) → RowMove
+  Adopts : (from : ℕ) → RowMove
 
 abbrev pub set_hand : View → ℕ → Hand → View
 set_hand v seat hand = record v { hand = upd v.hand seat hand }
@@ -187,3 +204,8 @@ made i v (Lists slot birth retire) =
     slot
     (Listed i retire)
 made i v (Returns slot) = set_status (record v { lists = upd v.lists i (without (v.lists i) slot) }) slot Free
+made i v (Adopts from) =
+    record v {
+      status = λ s. passed from i (v.status s);
+      lists = upd (upd v.lists i (joined (v.lists i) (v.lists from))) from (λ s b r. false);
+    }

@@ -15,7 +15,7 @@ use Rattle.wfe_core.specs.Phases.ProtectAt.{LoadClock, PublishEra, LoadLink, Che
 use Rattle.wfe_core.specs.Phases.AllocateAt.{ClaimSlot, StoreLife}
 use Rattle.wfe_core.specs.Phases.Base.{Begin, Protect, Reload, Clear, Finish, Release, Allocate, Write, GiveUp, Retire, Move}
 use Rattle.wfe_core.specs.Calls.{Task, Gets, Changes, Holds, Enqueues, Dequeues, Why, Opens, FollowsHead, AfterScan, GiveBack, Phase, Idle, Runs, Scans, Works}
-use Rattle.wfe_core.specs.World.{World, start, step, begin, is_busy, finds}
+use Rattle.wfe_core.specs.World.{World, start, step, begin, is_busy, is_here, finds}
 use Rattle.inv_rows.specs.Rows.{View}
 use Rattle.inv_rows.specs.Agree.{rows_after, first_rows}
 use Rattle.inv_rows.specs.Queue.{Line, stands_on}
@@ -168,7 +168,7 @@ abbrev pub WholeKept : Type 0
 WholeKept = (w : World) (i : ℕ) (v : View) (l : Line) → WholeNeeds w i v l → Whole w v l → Whole (step w i) (rows_after w i v) (line_after w i l)
 
 abbrev pub WholeBegin : Type 0
-WholeBegin = (w : World) (i : ℕ) (call : Call) (v : View) (l : Line) → is_busy w i ≡ false → Whole w v l → Whole (begin w i call) v l
+WholeBegin = (w : World) (i : ℕ) (call : Call) (v : View) (l : Line) → is_busy w i ≡ false → is_here w i ≡ true → Whole w v l → Whole (begin w i call) v l
 
 abbrev pub WholeStart : Type 0
 WholeStart = (layout : Layout) → is_valid layout ≡ true → Whole (start layout) (first_rows layout) (first_line layout)

@@ -13,14 +13,16 @@ pub fn rows_start()
     ensures { RowsStart }
 {}
 
-/// The beginning of a call on a seat that is not busy keeps what is known of the rows.
+/// The beginning of a call on a seat that is not busy and has not left keeps what is known of the
+/// rows.
 pub fn rows_begin()
     ensures { RowsBegin }
 {}
 
 /// Each step of a seat keeps what is known of the rows: each row is free, or claimed by one seat, or
-/// linked by one root, or in the queue, or cut by one seat, or once in one seat's retire list. How a
-/// step changes it is a function of the seat's local state and of the word found.
+/// linked by one root, or in the queue, or cut by one seat, or once in one seat's retire list, where
+/// the list of a seat that left counts as another's from the step on that takes it over. How a step
+/// changes it is a function of the seat's local state and of the word found.
 pub fn rows_kept()
     ensures { RowsKept }
 {}
@@ -42,8 +44,9 @@ pub fn queue_kept()
     ensures { QueueKept }
 {}
 
-/// What the rows give the code of a seat's step: no row is twice in its list, a row that it retires
-/// is not on it and its lifetime was stored, and a scan gives back the entry at its place.
+/// What the rows give the code of a seat's step: no row is twice in its list, nor in that list with
+/// one that it takes over, a row that it retires is not on it and its lifetime was stored, and a scan
+/// gives back the entry at its place.
 pub fn rows_show()
     ensures { RowsShow }
 {}
@@ -75,7 +78,7 @@ pub fn whole_start()
     ensures { WholeStart }
 {}
 
-/// The beginning of a call keeps all of it.
+/// The beginning of a call on a seat that is not busy and has not left keeps all of it.
 pub fn whole_begin()
     ensures { WholeBegin }
 {}

@@ -19,7 +19,7 @@ use Rattle.wfe_core.specs.defs.declared.event.Root.{Root}
 use Rattle.wfe_core.specs.declared.post.Post.{Post}
 use Rattle.wfe_core.specs.Desks.{Desk}
 use Rattle.wfe_core.specs.Memory.{Move, place_in, found, written}
-use Rattle.wfe_core.specs.Posts.{counted}
+use Rattle.wfe_core.specs.Posts.{counted, withdrawn_all}
 use Rattle.wfe_core.proofs.Ranges.{bounds_of}
 use Rattle.wfe_core.specs.Rounds.{scheme_of, protect_at}
 use Rattle.wfe_core.specs.Steps.{phase_move, work_move}
@@ -29,7 +29,7 @@ use Rattle.wfe_core.specs.Phases.ProtectAt.{PublishRequest, AnswerOwn, RaiseUppe
 use Rattle.wfe_core.specs.Phases.MoveAt.{AnswerAsked}
 use Rattle.wfe_core.specs.Phases.Base.{Begin, Protect, Reload, Clear, Finish, Release, Allocate, Write, GiveUp, Retire, Move as Moves}
 use Rattle.wfe_core.specs.Calls.{KeepAt, LoadHeld, StoreHeld, Work, Getting, Changing, Enqueuing, Dequeuing, Keeping, Phase, Idle, Runs, Scans, Works}
-use Rattle.wfe_core.specs.World.{World, first_word, start, begin, step}
+use Rattle.wfe_core.specs.World.{World, first_word, start, begin, step, offered}
 use Rattle.inv_shapes.specs.Frame.{Grows, Seated, Owes, Stores, stores_held}
 use Rattle.inv_shapes.specs.Seats.{PhaseFits, Seats}
 use Rattle.inv_shapes.specs.Slots.{ProtectsIn, MovesIn, BaseIn, PhaseIn, Slots}
@@ -41,7 +41,7 @@ use Rattle.inv_shapes.proofs.Finds.{index_read}
 use Rattle.inv_shapes.proofs.Kept.{counted_fits, begun_fits, run_counted, work_counted, one_moves}
 use Rattle.inv_shapes.proofs.Monotone.{word_later, phase_later, post_later}
 use Rattle.inv_shapes.proofs.Written.{words_written, phase_in, phase_clock, nothing_shown, nothing_asked, index_in}
-use Rattle.inv_shapes.proofs.Spans.{work_span, scan_span, phase_span}
+use Rattle.inv_shapes.proofs.Spans.{work_left, scan_span, phase_span}
 use Rattle.inv_shapes.proofs.Steps.{Told, era_steps, row_keeps, withdrawn_keeps}
 use Rattle.wfe_core.proofs.Facts.{zero_either}
 
@@ -112,6 +112,9 @@ stores_eras : (layout : Layout) (mem : Place → ℕ) → Told layout mem → (w
 stores_eras layout mem w (Keeping at) post = keep_stores layout mem w at post
 stores_eras layout mem w work post = tt
 
+hidden_eras : (layout : Layout) (k c word : ℕ) (post : Post) → PostEras layout k c word post → PostEras layout k c 0 (withdrawn_all post)
+hidden_eras layout k c word post q = record { fits = record { seat = q.fits.seat; layout = q.fits.layout; cursor = q.fits.cursor; tags = q.fits.tags; standing = refl }; span = tt; shown = refl }
+
 owed_at : (layout : Layout) (k : ℕ) (mem : Place → ℕ) → Told layout mem → (phase : Phase) (post : Post) → PostEras layout k (mem Clock) (mem (Interval k)) (counted post)
     → PhaseFits layout post phase → PhaseEras layout (mem Clock) post phase → phase_needs phase layout mem
     → Owes (PostEras layout k (mem Clock) (written mem (phase_move phase (counted post)) (Interval k))) (PhaseEras layout (mem Clock)) (counted post) (found (phase_move phase (counted post)) (mem (place_in (phase_move phase (counted post))))) phase
@@ -120,7 +123,7 @@ owed_at layout k mem w (Runs why base) post q p e d = let r = run_counted layout
     moves_with why _ (shape_moves layout k w.valid why base (counted post) _ q.fits r) (era_steps layout k mem w why base (counted post) q r (base_counted layout (mem Clock) post base e) d)
 owed_at layout k mem w (Scans later at) post q p e d = subst (λ (word : ℕ). PostEras layout k (mem Clock) word (counted post)) (sym (scan_span mem k at (counted post))) q
 owed_at layout k mem w (Works work) post q p e d =
-    record { post = subst (λ (word : ℕ). PostEras layout k (mem Clock) word (counted post)) (sym (work_span mem k work (counted post))) q; fits = work_counted work post p; stores = stores_eras layout mem w work (counted post) }
+    record { post = work_left (λ word left. PostEras layout k (mem Clock) word left) mem k work (counted post) q.fits.seat q (hidden_eras layout k (mem Clock) (mem (Interval k)) (counted post) q); fits = work_counted work post p; stores = stores_eras layout mem w work (counted post) }
 
 pub told_of : (w : World) → is_valid w.layout ≡ true → Eras w → Told w.layout w.mem
 told_of w v e = record { valid = v; some = e.some; most = e.most; words = e.words }
@@ -128,7 +131,7 @@ told_of w v e = record { valid = v; some = e.some; most = e.most; words = e.word
 -- the seat that steps, by the clock before the step
 own_eras : (w : World) (i : ℕ) → is_valid w.layout ≡ true → Seats w → Eras w → phase_needs (w.seat i).phase w.layout w.mem
     → Seated (PostEras w.layout i (w.mem Clock) ((step w i).mem (Interval i))) (PhaseEras w.layout (w.mem Clock)) ((step w i).seat i)
-own_eras w i v s e d = let l = w.seat i in let m = phase_move l.phase (counted l.post) in
+own_eras w i v s e d = let l = offered w i in let m = phase_move l.phase (counted l.post) in
     let o = owed_at w.layout i w.mem (told_of w v e) l.phase l.post (counted_post w.layout i (w.mem Clock) (w.mem (Interval i)) l.post (e.seats i).post) (s.fits i).phase (e.seats i).phase d in
     subst (Seated (PostEras w.layout i (w.mem Clock) ((step w i).mem (Interval i))) (PhaseEras w.layout (w.mem Clock))) (sym (seat_steps w i))
     (subst (λ (f : ℕ). Seated (PostEras w.layout i (w.mem Clock) ((step w i).mem (Interval i))) (PhaseEras w.layout (w.mem Clock)) (after l f)) (finds_counted w i)

@@ -27,7 +27,7 @@ use Rattle.wfe_core.specs.Posts.{counted}
 use Rattle.wfe_core.specs.Calls.{ChangeKept, ChangeAt, LoadVersion, ScanAt, ReadGuard, GiveBack, KeepAt, Loosens, Work, Getting, Changing, Enqueuing, Dequeuing, Keeping, Why, Phase, Idle, Runs, Scans, Works, CallTurn, CallOutcome, GoesOn, Answers}
 use Rattle.wfe_core.specs.Steps.{resumed, run_turn, work_move, phase_move, phase_turn}
 use Rattle.wfe_core.specs.Locals.{Local, move, turn, after, settled_by, settled, told_by, rounds_told, begun_post, begun}
-use Rattle.wfe_core.specs.World.{World, step, begin, finds}
+use Rattle.wfe_core.specs.World.{World, step, begin, finds, offered}
 use Rattle.wfe_core.specs.defs.declared.call.Call.{Call}
 use Rattle.wfe_core.specs.defs.declared.event.Event.{Event}
 use Rattle.wfe_core.specs.defs.declared.event.Root.{Root}
@@ -38,8 +38,8 @@ use Rattle.inv_shapes.proofs.Works.{work_left, scan_left, resume_left, first_gro
 pub seat_stays : (w : World) (i k : ℕ) → (k == i) ≡ false → (step w i).seat k ≡ w.seat k
 seat_stays w i k e = rw e refl
 
--- the seat that steps
-pub seat_steps : (w : World) (i : ℕ) → (step w i).seat i ≡ after (w.seat i) (finds w i)
+-- the seat that steps, with the list that it may take over
+pub seat_steps : (w : World) (i : ℕ) → (step w i).seat i ≡ after (offered w i) (finds w i)
 seat_steps w i = let e : (i == i) ≡ true = grind (arith, nat_tests) in rw e refl
 
 -- what a seat finds, by its phase

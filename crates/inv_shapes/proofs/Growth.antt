@@ -1,22 +1,23 @@
 -- What comes after a machine, and after a step of a call's own, is a phase of those few from which a property grows.
 use Rattle.std.proofs.Common.{ℕ, ◌≡◌, Bool, true, false, List, ◌++◌, Option, Some, None, refl, ap, sym, subst}
-use Rattle.std.specs.Prelude.{is_some}
+use Rattle.std.specs.Prelude.{drop, is_some}
 use Rattle.wfe_core.specs.words.declared.config.SchemeKind.{SchemeKind}
 use Rattle.wfe_core.specs.defs.declared.call.Answer.{Answer}
 use Rattle.wfe_core.specs.defs.declared.event.Event.{Event}
 use Rattle.wfe_core.specs.defs.declared.lifetime.Interval.{Interval}
 use Rattle.wfe_core.specs.declared.post.Post.{Post}
 use Rattle.wfe_core.specs.Desks.{Desk}
-use Rattle.wfe_core.specs.Posts.{withdrawn}
+use Rattle.wfe_core.specs.Keep.{parting, parting_from, parting_index, parting_span}
+use Rattle.wfe_core.specs.Posts.{standing_from, withdrawn}
 use Rattle.wfe_core.proofs.Facts.{if_by}
 use Rattle.wfe_core.specs.Phases.{Base}
 use Rattle.wfe_core.specs.Phases.Base.{Clear, Finish}
 use Rattle.wfe_core.specs.Rounds.{scheme_of, index_of, taken_of, begin_span, begin_where, clear_base, clear_post, clear_told, finish_span, finish_base, kept_row, let_index, letting, letting_by, release_span, round_by, round, given_up, closed, finishing_by, finishing, clearing_by, clearing, clearing_next_by, clearing_next}
-use Rattle.wfe_core.specs.Calls.{Task, Dequeues, Next, Again, MakeRoom, Answering, Retiring, Repeated, LetGo, Loosens, Keeping, Phase, Runs, ClearsNext, Clears, Finishes}
+use Rattle.wfe_core.specs.Calls.{Task, Dequeues, Next, Again, MakeRoom, Answering, Retiring, Repeated, LetGo, Released, Rehold, Dropped, Parting, Loosens, HideSpan, MarkLeft, Keeping, Phase, Runs, ClearsNext, Clears, Finishes}
 use Rattle.wfe_core.specs.words.Schemes.{has_one_interval}
-use Rattle.inv_shapes.specs.Frame.{Left, SpanStands, Grows}
+use Rattle.inv_shapes.specs.Frame.{Left, SpanStands, parts, Parts, Grows}
 
-no_span : (post : Post) → has_one_interval (scheme_of post) ≡ false → SpanStands post
+pub no_span : (post : Post) → has_one_interval (scheme_of post) ≡ false → SpanStands post
 no_span post e h = absurd (cc)
 
 begun_by : {Q : Post → Type 0} {P : Post → Phase → Type 0} (g : Grows Q P) (task : Task) (post : Post) (x : Option Interval) → has_one_interval (scheme_of post) ≡ true → post.span ≡ x → Q post → P post (round_by task post (begin_span x))
@@ -101,12 +102,38 @@ pub clearing_next_left : {Q : Post → Type 0} {P : Post → Phase → Type 0} (
 clearing_next_left g next post desk told q = clearing_next_by_left g next post desk told (clear_base (scheme_of post) 1) refl q
 
 -- something is let go
-let_span_grows : {Q : Post → Type 0} {P : Post → Phase → Type 0} (g : Grows Q P) (let_go : LetGo) (post : Post) (x : Option ℕ) → has_one_interval (scheme_of post) ≡ true → kept_row (withdrawn post (let_index let_go)) ≡ x → Q post → P post (letting_by let_go (release_span (let_index let_go) x))
-let_span_grows g let_go post None i e q = g.releases post let_go i e q
-let_span_grows g let_go post (Some slot) i e q = g.works post (Keeping (Loosens let_go)) refl (record { interval = i; kept = ap is_some e }) q
+let_span_grows : {Q : Post → Type 0} {P : Post → Phase → Type 0} (g : Grows Q P) (let_go : LetGo) (post : Post) (x : Option ℕ) → parts let_go ≡ false → has_one_interval (scheme_of post) ≡ true → kept_row (withdrawn post (let_index let_go)) ≡ x → Q post → P post (letting_by let_go (release_span (let_index let_go) x))
+let_span_grows g let_go post None a i e q = g.releases post let_go i (record { bare = e; apart = a }) q
+let_span_grows g let_go post (Some slot) a i e q = g.works post (Keeping (Loosens let_go)) refl (record { interval = i; kept = ap is_some e; apart = a }) q
 
-pub letting_grows : {Q : Post → Type 0} {P : Post → Phase → Type 0} (g : Grows Q P) (let_go : LetGo) (post : Post) → Q post → P post (letting let_go post)
-letting_grows {P = P} g let_go post q =
+pub letting_grows : {Q : Post → Type 0} {P : Post → Phase → Type 0} (g : Grows Q P) (let_go : LetGo) (post : Post) → parts let_go ≡ false → Q post → P post (letting let_go post)
+letting_grows {P = P} g let_go post a q =
     if_by (has_one_interval (scheme_of post)) (release_span (let_index let_go) (kept_row (withdrawn post (let_index let_go)))) (Some (Clear (let_index let_go))) (λ (x : Option Base). P post (letting_by let_go x))
-    (λ i. let_span_grows g let_go post (kept_row (withdrawn post (let_index let_go))) i refl q)
+    (λ i. let_span_grows g let_go post (kept_row (withdrawn post (let_index let_go))) a i refl q)
     (λ i. g.clears_kept post let_go i q)
+
+-- a seat that leaves lets the first go that stands from an index on
+pub parting_grows : {Q : Post → Type 0} {P : Post → Phase → Type 0} (g : Grows Q P) (index : ℕ) (post : Post) → has_one_interval (scheme_of post) ≡ false → Q post → P post (parting_from index post)
+parting_grows {P = P} g index post i q = by (standing_from index (drop index post.standing))
+  where
+    by : (x : Option ℕ) → P post (parting_index x)
+    by None = g.works post (Keeping MarkLeft) refl (λ h. absurd (cc)) q
+    by (Some next) = g.clears_kept post (Parting next) i q
+
+parting_span_grows : {Q : Post → Type 0} {P : Post → Phase → Type 0} (g : Grows Q P) (post : Post) (x : Option Interval) → has_one_interval (scheme_of post) ≡ true → post.span ≡ x → Q post → P post (parting_span x)
+parting_span_grows g post None i e q = g.works post (Keeping MarkLeft) refl (λ h. e) q
+parting_span_grows g post (Some span) i e q = g.works post (Keeping HideSpan) refl (record { interval = i; stood = ap is_some e }) q
+
+-- a seat begins to leave
+pub leaving_grows : {Q : Post → Type 0} {P : Post → Phase → Type 0} (g : Grows Q P) (post : Post) → Q post → P post (parting post)
+leaving_grows {P = P} g post q =
+    if_by (has_one_interval (scheme_of post)) (parting_span post.span) (parting_from 2 post) (P post)
+    (λ i. parting_span_grows g post post.span i refl q)
+    (λ i. parting_grows g 2 post i q)
+
+-- a seat that leaves lets no interval go with one row
+pub bare_parts : (let_go : LetGo) (post : Post) → parts let_go ≡ false → Parts let_go post
+bare_parts Released post e = tt
+bare_parts (Rehold key) post e = tt
+bare_parts (Dropped index) post e = tt
+bare_parts (Parting index) post e = absurd (cc)

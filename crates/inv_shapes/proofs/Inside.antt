@@ -33,49 +33,85 @@ use Rattle.wfe_core.specs.Allocate.{is_claimed, next_slot, walk_from, walk_at, w
 use Rattle.wfe_core.specs.WriteRow.{first_written, last_written, after_write}
 use Rattle.wfe_core.specs.MoveClock.{after_hand_over, all_met, next_request, helping, met, moving}
 use Rattle.wfe_core.specs.Machine.{after, begin_turn, protect_turn, allocate_turn, retire_turn, move_turn}
-use Rattle.wfe_core.specs.Calls.{Runs, Why, Opens, FollowsHead, Fills}
+use Rattle.wfe_core.specs.Calls.{LetGo, Released, Rehold, Dropped, Parting, Runs, Why, Opens, FollowsHead, Fills, Releases}
 use Rattle.wfe_core.specs.words.Schemes.{has_one_interval, helps}
-use Rattle.inv_shapes.specs.Frame.{SpanStands, Resumes, Moves}
-use Rattle.inv_shapes.specs.Seats.{agree, Kind, ToOpen, ToFollow, ToFill, kind_of, finishes, releases, gives_up, retires, moves, reloads, aim_by, tries_fit, try_fits, protect_fits, move_fits, Run, PhaseFits, PostFits}
+use Rattle.inv_shapes.specs.Frame.{SpanStands, Parts, Resumes, Moves}
+use Rattle.inv_shapes.specs.Seats.{agree, Kind, ToOpen, ToFollow, ToFill, ToRelease, kind_of, begins, protects, fills, finishes, releases, gives_up, retires, moves, reloads, aim_by, Parted, tries_fit, try_fits, protect_fits, move_fits, Run, PhaseFits, PostFits}
+use Rattle.inv_shapes.proofs.Growth.{no_span, bare_parts}
 use Rattle.inv_shapes.proofs.Machines.{moves_if, held_post_keeps, concluded_moves}
 
 -- within a round an interval stands where a machine ends
-pub resumes_from : (why : Why) (post : Post) → SpanStands post → Resumes why post
-resumes_from (Opens task) post s = s
-resumes_from (FollowsHead head tail) post s = s
-resumes_from (Fills task) post s = s
-resumes_from why post s = tt
+pub resumes_from : (why : Why) (post : Post) → releases (kind_of why) ≡ false → SpanStands post → Resumes why post
+resumes_from (Opens task) post n s = s
+resumes_from (FollowsHead head tail) post n s = s
+resumes_from (Fills task) post n s = s
+resumes_from (Releases let_go) post n s = absurd (cc)
+resumes_from why post n s = tt
 
--- what is run within a round
-abbrev pub in_round : Kind → Bool
-in_round ToOpen = true
-in_round ToFollow = true
-in_round ToFill = true
-in_round _ = false
+pub protects_in : (k : Kind) → protects k ≡ true → releases k ≡ false
+protects_in ToOpen h = refl
+protects_in ToFollow h = refl
+protects_in k h = absurd (cc)
 
-pub resumes_out : (why : Why) (post : Post) → in_round (kind_of why) ≡ false → Resumes why post
+pub begins_in : (k : Kind) → begins k ≡ true → releases k ≡ false
+begins_in ToOpen h = refl
+begins_in k h = absurd (cc)
+
+pub fills_in : (k : Kind) → fills k ≡ true → releases k ≡ false
+fills_in ToFill h = refl
+fills_in k h = absurd (cc)
+
+pub reloads_in : (k : Kind) → reloads k ≡ true → releases k ≡ false
+reloads_in ToFollow h = refl
+reloads_in k h = absurd (cc)
+
+-- where each index publishes by itself nothing is asked
+plain_parts : (let_go : LetGo) (post : Post) → has_one_interval (scheme_of post) ≡ false → Parts let_go post
+plain_parts Released post e = tt
+plain_parts (Rehold key) post e = tt
+plain_parts (Dropped index) post e = tt
+plain_parts (Parting index) post e = e
+
+resumes_plain : (why : Why) (post : Post) → has_one_interval (scheme_of post) ≡ false → Resumes why post
+resumes_plain (Opens task) post e = no_span post e
+resumes_plain (FollowsHead head tail) post e = no_span post e
+resumes_plain (Fills task) post e = no_span post e
+resumes_plain (Releases let_go) post e = plain_parts let_go post e
+resumes_plain why post e = tt
+
+-- a seat that leaves lets no interval go with one row
+resumes_bare : (why : Why) (index : ℕ) (post : Post) → releases (kind_of why) ≡ true → Parted (Release index) why → Resumes why post
+resumes_bare (Releases let_go) index post r e = bare_parts let_go post e
+resumes_bare why index post r e = absurd (cc)
+
+-- for what something is asked where it ends
+abbrev pub asks : Kind → Bool
+asks ToOpen = true
+asks ToFollow = true
+asks ToFill = true
+asks ToRelease = true
+asks _ = false
+
+pub resumes_out : (why : Why) (post : Post) → asks (kind_of why) ≡ false → Resumes why post
 resumes_out (Opens task) post h = absurd (cc)
 resumes_out (FollowsHead head tail) post h = absurd (cc)
 resumes_out (Fills task) post h = absurd (cc)
+resumes_out (Releases let_go) post h = absurd (cc)
 resumes_out why post h = tt
 
-pub finishes_out : (k : Kind) → finishes k ≡ true → in_round k ≡ false
+pub finishes_out : (k : Kind) → finishes k ≡ true → asks k ≡ false
 finishes_out ToOpen h = cc
 finishes_out k h = cc
 
-pub releases_out : (k : Kind) → releases k ≡ true → in_round k ≡ false
-releases_out ToOpen h = cc
-releases_out k h = cc
-
-pub gives_up_out : (k : Kind) → gives_up k ≡ true → in_round k ≡ false
+pub gives_up_out : (k : Kind) → gives_up k ≡ true → asks k ≡ false
 gives_up_out ToOpen h = cc
 gives_up_out k h = cc
 
-pub retires_out : (k : Kind) → retires k ≡ true → in_round k ≡ false
+pub retires_out : (k : Kind) → retires k ≡ true → asks k ≡ false
 retires_out ToOpen h = cc
 retires_out k h = cc
 
-pub moves_out : (k : Kind) → moves k ≡ true → in_round k ≡ false
+pub moves_out : (k : Kind) → moves k ≡ true → asks k ≡ false
 moves_out ToOpen h = cc
 moves_out k h = cc
 
@@ -84,8 +120,9 @@ follows_reloads (Opens task) e = absurd (cc)
 follows_reloads (FollowsHead head tail) e = refl
 follows_reloads why e = absurd (cc)
 
-plain_span : (post : Post) → not (has_one_interval (scheme_of post)) ≡ true → SpanStands post
-plain_span post h e = absurd (let k : not true ≡ true = subst (λ (b : Bool). not b ≡ true) e h in cc)
+plain_of : (b : Bool) → not b ≡ true → b ≡ false
+plain_of true h = absurd (cc)
+plain_of false h = refl
 
 failed_fits : (s : SchemeKind) (most : ℕ) (tries : Tries) → try_fits s most tries ≡ true → tries_fit s most (failed_once tries) ≡ true
 failed_fits s most Endless h = h
@@ -125,14 +162,14 @@ tag_fits layout k post index tag q = record { seat = q.seat; layout = q.layout; 
 -- the protection goes on
 on : {layout : Layout} {why : Why} {aim : Aim} {index : ℕ} {root : Root} {n : ℕ} {at : ProtectAt} {post : Post} → Run layout why (Protect aim index root n at) post
     → (m : ℕ) (next : ProtectAt) (left : Post) → protect_fits layout.config.scheme layout.config.tries next ≡ true → SpanStands left → Run layout why (Protect aim index root m next) left
-on r m next left f s = record { suited = r.suited; fits = f; shape = r.shape; posted = s }
+on r m next left f s = record { suited = r.suited; fits = f; shape = r.shape; posted = s; parted = tt }
 
 -- it is over
 over : {layout : Layout} {why : Why} {aim : Aim} {index : ℕ} {root : Root} {n : ℕ} {at : ProtectAt} {post : Post} (k : ℕ) → Run layout why (Protect aim index root n at) post
     → (m link era : ℕ) (left : Post) (told : List Event) → PostFits layout k left → SpanStands left → Moves (PostFits layout k) (PhaseFits layout) why (concluded aim index root m link era left told)
 over {layout = layout} {why = why} {aim = aim} {index = index} {root = root} k r m link era left told q s =
-    concluded_moves why aim index root m link era left told q (resumes_from why left s) (λ f e.
-    record { suited = follows_reloads why (sym r.shape.aimed ∙ f); fits = refl; shape = record { at = r.shape.at; of = ap parent_of r.shape.of }; posted = s })
+    concluded_moves why aim index root m link era left told q (resumes_from why left (protects_in (kind_of why) r.suited) s) (λ f e.
+    record { suited = follows_reloads why (sym r.shape.aimed ∙ f); fits = refl; shape = record { at = r.shape.at; of = ap parent_of r.shape.of }; posted = s; parted = tt })
 
 protect_moves : (layout : Layout) (k : ℕ) (why : Why) (aim : Aim) (index : ℕ) (root : Root) (n m : ℕ) (at : ProtectAt) (post : Post) (found : ℕ) → PostFits layout k post → post.layout ≡ layout
     → Run layout why (Protect aim index root n at) post → Moves (PostFits layout k) (PhaseFits layout) why (protect_turn aim index root m at post found)
@@ -180,9 +217,9 @@ withdrawn_fits layout k post index q = record { seat = q.seat; layout = q.layout
 
 begin_moves : (layout : Layout) (k : ℕ) (why : Why) (at : BeginAt) (post : Post) (found : ℕ) → PostFits layout k post → Run layout why (Begin at) post
     → Moves (PostFits layout k) (PhaseFits layout) why (begin_turn at post found)
-begin_moves layout k why LoadLower post found q r = record { post = q; phase = record { suited = r.suited; fits = r.fits; shape = tt; posted = r.posted } }
+begin_moves layout k why LoadLower post found q r = record { post = q; phase = record { suited = r.suited; fits = r.fits; shape = tt; posted = r.posted; parted = tt } }
 begin_moves layout k why (PublishSpan era) post found q r =
-    record { post = span_fits layout k post (from_to era era) q; phase = resumes_from why (with_span post (from_to era era)) (λ e. refl) }
+    record { post = span_fits layout k post (from_to era era) q; phase = resumes_from why (with_span post (from_to era era)) (begins_in (kind_of why) r.suited) (λ e. refl) }
 
 -- a walk that stays in the table
 pub record Walks (slots : ℕ) (walk : Walk) : Type 0 where
@@ -210,9 +247,9 @@ walk_on_in slots walk (suc left) slot a b c =
 
 walking_moves : (layout : Layout) (k : ℕ) (why : Why) (birth : ℕ) (post : Post) (x : Option Walk) → PostFits layout k post → Run layout why (Allocate LoadBirth) post → WalksOn layout.config.slots x
     → Moves (PostFits layout k) (PhaseFits layout) why (walking birth post x)
-walking_moves layout k why birth post None q r w = record { post = q; phase = resumes_from why post r.posted }
+walking_moves layout k why birth post None q r w = record { post = q; phase = resumes_from why post (fills_in (kind_of why) r.suited) r.posted }
 walking_moves layout k why birth post (Some walk) q r w = let a = w.start in let b = w.slot in let c = w.left in
-    record { post = q; phase = record { suited = r.suited; fits = grind (arith, nat_tests); shape = tt; posted = r.posted } }
+    record { post = q; phase = record { suited = r.suited; fits = grind (arith, nat_tests); shape = tt; posted = r.posted; parted = tt } }
 
 pub walks_of : (slots : ℕ) (walk : Walk) → (nat_le walk.start slots && nat_le walk.slot slots && nat_le walk.left slots) ≡ true → Walks slots walk
 walks_of slots walk h = record { start = grind (arith, nat_tests); slot = grind (arith, nat_tests); left = grind (arith, nat_tests) }
@@ -223,22 +260,22 @@ allocate_moves layout k why LoadBirth post found q l r = let c = q.cursor in
     record {
       post = q;
       phase = subst (λ (t : Layout). PhaseFits layout post (Runs why (Allocate (ClaimSlot found (walk_from t.config.slots post.cursor))))) (sym l)
-          (record { suited = r.suited; fits = grind (arith, nat_tests); shape = tt; posted = r.posted });
+          (record { suited = r.suited; fits = grind (arith, nat_tests); shape = tt; posted = r.posted; parted = tt });
     }
 allocate_moves layout k why (ClaimSlot birth walk) post found q l r = let w = walks_of layout.config.slots walk r.fits in
     moves_if why (is_claimed found walk.slot) _ _
-    (λ e. walking_moves layout k why birth post (walk_past post.layout.config.slots walk found) q (record { suited = r.suited; fits = refl; shape = tt; posted = r.posted })
+    (λ e. walking_moves layout k why birth post (walk_past post.layout.config.slots walk found) q (record { suited = r.suited; fits = refl; shape = tt; posted = r.posted; parted = tt })
     (subst (λ (t : Layout). WalksOn layout.config.slots (walk_past t.config.slots walk found)) (sym l) (walk_on_in layout.config.slots (shown_word walk found) walk.left walk.slot w.start w.left w.slot)))
     (λ e. record {
       post = record { seat = q.seat; layout = q.layout; cursor = subst (λ (t : Layout). next_slot t.config.slots walk.slot ≤ layout.config.slots) (sym l) (next_in layout.config.slots walk.slot w.slot); tags = q.tags; standing = q.standing };
-      phase = record { suited = r.suited; fits = let s = w.slot in grind (arith, nat_tests); shape = tt; posted = r.posted };
+      phase = record { suited = r.suited; fits = let s = w.slot in grind (arith, nat_tests); shape = tt; posted = r.posted; parted = tt };
     })
-allocate_moves layout k why (StoreLife birth slot) post found q l r = record { post = q; phase = resumes_from why post r.posted }
+allocate_moves layout k why (StoreLife birth slot) post found q l r = record { post = q; phase = resumes_from why post (fills_in (kind_of why) r.suited) r.posted }
 
 retire_moves : (layout : Layout) (k : ℕ) (why : Why) (at : RetireAt) (post : Post) (found : ℕ) → PostFits layout k post → Run layout why (Retire at) post
     → Moves (PostFits layout k) (PhaseFits layout) why (retire_turn at post found)
-retire_moves layout k why (LoadLife slot) post found q r = record { post = q; phase = record { suited = r.suited; fits = refl; shape = tt; posted = tt } }
-retire_moves layout k why (LoadRetire slot birth) post found q r = record { post = q; phase = record { suited = r.suited; fits = refl; shape = tt; posted = tt } }
+retire_moves layout k why (LoadLife slot) post found q r = record { post = q; phase = record { suited = r.suited; fits = refl; shape = tt; posted = tt; parted = tt } }
+retire_moves layout k why (LoadRetire slot birth) post found q r = record { post = q; phase = record { suited = r.suited; fits = refl; shape = tt; posted = tt; parted = tt } }
 retire_moves layout k why (StoreRetired slot birth retire) post found q r =
     record { post = record { seat = q.seat; layout = q.layout; cursor = q.cursor; tags = q.tags; standing = q.standing }; phase = resumes_out why _ (retires_out (kind_of why) r.suited) }
 
@@ -275,7 +312,7 @@ helps_of layout seat h = grind (arith, nat_tests)
 
 -- the move goes on
 moves_on : {layout : Layout} {why : Why} {at : MoveAt} {post : Post} → Run layout why (Move at) post → (next : MoveAt) (left : Post) → move_fits layout.config.scheme layout.config.seats next ≡ true → Run layout why (Move next) left
-moves_on r next left f = record { suited = r.suited; fits = f; shape = tt; posted = tt }
+moves_on r next left f = record { suited = r.suited; fits = f; shape = tt; posted = tt; parted = tt }
 
 handed : (layout : Layout) (k : ℕ) (why : Why) (era seat tag index old : ℕ) (post : Post) (same : Bool) → PostFits layout k post → Run layout why (Move (next_request post era seat true)) post
     → Moves (PostFits layout k) (PhaseFits layout) why (after_hand_over era seat tag index old post same)
@@ -317,8 +354,8 @@ write_moves : (layout : Layout) (k : ℕ) (why : Why) (slot : ℕ) (row : RowOf)
     → Moves (PostFits layout k) (PhaseFits layout) why (after_write slot row place post)
 write_moves layout k why slot row place post q r =
     moves_if why (place == last_written row) _ _
-    (λ e. record { post = q; phase = resumes_from why post r.posted })
-    (λ e. record { post = q; phase = record { suited = r.suited; fits = let f : (nat_le (first_written row) place && nat_le place (last_written row)) ≡ true = r.fits in grind (arith, nat_tests); shape = tt; posted = r.posted } })
+    (λ e. record { post = q; phase = resumes_from why post (fills_in (kind_of why) r.suited) r.posted })
+    (λ e. record { post = q; phase = record { suited = r.suited; fits = let f : (nat_le (first_written row) place && nat_le place (last_written row)) ≡ true = r.fits in grind (arith, nat_tests); shape = tt; posted = r.posted; parted = tt } })
 
 -- a step inside a machine
 pub shape_moves : (layout : Layout) (k : ℕ) → is_valid layout ≡ true → (why : Why) (base : Base) (post : Post) (found : ℕ) → PostFits layout k post → Run layout why base post
@@ -327,13 +364,13 @@ shape_moves layout k v why (Begin at) post found q r = begin_moves layout k why 
 shape_moves layout k v why (Protect aim index root steps at) post found q r = protect_moves layout k why aim index root steps (bump steps) at post found q q.layout r
 shape_moves layout k v why (Reload parent index slot era steps) post found q r =
     moves_if why (found == parent + 1) _ _
-    (λ e. record { post = row_fits layout k post index slot q; phase = resumes_from why (with_row post index slot) r.posted })
-    (λ e. record { post = q; phase = resumes_from why post r.posted })
+    (λ e. record { post = row_fits layout k post index slot q; phase = resumes_from why (with_row post index slot) (reloads_in (kind_of why) r.suited) r.posted })
+    (λ e. record { post = q; phase = resumes_from why post (reloads_in (kind_of why) r.suited) r.posted })
 shape_moves layout k v why (Clear index) post found q r =
-    record { post = withdrawn_fits layout k post index q; phase = resumes_from why (withdrawn post index) (plain_span post (subst (λ (t : Layout). not (has_one_interval t.config.scheme) ≡ true) (sym q.layout) r.fits)) }
+    record { post = withdrawn_fits layout k post index q; phase = resumes_plain why (withdrawn post index) (plain_of (has_one_interval (scheme_of post)) (subst (λ (t : Layout). not (has_one_interval t.config.scheme) ≡ true) (sym q.layout) r.fits)) }
 shape_moves layout k v why Finish post found q r = record { post = span_fits layout k post None q; phase = resumes_out why (with_span post None) (finishes_out (kind_of why) r.suited) }
 shape_moves layout k v why (Release index) post found q r =
-    record { post = span_fits layout k (withdrawn post index) None (withdrawn_fits layout k post index q); phase = resumes_out why (with_span (withdrawn post index) None) (releases_out (kind_of why) r.suited) }
+    record { post = span_fits layout k (withdrawn post index) None (withdrawn_fits layout k post index q); phase = resumes_bare why index (with_span (withdrawn post index) None) r.suited r.parted }
 shape_moves layout k v why (Allocate at) post found q r = allocate_moves layout k why at post found q q.layout r
 shape_moves layout k v why (Write slot row place) post found q r = write_moves layout k why slot row place post q r
 shape_moves layout k v why (GiveUp slot) post found q r = record { post = q; phase = resumes_out why post (gives_up_out (kind_of why) r.suited) }

@@ -8,6 +8,7 @@ pub mod Gives
 pub mod Growth
 pub mod Inside
 pub mod Kept
+pub mod Leaving
 pub mod Machines
 pub mod Monotone
 pub mod Quiet

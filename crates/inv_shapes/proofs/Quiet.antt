@@ -30,14 +30,14 @@ use Rattle.wfe_core.specs.Machine.{after, begin_turn, protect_turn, allocate_tur
 use Rattle.wfe_core.specs.Steps.{resumed, phase_turn}
 use Rattle.wfe_core.specs.Locals.{Local, turn, settled_by, settled, told_end, told_by, rounds_told, begun}
 use Rattle.wfe_core.specs.Locals as locals
-use Rattle.wfe_core.specs.Calls.{AfterScan, Answered, Repeated, Counted, Opens, FollowsHead, Fills, ClearsNext, Clears, Finishes, GivesUp, Retires, Tidies, Advances, Releases, Why, ScanAt, ReadGuard, GiveBack, Phase, Idle, Runs, Scans, Works, CallTurn, CallOutcome, GoesOn, Answers}
-use Rattle.wfe_core.specs.World.{World, start, begin, step, finds}
+use Rattle.wfe_core.specs.Calls.{AfterScan, Answered, Repeated, Counted, Opens, FollowsHead, Fills, ClearsNext, Clears, Finishes, GivesUp, Retires, Tidies, Advances, Releases, Why, ScanAt, ReadGuard, GiveBack, Work, KeepAt, TakeList, Keeping, Phase, Idle, Runs, Scans, Works, CallTurn, CallOutcome, GoesOn, Answers}
+use Rattle.wfe_core.specs.World.{World, start, begin, step, finds, offered}
 use Rattle.inv_shapes.specs.Frame.{phase_left}
-use Rattle.inv_shapes.specs.Noted.{back_of, backs, size, why_more, later_more, more, NotedIn, Noted}
-use Rattle.inv_shapes.specs.Slots.{scan_lists, phase_finds, SlotsNeeds}
+use Rattle.inv_shapes.specs.Noted.{back_of, backs, size, why_more, later_more, more, takes, NotedIn, Noted}
+use Rattle.inv_shapes.specs.Slots.{scan_lists, gift_finds, phase_finds, SlotsNeeds}
 use Rattle.inv_shapes.proofs.Frame.{seat_stays, seat_steps, begin_stays, begin_begins}
 use Rattle.inv_shapes.proofs.Kept.{one_moves}
-use Rattle.inv_shapes.proofs.Backs.{Counts, quiet_along, quiet_cleared, scan_goes, work_counts, scan_counts, resume_counts}
+use Rattle.inv_shapes.proofs.Backs.{Counts, quiet_along, quiet_cleared, scan_goes, work_goes, work_counts, scan_counts, resume_counts}
 
 -- a turn in which no row goes back
 abbrev Quiet : Turn → Type 0
@@ -130,20 +130,20 @@ quiet_after (Move at) post found = quiet_move at post found
 
 -- a turn of a seat
 resumed_counts : (b : ℕ) (why : Why) (desk : Desk) (post : Post) (told : List Event) (outcome : Outcome) → backs told + size desk ≤ b + why_more why → Counts b (resumed why desk post told outcome)
-resumed_counts b why desk post told (Goes base) h = h
+resumed_counts b why desk post told (Goes base) h = (h, refl)
 resumed_counts b why desk post told (Ends ending) h = resume_counts b why ending post desk told h
 
-abbrev pub phase_goes : Phase → Desk → Type 0
-phase_goes Idle desk = Unit {0}
-phase_goes (Runs why base) desk = Unit {0}
-phase_goes (Scans later at) desk = scan_goes at desk
-phase_goes (Works work) desk = Unit {0}
+abbrev pub phase_goes : ℕ → Phase → Desk → ℕ → Type 0
+phase_goes b Idle desk found = Unit {0}
+phase_goes b (Runs why base) desk found = Unit {0}
+phase_goes b (Scans later at) desk found = scan_goes at desk
+phase_goes b (Works work) desk found = work_goes b work desk found
 
-turn_counts : (b : ℕ) (phase : Phase) (post : Post) (desk : Desk) (found : ℕ) → phase_goes phase desk → size desk ≤ b + more phase → Counts b (phase_turn phase post desk found)
-turn_counts b Idle post desk found g h = omega arith
+turn_counts : (b : ℕ) (phase : Phase) (post : Post) (desk : Desk) (found : ℕ) → phase_goes b phase desk found → size desk ≤ b + more phase → Counts b (phase_turn phase post desk found)
+turn_counts b Idle post desk found g h = (omega arith, refl)
 turn_counts b (Runs why base) post desk found g h = let t = after base post found in let e = quiet_after base post found in resumed_counts b why desk t.post t.told t.outcome (omega arith)
 turn_counts b (Scans later at) post desk found g h = scan_counts b later at post desk found g h
-turn_counts b (Works work) post desk found g h = work_counts b work post desk found (omega arith)
+turn_counts b (Works work) post desk found g h = work_counts b work post desk found g (omega arith)
 
 -- the notes count what went back
 noted_one : (notes : Notes) (event : Event) → length (noted notes event).back ≡ length notes.back + back_of event
@@ -158,43 +158,52 @@ quiet_end : (post : Post) (outcome : CallOutcome) → backs (told_end post outco
 quiet_end post (GoesOn phase) = refl
 quiet_end post (Answers answer) = refl
 
-settled_by_noted : (slots : ℕ) (l : Local) (post : Post) (desk : Desk) (rounds : ℕ) (outcome : CallOutcome) → size desk ≤ slots + 1 + more (phase_left outcome) → NotedIn slots (settled_by l post desk rounds outcome)
-settled_by_noted slots l post desk rounds (GoesOn phase) h = omega arith
-settled_by_noted slots l post desk rounds (Answers answer) h = omega arith
+settled_by_noted : (slots : ℕ) (l : Local) (post : Post) (desk : Desk) (rounds : ℕ) (outcome : CallOutcome) → size desk ≤ slots + 1 + more (phase_left outcome) → takes (phase_left outcome) ≡ false → NotedIn slots (settled_by l post desk rounds outcome)
+settled_by_noted slots l post desk rounds (GoesOn phase) h n = record { few = h; none = λ e. absurd (cc) }
+settled_by_noted slots l post desk rounds (Answers answer) h n = record { few = h; none = λ e. absurd (cc) }
 
 settled_noted : (slots : ℕ) (l : Local) (t : CallTurn) → Counts (slots + 1) t → NotedIn slots (settled l t)
 settled_noted slots l t h =
     let e = noted_many t.desk.notes (told_by t) in
     let f = quiet_along t.told (told_end t.post t.outcome) (quiet_end t.post t.outcome) in
-    settled_by_noted slots l t.post (noting t.desk (told_by t)) (rounds_told l.rounds (told_by t)) t.outcome (omega arith)
+    let a = h.0 in settled_by_noted slots l t.post (noting t.desk (told_by t)) (rounds_told l.rounds (told_by t)) t.outcome (omega arith) h.1
 
 scan_given : (config : Config) (desk : Desk) (at : ScanAt) → scan_lists config desk at → scan_goes at desk
 scan_given config desk (ReadGuard number) h = tt
 scan_given config desk (GiveBack place slot) h = h
 
-goes_given : (config : Config) (desk : Desk) (phase : Phase) (found : ℕ) → phase_finds config desk phase found → phase_goes phase desk
-goes_given config desk Idle found h = tt
-goes_given config desk (Runs why base) found h = tt
-goes_given config desk (Scans later at) found h = scan_given config desk at h
-goes_given config desk (Works work) found h = tt
+-- none went back before a list is taken over
+keep_given : (config : Config) (desk : Desk) (at : KeepAt) (found : ℕ) → gift_finds config desk (Keeping at) found → (takes (Works (Keeping at)) ≡ true → length desk.notes.back ≡ 0) → work_goes (config.slots + 1) (Keeping at) desk found
+keep_given config desk (TakeList place) found h n = λ e. let a = h e in let b = n refl in omega arith
+keep_given config desk at found h n = tt
 
-after_noted : (slots : ℕ) (l : Local) (found : ℕ) → phase_goes l.phase l.desk → NotedIn slots l → NotedIn slots (locals.after l found)
-after_noted slots l found g h = settled_noted slots l (turn l found) (turn_counts (slots + 1) l.phase (counted l.post) l.desk found g (omega arith))
+work_given : (config : Config) (desk : Desk) (work : Work) (found : ℕ) → gift_finds config desk work found → (takes (Works work) ≡ true → length desk.notes.back ≡ 0) → work_goes (config.slots + 1) work desk found
+work_given config desk (Keeping at) found h n = keep_given config desk at found h n
+work_given config desk work found h n = tt
+
+goes_given : (config : Config) (desk : Desk) (phase : Phase) (found : ℕ) → phase_finds config desk phase found → (takes phase ≡ true → length desk.notes.back ≡ 0) → phase_goes (config.slots + 1) phase desk found
+goes_given config desk Idle found h n = tt
+goes_given config desk (Runs why base) found h n = tt
+goes_given config desk (Scans later at) found h n = scan_given config desk at h
+goes_given config desk (Works work) found h n = work_given config desk work found h.1 n
+
+after_noted : (slots : ℕ) (l : Local) (found : ℕ) → phase_goes (slots + 1) l.phase l.desk found → NotedIn slots l → NotedIn slots (locals.after l found)
+after_noted slots l found g h = settled_noted slots l (turn l found) (turn_counts (slots + 1) l.phase (counted l.post) l.desk found g h.few)
 
 pub noted_step : (w : World) (i : ℕ) → SlotsNeeds w i → Noted w → Noted (step w i)
 noted_step w i n h = record {
   seats = one_moves (λ k l. NotedIn w.layout.config.slots l) w.seat (step w i).seat i h.seats (seat_stays w i)
-      (subst (NotedIn w.layout.config.slots) (sym (seat_steps w i)) (after_noted w.layout.config.slots (w.seat i) (finds w i) (goes_given w.layout.config (w.seat i).desk (w.seat i).phase (finds w i) n) (h.seats i)));
+      (subst (NotedIn w.layout.config.slots) (sym (seat_steps w i)) (after_noted w.layout.config.slots (offered w i) (finds w i) (goes_given w.layout.config (offered w i).desk (w.seat i).phase (finds w i) n (h.seats i).none) (record { few = (h.seats i).few; none = (h.seats i).none })));
 }
 
 pub noted_begin : (w : World) (i : ℕ) (call : Call) → length (w.seat i).desk.list ≤ w.layout.config.slots + 1 → Noted w → Noted (begin w i call)
 noted_begin w i call m h = record {
   seats = one_moves (λ k l. NotedIn w.layout.config.slots l) w.seat (begin w i call).seat i h.seats (λ k. begin_stays w i k call)
-      (subst (NotedIn w.layout.config.slots) (sym (begin_begins w i call)) (omega arith));
+      (subst (NotedIn w.layout.config.slots) (sym (begin_begins w i call)) (record { few = omega arith; none = λ e. refl }));
 }
 
 pub noted_start : (layout : Layout) → Noted (start layout)
-noted_start layout = record { seats = λ k. omega arith }
+noted_start layout = record { seats = λ k. record { few = omega arith; none = λ e. refl } }
 
 later_few : (later : AfterScan) → later_more later ≤ 1
 later_few (Answered answer) = omega arith
@@ -220,4 +229,4 @@ more_few (Works work) = omega arith
 -- in a call no more goes back than two scans may give
 pub noted_fits : (w : World) (i : ℕ) → (w.seat i).post.layout ≡ w.layout → Noted w → NotesFit (w.seat i).post (w.seat i).desk
 noted_fits w i p h = subst (λ (t : Layout). length (w.seat i).desk.notes.back ≤ 2 * (t.config.slots + 1)) (sym p)
-    (let a = h.seats i in let b = more_few (w.seat i).phase in omega arith)
+    (let a = (h.seats i).few in let b = more_few (w.seat i).phase in omega arith)

@@ -1,5 +1,5 @@
 -- Each machine is ready at its step, and what it finds is plausible.
-use Rattle.std.proofs.Common.{refl, ℕ, ◌≡◌, ◌≤◌, ◌<◌, true, Option, Some, None, ap, sym, subst, ◌∙◌, arith}
+use Rattle.std.proofs.Common.{refl, ℕ, ◌≡◌, ◌≤◌, ◌<◌, true, List, Option, Some, None, ap, sym, subst, ◌∙◌, arith}
 use Rattle.std.proofs.lemmas.Bool.Decides.{nat_tests}
 use Rattle.std.proofs.lemmas.Option.{slice_get_within}
 use Rattle.std.specs.Prelude.{◌&&◌, nat_lt, nat_le, is_some, slice_get}
@@ -12,6 +12,7 @@ use Rattle.wfe_core.specs.words.declared.packed.Request.{Request}
 use Rattle.wfe_core.specs.words.declared.packed.Request.TheVariants as requests
 use Rattle.wfe_core.specs.defs.declared.event.Root.{Root}
 use Rattle.wfe_core.specs.defs.declared.lifetime.Interval.{Interval as Span}
+use Rattle.wfe_core.specs.defs.declared.lifetime.Lifetime.{Lifetime}
 use Rattle.wfe_core.specs.declared.post.Post.{Post}
 use Rattle.wfe_core.specs.Memory.{place_in, found}
 use Rattle.wfe_core.specs.Links.{link_place, link_number, root_at}
@@ -30,12 +31,12 @@ use Rattle.wfe_core.specs.Phases.Base.{Begin, Protect, Reload, Clear, Finish, Re
 use Rattle.wfe_core.specs.Machine.{begin_move, protect_move, allocate_move, retire_move, move_move, base_move}
 use Rattle.wfe_core.specs.Ready.{EraFits, FailedFits, TryFits, RootFits, AskFits, AskedFits, RowFits, IsReady, Plausible, begin_ready, protect_ready, allocate_ready, retire_ready, move_ready, begin_plausible, protect_plausible, allocate_plausible, retire_plausible, move_plausible}
 use Rattle.wfe_core.specs.Steps.{work_move, phase_move}
-use Rattle.wfe_core.specs.Calls.{ChangeKept, EnqueueKept, Task, Gets, Changes, Holds, Enqueues, Dequeues, AfterScan, Answered, Repeated, Counted, GetAt, FindVersion, FindCount, FindKey, FindValue, ChangeAt, LoadVersion, LoadCount, LoadKey, LoadValue, ExchangeRoot, EnqueueAt, LoadNumber, LoadNext, PassTail, ExchangeNext, ExchangeTail, DequeueAt, LoadTail, SwingTail, TakeNumber, TakeValue, ExchangeHead, Work, Getting, Changing, Enqueuing, Dequeuing, KeepAt, Loosens, LoadHeld, StoreHeld, Looks, Misses, Keeping, ScanAt, ReadGuard, GiveBack, Why, Opens, FollowsHead, Fills, ClearsNext, Clears, Finishes, GivesUp, Retires, Tidies, Advances, Releases, Phase, Idle, Runs, Scans, Works}
+use Rattle.wfe_core.specs.Calls.{ChangeKept, EnqueueKept, Task, Gets, Changes, Holds, Enqueues, Dequeues, AfterScan, Answered, Repeated, Counted, GetAt, FindVersion, FindCount, FindKey, FindValue, ChangeAt, LoadVersion, LoadCount, LoadKey, LoadValue, ExchangeRoot, EnqueueAt, LoadNumber, LoadNext, PassTail, ExchangeNext, ExchangeTail, DequeueAt, LoadTail, SwingTail, TakeNumber, TakeValue, ExchangeHead, Work, Getting, Changing, Enqueuing, Dequeuing, KeepAt, Loosens, LoadHeld, StoreHeld, Looks, Misses, HideSpan, MarkLeft, TakeList, MarkTaken, Keeping, ScanAt, ReadGuard, GiveBack, Why, Opens, FollowsHead, Fills, ClearsNext, Clears, Finishes, GivesUp, Retires, Tidies, Advances, Releases, Phase, Idle, Runs, Scans, Works}
 use Rattle.wfe_core.specs.CallReady.{TakenFits, TaskFits, FillFits, LaterFits, why_ready, get_ready, change_ready, enqueue_ready, dequeue_ready, keep_ready, work_ready, scan_ready, IsCallReady, get_plausible, change_plausible, enqueue_plausible, dequeue_plausible, keep_plausible, work_plausible, IsCallPlausible, BackFits, slots_of}
 use Rattle.wfe_core.specs.Desks.{Desk}
 use Rattle.wfe_core.specs.Enqueue.{enqueue_move}
 use Rattle.wfe_core.specs.Dequeue.{dequeue_move}
-use Rattle.wfe_core.specs.World.{World}
+use Rattle.wfe_core.specs.World.{World, gift_at}
 use Rattle.inv_shapes.specs.Frame.{SpanStands}
 use Rattle.wfe_core.specs.words.Schemes.{helps}
 use Rattle.inv_shapes.specs.Seats.{tries_fit, try_fits, protect_fits, allocate_fits, move_fits, Run, PostFits, PhaseFits, Seats, scan_fits}
@@ -301,6 +302,10 @@ keep_is_ready post (LoadHeld from index) h = (h.kept, h.rises, h.below)
 keep_is_ready post (StoreHeld from index era) h = (h.kept, h.rises, h.below)
 keep_is_ready post (Looks index key at) h = get_is_ready post at h.1
 keep_is_ready post (Misses index) h = h.below
+keep_is_ready post HideSpan h = tt
+keep_is_ready post MarkLeft h = tt
+keep_is_ready post (TakeList place) h = h
+keep_is_ready post (MarkTaken place count) h = h
 
 work_is_ready : (post : Post) (work : Work) → WorkIn post.layout.config work → work_ready work post
 work_is_ready post (Getting key at) h = get_is_ready post at h
@@ -350,6 +355,10 @@ keep_is_plausible post found (LoadHeld from index) f = tt
 keep_is_plausible post found (StoreHeld from index era) f = tt
 keep_is_plausible post found (Looks index key at) f = get_is_plausible post found at f
 keep_is_plausible post found (Misses index) f = tt
+keep_is_plausible post found HideSpan f = tt
+keep_is_plausible post found MarkLeft f = tt
+keep_is_plausible post found (TakeList place) f = tt
+keep_is_plausible post found (MarkTaken place count) f = tt
 
 work_is_plausible : (post : Post) (mem : Place → ℕ) (work : Work) → Linked post.layout mem → work_finds post.layout.config work (found (work_move work post) (mem (place_in (work_move work post)))) → work_plausible work post (found (work_move work post) (mem (place_in (work_move work post))))
 work_is_plausible post mem (Getting key at) w f = get_is_plausible post _ at f
@@ -369,10 +378,10 @@ phase_plausible : (post : Post) (mem : Place → ℕ) (desk : Desk) (phase : Pha
 phase_plausible post mem desk Idle w f = tt
 phase_plausible post mem desk (Runs why base) w f = base_is_plausible post mem base w
 phase_plausible post mem desk (Scans later at) w f = tt
-phase_plausible post mem desk (Works work) w f = work_is_plausible post mem work w f
+phase_plausible post mem desk (Works work) w f = work_is_plausible post mem work w f.0
 
 -- a seat of a table with these words
-record Sits (layout : Layout) (mem : Place → ℕ) (seat : ℕ) (post : Post) (desk : Desk) (phase : Phase) : Type 0 where
+record Sits (layout : Layout) (mem : Place → ℕ) (seat : ℕ) (post : Post) (desk : Desk) (gift : List Lifetime) (phase : Phase) : Type 0 where
   linked : Linked layout mem
   below : seat < layout.config.seats
   fits : PostFits layout seat post
@@ -381,24 +390,25 @@ record Sits (layout : Layout) (mem : Place → ℕ) (seat : ℕ) (post : Post) (
   eras : PhaseEras layout (mem Clock) post phase
   stand : PostIn layout post
   slots : PhaseIn layout desk phase
-  finds : phase_finds layout.config desk phase (found (phase_move phase post) (mem (place_in (phase_move phase post))))
+  finds : phase_finds layout.config (record desk { gift = gift }) phase (found (phase_move phase post) (mem (place_in (phase_move phase post))))
 
 record CodeAt (post : Post) (desk : Desk) (mem : Place → ℕ) (phase : Phase) : Type 0 where
   valid : IsValid post
   ready : IsCallReady phase post desk
   plausible : IsCallPlausible phase post (found (phase_move phase post) (mem (place_in (phase_move phase post))))
 
-code_at : (post : Post) (desk : Desk) (mem : Place → ℕ) (seat : ℕ) (phase : Phase) → Sits post.layout mem seat post desk phase → ((index : ℕ) → tag_of post index < 4294967295) → phase_rises phase post → phase_lists phase desk → CodeAt post desk mem phase
-code_at post desk mem seat phase s t u n = record {
+code_at : (post : Post) (desk : Desk) (gift : List Lifetime) (mem : Place → ℕ) (seat : ℕ) (phase : Phase) → Sits post.layout mem seat post desk gift phase → ((index : ℕ) → tag_of post index < 4294967295) → phase_rises phase post → phase_lists phase desk → CodeAt post desk mem phase
+code_at post desk gift mem seat phase s t u n = record {
   valid = post_valid post seat (mem Clock) s.linked.told.valid s.below s.fits s.span s.stand t;
   ready = phase_ready post desk (mem Clock) phase s.linked.told.valid s.shape s.span s.eras s.slots u n;
-  plausible = phase_plausible post mem desk phase s.linked s.finds;
+  plausible = phase_plausible post mem (record desk { gift = gift }) phase s.linked s.finds;
 }
 
 pub code_ready : (w : World) (i : ℕ) → is_valid w.layout ≡ true → i < w.layout.config.seats → Seats w → Eras w → Slots w → Noted w → CodeNeeds w i → MayStep w i
 code_ready w i v b s e h o n =
     let l = w.seat i in let q = (s.fits i).post in
-    let a : Sits w.layout w.mem i l.post l.desk l.phase = record {
+    let gift = gift_at w.seat l.phase in
+    let a : Sits w.layout w.mem i l.post l.desk gift l.phase = record {
       linked = record { told = told_of w v e; links = h.words };
       below = b;
       fits = q;
@@ -409,5 +419,5 @@ code_ready w i v b s e h o n =
       slots = (h.seats i).phase;
       finds = n.reads;
     } in
-    let c = code_at l.post l.desk w.mem i l.phase (subst (λ (t : Layout). Sits t w.mem i l.post l.desk l.phase) (sym q.layout) a) n.tags n.rises n.lists in
+    let c = code_at l.post l.desk gift w.mem i l.phase (subst (λ (t : Layout). Sits t w.mem i l.post l.desk gift l.phase) (sym q.layout) a) n.tags n.rises n.lists in
     record { there = place_there w i v b s e h; valid = c.valid; ready = c.ready; noted = noted_fits w i q.layout o; plausible = c.plausible }

@@ -1,5 +1,5 @@
 -- Slots and links through the steps of calls and scans, and through what comes after a machine.
-use Rattle.std.proofs.Common.{ℕ, suc, ◌≡◌, ◌≤◌, ◌+◌, ◌-◌, Bool, true, false, List, [], ◌∷◌, ◌++◌, length, take, drop, Option, Some, None, refl, arith, ap, length-append, sym, subst, ◌<◌, add-one}
+use Rattle.std.proofs.Common.{ℕ, zero, suc, ◌≡◌, ◌≤◌, ◌+◌, ◌-◌, Bool, true, false, List, [], ◌∷◌, ◌++◌, length, take, drop, get_or, Option, Some, None, refl, arith, ap, length-append, sym, subst, ◌<◌, add-one}
 use Rattle.std.proofs.lemmas.Bool.Decides.{nat_tests}
 use Rattle.std.proofs.lemmas.List.Edits.{length-remove}
 use Rattle.std.proofs.lemmas.List.Elements.{All-append, All-push, All-head, All-tail, All-take, All-drop}
@@ -20,6 +20,7 @@ use Rattle.wfe_core.specs.defs.declared.call.ClockMove.TheVariants as moves
 use Rattle.wfe_core.specs.defs.declared.event.Event.{Event}
 use Rattle.wfe_core.specs.defs.declared.event.Event.TheVariants as events
 use Rattle.wfe_core.specs.defs.declared.event.Root.TheVariants as roots
+use Rattle.wfe_core.specs.defs.declared.lifetime.Interval.{Interval}
 use Rattle.wfe_core.specs.defs.declared.lifetime.Lifetime.{Lifetime}
 use Rattle.wfe_core.specs.declared.ends.AllocateEnd.{AllocateEnd}
 use Rattle.wfe_core.specs.declared.ends.AllocateEnd.TheVariants as allocate_ends
@@ -29,7 +30,7 @@ use Rattle.wfe_core.specs.declared.ends.ProtectEnd.TheVariants as protect_ends
 use Rattle.wfe_core.specs.declared.post.Post.{Post}
 use Rattle.wfe_core.specs.Desks.{Desk, Report, with_life}
 use Rattle.wfe_core.specs.Guards.{guards, guard_at, eras_in, published}
-use Rattle.wfe_core.specs.Posts.{cleared, reserves_index, stands, withdrawn}
+use Rattle.wfe_core.specs.Posts.{cleared, reserves_index, stands, standing_from, withdrawn}
 use Rattle.wfe_core.specs.words.Schemes.{has_one_interval}
 use Rattle.wfe_core.specs.Locals.{may_begin}
 use Rattle.wfe_core.specs.Phases.{Ending, Base}
@@ -42,8 +43,9 @@ use Rattle.wfe_core.specs.Dequeue as dequeues
 use Rattle.wfe_core.specs.Keep as keeps
 use Rattle.wfe_core.specs.Scan as scan
 use Rattle.wfe_core.specs.Steps as steps
-use Rattle.wfe_core.specs.Calls.{Task, Gets, Changes, Holds, Enqueues, Dequeues, Again, Answering, Retiring, AfterScan, Answered, Repeated, Counted, ChangeKept, EnqueueKept, GetAt, FindVersion, FindCount, FindKey, FindValue, ChangeAt, LoadVersion, LoadCount, LoadKey, LoadValue, ExchangeRoot, EnqueueAt, LoadNumber, LoadNext, PassTail, ExchangeNext, ExchangeTail, DequeueAt, LoadTail, SwingTail, TakeNumber, TakeValue, ExchangeHead, Work, Getting, Changing, Enqueuing, Dequeuing, LetGo, Released, Rehold, Dropped, KeepAt, Loosens, LoadHeld, StoreHeld, Looks, Misses, Keeping, ScanAt, ReadGuard, GiveBack, Why, Opens, FollowsHead, Fills, ClearsNext, Clears, Finishes, GivesUp, Retires, Tidies, Advances, Releases, Runs}
+use Rattle.wfe_core.specs.Calls.{Task, Gets, Changes, Holds, Enqueues, Dequeues, Again, Answering, Retiring, AfterScan, Answered, Repeated, Counted, ChangeKept, EnqueueKept, GetAt, FindVersion, FindCount, FindKey, FindValue, ChangeAt, LoadVersion, LoadCount, LoadKey, LoadValue, ExchangeRoot, EnqueueAt, LoadNumber, LoadNext, PassTail, ExchangeNext, ExchangeTail, DequeueAt, LoadTail, SwingTail, TakeNumber, TakeValue, ExchangeHead, Work, Getting, Changing, Enqueuing, Dequeuing, LetGo, Released, Rehold, Dropped, Parting, KeepAt, Loosens, LoadHeld, StoreHeld, Looks, Misses, HideSpan, MarkLeft, TakeList, MarkTaken, Keeping, ScanAt, ReadGuard, GiveBack, Why, Opens, FollowsHead, Fills, ClearsNext, Clears, Finishes, GivesUp, Retires, Tidies, Advances, Releases, Runs}
 use Rattle.inv_shapes.specs.Slots.{AllocateEndIn, ChangeIn, EndIn, EnqueueIn, FillIn, FollowEndIn, GetIn, KeptIn, CopyIn, LaterIn, ListIn, NextIn, PhaseIn, PostIn, StandsIn, TakenIn, TaskIn, TurnSlots, WhyIn, WorkIn, change_finds, enqueue_finds, get_finds, work_finds, ScanIn, scan_lists}
+use Rattle.inv_shapes.proofs.Leaving.{next_stands}
 use Rattle.inv_shapes.proofs.SlotRounds.{at_first, row_slots, withdrawn_slots, opening_slots, round_slots, closed_slots, finishing_slots, clearing_slots, clearing_next_slots}
 use Rattle.wfe_core.proofs.Facts.{if_by}
 use Rattle.wfe_core.proofs.Schemes.{each_release}
@@ -224,10 +226,49 @@ dequeue_slots layout (TakeNumber head next) post desk found w q l = record { pos
 dequeue_slots layout (TakeValue head next number) post desk found w q l = record { post = q; list = l; phase = w }
 dequeue_slots layout (ExchangeHead head next number value) post desk found w q l = taken_slots layout head next number value post desk (found == head + 1) w.0 q l
 
-released_slots : (layout : Layout) (let_go : LetGo) (post : Post) (desk : Desk) (told : List Event) → PostIn layout post → ListIn layout.config.slots desk.list → TurnSlots layout (keeps.released let_go post desk told)
-released_slots layout Released post desk told q l = record { post = q; list = l; phase = tt }
-released_slots layout (Rehold key) post desk told q l = record { post = q; list = l; phase = round_slots layout (Holds key) post desk tt }
-released_slots layout (Dropped index) post desk told q l = record { post = q; list = l; phase = tt }
+-- what stands is at one of the seat's indexes
+standing_below : (layout : Layout) (x : Option ℕ) (index : ℕ) → is_some x ≡ true → StandsIn layout x index → index < layout.config.indexes
+standing_below layout None index e s = absurd (cc)
+standing_below layout (Some slot) index e s = s.1
+
+parting_index_slots : (layout : Layout) (index : ℕ) (post : Post) (desk : Desk) (x : Option ℕ) → standing_from index (drop index post.standing) ≡ x → 2 ≤ index → PostIn layout post → PhaseIn layout desk (keeps.parting_index x)
+parting_index_slots layout index post desk None e b q = tt
+parting_index_slots layout index post desk (Some next) e b q = let n = next_stands post index next e in let f = n.from in
+    (record { kept = omega arith; below = standing_below layout (stands post next) next n.stood (q next) }, tt)
+
+parting_slots : (layout : Layout) (index : ℕ) (post : Post) (desk : Desk) → 2 ≤ index → PostIn layout post → PhaseIn layout desk (keeps.parting_from index post)
+parting_slots layout index post desk b q = parting_index_slots layout index post desk (standing_from index (drop index post.standing)) refl b q
+
+parting_span_slots : (layout : Layout) (desk : Desk) (x : Option Interval) → PhaseIn layout desk (keeps.parting_span x)
+parting_span_slots layout desk None = tt
+parting_span_slots layout desk (Some span) = tt
+
+leaving_slots : (layout : Layout) (post : Post) (desk : Desk) → PostIn layout post → PhaseIn layout desk (keeps.parting post)
+leaving_slots layout post desk q =
+    if_by (has_one_interval (scheme_of post)) (keeps.parting_span post.span) (keeps.parting_from 2 post) (PhaseIn layout desk)
+    (λ i. parting_span_slots layout desk post.span)
+    (λ i. parting_slots layout 2 post desk (omega arith) q)
+
+taking_slots : (layout : Layout) (place : ℕ) (post : Post) (desk : Desk) (left : Bool) (found : ℕ) → place < layout.config.seats → PostIn layout post → ListIn layout.config.slots desk.list → ListIn layout.config.slots desk.gift → TurnSlots layout (keeps.taking place post desk left found)
+taking_slots layout place post desk true found b q l g = record { post = q; list = All-append (λ (life : Lifetime). life.slot ≤ layout.config.slots) desk.list desk.gift l g; phase = b }
+taking_slots layout place post desk false found b q l g = record { post = q; list = l; phase = tt }
+
+bare_slots : (layout : Layout) (index : ℕ) → StandsIn layout (get_or (None ∷ None ∷ None ∷ None ∷ None ∷ None ∷ None ∷ None ∷ []) index None) index
+bare_slots layout zero = tt
+bare_slots layout (suc zero) = tt
+bare_slots layout (suc (suc zero)) = tt
+bare_slots layout (suc (suc (suc zero))) = tt
+bare_slots layout (suc (suc (suc (suc zero)))) = tt
+bare_slots layout (suc (suc (suc (suc (suc zero))))) = tt
+bare_slots layout (suc (suc (suc (suc (suc (suc zero)))))) = tt
+bare_slots layout (suc (suc (suc (suc (suc (suc (suc zero))))))) = tt
+bare_slots layout (suc (suc (suc (suc (suc (suc (suc (suc index)))))))) = tt
+
+released_slots : (layout : Layout) (let_go : LetGo) (post : Post) (desk : Desk) (told : List Event) → KeptIn layout.config (let_index let_go) → PostIn layout post → ListIn layout.config.slots desk.list → TurnSlots layout (keeps.released let_go post desk told)
+released_slots layout Released post desk told k q l = record { post = q; list = l; phase = tt }
+released_slots layout (Rehold key) post desk told k q l = record { post = q; list = l; phase = round_slots layout (Holds key) post desk tt }
+released_slots layout (Dropped index) post desk told k q l = record { post = q; list = l; phase = tt }
+released_slots layout (Parting index) post desk told k q l = record { post = q; list = l; phase = parting_slots layout (index + 1) post desk (let a = k.kept in omega arith) q }
 
 copied_slots : (layout : Layout) (from index : ℕ) (post : Post) (desk : Desk) (reserved : List Event) (x : Option ℕ) → StandsIn layout x from → index < layout.config.indexes → PostIn layout post → ListIn layout.config.slots desk.list → TurnSlots layout (keeps.copied from index post desk reserved x)
 copied_slots layout from index post desk reserved None s b q l = record { post = q; list = l; phase = tt }
@@ -253,21 +294,25 @@ look_slots layout index key (FindCount slot version) post desk found f k s q l =
 look_slots layout index key (FindKey slot version count pair) post desk found f k s q l = looked_key_slots layout index key slot version count pair post desk (found == key) k s q l
 look_slots layout index key (FindValue slot version pair) post desk found f k s q l = record { post = q; list = l; phase = tt }
 
-keep_slots : (layout : Layout) (at : KeepAt) (post : Post) (desk : Desk) (found : ℕ) → work_finds layout.config (Keeping at) found → WorkIn layout.config (Keeping at) → PostIn layout post → ListIn layout.config.slots desk.list → TurnSlots layout (keeps.keep_turn at post desk found)
-keep_slots layout (Loosens let_go) post desk found f w q l =
-    released_slots layout let_go (withdrawn post (let_index let_go)) desk (cleared (let_index let_go) (stands post (let_index let_go))) (withdrawn_slots layout post (let_index let_go) q) l
-keep_slots layout (LoadHeld from index) post desk found f w q l = load_held_slots layout from index post desk found (has_one_interval (scheme_of post)) w q l
-keep_slots layout (StoreHeld from index era) post desk found f w q l = copied_slots layout from index post desk (reserves_index post index era) (stands post from) (q from) w.below q l
-keep_slots layout (Looks index key at) post desk found f w q l = look_slots layout index key at post desk found f w.0 w.1 q l
-keep_slots layout (Misses index) post desk found f w q l = record { post = q; list = l; phase = tt }
+keep_slots : (layout : Layout) (at : KeepAt) (post : Post) (desk : Desk) (found : ℕ) → work_finds layout.config (Keeping at) found → WorkIn layout.config (Keeping at) → PostIn layout post → ListIn layout.config.slots desk.list → ListIn layout.config.slots desk.gift → TurnSlots layout (keeps.keep_turn at post desk found)
+keep_slots layout (Loosens let_go) post desk found f w q l g =
+    released_slots layout let_go (withdrawn post (let_index let_go)) desk (cleared (let_index let_go) (stands post (let_index let_go))) w (withdrawn_slots layout post (let_index let_go) q) l
+keep_slots layout (LoadHeld from index) post desk found f w q l g = load_held_slots layout from index post desk found (has_one_interval (scheme_of post)) w q l
+keep_slots layout (StoreHeld from index era) post desk found f w q l g = copied_slots layout from index post desk (reserves_index post index era) (stands post from) (q from) w.below q l
+keep_slots layout (Looks index key at) post desk found f w q l g = look_slots layout index key at post desk found f w.0 w.1 q l
+keep_slots layout (Misses index) post desk found f w q l g = record { post = q; list = l; phase = tt }
+keep_slots layout HideSpan post desk found f w q l g = record { post = bare_slots layout; list = l; phase = tt }
+keep_slots layout MarkLeft post desk found f w q l g = record { post = q; list = l; phase = tt }
+keep_slots layout (TakeList place) post desk found f w q l g = taking_slots layout place post desk (found == 1) found w q l g
+keep_slots layout (MarkTaken place count) post desk found f w q l g = record { post = q; list = l; phase = tt }
 
 -- a step of a call's own, which found this
-pub work_slots : (layout : Layout) (work : Work) (post : Post) (desk : Desk) (found : ℕ) → work_finds layout.config work found → work_links layout.config.slots work found → post.layout ≡ layout → WorkIn layout.config work → PostIn layout post → ListIn layout.config.slots desk.list → TurnSlots layout (steps.work_turn work post desk found)
-work_slots layout (Getting key at) post desk found f k p w q l = get_slots layout key at post desk found f w q l
-work_slots layout (Changing kept at) post desk found f k p w q l = change_slots layout kept at post desk found f p w q l
-work_slots layout (Enqueuing kept at) post desk found f k p w q l = enqueue_slots layout kept at post desk found f k p w q l
-work_slots layout (Dequeuing at) post desk found f k p w q l = dequeue_slots layout at post desk found w q l
-work_slots layout (Keeping at) post desk found f k p w q l = keep_slots layout at post desk found f w q l
+pub work_slots : (layout : Layout) (work : Work) (post : Post) (desk : Desk) (found : ℕ) → work_finds layout.config work found → work_links layout.config.slots work found → post.layout ≡ layout → WorkIn layout.config work → PostIn layout post → ListIn layout.config.slots desk.list → ListIn layout.config.slots desk.gift → TurnSlots layout (steps.work_turn work post desk found)
+work_slots layout (Getting key at) post desk found f k p w q l g = get_slots layout key at post desk found f w q l
+work_slots layout (Changing kept at) post desk found f k p w q l g = change_slots layout kept at post desk found f p w q l
+work_slots layout (Enqueuing kept at) post desk found f k p w q l g = enqueue_slots layout kept at post desk found f k p w q l
+work_slots layout (Dequeuing at) post desk found f k p w q l g = dequeue_slots layout at post desk found w q l
+work_slots layout (Keeping at) post desk found f k p w q l g = keep_slots layout at post desk found f w q l g
 
 -- a scan
 abbrev entry_in : ℕ → Option scan.Entry → Type 0
@@ -454,7 +499,7 @@ resume_slots layout (GivesUp answer) ending post desk told y e p q l = record { 
 resume_slots layout (Retires answer) ending post desk told y e p q l = retired_by_slots layout answer ending post desk told e q l
 resume_slots layout (Tidies later) ending post desk told y e p q l = tidied_slots layout later ending post desk told y q l
 resume_slots layout Advances ending post desk told y e p q l = advanced_slots layout ending post desk told q l
-resume_slots layout (Releases let_go) ending post desk told y e p q l = released_slots layout let_go post desk told q l
+resume_slots layout (Releases let_go) ending post desk told y e p q l = released_slots layout let_go post desk told y q l
 
 -- a call's first phase
 let_span_slots : (layout : Layout) (desk : Desk) (let_go : LetGo) (x : Option ℕ) → KeptIn layout.config (let_index let_go) → PhaseIn layout desk (letting_by let_go (release_span (let_index let_go) x))
@@ -494,3 +539,5 @@ first_slots layout (names.Copy from index) post desk b m q = copying_slots layou
 first_slots layout (names.DropIndex index) post desk b m q = letting_slots layout (Dropped index) post desk (kept_in layout.config index m)
 first_slots layout (names.Look index key) post desk b m q = looking_at_slots layout index key desk (stands post index) (kept_in layout.config index m) (q index)
 first_slots layout (names.PutIf key value version) post desk b m q = round_slots layout _ post desk (record { taken = tt; link = omega arith; version = omega arith; pairs = omega arith })
+first_slots layout names.Leave post desk b m q = leaving_slots layout post desk q
+first_slots layout (names.Adopt place) post desk b m q = grind (arith, nat_tests)

@@ -34,8 +34,8 @@ use Rattle.wfe_core.specs.Scan.{scan_move}
 use Rattle.wfe_core.proofs.Ranges.{bounds_of}
 use Rattle.wfe_core.specs.Steps.{resumed, work_move, phase_move, phase_turn}
 use Rattle.wfe_core.specs.Locals.{Local, move, after, settled_by, settled, told_by, rounds_told, may_begin, begun_post, begun, fresh}
-use Rattle.wfe_core.specs.Calls.{ChangeKept, EnqueueKept, GetAt, FindVersion, ChangeAt, ExchangeRoot, EnqueueAt, LoadNumber, LoadNext, PassTail, ExchangeNext, ExchangeTail, DequeueAt, LoadTail, SwingTail, TakeNumber, TakeValue, ExchangeHead, KeepAt, Loosens, LoadHeld, StoreHeld, Looks, Misses, Work, Getting, Changing, Enqueuing, Dequeuing, Keeping, ScanAt, ReadGuard, GiveBack, Why, Phase, Idle, Runs, Scans, Works, CallTurn, CallOutcome, GoesOn, Answers}
-use Rattle.wfe_core.specs.World.{World, first_word, start, begin, step}
+use Rattle.wfe_core.specs.Calls.{ChangeKept, EnqueueKept, GetAt, FindVersion, ChangeAt, ExchangeRoot, EnqueueAt, LoadNumber, LoadNext, PassTail, ExchangeNext, ExchangeTail, DequeueAt, LoadTail, SwingTail, TakeNumber, TakeValue, ExchangeHead, KeepAt, Loosens, LoadHeld, StoreHeld, Looks, Misses, HideSpan, MarkLeft, TakeList, MarkTaken, Work, Getting, Changing, Enqueuing, Dequeuing, Keeping, ScanAt, ReadGuard, GiveBack, Why, Phase, Idle, Runs, Scans, Works, CallTurn, CallOutcome, GoesOn, Answers}
+use Rattle.wfe_core.specs.World.{World, first_word, start, begin, step, gift_at, offered}
 use Rattle.inv_shapes.specs.Frame.{phase_left}
 use Rattle.inv_shapes.specs.Seats.{Run, PostFits, PhaseFits, Seats}
 use Rattle.inv_shapes.specs.Eras.{Eras}
@@ -138,6 +138,10 @@ keep_writes config (LoadHeld from index) post = tt
 keep_writes config (StoreHeld from index era) post = tt
 keep_writes config (Looks index key at) post = get_writes config.slots at
 keep_writes config (Misses index) post = tt
+keep_writes config HideSpan post = tt
+keep_writes config MarkLeft post = tt
+keep_writes config (TakeList place) post = tt
+keep_writes config (MarkTaken place count) post = tt
 
 work_writes : (config : Config) (work : Work) (post : Post) → WorkIn config work → MoveSlots config.slots (work_move work post)
 work_writes config (Getting key at) post w = get_writes config.slots at
@@ -172,14 +176,14 @@ work_found slots mem (Enqueuing kept (ExchangeTail slot)) post h = tt
 work_found slots mem (Dequeuing at) post h = tt
 work_found slots mem (Keeping at) post h = tt
 
-turn_slots : (layout : Layout) (mem : Place → ℕ) (k : ℕ) → Linked layout mem → (phase : Phase) (post : Post) (desk : Desk) → PostFits layout k (counted post) → PhaseFits layout post phase → PhaseIn layout desk phase → PostIn layout post → ListIn layout.config.slots desk.list
+turn_slots : (layout : Layout) (mem : Place → ℕ) (k : ℕ) → Linked layout mem → (phase : Phase) (post : Post) (desk : Desk) → PostFits layout k (counted post) → PhaseFits layout post phase → PhaseIn layout desk phase → PostIn layout post → ListIn layout.config.slots desk.list → ListIn layout.config.slots desk.gift
     → phase_finds layout.config desk phase (found (phase_move phase (counted post)) (mem (place_in (phase_move phase (counted post)))))
     → TurnSlots layout (phase_turn phase (counted post) desk (found (phase_move phase (counted post)) (mem (place_in (phase_move phase (counted post))))))
-turn_slots layout mem k w Idle post desk p r h q l f = record { post = q; list = l; phase = tt }
-turn_slots layout mem k w (Runs why base) post desk p r h q l f = let run = run_counted layout why base post r in let m = machine_slots layout mem w why base (counted post) run h.1 q in
+turn_slots layout mem k w Idle post desk p r h q l g f = record { post = q; list = l; phase = tt }
+turn_slots layout mem k w (Runs why base) post desk p r h q l g f = let run = run_counted layout why base post r in let m = machine_slots layout mem w why base (counted post) run h.1 q in
     resumed_slots layout why desk _ _ _ h.0 m.outcome (shape_moves layout k w.told.valid why base (counted post) _ p run).post.layout m.post l
-turn_slots layout mem k w (Scans later at) post desk p r h q l f = scan_slots layout later at (counted post) desk _ f h.1 h.0 q l
-turn_slots layout mem k w (Works work) post desk p r h q l f = work_slots layout work (counted post) desk _ f (work_found layout.config.slots mem work (counted post) w.links) p.layout h q l
+turn_slots layout mem k w (Scans later at) post desk p r h q l g f = scan_slots layout later at (counted post) desk _ f h.1 h.0 q l
+turn_slots layout mem k w (Works work) post desk p r h q l g f = work_slots layout work (counted post) desk _ f.0 (work_found layout.config.slots mem work (counted post) w.links) p.layout h q l g
 
 settled_by_slots : (layout : Layout) (l : Local) (post : Post) (desk : Desk) (rounds : ℕ) (outcome : CallOutcome) → PostIn layout post → ListIn layout.config.slots desk.list → PhaseIn layout desk (phase_left outcome) → SeatSlots layout (settled_by l post desk rounds outcome)
 settled_by_slots layout l post desk rounds (GoesOn phase) q s p = record { post = q; list = s; phase = p }
@@ -199,11 +203,34 @@ noting_slots layout desk told (Works work) h = h
 settled_slots : (layout : Layout) (l : Local) (t : CallTurn) → TurnSlots layout t → SeatSlots layout (settled l t)
 settled_slots layout l t h = settled_by_slots layout l t.post (noting t.desk (told_by t)) (rounds_told l.rounds (told_by t)) t.outcome h.post h.list (noting_slots layout t.desk (told_by t) (phase_left t.outcome) h.phase)
 
+-- the list that a seat may take over
+offered_scan : (slots : ℕ) (desk : Desk) (gift : List Lifetime) (at : ScanAt) → ScanIn slots desk at → ScanIn slots (record desk { gift = gift }) at
+offered_scan slots desk gift (ReadGuard number) h = h
+offered_scan slots desk gift (GiveBack place slot) h = record { slot_in = h.slot_in; room = h.room }
+
+offered_slots : (layout : Layout) (desk : Desk) (gift : List Lifetime) (phase : Phase) → PhaseIn layout desk phase → PhaseIn layout (record desk { gift = gift }) phase
+offered_slots layout desk gift Idle h = tt
+offered_slots layout desk gift (Runs why base) h = h
+offered_slots layout desk gift (Scans later at) h = (h.0, offered_scan layout.config.slots desk gift at h.1)
+offered_slots layout desk gift (Works work) h = h
+
+keep_gift : (w : World) → Slots w → (at : KeepAt) → ListIn w.layout.config.slots (gift_at w.seat (Works (Keeping at)))
+keep_gift w h (TakeList place) = (h.seats place).list
+keep_gift w h at = All-nil (λ (life : Lifetime). life.slot ≤ w.layout.config.slots)
+
+work_gift : (w : World) → Slots w → (work : Work) → ListIn w.layout.config.slots (gift_at w.seat (Works work))
+work_gift w h (Keeping at) = keep_gift w h at
+work_gift w h work = All-nil (λ (life : Lifetime). life.slot ≤ w.layout.config.slots)
+
+gift_slots : (w : World) → Slots w → (phase : Phase) → ListIn w.layout.config.slots (gift_at w.seat phase)
+gift_slots w h (Works work) = work_gift w h work
+gift_slots w h phase = All-nil (λ (life : Lifetime). life.slot ≤ w.layout.config.slots)
+
 own_slots : (w : World) (i : ℕ) → is_valid w.layout ≡ true → Seats w → Eras w → Slots w → SlotsNeeds w i → SeatSlots w.layout ((step w i).seat i)
-own_slots w i v s e h n = let l = w.seat i in let g = h.seats i in
+own_slots w i v s e h n = let l = offered w i in let g = h.seats i in
     subst (SeatSlots w.layout) (sym (seat_steps w i))
     (subst (λ (f : ℕ). SeatSlots w.layout (after l f)) (finds_counted w i)
-    (settled_slots w.layout l _ (turn_slots w.layout w.mem i (record { told = told_of w v e; links = h.words }) l.phase l.post l.desk (counted_fits w.layout i l.post (s.fits i).post) (s.fits i).phase g.phase g.post g.list (subst (phase_finds w.layout.config l.desk l.phase) (sym (finds_counted w i)) n))))
+    (settled_slots w.layout l _ (turn_slots w.layout w.mem i (record { told = told_of w v e; links = h.words }) l.phase l.post l.desk (counted_fits w.layout i l.post (s.fits i).post) (s.fits i).phase (offered_slots w.layout (w.seat i).desk l.desk.gift l.phase g.phase) g.post g.list (gift_slots w h l.phase) (subst (phase_finds w.layout.config l.desk l.phase) (sym (finds_counted w i)) n))))
 
 pub slots_step : (w : World) (i : ℕ) → is_valid w.layout ≡ true → Seats w → Eras w → Slots w → SlotsNeeds w i → Slots (step w i)
 slots_step w i v s e h n = record {

@@ -1,5 +1,5 @@
 -- A seat's interval word is written by that seat alone.
-use Rattle.std.proofs.Common.{ℕ, ◌≡◌, true, false, refl, arith}
+use Rattle.std.proofs.Common.{ℕ, ◌≡◌, true, false, refl, sym, subst, arith}
 use Rattle.std.proofs.lemmas.Bool.Decides.{nat_tests}
 use Rattle.std.specs.Prelude.{◌==◌}
 use Rattle.wfe_core.specs.words.Place.{Place}
@@ -7,6 +7,7 @@ use Rattle.wfe_core.specs.words.Place.Place.{Interval}
 use Rattle.wfe_core.specs.defs.declared.event.Root.{Root}
 use Rattle.wfe_core.specs.declared.post.Post.{Post}
 use Rattle.wfe_core.specs.Memory.{written, put}
+use Rattle.wfe_core.specs.Posts.{withdrawn_all}
 use Rattle.wfe_core.specs.Phases.{BeginAt, ProtectAt, AllocateAt, RetireAt, MoveAt, Base}
 use Rattle.wfe_core.specs.Phases.BeginAt.{LoadLower, PublishSpan}
 use Rattle.wfe_core.specs.Phases.ProtectAt.{RaiseUpper}
@@ -22,7 +23,8 @@ use Rattle.wfe_core.specs.Dequeue.{dequeue_move}
 use Rattle.wfe_core.specs.Keep.{keep_move}
 use Rattle.wfe_core.specs.Scan.{scan_move}
 use Rattle.wfe_core.specs.Steps.{work_move, phase_move}
-use Rattle.wfe_core.specs.Calls.{ChangeKept, EnqueueKept, GetAt, FindVersion, ChangeAt, LoadVersion, EnqueueAt, LoadNumber, DequeueAt, LoadTail, KeepAt, Loosens, LoadHeld, StoreHeld, Looks, Misses, Work, Getting, Changing, Enqueuing, Dequeuing, Keeping, ScanAt, ReadGuard, GiveBack, Phase, Idle, Runs, Scans, Works}
+use Rattle.wfe_core.specs.Calls.{ChangeKept, EnqueueKept, GetAt, FindVersion, ChangeAt, LoadVersion, EnqueueAt, LoadNumber, DequeueAt, LoadTail, KeepAt, Loosens, LoadHeld, StoreHeld, Looks, Misses, HideSpan, MarkLeft, TakeList, MarkTaken, Work, Getting, Changing, Enqueuing, Dequeuing, Keeping, ScanAt, ReadGuard, GiveBack, Phase, Idle, Runs, Scans, Works}
+use Rattle.inv_shapes.specs.Frame.{bared}
 
 -- the own word
 pub own_span : (mem : Place → ℕ) (seat k value : ℕ) → seat ≡ k → put mem (Interval seat) value (Interval k) ≡ value
@@ -80,20 +82,45 @@ dequeue_span : (mem : Place → ℕ) (k : ℕ) (at : DequeueAt) → written mem 
 dequeue_span mem k (LoadTail head) = refl
 dequeue_span mem k at = refl
 
-keep_span : (mem : Place → ℕ) (k : ℕ) (at : KeepAt) (post : Post) → written mem (keep_move at post) (Interval k) ≡ mem (Interval k)
-keep_span mem k (Loosens let_go) post = refl
-keep_span mem k (LoadHeld from index) post = refl
-keep_span mem k (StoreHeld from index era) post = refl
-keep_span mem k (Looks index key at) post = get_span mem k at
-keep_span mem k (Misses index) post = refl
+keep_span : (mem : Place → ℕ) (k : ℕ) (at : KeepAt) (post : Post) → (k == post.seat) ≡ false → written mem (keep_move at post) (Interval k) ≡ mem (Interval k)
+keep_span mem k (Loosens let_go) post e = refl
+keep_span mem k (LoadHeld from index) post e = refl
+keep_span mem k (StoreHeld from index era) post e = refl
+keep_span mem k (Looks index key at) post e = get_span mem k at
+keep_span mem k (Misses index) post e = refl
+keep_span mem k HideSpan post e = other_span mem post.seat k 0 e
+keep_span mem k MarkLeft post e = refl
+keep_span mem k (TakeList place) post e = refl
+keep_span mem k (MarkTaken place count) post e = refl
 
--- a call's own step writes none
-pub work_span : (mem : Place → ℕ) (k : ℕ) (work : Work) (post : Post) → written mem (work_move work post) (Interval k) ≡ mem (Interval k)
-work_span mem k (Getting key at) post = get_span mem k at
-work_span mem k (Changing kept at) post = change_span mem k kept at post
-work_span mem k (Enqueuing kept at) post = enqueue_span mem k kept at
-work_span mem k (Dequeuing at) post = dequeue_span mem k at
-work_span mem k (Keeping at) post = keep_span mem k at post
+-- a call's own step writes the own alone, and only where all is let go
+pub work_span : (mem : Place → ℕ) (k : ℕ) (work : Work) (post : Post) → (k == post.seat) ≡ false → written mem (work_move work post) (Interval k) ≡ mem (Interval k)
+work_span mem k (Getting key at) post e = get_span mem k at
+work_span mem k (Changing kept at) post e = change_span mem k kept at post
+work_span mem k (Enqueuing kept at) post e = enqueue_span mem k kept at
+work_span mem k (Dequeuing at) post e = dequeue_span mem k at
+work_span mem k (Keeping at) post e = keep_span mem k at post e
+
+-- the interval word after a step of a call's own is what it was, or none stands
+keep_left : (Q : ℕ → Post → Type 0) (mem : Place → ℕ) (k : ℕ) (at : KeepAt) (post : Post) → post.seat ≡ k → Q (mem (Interval k)) post → Q 0 (withdrawn_all post)
+    → Q (written mem (keep_move at post) (Interval k)) (bared (Keeping at) post)
+keep_left Q mem k (Loosens let_go) post e h n = h
+keep_left Q mem k (LoadHeld from index) post e h n = h
+keep_left Q mem k (StoreHeld from index era) post e h n = h
+keep_left Q mem k (Looks index key at) post e h n = subst (λ (word : ℕ). Q word post) (sym (get_span mem k at)) h
+keep_left Q mem k (Misses index) post e h n = h
+keep_left Q mem k HideSpan post e h n = subst (λ (word : ℕ). Q word (withdrawn_all post)) (sym (own_span mem post.seat k 0 e)) n
+keep_left Q mem k MarkLeft post e h n = h
+keep_left Q mem k (TakeList place) post e h n = h
+keep_left Q mem k (MarkTaken place count) post e h n = h
+
+pub work_left : (Q : ℕ → Post → Type 0) (mem : Place → ℕ) (k : ℕ) (work : Work) (post : Post) → post.seat ≡ k → Q (mem (Interval k)) post → Q 0 (withdrawn_all post)
+    → Q (written mem (work_move work post) (Interval k)) (bared work post)
+work_left Q mem k (Getting key at) post e h n = subst (λ (word : ℕ). Q word post) (sym (get_span mem k at)) h
+work_left Q mem k (Changing kept at) post e h n = subst (λ (word : ℕ). Q word post) (sym (change_span mem k kept at post)) h
+work_left Q mem k (Enqueuing kept at) post e h n = subst (λ (word : ℕ). Q word post) (sym (enqueue_span mem k kept at)) h
+work_left Q mem k (Dequeuing at) post e h n = subst (λ (word : ℕ). Q word post) (sym (dequeue_span mem k at)) h
+work_left Q mem k (Keeping at) post e h n = keep_left Q mem k at post e h n
 
 pub scan_span : (mem : Place → ℕ) (k : ℕ) (at : ScanAt) (post : Post) → written mem (scan_move at post) (Interval k) ≡ mem (Interval k)
 scan_span mem k (ReadGuard number) post = refl
@@ -104,4 +131,4 @@ pub phase_span : (mem : Place → ℕ) (k : ℕ) (phase : Phase) (post : Post) �
 phase_span mem k Idle post e = refl
 phase_span mem k (Runs why base) post e = base_span mem k base post e
 phase_span mem k (Scans later at) post e = scan_span mem k at post
-phase_span mem k (Works work) post e = work_span mem k work post
+phase_span mem k (Works work) post e = work_span mem k work post e

@@ -10,12 +10,13 @@ use Rattle.wfe_core.specs.defs.declared.call.Answer.{Answer}
 use Rattle.wfe_core.specs.defs.declared.lifetime.Lifetime.{Lifetime}
 use Rattle.wfe_core.specs.CallReady.{slots_of, RetireFits}
 use Rattle.wfe_core.specs.Desks.{Desk}
+use Rattle.wfe_core.specs.Locals.{busy_in}
 use Rattle.wfe_core.specs.Phases.{RetireAt, Base}
 use Rattle.wfe_core.specs.Phases.RetireAt.{LoadLife}
 use Rattle.wfe_core.specs.Phases.Base.{Retire}
-use Rattle.wfe_core.specs.Calls.{Why, Retires, AfterScan, Work, ScanAt, ReadGuard, GiveBack, Phase, Idle, Runs, Scans, Works}
+use Rattle.wfe_core.specs.Calls.{Why, Retires, AfterScan, Work, KeepAt, TakeList, Keeping, ScanAt, ReadGuard, GiveBack, Phase, Idle, Runs, Scans, Works}
 use Rattle.inv_shapes.specs.Eras.{retire_needs, base_life, life_needs}
-use Rattle.inv_shapes.specs.Slots.{scan_lists, work_finds, phase_finds}
+use Rattle.inv_shapes.specs.Slots.{scan_lists, work_finds, gift_finds, phase_finds}
 use Rattle.inv_shapes.specs.Code.{why_lists, scan_entry, phase_lists}
 use Rattle.wfe_core.proofs.Lists.{fits_length, slots_length}
 
@@ -54,14 +55,23 @@ takes_listed : (config : Config) (at : ScanAt) (desk : Desk) → length desk.lis
 takes_listed config (ReadGuard number) desk l h = l
 takes_listed config (GiveBack place slot) desk l h = let a = slice_get_within (slots_of desk.list) place slot (h place slot refl) in let b = slots_length desk.list in omega arith
 
-pub takes_reads : (config : Config) (desk : Desk) (phase : Phase) (found : ℕ) → length desk.list ≤ config.slots + 1
+takes_keep : (config : Config) (at : KeepAt) (desk : Desk) (found : ℕ) → ((place : ℕ) → at ≡ TakeList place → found ≡ 1 → length desk.list + length desk.gift ≤ config.slots + 1) → gift_finds config desk (Keeping at) found
+takes_keep config (TakeList place) desk found m = m place refl
+takes_keep config at desk found m = tt
+
+takes_work : (config : Config) (work : Work) (desk : Desk) (found : ℕ) → ((place : ℕ) → work ≡ Keeping (TakeList place) → found ≡ 1 → length desk.list + length desk.gift ≤ config.slots + 1) → gift_finds config desk work found
+takes_work config (Keeping at) desk found m = takes_keep config at desk found (λ place e. m place (ap Keeping e))
+takes_work config work desk found m = tt
+
+pub takes_reads : (config : Config) (desk : Desk) (phase : Phase) (found : ℕ) → (busy_in phase ≡ true → length desk.list ≤ config.slots + 1)
     → ((later : AfterScan) (place slot : ℕ) → phase ≡ Scans later (GiveBack place slot) → slice_get (slots_of desk.list) place ≡ Some slot)
     → ((work : Work) → phase ≡ Works work → work_finds config work found)
+    → ((place : ℕ) → phase ≡ Works (Keeping (TakeList place)) → found ≡ 1 → length desk.list + length desk.gift ≤ config.slots + 1)
     → phase_finds config desk phase found
-takes_reads config desk Idle found l g f = tt
-takes_reads config desk (Runs why base) found l g f = tt
-takes_reads config desk (Scans later at) found l g f = takes_listed config at desk l (λ place slot e. g later place slot (ap (λ (x : ScanAt). Scans later x) e))
-takes_reads config desk (Works work) found l g f = f work refl
+takes_reads config desk Idle found l g f m = tt
+takes_reads config desk (Runs why base) found l g f m = tt
+takes_reads config desk (Scans later at) found l g f m = takes_listed config at desk (l refl) (λ place slot e. g later place slot (ap (λ (x : ScanAt). Scans later x) e))
+takes_reads config desk (Works work) found l g f m = (f work refl, takes_work config work desk found (λ place e. m place (ap Works e)))
 
 -- a list of rows of the table, none of which is on it twice, is no longer than the rows
 pub few_listed : (lives : List Lifetime) (slots : ℕ) → IsDistinct ◌==◌ (slots_of lives) → ((slot : ℕ) → list_any (◌==◌ slot) (slots_of lives) ≡ true → slot < slots + 1) → length lives ≤ slots + 1

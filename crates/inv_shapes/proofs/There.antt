@@ -36,7 +36,7 @@ use Rattle.wfe_core.specs.Scan.{scan_move}
 use Rattle.wfe_core.specs.Steps.{work_move, phase_move}
 use Rattle.wfe_core.specs.Locals.{move}
 use Rattle.wfe_core.specs.World.{World}
-use Rattle.wfe_core.specs.Calls.{ChangeKept, EnqueueKept, GetAt, FindVersion, FindCount, FindKey, FindValue, ChangeAt, LoadVersion, LoadCount, LoadKey, LoadValue, ExchangeRoot, EnqueueAt, LoadNumber, LoadNext, PassTail, ExchangeNext, ExchangeTail, DequeueAt, LoadTail, SwingTail, TakeNumber, TakeValue, ExchangeHead, Work, Getting, Changing, Enqueuing, Dequeuing, KeepAt, Loosens, LoadHeld, StoreHeld, Looks, Misses, Keeping, ScanAt, ReadGuard, GiveBack, Why, Phase, Idle, Runs, Scans, Works}
+use Rattle.wfe_core.specs.Calls.{ChangeKept, EnqueueKept, GetAt, FindVersion, FindCount, FindKey, FindValue, ChangeAt, LoadVersion, LoadCount, LoadKey, LoadValue, ExchangeRoot, EnqueueAt, LoadNumber, LoadNext, PassTail, ExchangeNext, ExchangeTail, DequeueAt, LoadTail, SwingTail, TakeNumber, TakeValue, ExchangeHead, Work, Getting, Changing, Enqueuing, Dequeuing, KeepAt, Loosens, LoadHeld, StoreHeld, Looks, Misses, HideSpan, MarkLeft, TakeList, MarkTaken, Keeping, ScanAt, ReadGuard, GiveBack, Why, Phase, Idle, Runs, Scans, Works}
 use Rattle.inv_shapes.specs.Seats.{index_by, allocate_fits, move_fits, scan_fits, Run, PhaseFits, Seats}
 use Rattle.wfe_core.specs.words.Schemes.{helps}
 use Rattle.inv_shapes.specs.Eras.{RootNeeds, move_eras, base_eras, PhaseEras, Eras}
@@ -209,6 +209,10 @@ keep_there layout (LoadHeld from index) post s h = own_there layout post from s 
 keep_there layout (StoreHeld from index era) post s h = index_there layout post.seat index s.below h.below
 keep_there layout (Looks index key at) post s h = get_there layout at h.1
 keep_there layout (Misses index) post s h = own_there layout post index s h.below
+keep_there layout HideSpan post s h = lt_test post.seat layout.config.seats s.below
+keep_there layout MarkLeft post s h = lt_test post.seat layout.config.seats s.below
+keep_there layout (TakeList place) post s h = lt_test place layout.config.seats h
+keep_there layout (MarkTaken place count) post s h = lt_test place layout.config.seats h
 
 work_there : (layout : Layout) (work : Work) (post : Post) → Seated layout post → WorkIn layout.config work → has layout (place_in (work_move work post)) ≡ true
 work_there layout (Getting key at) post s h = get_there layout at h

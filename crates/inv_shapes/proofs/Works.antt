@@ -19,7 +19,7 @@ use Rattle.wfe_core.specs.declared.ends.ProtectEnd.TheVariants as protect_ends
 use Rattle.wfe_core.specs.declared.post.Post.{Post}
 use Rattle.wfe_core.specs.Desks.{Desk, with_life}
 use Rattle.wfe_core.specs.Guards.{guards, guard_at, eras_in, published}
-use Rattle.wfe_core.specs.Posts.{cleared, reserves_index, stands, with_row, withdrawn}
+use Rattle.wfe_core.specs.Posts.{cleared, reserves_index, stands, with_row, withdrawn, withdrawn_all}
 use Rattle.wfe_core.specs.Phases.{Ending}
 use Rattle.wfe_core.specs.Phases.Ending.{Done, Protected, Followed, Allocated, Retired, Clocked}
 use Rattle.wfe_core.specs.Rounds.{bucket_of, let_index, scheme_of}
@@ -31,9 +31,9 @@ use Rattle.wfe_core.specs.Dequeue as dequeues
 use Rattle.wfe_core.specs.Keep as keeps
 use Rattle.wfe_core.specs.Scan as scan
 use Rattle.wfe_core.specs.Steps as steps
-use Rattle.wfe_core.specs.Calls.{Task, Gets, Changes, Holds, Enqueues, Dequeues, Again, Answering, Retiring, AfterScan, Answered, Repeated, Counted, Why, Phase, ChangeKept, EnqueueKept, GetAt, FindVersion, FindCount, FindKey, FindValue, ChangeAt, LoadVersion, LoadCount, LoadKey, LoadValue, ExchangeRoot, EnqueueAt, LoadNumber, LoadNext, PassTail, ExchangeNext, ExchangeTail, DequeueAt, LoadTail, SwingTail, TakeNumber, TakeValue, ExchangeHead, Work, Getting, Changing, Enqueuing, Dequeuing, LetGo, Released, Rehold, Dropped, KeepAt, Loosens, LoadHeld, StoreHeld, Looks, Misses, Keeping, ScanAt, ReadGuard, GiveBack, Opens, FollowsHead, Fills, ClearsNext, Clears, Finishes, GivesUp, Retires, Tidies, Advances, Releases}
-use Rattle.inv_shapes.specs.Frame.{Left, SpanStands, KeepFits, WorkFits, read_slot, Resumes, Grows, Stores}
-use Rattle.inv_shapes.proofs.Growth.{round_grows, letting_grows, closed_left, finishing_left, clearing_left, clearing_next_left}
+use Rattle.wfe_core.specs.Calls.{Task, Gets, Changes, Holds, Enqueues, Dequeues, Again, Answering, Retiring, AfterScan, Answered, Repeated, Counted, Why, Phase, ChangeKept, EnqueueKept, GetAt, FindVersion, FindCount, FindKey, FindValue, ChangeAt, LoadVersion, LoadCount, LoadKey, LoadValue, ExchangeRoot, EnqueueAt, LoadNumber, LoadNext, PassTail, ExchangeNext, ExchangeTail, DequeueAt, LoadTail, SwingTail, TakeNumber, TakeValue, ExchangeHead, Work, Getting, Changing, Enqueuing, Dequeuing, LetGo, Released, Rehold, Dropped, Parting, KeepAt, Loosens, LoadHeld, StoreHeld, Looks, Misses, HideSpan, MarkLeft, TakeList, MarkTaken, Keeping, ScanAt, ReadGuard, GiveBack, Opens, FollowsHead, Fills, ClearsNext, Clears, Finishes, GivesUp, Retires, Tidies, Advances, Releases}
+use Rattle.inv_shapes.specs.Frame.{Left, SpanStands, KeepFits, WorkFits, Parts, read_slot, bared, Resumes, Grows, Stores}
+use Rattle.inv_shapes.proofs.Growth.{bare_parts, round_grows, letting_grows, parting_grows, leaving_grows, closed_left, finishing_left, clearing_left, clearing_next_left}
 
 got_left : {Q : Post → Type 0} {P : Post → Phase → Type 0} (g : Grows Q P) (key version : ℕ) (value : Option ℕ) (post : Post) (desk : Desk) (told : List Event) → Q post → Left Q P (gets.got key version value post desk told)
 got_left g key version value post desk told q =
@@ -126,10 +126,11 @@ dequeue_left g (TakeNumber head next) post desk found s q = record { post = q; p
 dequeue_left g (TakeValue head next number) post desk found s q = record { post = q; phase = g.works post (Dequeuing (ExchangeHead head next number found)) refl s q }
 dequeue_left g (ExchangeHead head next number value) post desk found s q = taken_left g head next number value post desk (found == head + 1) q
 
-released_left : {Q : Post → Type 0} {P : Post → Phase → Type 0} (g : Grows Q P) (let_go : LetGo) (post : Post) (desk : Desk) (told : List Event) → Q post → Left Q P (keeps.released let_go post desk told)
-released_left g Released post desk told q = record { post = q; phase = g.idle post q }
-released_left g (Rehold key) post desk told q = record { post = q; phase = round_grows g (Holds key) post q }
-released_left g (Dropped index) post desk told q = record { post = q; phase = g.idle post q }
+released_left : {Q : Post → Type 0} {P : Post → Phase → Type 0} (g : Grows Q P) (let_go : LetGo) (post : Post) (desk : Desk) (told : List Event) → Parts let_go post → Q post → Left Q P (keeps.released let_go post desk told)
+released_left g Released post desk told r q = record { post = q; phase = g.idle post q }
+released_left g (Rehold key) post desk told r q = record { post = q; phase = round_grows g (Holds key) post q }
+released_left g (Dropped index) post desk told r q = record { post = q; phase = g.idle post q }
+released_left g (Parting index) post desk told r q = record { post = q; phase = parting_grows g (index + 1) post r q }
 
 copied_left : {Q : Post → Type 0} {P : Post → Phase → Type 0} (g : Grows Q P) (from index : ℕ) (post : Post) (desk : Desk) (reserved : List Event) (x : Option ℕ) → Q post → Left Q P (keeps.copied from index post desk reserved x)
 copied_left g from index post desk reserved None q = record { post = q; phase = g.idle post q }
@@ -154,16 +155,24 @@ look_left g index key (FindCount slot version) post desk found s q = looking_lef
 look_left g index key (FindKey slot version count pair) post desk found s q = looked_key_left g index key slot version count pair post desk (found == key) s q
 look_left g index key (FindValue slot version pair) post desk found s q = record { post = q; phase = g.idle post q }
 
-keep_left : {Q : Post → Type 0} {P : Post → Phase → Type 0} (g : Grows Q P) (at : KeepAt) (post : Post) (desk : Desk) (found : ℕ) → KeepFits post at → Stores P post found (Keeping at) → Q post → Left Q P (keeps.keep_turn at post desk found)
+taking_left : {Q : Post → Type 0} {P : Post → Phase → Type 0} (g : Grows Q P) (place : ℕ) (post : Post) (desk : Desk) (left : Bool) (found : ℕ) → Q post → Left Q P (keeps.taking place post desk left found)
+taking_left g place post desk true found q = record { post = q; phase = g.works post (Keeping (MarkTaken place (length desk.gift))) refl tt q }
+taking_left g place post desk false found q = record { post = q; phase = g.idle post q }
+
+keep_left : {Q : Post → Type 0} {P : Post → Phase → Type 0} (g : Grows Q P) (at : KeepAt) (post : Post) (desk : Desk) (found : ℕ) → KeepFits post at → Stores P post found (Keeping at) → Q (bared (Keeping at) post) → Left Q P (keeps.keep_turn at post desk found)
 keep_left g (Loosens let_go) post desk found f n q =
-    released_left g let_go (withdrawn post (let_index let_go)) desk (cleared (let_index let_go) (stands post (let_index let_go))) (g.withdraws post (let_index let_go) f.interval q)
+    released_left g let_go (withdrawn post (let_index let_go)) desk (cleared (let_index let_go) (stands post (let_index let_go))) (bare_parts let_go (withdrawn post (let_index let_go)) f.apart) (g.withdraws post (let_index let_go) f.interval q)
 keep_left g (LoadHeld from index) post desk found f n q = load_held_left g from index post desk found (has_one_interval (scheme_of post)) refl n q
 keep_left g (StoreHeld from index era) post desk found f n q = copied_left g from index post desk (reserves_index post index era) (stands post from) q
 keep_left g (Looks index key at) post desk found f n q = look_left g index key at post desk found f q
 keep_left g (Misses index) post desk found f n q = record { post = q; phase = g.idle post q }
+keep_left g HideSpan post desk found f n q = record { post = q; phase = g.works (withdrawn_all post) (Keeping MarkLeft) refl (λ h. refl) q }
+keep_left g MarkLeft post desk found f n q = record { post = q; phase = g.idle post q }
+keep_left g (TakeList place) post desk found f n q = taking_left g place post desk (found == 1) found q
+keep_left g (MarkTaken place count) post desk found f n q = record { post = q; phase = g.idle post q }
 
 -- a step of a call's own
-pub work_left : {Q : Post → Type 0} {P : Post → Phase → Type 0} (g : Grows Q P) (work : Work) (post : Post) (desk : Desk) (found : ℕ) → WorkFits post work → Stores P post found work → Q post → Left Q P (steps.work_turn work post desk found)
+pub work_left : {Q : Post → Type 0} {P : Post → Phase → Type 0} (g : Grows Q P) (work : Work) (post : Post) (desk : Desk) (found : ℕ) → WorkFits post work → Stores P post found work → Q (bared work post) → Left Q P (steps.work_turn work post desk found)
 work_left g (Getting key at) post desk found s n q = get_left g key at post desk found s q
 work_left g (Changing kept at) post desk found s n q = change_left g kept at post desk found s q
 work_left g (Enqueuing kept at) post desk found s n q = enqueue_left g kept at post desk found s q
@@ -287,11 +296,11 @@ resume_left g (GivesUp answer) ending post desk told r q = record { post = q; ph
 resume_left g (Retires answer) ending post desk told r q = retired_by_left g answer ending post desk told q
 resume_left g (Tidies later) ending post desk told r q = tidied_left g later ending post desk told q
 resume_left g Advances ending post desk told r q = advanced_left g ending post desk told q
-resume_left g (Releases let_go) ending post desk told r q = released_left g let_go post desk told q
+resume_left g (Releases let_go) ending post desk told r q = released_left g let_go post desk told r q
 
 holding_grows : {Q : Post → Type 0} {P : Post → Phase → Type 0} (g : Grows Q P) (key : ℕ) (post : Post) (x : Option ℕ) → Q post → P post (steps.holding key post x)
 holding_grows g key post None q = round_grows g (Holds key) post q
-holding_grows g key post (Some slot) q = letting_grows g (Rehold key) post q
+holding_grows g key post (Some slot) q = letting_grows g (Rehold key) post refl q
 
 copying_grows : {Q : Post → Type 0} {P : Post → Phase → Type 0} (g : Grows Q P) (from index : ℕ) (post : Post) (x : Option ℕ) → stands post from ≡ x → Q post → P post (steps.copying from index x)
 copying_grows g from index post None e q = g.works post (Keeping (Misses from)) refl e q
@@ -309,10 +318,12 @@ first_grows g (names.Remove key) post q = round_grows g _ post q
 first_grows g (names.Enqueue value) post q = round_grows g _ post q
 first_grows g names.Dequeue post q = round_grows g Dequeues post q
 first_grows g (names.Hold key) post q = holding_grows g key post (stands post 2) q
-first_grows g names.Release post q = letting_grows g Released post q
+first_grows g names.Release post q = letting_grows g Released post refl q
 first_grows g names.Advance post q = g.advances post q
 first_grows g names.Scan post q = g.scans post Counted 0 (g.guarded post q) q
 first_grows g (names.Copy from index) post q = copying_grows g from index post (stands post from) refl q
-first_grows g (names.DropIndex index) post q = letting_grows g (Dropped index) post q
+first_grows g (names.DropIndex index) post q = letting_grows g (Dropped index) post refl q
 first_grows g (names.Look index key) post q = looking_grows g index key post (stands post index) refl q
 first_grows g (names.PutIf key value version) post q = round_grows g _ post q
+first_grows g names.Leave post q = leaving_grows g post q
+first_grows g (names.Adopt place) post q = g.works post (Keeping (TakeList place)) refl tt q

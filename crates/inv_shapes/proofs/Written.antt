@@ -31,7 +31,7 @@ use Rattle.wfe_core.specs.Dequeue.{dequeue_move}
 use Rattle.wfe_core.specs.Keep.{keep_move}
 use Rattle.wfe_core.specs.Scan.{scan_move}
 use Rattle.wfe_core.specs.Steps.{work_move, phase_move}
-use Rattle.wfe_core.specs.Calls.{Task, Gets, Changes, Holds, Enqueues, Dequeues, ChangeKept, EnqueueKept, GetAt, FindVersion, ChangeAt, LoadVersion, EnqueueAt, LoadNumber, DequeueAt, LoadTail, KeepAt, Loosens, LoadHeld, StoreHeld, Looks, Misses, Work, Getting, Changing, Enqueuing, Dequeuing, Keeping, ScanAt, ReadGuard, GiveBack, Why, Opens, FollowsHead, Clears, Releases, Phase, Idle, Runs, Scans, Works}
+use Rattle.wfe_core.specs.Calls.{Task, Gets, Changes, Holds, Enqueues, Dequeues, ChangeKept, EnqueueKept, GetAt, FindVersion, ChangeAt, LoadVersion, EnqueueAt, LoadNumber, DequeueAt, LoadTail, KeepAt, Loosens, LoadHeld, StoreHeld, Looks, Misses, HideSpan, MarkLeft, TakeList, MarkTaken, Work, Getting, Changing, Enqueuing, Dequeuing, Keeping, ScanAt, ReadGuard, GiveBack, Why, Opens, FollowsHead, Clears, Releases, Phase, Idle, Runs, Scans, Works}
 use Rattle.inv_shapes.specs.Seats.{index_by, task_root, root_by, Kind, ToFollow, kind_of, protects, reloads, Run, PhaseFits}
 use Rattle.inv_shapes.specs.Slots.{WhyIn}
 use Rattle.inv_shapes.specs.Eras.{EraIn, LinkIn, HelperIn, IndexIn, RequestIn, Lives, WordIn, MoveIn, ClockIn, base_eras, work_eras, PhaseEras, protect_eras, allocate_eras, retire_eras, move_eras, RootNeeds, protect_needs, move_needs, base_needs, phase_needs}
@@ -207,6 +207,10 @@ keep_in layout clock (LoadHeld from index) post t e = tt
 keep_in layout clock (StoreHeld from index era) post t e = let f = t index in index_in clock era (tag_of post index) _ refl e (omega arith)
 keep_in layout clock (Looks index key at) post t e = get_in layout clock at
 keep_in layout clock (Misses index) post t e = tt
+keep_in layout clock HideSpan post t e = tt
+keep_in layout clock MarkLeft post t e = tt
+keep_in layout clock (TakeList place) post t e = tt
+keep_in layout clock (MarkTaken place count) post t e = tt
 
 work_in : (layout : Layout) (clock : ℕ) (work : Work) (post : Post) → ((index : ℕ) → tag_of post index < 4294967295) → work_eras clock work → MoveIn layout clock (work_move work post)
 work_in layout clock (Getting key at) post t e = get_in layout clock at
@@ -293,6 +297,10 @@ keep_clock mem (LoadHeld from index) post = refl
 keep_clock mem (StoreHeld from index era) post = refl
 keep_clock mem (Looks index key at) post = get_keeps Clock mem at
 keep_clock mem (Misses index) post = refl
+keep_clock mem HideSpan post = refl
+keep_clock mem MarkLeft post = refl
+keep_clock mem (TakeList place) post = refl
+keep_clock mem (MarkTaken place count) post = refl
 
 work_clock : (mem : Place → ℕ) (work : Work) (post : Post) → written mem (work_move work post) Clock ≡ mem Clock
 work_clock mem (Getting key at) post = get_keeps Clock mem at

@@ -1,9 +1,9 @@
 -- How many rows a call sends back: together with those that are left on the list no more than the rows, and one more once
 -- the call has retired one.
-use Rattle.std.specs.Prelude.{ℕ, ◌≤◌, ◌+◌, List, [], ◌∷◌, length}
+use Rattle.std.specs.Prelude.{ℕ, ◌≡◌, ◌≤◌, ◌+◌, Bool, true, false, List, [], ◌∷◌, length}
 use Rattle.wfe_core.specs.defs.declared.event.Event.{Event}
 use Rattle.wfe_core.specs.defs.declared.event.Event.TheVariants as events
-use Rattle.wfe_core.specs.Calls.{AfterScan, Answered, Repeated, Counted, Why, Opens, FollowsHead, Fills, ClearsNext, Clears, Finishes, GivesUp, Retires, Tidies, Advances, Releases, Phase, Idle, Runs, Scans, Works}
+use Rattle.wfe_core.specs.Calls.{AfterScan, Answered, Repeated, Counted, Why, Opens, FollowsHead, Fills, ClearsNext, Clears, Finishes, GivesUp, Retires, Tidies, Advances, Releases, Keeping, TakeList, Phase, Idle, Runs, Scans, Works}
 use Rattle.wfe_core.specs.Desks.{Desk}
 use Rattle.wfe_core.specs.Locals.{Local}
 use Rattle.wfe_core.specs.World.{World}
@@ -46,9 +46,15 @@ more (Runs why base) = why_more why
 more (Scans later at) = later_more later
 more (Works work) = 0
 
--- the rows that the present or last call has sent back, and those on the list
-abbrev pub NotedIn : ℕ → Local → Type 0
-NotedIn slots l = size l.desk ≤ slots + 1 + more l.phase
+-- the next step takes over a list
+abbrev pub takes : Phase → Bool
+takes (Works (Keeping (TakeList place))) = true
+takes phase = false
+
+-- the rows that the present or last call has sent back, and those on the list; none went back before a list is taken over
+pub record NotedIn (slots : ℕ) (l : Local) : Type 0 where
+  pub few : size l.desk ≤ slots + 1 + more l.phase
+  pub none : takes l.phase ≡ true → length l.desk.notes.back ≡ 0
 
 pub record Noted (w : World) : Type 0 where
   pub seats : (k : ℕ) → NotedIn w.layout.config.slots (w.seat k)

@@ -15,7 +15,7 @@ use Rattle.wfe_core.specs.words.declared.config.Config.{Config}
 use Rattle.wfe_core.specs.WriteRow.{first_written, last_written}
 use Rattle.wfe_core.specs.Links.{parent_of}
 use Rattle.wfe_core.specs.declared.post.Post.{Post}
-use Rattle.inv_shapes.specs.Frame.{SpanStands, WorkFits, Seated}
+use Rattle.inv_shapes.specs.Frame.{SpanStands, WorkFits, Seated, parts}
 use Rattle.wfe_core.specs.Posts.{withdrawn}
 use Rattle.wfe_core.specs.words.declared.layout.Layout.{Layout}
 use Rattle.wfe_core.specs.Guards.{guards}
@@ -252,12 +252,18 @@ Posted (Allocate at) post = SpanStands post
 Posted (Write slot row place) post = SpanStands post
 Posted base post = Unit {0}
 
+-- a seat that leaves lets no interval go with one row
+abbrev pub Parted : Base → Why → Type 0
+Parted (Release index) (Releases let_go) = parts let_go ≡ false
+Parted base why = Unit {0}
+
 -- a machine's phase
 pub record Run (layout : Layout) (why : Why) (base : Base) (post : Post) : Type 0 where
   pub suited : suits base (kind_of why) ≡ true
   pub fits : base_fits layout.config base ≡ true
   pub shape : Shaped layout.config.buckets why base
   pub posted : Posted base post
+  pub parted : Parted base why
 
 abbrev pub scan_fits : Config → ScanAt → Bool
 scan_fits config (ReadGuard number) = nat_lt number (guards config)

@@ -25,9 +25,9 @@ use Rattle.wfe_core.specs.Phases.RetireAt.{LoadLife, LoadRetire, StoreRetired}
 use Rattle.wfe_core.specs.Phases.MoveAt.{CheckEra, AnswerAsked, LoadReserved, HandOver}
 use Rattle.wfe_core.specs.Phases.Base.{Begin, Protect, Reload, Clear, Finish, Release, Allocate, Write, GiveUp, Retire, Move as Moves}
 use Rattle.wfe_core.specs.Phases.Ending.{Done, Protected, Followed, Allocated, Retired, Clocked}
-use Rattle.wfe_core.specs.Calls.{ChangeKept, EnqueueKept, Task, Gets, Changes, Holds, Enqueues, Dequeues, Next, Again, MakeRoom, Answering, Retiring, AfterScan, Answered, Repeated, Counted, GetAt, FindVersion, FindCount, FindKey, FindValue, ChangeAt, LoadVersion, LoadCount, LoadKey, LoadValue, ExchangeRoot, EnqueueAt, LoadNumber, LoadNext, PassTail, ExchangeNext, ExchangeTail, DequeueAt, LoadTail, SwingTail, TakeNumber, TakeValue, ExchangeHead, Work, Getting, Changing, Enqueuing, Dequeuing, KeepAt, Loosens, LoadHeld, StoreHeld, Looks, Misses, Keeping, ScanAt, ReadGuard, GiveBack, Why, Opens, FollowsHead, Fills, ClearsNext, Clears, Finishes, GivesUp, Retires, Tidies, Advances, Releases, Phase, Idle, Runs, Scans, Works, CallTurn}
+use Rattle.wfe_core.specs.Calls.{ChangeKept, EnqueueKept, Task, Gets, Changes, Holds, Enqueues, Dequeues, Next, Again, MakeRoom, Answering, Retiring, AfterScan, Answered, Repeated, Counted, GetAt, FindVersion, FindCount, FindKey, FindValue, ChangeAt, LoadVersion, LoadCount, LoadKey, LoadValue, ExchangeRoot, EnqueueAt, LoadNumber, LoadNext, PassTail, ExchangeNext, ExchangeTail, DequeueAt, LoadTail, SwingTail, TakeNumber, TakeValue, ExchangeHead, Work, Getting, Changing, Enqueuing, Dequeuing, KeepAt, Loosens, LoadHeld, StoreHeld, Looks, Misses, HideSpan, MarkLeft, TakeList, MarkTaken, Keeping, ScanAt, ReadGuard, GiveBack, Why, Opens, FollowsHead, Fills, ClearsNext, Clears, Finishes, GivesUp, Retires, Tidies, Advances, Releases, Phase, Idle, Runs, Scans, Works, CallTurn}
 use Rattle.wfe_core.specs.Rounds.{let_index}
-use Rattle.wfe_core.specs.World.{World, finds}
+use Rattle.wfe_core.specs.World.{World, finds, offered}
 use Rattle.wfe_core.specs.Locals.{Local}
 use Rattle.inv_shapes.specs.Frame.{phase_left}
 use Rattle.inv_shapes.specs.Eras.{RootNeeds}
@@ -204,6 +204,10 @@ KeepIn config (LoadHeld from index) = CopyIn config from index
 KeepIn config (StoreHeld from index era) = CopyIn config from index
 KeepIn config (Looks index key at) = KeptIn config index × GetIn config at
 KeepIn config (Misses index) = KeptIn config index
+KeepIn config HideSpan = Unit {0}
+KeepIn config MarkLeft = Unit {0}
+KeepIn config (TakeList place) = place < config.seats
+KeepIn config (MarkTaken place count) = place < config.seats
 
 abbrev pub WorkIn : Config → Work → Type 0
 WorkIn config (Getting key at) = GetIn config at
@@ -326,6 +330,10 @@ keep_finds config (LoadHeld from index) found = Unit {0}
 keep_finds config (StoreHeld from index era) found = Unit {0}
 keep_finds config (Looks index key at) found = get_finds config at found
 keep_finds config (Misses index) found = Unit {0}
+keep_finds config HideSpan found = Unit {0}
+keep_finds config MarkLeft found = Unit {0}
+keep_finds config (TakeList place) found = Unit {0}
+keep_finds config (MarkTaken place count) found = Unit {0}
 
 abbrev pub work_finds : Config → Work → ℕ → Type 0
 work_finds config (Getting key at) found = get_finds config at found
@@ -333,6 +341,11 @@ work_finds config (Changing kept at) found = change_finds config at found
 work_finds config (Enqueuing kept at) found = enqueue_finds config at found
 work_finds config (Dequeuing at) found = dequeue_finds config at found
 work_finds config (Keeping at) found = keep_finds config at found
+
+-- a list that is taken over is of other rows than the own
+abbrev pub gift_finds : Config → Desk → Work → ℕ → Type 0
+gift_finds config desk (Keeping (TakeList place)) found = found ≡ 1 → length desk.list + length desk.gift ≤ config.slots + 1
+gift_finds config desk work found = Unit {0}
 
 -- the list is no longer than the rows when a scan ends reading, and has the entry that goes back
 abbrev pub scan_lists : Config → Desk → ScanAt → Type 0
@@ -343,7 +356,7 @@ abbrev pub phase_finds : Config → Desk → Phase → ℕ → Type 0
 phase_finds config desk Idle found = Unit {0}
 phase_finds config desk (Runs why base) found = Unit {0}
 phase_finds config desk (Scans later at) found = scan_lists config desk at
-phase_finds config desk (Works work) found = work_finds config work found
+phase_finds config desk (Works work) found = work_finds config work found × gift_finds config desk work found
 
 abbrev pub SlotsNeeds : World → ℕ → Type 0
-SlotsNeeds w i = phase_finds w.layout.config (w.seat i).desk (w.seat i).phase (finds w i)
+SlotsNeeds w i = phase_finds w.layout.config (offered w i).desk (w.seat i).phase (finds w i)

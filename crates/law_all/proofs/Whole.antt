@@ -4,6 +4,7 @@ use Rattle.law_logs.proofs.steps.answers.Lawful.Counts as steps
 use Rattle.law_logs.proofs.steps.answers.Lawful.Maps as maps
 use Rattle.law_logs.proofs.steps.answers.Lawful.Queues as queues
 use Rattle.law_logs.proofs.held.reuse.Once.Births as births
+use Rattle.law_logs.proofs.held.reuse.Once.Handed as handed_over
 use Rattle.law_logs.proofs.held.reuse.Once.Keeps as once
 use Rattle.law_logs.proofs.held.reuse.Blocks.Counts as counts
 use Rattle.law_logs.proofs.held.reuse.Blocks.Keeps as scans
@@ -85,6 +86,7 @@ kept layout items valid =
         rows = record {
           free = once.records_keep_once layout items valid;
           back = once.records_go_back_once layout items valid;
+          lists = handed_over.records_keep_lists layout items valid;
           placing = placing.records_place_rows layout items valid;
           order = order.records_keep_order layout items valid;
           nexts = nexts.records_link_nexts layout items valid;

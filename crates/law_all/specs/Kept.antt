@@ -21,6 +21,7 @@ kept_by before (calls.Hold key) answers.Nothing kept j = if j == 2 then None els
 kept_by before calls.Release answer kept j = if j == 2 then None else kept j
 kept_by before (calls.DropIndex index) answer kept j = if j == index then None else kept j
 kept_by before (calls.Copy from index) (answers.Copied slot) kept j = if j == index then kept from else kept j
+kept_by before calls.Leave answer kept j = None
 kept_by before call answer kept j = kept j
 
 -- after these calls more

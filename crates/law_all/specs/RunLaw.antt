@@ -1,6 +1,6 @@
 -- What threads leave that made calls on one table at once: the calls of each seat, in their order, and the table that was closed after
 -- them. No order between calls of two seats is in it.
-use Rattle.std.specs.Prelude.{Bool, List, None, Option, Some, [], count_by, drop, false, filter, if◌then◌else◌, is_some, length, map, nat_le, nat_lt, slice_get, slice_index_or, sum_by, take, true, ℕ, ◌%◌, ◌&&◌, ◌++◌, ◌+◌, ◌-◌, ◌<◌, ◌==◌, ◌∷◌, ◌≡◌, ◌≤◌}
+use Rattle.std.specs.Prelude.{Bool, List, None, Option, Some, [], count_by, drop, false, filter, if◌then◌else◌, is_some, length, map, nat_le, nat_lt, slice_get, slice_index_or, suc, sum_by, take, true, zero, ℕ, ◌%◌, ◌&&◌, ◌++◌, ◌+◌, ◌-◌, ◌<◌, ◌==◌, ◌∷◌, ◌≡◌, ◌≤◌}
 use Rattle.std.specs.List.{range_with_len}
 use Rattle.law_logs.specs.inv.model.Desks.{Notes}
 use Rattle.law_logs.specs.inv.model.Locals.{Group}
@@ -68,13 +68,13 @@ abbrev pub retire_told : Option Lifetime → List Event
 retire_told None = []
 retire_told (Some life) = events.Retire life.slot life.birth life.retire ∷ []
 
--- what a call tells of the map or of the queue; that a copy was made stands in its answer
+-- what a call tells of the map, of the queue or of a list; that a copy was made stands in its answer
 abbrev pub change_told : (buckets : ℕ) → Call → Answer → Option Event
 change_told n (calls.Copy from index) answer = None
 change_told n call answer = owes n call answer
 
--- one call, in a table with so many buckets: it begins; what went back early, the row that it was given, what it did of the map or of
--- the queue, the row that it gave up, the row that it retired, and what went back later; and it ends
+-- one call, in a table with so many buckets: it begins; what went back early, the row that it was given, what it did of the map, of
+-- the queue or of a list, the row that it gave up, the row that it retired, and what went back later; and it ends
 abbrev pub events_of : (buckets : ℕ) → Group → List Event
 events_of n group =
     events.Begin group.call
@@ -152,11 +152,13 @@ clock_told (answers.Taken number value clock) = Some clock
 clock_told (answers.Clock clock) = Some clock
 clock_told answer = None
 
--- a copy, a drop and a look, which print no more than that they begin and end
+-- a copy, a drop and a look, which print no more than that they begin and end, and calls by which a seat leaves or takes a list over
 abbrev pub is_bare : Call → Bool
 is_bare (calls.Copy from index) = true
 is_bare (calls.DropIndex index) = true
 is_bare (calls.Look index key) = true
+is_bare calls.Leave = true
+is_bare (calls.Adopt place) = true
 is_bare call = false
 
 -- no row was given, and none went back
@@ -177,7 +179,7 @@ pub record IsRight (c : Config) (before : List Group) (group : Group) : Type 0 w
   pub clock : (move : ClockMove) → clock_told group.answer ≡ Some move → is_still move ≡ (if is_due c.every before group then false else true)
   -- a scan counts what went back
   pub back : (kept back : ℕ) → group.answer ≡ answers.Scanned kept back → back ≡ length group.notes.back
-  -- a copy, a drop and a look are given no row, and none goes back in them
+  -- such a call is given no row, and none goes back in it
   pub bare : is_bare group.call ≡ true → NoRow group.notes
 
 -- Each answer is right, as far as its call's own events and the calls of the seat before it show.
@@ -413,29 +415,85 @@ abbrev pub slot_retired : Option Lifetime → List ℕ
 slot_retired None = []
 slot_retired (Some life) = life.slot ∷ []
 
--- a seat's list once a call's early backs are gone and its retirement is on it
-abbrev pub list_between : List ℕ → Group → List ℕ
-list_between list group = without_all (early_backs group.notes) list ++ slot_retired group.notes.retired
+-- the seat whose list a call has taken over
+abbrev pub taken_over : Call → Answer → Option ℕ
+taken_over (calls.Adopt place) (answers.Adopted count) = Some place
+taken_over call answer = None
+
+-- the slots of that list; `left`: the list that each seat has left
+abbrev pub slots_gained : (left : ℕ → List ℕ) → Option ℕ → List ℕ
+slots_gained left None = []
+slots_gained left (Some place) = left place
+
+-- a seat's list once a call's early backs are gone, and what it has retired or taken over is on it
+abbrev pub list_between : (left : ℕ → List ℕ) → List ℕ → Group → List ℕ
+list_between left list group =
+    (without_all (early_backs group.notes) list ++ slot_retired group.notes.retired) ++ slots_gained left (taken_over group.call group.answer)
 
 -- and after the call
-abbrev pub list_after : List ℕ → Group → List ℕ
-list_after list group = without_all (late_backs group.notes) (list_between list group)
+abbrev pub list_after : (left : ℕ → List ℕ) → List ℕ → Group → List ℕ
+list_after left list group = without_all (late_backs group.notes) (list_between left list group)
 
 -- after these calls
-abbrev pub list_from : List ℕ → List Group → List ℕ
-list_from list [] = list
-list_from list (group ∷ log) = list_from (list_after list group) log
+abbrev pub list_from : (left : ℕ → List ℕ) → List ℕ → List Group → List ℕ
+list_from left list [] = list
+list_from left list (group ∷ log) = list_from left (list_after left list group) log
 
--- What goes back is on the seat's own list, in the list's order within one scan, of which a call that is given no row makes one at most;
--- and a scan counts what it keeps.
-pub record ListsRight (before : List Group) (group : Group) : Type 0 where
+-- a call by which its seat has left
+abbrev pub is_parting : Call → Answer → Bool
+is_parting calls.Leave (answers.Left count) = true
+is_parting call answer = false
+
+abbrev pub leaves : Group → Bool
+leaves group = is_parting group.call group.answer
+
+-- the calls of the seat with this number
+abbrev pub log_in : List (List Group) → (seat : ℕ) → List Group
+log_in logs seat = slice_index_or logs seat []
+
+-- the list that a seat has after its calls, where each list that it took over was handed on so many times at most
+abbrev pub left_after : (times : ℕ) → List (List Group) → (seat : ℕ) → List ℕ
+left_after zero logs seat = list_from (λ place. []) [] (log_in logs seat)
+left_after (suc times) logs seat = list_from (left_after times logs) [] (log_in logs seat)
+
+-- the list that each seat has after its calls, and leaves where it leaves: no list is handed on more often than seats have left
+abbrev pub left_in : List (List Group) → (seat : ℕ) → List ℕ
+left_in logs seat = left_after (total_of leaves logs) logs seat
+
+-- a seat's list after these calls, the first of all that it made
+abbrev pub list_in : List (List Group) → List Group → List ℕ
+list_in logs before = list_from (left_in logs) [] before
+
+-- a call has taken the list of this seat over
+abbrev pub takes_over : (place : ℕ) → Group → Bool
+takes_over place group = has_number place (taken_over group.call group.answer)
+
+-- the seat whose list a call found to be taken over before
+abbrev pub found_taken : Call → Answer → Option ℕ
+found_taken (calls.Adopt place) answers.AdoptedBefore = Some place
+found_taken call answer = None
+
+-- What goes back is on the seat's own list, which has what it took over, in the list's order within one scan, of which a call that is given
+-- no row makes one at most; and a scan counts what it keeps, a seat that leaves what it leaves, and one that takes a list over what was left.
+pub record ListsRight (logs : List (List Group)) (before : List Group) (group : Group) : Type 0 where
   pub plain : group.notes.given ≡ None → group.notes.early ≡ 0
-  pub early : is_part_of (early_backs group.notes) (list_from [] before) ≡ true
-  pub late : is_part_of (late_backs group.notes) (list_between (list_from [] before) group) ≡ true
-  pub kept : (kept back : ℕ) → group.answer ≡ answers.Scanned kept back → kept ≡ length (list_after (list_from [] before) group)
+  pub early : is_part_of (early_backs group.notes) (list_in logs before) ≡ true
+  pub late : is_part_of (late_backs group.notes) (list_between (left_in logs) (list_in logs before) group) ≡ true
+  pub kept : (kept back : ℕ) → group.answer ≡ answers.Scanned kept back → kept ≡ length (list_after (left_in logs) (list_in logs before) group)
+  pub left : (count : ℕ) → group.answer ≡ answers.Left count → count ≡ length (list_after (left_in logs) (list_in logs before) group)
+  pub taken : (place count : ℕ) → taken_over group.call group.answer ≡ Some place → group.answer ≡ answers.Adopted count → count ≡ length (left_in logs place)
 
+-- The list that a seat leaves is what its calls and the lists that it took over make. Once it has left it makes no call. Only a list that was
+-- left is taken over, by one call at most; and a call finds that a list was taken over before only where one has.
 pub record ListsLaw (logs : List (List Group)) : Type 0 where
-  pub right : (before : List Group) (group : Group) → IsCall logs before group → ListsRight before group
+  pub right : (before : List Group) (group : Group) → IsCall logs before group → ListsRight logs before group
+  pub whole : (seat : ℕ) → list_in logs (log_in logs seat) ≡ left_in logs seat
+  pub last : (one two : Group) → InOrder logs one two → leaves one ≡ false
+  pub gone : (before : List Group) (group : Group) (place : ℕ) → IsCall logs before group → taken_over group.call group.answer ≡ Some place
+      → 1 ≤ count_by leaves (log_in logs place)
+  pub once : (place : ℕ) → total_of (takes_over place) logs ≤ 1
+  pub found : (before : List Group) (group : Group) (place : ℕ) → IsCall logs before group → found_taken group.call group.answer ≡ Some place
+      → 1 ≤ total_of (takes_over place) logs
 
 -- Eras.
 

@@ -85,7 +85,7 @@ pub record Ticks (c : Config) (clock : ℕ) (logs : List (List Group)) : Type 0 
 abbrev pub RunsTick : Type 0
 RunsTick = (layout : Layout) (items : List Item) → AtRest layout items → Ticks layout.config (clock_of (record_of layout items)) (logs_of layout items)
 
--- What goes back is on the seat's list.
+-- What goes back is on the seat's list, which has the lists that it took over; and these were left, and taken over once.
 abbrev pub RunsList : Type 0
 RunsList = (layout : Layout) (items : List Item) → AtRest layout items → ListsLaw (logs_of layout items)
 

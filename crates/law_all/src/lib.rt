@@ -36,7 +36,8 @@ pub fn runs_tick()
     ensures { RunsTick }
 {}
 
-/// What goes back is on the list of the seat that gives it back, in the list's order.
+/// What goes back is on the list of the seat that gives it back, in the list's order; that list has the lists that the seat
+/// took over, each of which was left, by a seat that makes no call after that, and was taken over once.
 pub fn runs_list()
     ensures { RunsList }
 {}

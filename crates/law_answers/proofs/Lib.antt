@@ -4,6 +4,7 @@ pub use Rattle.inv_all.proofs.shapes as shapes
 pub use Rattle.inv_all.proofs.history as history
 pub mod AnswersTold
 pub mod Lawful
+pub mod Leaving
 pub mod OneStep
 pub mod OpenCalls
 pub mod Turns

@@ -4,17 +4,24 @@ use Rattle.std.proofs.lemmas.Bool.Decides.{nat_tests}
 use Rattle.std.specs.Prelude.{◌==◌, ◌&&◌, not, if◌then◌else◌}
 use Rattle.inv_all.specs.model.defs.declared.event.Event.{Event}
 use Rattle.inv_all.specs.model.defs.declared.event.Event.TheVariants as events
-use Rattle.inv_all.proofs.model.Facts.{first_of, rest_of}
-use Rattle.inv_all.specs.history.Record.{Past, Each, tells_of}
-use Rattle.inv_all.specs.history.Record.Past.{Then}
+use Rattle.inv_all.proofs.model.Facts.{both, first_of, rest_of}
+use Rattle.inv_all.specs.history.History.{record_of}
+use Rattle.inv_all.specs.history.Record.{Past, Each, Test, tells_of}
+use Rattle.inv_all.specs.history.Record.Past.{Start, Then}
 use Rattle.inv_all.specs.history.Turns as schedule
 use Rattle.inv_all.specs.history.Turns.History.{Blank, Starts, Turns}
 use Rattle.inv_all.proofs.history.Entries.{entries_of_each}
 use Rattle.inv_all.specs.history.Heard.{heard_of}
 use Rattle.law_answers.proofs.Turns.Counted.{histories_count}
-use Rattle.laws.specs.StateAt.{is_open, opened_by}
+use Rattle.laws.specs.StateAt.{has_left, is_open, opened_by}
 use Rattle.laws.specs.Standing.{open_ok}
+use Rattle.law_answers.proofs.Leaving.Records.{records_stay, stays_ok}
 use Rattle.law_answers.specs.Records.{RecordsOpenCalls}
+
+-- a call begins where its seat is in none, and all else is told in one
+abbrev begun_ok : Test
+begun_ok p i (events.Begin call) = not (is_open i p)
+begun_ok p i event = is_open i p
 
 -- a seat tells an event of its own
 own_entry : (p : Past) (i : ℕ) (e : Event) → is_open i (Then p i e) ≡ opened_by e (is_open i p)
@@ -25,8 +32,8 @@ own_entry p i e = same (i == i) (grind (arith, nat_tests))
     same false h = absurd (cc)
 
 -- the events of a turn are told in the call, and after them it is open unless they told its end
-turn_open : (n i : ℕ) (p : Past) (told : List Event) → schedule.begins_none told ≡ true → schedule.ends_with n told ≡ true → is_open i p ≡ true → Each open_ok p
-    → Each open_ok (tells_of p i told) × (is_open i (tells_of p i told) ≡ not (schedule.tells_end told))
+turn_open : (n i : ℕ) (p : Past) (told : List Event) → schedule.begins_none told ≡ true → schedule.ends_with n told ≡ true → is_open i p ≡ true → Each begun_ok p
+    → Each begun_ok (tells_of p i told) × (is_open i (tells_of p i told) ≡ not (schedule.tells_end told))
 turn_open n i p [] b e o h = (h, o)
 turn_open n i p (events.Begin call ∷ told) b e o h = absurd (cc)
 turn_open n i p (events.End steps answer ∷ []) b e o h = ((o, h), own_entry p i (events.End steps answer))
@@ -43,7 +50,7 @@ others_open k i p (e ∷ told) d = others_open k i (Then p i e) told d ∙ other
     other false h = refl
 
 record Opens (h : schedule.History) : Type 0 where
-  each : Each open_ok (schedule.record_of h)
+  each : Each begun_ok (schedule.record_of h)
   busy : (k : ℕ) → is_open k (schedule.record_of h) ≡ schedule.is_busy k h
 
 began_busy : (h : schedule.History) (i : ℕ) (k : ℕ) (same : Bool) → (k == i) ≡ same → is_open k (schedule.record_of h) ≡ schedule.is_busy k h
@@ -82,7 +89,15 @@ opens (Turns h i told) c =
       busy = λ k. turn_busy (schedule.turns_of i h + 1) h i told k (k == i) refl y t.1 (g.busy k);
     }
 
+open_one : (p : Past) (i : ℕ) (event : Event) → begun_ok p i event ≡ true → stays_ok p i event ≡ true → open_ok p i event ≡ true
+open_one p i (events.Begin call) a b = both (not (is_open i p)) (not (has_left i p)) a b
+open_one p i event a b = a
+
+open_each : (p : Past) → Each begun_ok p → Each stays_ok p → Each open_ok p
+open_each Start a b = tt
+open_each (Then p i event) a b = (open_one p i event a.0 b.0, open_each p a.1 b.1)
+
 pub records_open_calls : RecordsOpenCalls
 records_open_calls layout items valid =
     let c = histories_count layout items valid in
-    entries_of_each open_ok _ (subst (Each open_ok) c.tells (opens (heard_of layout items) c.counts).each)
+    entries_of_each open_ok (record_of layout items) (open_each (record_of layout items) (subst (Each begun_ok) c.tells (opens (heard_of layout items) c.counts).each) (records_stay layout items valid))

@@ -1,7 +1,8 @@
 -- What the record and the turns of each history keep, whatever calls begin and whichever seats make their steps.
-use Rattle.std.specs.Prelude.{List, true, ℕ, ◌≡◌}
+use Rattle.std.specs.Prelude.{List, true, ℕ, ◌≡◌, nat_lt}
 use Rattle.inv_all.specs.model.World.{World}
-use Rattle.inv_all.specs.model.words.Place.{is_valid}
+use Rattle.inv_all.specs.model.words.Place.{Place, is_valid}
+use Rattle.inv_all.specs.model.words.Place.Place.{PlaceOf}
 use Rattle.inv_all.specs.model.words.Schemes.{is_wfe}
 use Rattle.inv_all.specs.model.words.declared.layout.Layout.{Layout}
 use Rattle.inv_all.specs.history.Heard.{heard_of}
@@ -12,7 +13,7 @@ use Rattle.laws.specs.HistoryAnswers.{AnswersLaw}
 use Rattle.laws.specs.QueueLaw.{queue_ok}
 use Rattle.laws.specs.HistoryTurns.{one_step, OpenLaw}
 use Rattle.laws.specs.HistorySteps.{NumberLaw}
-use Rattle.laws.specs.StateAt.{changes_of, queued_of, taken_of}
+use Rattle.laws.specs.StateAt.{changes_of, has_left, is_adopted, queued_of, taken_of}
 
 -- each history's record keeps it, whatever calls begin and whichever seats make their steps
 abbrev pub RecordsKeepQueue : Type 0
@@ -43,3 +44,12 @@ pub record IsBooked (w : World) (p : Past) : Type 0 where
 -- so it is with each history
 abbrev pub RecordBooks : Type 0
 RecordBooks = (layout : Layout) (items : List Item) → is_valid layout ≡ true → IsBooked (world_of layout items) (record_of layout items)
+
+-- by the record a seat has left where its place word is not 0, and its list is taken over where that is greater than 1
+pub record PlacesSay (mem : Place → ℕ) (p : Past) : Type 0 where
+  pub left : (k : ℕ) → has_left k p ≡ nat_lt 0 (mem (PlaceOf k))
+  pub adopted : (k : ℕ) → is_adopted k p ≡ nat_lt 1 (mem (PlaceOf k))
+
+-- so it is with each history
+abbrev pub RecordPlaces : Type 0
+RecordPlaces = (layout : Layout) (items : List Item) → is_valid layout ≡ true → PlacesSay (world_of layout items).mem (record_of layout items)

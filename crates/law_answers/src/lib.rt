@@ -5,7 +5,7 @@
 
 ghost use Rattle.law_answers.specs.Heard.{HistoriesCount};
 ghost use Rattle.law_answers.specs.MapKept.{RecordsKeepMap};
-ghost use Rattle.law_answers.specs.Records.{RecordBooks, RecordsKeepAnswers, RecordsKeepQueue, RecordsKeepSteps, RecordsOpenCalls, TurnsTellOne};
+ghost use Rattle.law_answers.specs.Records.{RecordBooks, RecordPlaces, RecordsKeepAnswers, RecordsKeepQueue, RecordsKeepSteps, RecordsOpenCalls, TurnsTellOne};
 
 /// Under Wait-Free Eras each protection tells the row that it holds, or null, within
 /// `3 * tries + 12` of its steps, and one that follows the head's next link within three more.
@@ -46,8 +46,8 @@ pub fn turns_tell_one()
     ensures { TurnsTellOne }
 {}
 
-/// A seat begins a call only where it is in none, and tells anything else only while it is in one,
-/// which its End closes.
+/// A seat begins a call only where it is in none and has not left, and tells anything else only while
+/// it is in one, which its End closes.
 pub fn records_open_calls()
     ensures { RecordsOpenCalls }
 {}
@@ -56,4 +56,10 @@ pub fn records_open_calls()
 /// they are by the record.
 pub fn record_books()
     ensures { RecordBooks }
+{}
+
+/// By the record a seat has left where its place word is not 0, and its list is taken over where that
+/// is greater than 1.
+pub fn record_places()
+    ensures { RecordPlaces }
 {}

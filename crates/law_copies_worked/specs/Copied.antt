@@ -13,7 +13,7 @@ use Rattle.wfe_core.specs.defs.declared.event.Root.TheVariants as roots
 use Rattle.wfe_core.specs.Guards.{from_to}
 use Rattle.model_history.specs.History.{Item}
 use Rattle.model_history.specs.Among.{call, said, to_end}
-use Rattle.law_worked.specs.Judges.Law.{Calls, Clears, Indexes, Copies, Reuse, Free, Placing, Order, Nexts, Retiring, Backs, Blocks, Reads, Due, Room, Eras, Moves, Births, Retires, Current, Single, Rising, Guards, Throughout, Sources, Finds, Gots, Links, Behind, Bare, Rests, Map, Values, Emptied, Steps, Withdrawals, Tries, Raises, Asks, CallSteps, Told, Reasons, Full, Lacks, Counted, Refusals, Clock, Repeats, Alone, Named, Ranges}
+use Rattle.law_worked.specs.Judges.Law.{Calls, Clears, Indexes, Copies, Reuse, Free, Placing, Order, Nexts, Retiring, Backs, Lists, Blocks, Reads, Due, Room, Eras, Moves, Births, Retires, Current, Single, Rising, Guards, Throughout, Sources, Finds, Gots, Links, Behind, Bare, Rests, Map, Values, Emptied, Steps, Withdrawals, Tries, Raises, Asks, CallSteps, Told, Reasons, Full, Lacks, Counted, Refusals, Clock, Repeats, Alone, Named, Ranges}
 use Rattle.law_worked.specs.Refusals.{IsWorked, Row, row}
 use Rattle.law_copies_worked.specs.Settings.{table}
 
@@ -90,6 +90,7 @@ copied_table =
     ∷ row Nexts [] [] [] [] []
     ∷ row Retiring (28 ∷ 32 ∷ []) (28 ∷ 32 ∷ []) (32 ∷ []) (28 ∷ []) []
     ∷ row Backs [] [] [] [] []
+    ∷ row Lists [] [] [] [] []
     ∷ row Blocks (37 ∷ 38 ∷ 39 ∷ 40 ∷ 41 ∷ 42 ∷ 43 ∷ 44 ∷ []) (37 ∷ 38 ∷ 39 ∷ 40 ∷ 41 ∷ 42 ∷ 43 ∷ 44 ∷ []) (36 ∷ 37 ∷ 38 ∷ 39 ∷ 40 ∷ 41 ∷ 42 ∷ 43 ∷ 44 ∷ []) [] []
     ∷ row Reads (16 ∷ 21 ∷ 31 ∷ []) [] [] (16 ∷ 21 ∷ 31 ∷ 37 ∷ 38 ∷ 39 ∷ 40 ∷ 41 ∷ 42 ∷ 43 ∷ 44 ∷ []) []
     ∷ row Due (36 ∷ []) (32 ∷ 37 ∷ 38 ∷ 39 ∷ 40 ∷ 41 ∷ 42 ∷ 43 ∷ 44 ∷ []) (36 ∷ []) (12 ∷ 36 ∷ []) []

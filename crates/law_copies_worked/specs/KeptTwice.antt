@@ -13,7 +13,7 @@ use Rattle.wfe_core.specs.defs.declared.event.Root.TheVariants as roots
 use Rattle.wfe_core.specs.Guards.{from_to}
 use Rattle.model_history.specs.History.{Item}
 use Rattle.model_history.specs.Among.{call, said, to_end}
-use Rattle.law_worked.specs.Judges.Law.{Calls, Clears, Indexes, Copies, Reuse, Free, Placing, Order, Nexts, Retiring, Backs, Blocks, Reads, Due, Room, Eras, Moves, Births, Retires, Current, Single, Rising, Guards, Throughout, Sources, Finds, Gots, Links, Behind, Bare, Rests, Map, Values, Emptied, Steps, Withdrawals, Tries, Raises, Asks, CallSteps, Told, Reasons, Full, Lacks, Counted, Refusals, Clock, Repeats, Alone, Named, Ranges}
+use Rattle.law_worked.specs.Judges.Law.{Calls, Clears, Indexes, Copies, Reuse, Free, Placing, Order, Nexts, Retiring, Backs, Lists, Blocks, Reads, Due, Room, Eras, Moves, Births, Retires, Current, Single, Rising, Guards, Throughout, Sources, Finds, Gots, Links, Behind, Bare, Rests, Map, Values, Emptied, Steps, Withdrawals, Tries, Raises, Asks, CallSteps, Told, Reasons, Full, Lacks, Counted, Refusals, Clock, Repeats, Alone, Named, Ranges}
 use Rattle.law_worked.specs.Refusals.{IsWorked, Row, row}
 use Rattle.law_copies_worked.specs.Settings.{table}
 
@@ -85,6 +85,7 @@ kept_twice_table =
     ∷ row Nexts [] [] [] [] []
     ∷ row Retiring (20 ∷ 24 ∷ []) (20 ∷ 24 ∷ []) [] (20 ∷ []) []
     ∷ row Backs (24 ∷ []) (43 ∷ []) [] (43 ∷ []) []
+    ∷ row Lists [] [] [] [] []
     ∷ row Blocks (24 ∷ 26 ∷ 27 ∷ 41 ∷ 42 ∷ 43 ∷ []) (26 ∷ 27 ∷ 41 ∷ 42 ∷ 43 ∷ []) (25 ∷ 26 ∷ 27 ∷ 40 ∷ 41 ∷ 42 ∷ 43 ∷ []) (27 ∷ 41 ∷ 42 ∷ 43 ∷ []) []
     ∷ row Reads (9 ∷ 23 ∷ 36 ∷ []) [] [] (9 ∷ 23 ∷ 26 ∷ 27 ∷ 36 ∷ 41 ∷ 42 ∷ []) []
     ∷ row Due (24 ∷ 40 ∷ []) (26 ∷ 27 ∷ 41 ∷ 42 ∷ []) (40 ∷ []) (40 ∷ []) []

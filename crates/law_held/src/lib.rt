@@ -48,9 +48,9 @@ pub fn records_clear_rows()
     ensures { RecordsClearRows }
 {}
 
-/// A hold protects and clears at index 2, where only a release and a drop of it clear too; a dequeue
-/// protects and clears at indexes 0 and 1, and each other call that protects at index 0. A copy clears
-/// where it copies to, and a drop at its index.
+/// A hold protects and clears at index 2; a dequeue protects and clears at indexes 0 and 1, and each
+/// other call that protects at index 0. A release clears at index 2, a copy where it copies to, a drop
+/// at its index, and a call by which the seat leaves at each index from 2 on.
 pub fn records_use_indexes()
     ensures { RecordsUseIndexes }
 {}

@@ -1,5 +1,5 @@
 -- What calls answer, from what histories keep.
-use Rattle.std.proofs.Common.{ℕ, ◌≡◌, Bool, true, false, refl, sym, arith, None, Some, Option, ◌∙◌, ap, ◌+◌, ◌-◌, List, [], ◌∷◌, ◌++◌, length}
+use Rattle.std.proofs.Common.{ℕ, ◌≡◌, Bool, true, false, refl, sym, arith, None, Some, Option, ◌∙◌, ap, ◌+◌, ◌-◌, List, [], ◌∷◌, ◌++◌, length, suc, zero}
 use Rattle.std.specs.Prelude.{◌==◌, if◌then◌else◌, ◌&&◌, ◌||◌, not, nat_lt, nat_le, ◌%◌}
 use Rattle.laws.proofs.records.defs.Facts.{both, first_of, rest_of}
 use Rattle.laws.specs.AnswerLaw as weak
@@ -40,7 +40,7 @@ one_more kind (other ∷ told) event = by (kind other) (kind event) (one_more ki
     by false true h = h
     by false false h = h
 
--- events of the map, of the queue and of copies
+-- events of the map, of the queue, of copies and of lists
 abbrev is_told : Event → Bool
 is_told (events.Got bucket version key value) = true
 is_told (events.Put bucket version key value) = true
@@ -48,6 +48,8 @@ is_told (events.Removed bucket version key) = true
 is_told (events.Queued number value) = true
 is_told (events.Taken number value) = true
 is_told (events.Copied from index slot) = true
+is_told (events.Left count) = true
+is_told (events.Adopted place count) = true
 is_told event = false
 
 -- a kind of these alone
@@ -65,6 +67,8 @@ told_one kind o (events.Removed bucket version key) told = one_more kind told (e
 told_one kind o (events.Queued number value) told = one_more kind told (events.Queued number value)
 told_one kind o (events.Taken number value) told = one_more kind told (events.Taken number value)
 told_one kind o (events.Copied from index slot) told = one_more kind told (events.Copied from index slot)
+told_one kind o (events.Left count) told = one_more kind told (events.Left count)
+told_one kind o (events.Adopted place count) told = one_more kind told (events.Adopted place count)
 told_one kind o event told = silent kind event (matching kind told) (o event refl)
 
 told_entry : (kind : Event → Bool) → OfTold kind → (i k : ℕ) (p : Past) (event : Event) (same : Bool) → (i == k) ≡ same → matching kind (told_of i p) ≡ seen (counted_by kind) 0 i p → matching kind (told_of i (Then p k event)) ≡ seen (counted_by kind) 0 i (Then p k event)
@@ -101,6 +105,8 @@ quiet_to event (events.Removed bucket version key) h = absurd (cc)
 quiet_to event (events.Queued number value) h = absurd (cc)
 quiet_to event (events.Taken number value) h = absurd (cc)
 quiet_to event (events.Copied from index slot) h = absurd (cc)
+quiet_to event (events.Left count) h = absurd (cc)
+quiet_to event (events.Adopted place count) h = absurd (cc)
 quiet_to event other h = refl
 
 owed_once : (n i : ℕ) (p : Past) (call : Call) (answer : Answer) → strong.same_told (told_of i p) (strong.owes n call answer) ≡ true → weak.told_once i p (weak.owes n call answer) ≡ true
@@ -111,6 +117,8 @@ owed_once n i p (calls.Enqueue value) (answers.Queued number) h = told_once i p 
 owed_once n i p calls.Dequeue (answers.Taken number value clock) h = told_once i p (events.Taken number value) (quiet_to (events.Taken number value)) h
 owed_once n i p (calls.Copy from index) (answers.Copied slot) h = told_once i p (events.Copied from index slot) (quiet_to (events.Copied from index slot)) h
 owed_once n i p (calls.PutIf key value wanted) (answers.Done version clock) h = told_once i p (events.Put (key % n) version key value) (quiet_to (events.Put (key % n) version key value)) h
+owed_once n i p calls.Leave (answers.Left count) h = told_once i p (events.Left count) (quiet_to (events.Left count)) h
+owed_once n i p (calls.Adopt place) (answers.Adopted count) h = told_once i p (events.Adopted place count) (quiet_to (events.Adopted place count)) h
 owed_once n i p call answer h = refl
 
 answer_by : (n i : ℕ) (p : Past) (call : Option Call) (answer : Answer) → strong.answer_right n call (told_of i p) answer ≡ true → weak.answer_right n i p call answer ≡ true
@@ -188,6 +196,15 @@ look_by i index key p (answers.Looked slot version value) l c h = rw (stands_one
 look_by i index key p answers.Nothing l c h = rw (bare_one i index p l c) h
 look_by i index key p answer l c h = refl
 
+-- nothing stands at a seat that left
+bare_by : (n i : ℕ) (p : Past) → Each lone_ok p → Each clears_ok p → weak.is_bare_below n i p ≡ strong.is_bare_below n i p
+bare_by zero i p l c = refl
+bare_by (suc j) i p l c = rw (bare_one i j p l c, bare_by j i p l c) refl
+
+leave_by : (n i : ℕ) (p : Past) (answer : Answer) → Each lone_ok p → Each clears_ok p → strong.leave_reason n i p answer ≡ true → weak.leave_reason n i p answer ≡ true
+leave_by n i p (answers.Left count) l c h = bare_by n i p l c ∙ h
+leave_by n i p answer l c h = refl
+
 put_if_by : (c : Config) (i b key wanted : ℕ) (p : Past) (answer : Answer) → strong.put_if_reason c i b key wanted p answer ≡ true → weak.put_if_reason c i b key wanted p answer ≡ true
 put_if_by c i b key wanted p (answers.Done version clock) h =
     both (version == wanted + 1) (weak.put_reason c i b key p (answers.Done version clock)) (first_of (version == wanted + 1) (strong.put_reason c i b key p (answers.Done version clock)) h)
@@ -212,6 +229,8 @@ reason_by c i p (Some calls.Scan) answer l k s h = scan_by c i p answer (s refl)
 reason_by c i p (Some (calls.Copy from index)) answer l k s h = copy_by i from index p answer l k h
 reason_by c i p (Some (calls.DropIndex index)) answer l k s h = drop_by i index p answer l k h
 reason_by c i p (Some (calls.Look index key)) answer l k s h = look_by i index key p answer l k h
+reason_by c i p (Some calls.Leave) answer l k s h = leave_by c.indexes i p answer l k h
+reason_by c i p (Some (calls.Adopt place)) answer l k s h = h
 reason_by c i p (Some (calls.PutIf key value wanted)) answer l k s h = put_if_by c i (bucket_of c.buckets key) key wanted p answer h
 reason_by c i p (Some (calls.Get key)) answer l k s h = refl
 reason_by c i p (Some calls.Advance) answer l k s h = refl
@@ -244,6 +263,8 @@ empty_by c i p (Some calls.Advance) h = refl
 empty_by c i p (Some (calls.Copy from index)) h = refl
 empty_by c i p (Some (calls.DropIndex index)) h = refl
 empty_by c i p (Some (calls.Look index key)) h = refl
+empty_by c i p (Some calls.Leave) h = refl
+empty_by c i p (Some (calls.Adopt place)) h = refl
 empty_by c i p (Some (calls.PutIf key value wanted)) h = refl
 empty_by c i p None h = refl
 

@@ -59,6 +59,8 @@ holds_by (Some (calls.PutIf key value version)) index h = grind (arith, nat_test
 holds_by (Some (calls.Copy from to)) index h = absurd (cc)
 holds_by (Some (calls.DropIndex dropped)) index h = absurd (cc)
 holds_by (Some (calls.Look at key)) index h = absurd (cc)
+holds_by (Some calls.Leave) index h = absurd (cc)
+holds_by (Some (calls.Adopt place)) index h = absurd (cc)
 holds_by None index h = absurd (cc)
 
 misses_by : (call : Option Call) (index : ℕ) → protects_at call index ≡ true → may_miss call index ≡ true
@@ -75,6 +77,8 @@ misses_by (Some (calls.PutIf key value version)) index h = grind (arith, nat_tes
 misses_by (Some (calls.Copy from to)) index h = absurd (cc)
 misses_by (Some (calls.DropIndex dropped)) index h = absurd (cc)
 misses_by (Some (calls.Look at key)) index h = absurd (cc)
+misses_by (Some calls.Leave) index h = absurd (cc)
+misses_by (Some (calls.Adopt place)) index h = absurd (cc)
 misses_by None index h = absurd (cc)
 
 clears_by : (call : Option Call) (index : ℕ) → clears_at call index ≡ true → may_clear call index ≡ true
@@ -91,6 +95,8 @@ clears_by (Some (calls.PutIf key value version)) index h = grind (arith, nat_tes
 clears_by (Some (calls.Copy from to)) index h = grind (arith, nat_tests)
 clears_by (Some (calls.DropIndex dropped)) index h = grind (arith, nat_tests)
 clears_by (Some (calls.Look at key)) index h = absurd (cc)
+clears_by (Some calls.Leave) index h = grind (arith, nat_tests)
+clears_by (Some (calls.Adopt place)) index h = absurd (cc)
 clears_by None index h = absurd (cc)
 
 index_part : (p : Past) (i : ℕ) (event : Event) → strong.indexes_ok p i event ≡ true → standing.indexes_ok p i event ≡ true

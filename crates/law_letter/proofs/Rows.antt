@@ -87,4 +87,5 @@ once slots r h =
       nexts = entries_of_each (nexts_ok slots) r (each_weaker (strong.nexts_ok slots) (nexts_ok slots) (next_part slots) r (each_of_entries (strong.nexts_ok slots) r h.nexts));
       retiring = h.retiring;
       backs = entries_of_each backs_ok r (each_weaker (once_ok slots) backs_ok (back_part slots) r f);
+      lists = h.lists;
     }

@@ -11,7 +11,7 @@ use Rattle.laws.specs.HistoryScans.{Course, Tally, first_course, moved_course, r
 use Rattle.laws.specs.HistoryScans.Course.{Plain, Advancing, MayScan, MustScan, Reading}
 use Rattle.laws.specs.Standing.{open_ok}
 use Rattle.laws.specs.ScanLaw.{Blocks, begun_block, blocks_by, blocks_of, guards, is_given_one, is_scan_call, may_begin, is_scanned, blocks_ok, seeks_room, room_ok, due_block}
-use Rattle.laws.specs.StateAt.{began_by, began_of, is_open, opened_by, retires_by, retires_of, was_taken}
+use Rattle.laws.specs.StateAt.{began_by, began_of, has_left, is_open, opened_by, retires_by, retires_of, was_taken}
 use Rattle.laws.specs.defs.declared.call.Call.{Call}
 use Rattle.laws.specs.defs.declared.call.Call.TheVariants as calls
 use Rattle.laws.specs.defs.declared.event.Event.{Event}
@@ -85,6 +85,8 @@ begin_fits all calls.Release y h = (h, refl, refl)
 begin_fits all (calls.Copy from index) y h = (h, refl, refl)
 begin_fits all (calls.DropIndex index) y h = (h, refl, refl)
 begin_fits all (calls.Look index key) y h = (h, refl, refl)
+begin_fits all calls.Leave y h = (h, refl, refl)
+begin_fits all (calls.Adopt place) y h = (h, refl, refl)
 begin_fits all (calls.PutIf key value version) y h = (record { whole = h; begins = refl; scanned = refl; seeking = λ e g. refl }, refl, refl)
 
 -- a row is retired
@@ -99,6 +101,8 @@ no_scan (Some calls.Release) h = refl
 no_scan (Some (calls.Copy from index)) h = refl
 no_scan (Some (calls.DropIndex index)) h = refl
 no_scan (Some (calls.Look index key)) h = refl
+no_scan (Some calls.Leave) h = refl
+no_scan (Some (calls.Adopt place)) h = refl
 no_scan (Some (calls.PutIf key value version)) h = refl
 no_scan (Some calls.Advance) h = refl
 no_scan (Some calls.Scan) h = absurd (cc)
@@ -115,6 +119,8 @@ no_advance (Some calls.Release) h = refl
 no_advance (Some (calls.Copy from index)) h = refl
 no_advance (Some (calls.DropIndex index)) h = refl
 no_advance (Some (calls.Look index key)) h = refl
+no_advance (Some calls.Leave) h = refl
+no_advance (Some (calls.Adopt place)) h = refl
 no_advance (Some (calls.PutIf key value version)) h = refl
 no_advance (Some calls.Advance) h = absurd (cc)
 no_advance (Some calls.Scan) h = refl
@@ -200,7 +206,7 @@ read_counts all x y false e = e
 
 own_step : (config : Config) (i : ℕ) (p : Past) (event : Event) → 0 < guards config → open_ok p i event ≡ true → plain_scans_ok config p i event ≡ true → plain_moves_ok config p i event ≡ true → single_ok p i event ≡ true → At config i p → After config i p event
 own_step config i p (events.Begin call) low o s m g a =
-    let shut : is_open i p ≡ false = false_of_not (is_open i p) o in
+    let shut : is_open i p ≡ false = false_of_not (is_open i p) (first_of (not (is_open i p)) (not (has_left i p)) o) in
     record { counts = a.counts; fits = begin_fits (guards config) call (blocks_of config i p) (a.closed shut); closed = λ e. absurd (cc); single = λ e. refl }
 own_step config i p (events.Give slot birth) low o s m g a =
     let t : Settled (began_of i p) (blocks_of config i p) = settled (guards config) (began_of i p) (retires_of i p) (search_of i p).seeks (plain_tally config.every i p).course (blocks_of config i p) s a.fits in

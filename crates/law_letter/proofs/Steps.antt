@@ -37,6 +37,8 @@ steps_by config calls.Dequeue backs answer steps h = refl
 steps_by config (calls.Copy from index) backs answer steps h = h
 steps_by config (calls.DropIndex index) backs answer steps h = h
 steps_by config (calls.Look index key) backs answer steps h = h
+steps_by config calls.Leave backs answer steps h = h
+steps_by config (calls.Adopt place) backs answer steps h = h
 steps_by config (calls.PutIf key value version) backs answer steps h = refl
 
 began_by : (config : Config) (call : Option Call) (backs : ℕ) (answer : Answer) (steps : ℕ) → strong.began_steps config call backs answer steps ≡ true → weak.began_steps config call backs answer steps ≡ true

@@ -31,6 +31,7 @@ lawful_tells c p xs l = record {
   queue = each_before _ p xs l.queue;
   order = each_before _ p xs l.order;
   sources = each_before _ p xs l.sources;
+  lists = each_before _ p xs l.lists;
   full = λ s low. each_before _ p xs (l.full s low);
 }
 

@@ -1,5 +1,5 @@
 -- What an answer says stays so in a later record, and by lower counts at the call's beginning.
-use Rattle.std.proofs.Common.{ℕ, ◌≡◌, ◌≤◌, ◌<◌, ◌-◌, ◌++◌, List, Option, length, sym, ap, ◌∙◌, arith}
+use Rattle.std.proofs.Common.{ℕ, ◌≡◌, ◌≤◌, ◌<◌, ◌-◌, ◌++◌, Bool, true, false, List, [], ◌∷◌, Option, length, refl, sym, ap, ◌∙◌, arith}
 use Rattle.law_steps.specs.inv.model.defs.Pairs.{Pair, changed, pairs_after, value_in}
 use Rattle.law_steps.specs.inv.model.defs.declared.call.Answer.{Answer}
 use Rattle.law_steps.specs.inv.model.defs.declared.call.Answer.TheVariants as answers
@@ -8,10 +8,12 @@ use Rattle.law_steps.specs.inv.model.defs.declared.call.Call.TheVariants as call
 use Rattle.law_steps.specs.inv.model.defs.declared.fold.Change.{Change}
 use Rattle.law_steps.specs.inv.model.defs.declared.fold.Change.TheVariants as changes
 use Rattle.law_steps.specs.inv.model.words.declared.config.Config.{Config}
-use Rattle.law_steps.specs.laws.StateAt.{bucket_of, count_of, pairs_at, queued_of, value_at}
-use Rattle.std.specs.Prelude.{is_some}
+use Rattle.law_steps.specs.laws.StateAt.{adopts, bucket_of, count_of, has_left, is_adopted, is_left, pairs_at, queued_of, value_at}
+use Rattle.std.specs.Prelude.{◌==◌, ◌&&◌, ◌||◌, is_some}
+use Rattle.law_steps.specs.inv.model.defs.Entry.{Entry}
 use Rattle.law_steps.specs.inv.history.Record.{Past, tells}
-use Rattle.law_logs.specs.Answered.{IsAbsent, IsDone, IsDoneAt, IsEmpty, IsFull, IsFullAt, IsGot, IsKept, IsLast, IsLooked, IsMet, IsQueued, IsRow, IsSpent, IsSpentAt, IsStale, IsTaken, Says}
+use Rattle.law_steps.specs.inv.history.Record.Past.{Then}
+use Rattle.law_logs.specs.Answered.{IsAbsent, IsDone, IsDoneAt, IsEmpty, IsFull, IsFullAt, IsGot, IsKept, IsLast, IsLooked, IsMet, IsQueued, IsRow, IsSpent, IsSpentAt, IsStale, IsStaying, IsTaken, Says}
 use Rattle.law_logs.specs.Versions.{AtMost, Counts, counts_of}
 use Rattle.law_logs.proofs.Counts.{most_along}
 use Rattle.law_logs.proofs.Grows.{Grows, more_count, more_queued, same_changes, same_queued, same_row, tells_along}
@@ -124,6 +126,36 @@ row_on low from p q b slot a g s = record { version = s.version; met = met_on lo
 none_on : (low from : ℕ) → low ≤ from → from ≡ 0 → low ≡ 0
 none_on low from h e = omega (arith, h, e)
 
+-- a seat that left stays so, and so does a list that was taken over
+or_more : (a b : Bool) → b ≡ true → (a || b) ≡ true
+or_more true b h = refl
+or_more false b h = h
+
+pub left_tells : (place : ℕ) (xs : List Entry) (p : Past) → has_left place p ≡ true → has_left place (tells p xs) ≡ true
+left_tells place [] p h = h
+left_tells place (x ∷ xs) p h = left_tells place xs (Then p x.seat x.event) (or_more (is_left x.event && place == x.seat) (has_left place p) h)
+
+pub adopted_tells : (place : ℕ) (xs : List Entry) (p : Past) → is_adopted place p ≡ true → is_adopted place (tells p xs) ≡ true
+adopted_tells place [] p h = h
+adopted_tells place (x ∷ xs) p h = adopted_tells place xs (Then p x.seat x.event) (or_more (adopts place x.event) (is_adopted place p) h)
+
+pub left_on : (place : ℕ) (p q : Past) → Grows p q → has_left place p ≡ true → has_left place q ≡ true
+left_on place p q g h = let e = g.entries in ap (has_left place) e.1 ∙ left_tells place e.0 p h
+
+pub adopted_on : (place : ℕ) (p q : Past) → Grows p q → is_adopted place p ≡ true → is_adopted place q ≡ true
+adopted_on place p q g h = let e = g.entries in ap (is_adopted place) e.1 ∙ adopted_tells place e.0 p h
+
+pub staying_on : (low from : Counts) (p q : Past) (place : ℕ) → AtMost low from → Grows p q → IsStaying from p place → IsStaying low q place
+staying_on low from p q place a g s =
+    let e = g.entries in
+    record {
+      at = s.at;
+      later = s.later ++ e.0;
+      cut = e.1 ∙ ap (λ (x : Past). tells x e.0) s.cut ∙ sym (tells_along s.later e.0 s.at);
+      since = most_along low from (counts_of s.at) a s.since;
+      stays = s.stays;
+    }
+
 pub says_on : (c : Config) (low from : Counts) (p q : Past) (call : Call) (answer : Answer) → AtMost low from → Grows p q → Says c from p call answer → Says c low q call answer
 says_on c low from p q (calls.Get key) (answers.Got version value) a g s = got_on low from p q (bucket_of c.buckets key) key version value a g s
 says_on c low from p q (calls.Put key value) (answers.Done version clock) a g s = done_on c low from p q (bucket_of c.buckets key) key (changes.Put key value) version a g s
@@ -143,4 +175,7 @@ says_on c low from p q calls.Dequeue (answers.Taken number value clock) a g s = 
 says_on c low from p q calls.Dequeue answers.Empty a g s = empty_on low from p q a g s
 says_on c low from p q (calls.Hold key) (answers.Holding slot) a g s = row_on low from p q (bucket_of c.buckets key) slot a g s
 says_on c low from p q (calls.Hold key) answers.Nothing a g s = none_on (low.versions (bucket_of c.buckets key)) (from.versions (bucket_of c.buckets key)) (a.versions (bucket_of c.buckets key)) s
+says_on c low from p q (calls.Adopt place) (answers.Adopted count) a g s = record { left = left_on place p q g s.left; adopted = adopted_on place p q g s.adopted }
+says_on c low from p q (calls.Adopt place) answers.NotLeft a g s = staying_on low from p q place a g s
+says_on c low from p q (calls.Adopt place) answers.AdoptedBefore a g s = adopted_on place p q g s
 says_on c low from p q call answer a g s = tt

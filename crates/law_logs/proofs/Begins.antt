@@ -1,13 +1,13 @@
 -- A call that is under way has a position at which it began, and what is counted since it began was counted there.
 use Rattle.std.proofs.Common.{ℕ, ◌≡◌, Bool, true, false, [], ◌∷◌, ◌++◌, Option, Some, refl, sym, ap, ◌∙◌, subst}
 use Rattle.std.specs.Prelude.{◌==◌, not}
-use Rattle.law_steps.proofs.inv.model.Facts.{false_of_not, number_is}
+use Rattle.law_steps.proofs.inv.model.Facts.{false_of_not, first_of, number_is}
 use Rattle.law_steps.specs.inv.model.defs.Entry.{Entry}
 use Rattle.law_steps.specs.inv.model.defs.declared.call.Call.{Call}
 use Rattle.law_steps.specs.inv.model.defs.declared.event.Event.{Event}
 use Rattle.law_steps.specs.inv.model.defs.declared.event.Event.TheVariants as events
 use Rattle.law_steps.specs.laws.Standing.{open_ok}
-use Rattle.law_steps.specs.laws.StateAt.{began_of, is_open}
+use Rattle.law_steps.specs.laws.StateAt.{began_of, has_left, is_open}
 use Rattle.law_steps.specs.inv.history.Record.{Past, Each}
 use Rattle.law_steps.specs.inv.history.Record.Past.{Start, Then}
 use Rattle.law_steps.proofs.held.places.answers.AnswersTold.Answering.{own_began}
@@ -47,7 +47,7 @@ began_here k p told call o e =
     }
 
 began_own : (k : ℕ) (p : Past) (event : Event) (call : Call) → open_ok p k event ≡ true → is_open k (Then p k event) ≡ true → began_of k (Then p k event) ≡ Some call → (is_open k p ≡ true → began_of k p ≡ Some call → Began k p call) → Began k (Then p k event) call
-began_own k p (events.Begin told) call l o e g = began_here k p told call l e
+began_own k p (events.Begin told) call l o e g = began_here k p told call (first_of (not (is_open k p)) (not (has_left k p)) l) e
 began_own k p (events.End steps answer) call l o e g = let closed : false ≡ true = sym (own_open k p (events.End steps answer)) ∙ o in absurd (cc)
 began_own k p event call l o e g = began_later k k p event call (inner_own k p event refl) (g (sym (own_open k p event) ∙ o) (sym (own_began k p event) ∙ e))
 

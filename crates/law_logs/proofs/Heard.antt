@@ -96,6 +96,8 @@ told_more n from p told (events.Removed bucket version key) b h e = all_more n f
 told_more n from p told (events.Queued number value) b h e = all_more n from p told (events.Queued number value) h e
 told_more n from p told (events.Taken number value) b h e = all_more n from p told (events.Taken number value) h e
 told_more n from p told (events.Copied index to slot) b h e = all_more n from p told (events.Copied index to slot) h e
+told_more n from p told (events.Left count) b h e = all_more n from p told (events.Left count) h e
+told_more n from p told (events.Adopted place count) b h e = all_more n from p told (events.Adopted place count) h e
 told_more n from p told event b h e = h
 
 -- by the laws at an entry

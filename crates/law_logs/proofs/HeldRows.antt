@@ -1,9 +1,9 @@
 -- What a hold tells as held was linked at the root of its key's bucket, and shows a version of that bucket.
 use Rattle.std.proofs.Common.{ℕ, ◌≡◌, ◌<◌, ◌+◌, ◌-◌, Bool, true, false, List, [], ◌∷◌, ◌++◌, Option, Some, None, refl, sym, ap, ◌∙◌, subst, arith}
 use Rattle.std.proofs.lemmas.Bool.Decides.{nat_tests}
-use Rattle.std.specs.Prelude.{◌==◌, if◌then◌else◌, not}
+use Rattle.std.specs.Prelude.{◌==◌, drop, if◌then◌else◌, not}
 use Rattle.law_steps.proofs.inv.model.Facts.{both, first_of, rest_of, same_number}
-use Rattle.law_steps.specs.inv.model.Calls.{Gets, Changes, Holds, Enqueues, Dequeues, Why, Opens, FollowsHead, Keeping, Loosens, LoadHeld, StoreHeld, Looks, Misses, Getting, Changing, Enqueuing, Dequeuing, ReadGuard, GiveBack, Work, Phase, Idle, Runs, Scans, Works, CallTurn, CallOutcome, GoesOn, Answers}
+use Rattle.law_steps.specs.inv.model.Calls.{Gets, Changes, Holds, Enqueues, Dequeues, Why, Opens, FollowsHead, Keeping, Loosens, LoadHeld, StoreHeld, Looks, Misses, HideSpan, MarkLeft, TakeList, MarkTaken, Getting, Changing, Enqueuing, Dequeuing, ReadGuard, GiveBack, Work, Phase, Idle, Runs, Scans, Works, CallTurn, CallOutcome, GoesOn, Answers}
 use Rattle.law_steps.specs.inv.model.Locals.{told_end, turn}
 use Rattle.law_steps.specs.inv.model.Machine as machine
 use Rattle.law_steps.specs.inv.model.Memory.{bump}
@@ -14,9 +14,9 @@ use Rattle.law_steps.specs.inv.model.Rounds.{let_index, scheme_of}
 use Rattle.law_steps.specs.inv.model.words.Schemes.{has_one_interval}
 use Rattle.law_steps.specs.inv.model.defs.declared.fold.Change.TheVariants as changes
 use Rattle.law_steps.specs.inv.model.defs.declared.fold.Change.{Change}
-use Rattle.law_steps.specs.inv.model.Posts.{cleared, counted, reserves_index, stands, upper}
+use Rattle.law_steps.specs.inv.model.Posts.{cleared, cleared_from, counted, reserves_index, reserves_span, stands, upper}
 use Rattle.law_steps.specs.inv.model.Protect as protects
-use Rattle.law_steps.specs.inv.model.World.{World, finds, told_in}
+use Rattle.law_steps.specs.inv.model.World.{World, finds, offered, told_in}
 use Rattle.law_steps.specs.inv.model.declared.post.Post.{Post}
 use Rattle.law_steps.specs.inv.model.defs.declared.call.Call.TheVariants as calls
 use Rattle.law_steps.specs.inv.model.defs.declared.call.Call.{Call}
@@ -229,6 +229,10 @@ cleared_of : (K : ℕ → Type 0) (index : ℕ) (x : Option ℕ) → AllOf K (cl
 cleared_of K index None = tt
 cleared_of K index (Some slot) = (tt, tt)
 
+cleared_from_of : (K : ℕ → Type 0) (index : ℕ) (rows : List (Option ℕ)) → AllOf K (cleared_from index rows)
+cleared_from_of K index [] = tt
+cleared_from_of K index (row ∷ rows) = all_along K (cleared index row) (cleared_from (index + 1) rows) (cleared_of K index row) (cleared_from_of K (index + 1) rows)
+
 copied_of : (K : ℕ → Type 0) (from index : ℕ) (post : Post) (reserved : List Event) (x : Option ℕ) → AllOf K reserved → AllOf K (copied_told from index post reserved x)
 copied_of K from index post reserved None h = tt
 copied_of K from index post reserved (Some slot) h =
@@ -248,6 +252,10 @@ work_of K (Keeping (LoadHeld from index)) post = load_of K from index post (has_
 work_of K (Keeping (StoreHeld from index era)) post = copied_of K from index post (reserves_index post index era) (stands post from) (tt, tt)
 work_of K (Keeping (Looks index key at)) post = tt
 work_of K (Keeping (Misses index)) post = tt
+work_of K (Keeping HideSpan) post = all_along K (cleared_from 2 (drop 2 post.standing)) (reserves_span post None) (cleared_from_of K 2 (drop 2 post.standing)) (tt, tt)
+work_of K (Keeping MarkLeft) post = tt
+work_of K (Keeping (TakeList place)) post = tt
+work_of K (Keeping (MarkTaken place count)) post = tt
 
 end_still : (post : Post) (outcome : CallOutcome) → all_of is_still (told_end post outcome) ≡ true
 end_still post (GoesOn phase) = refl
@@ -255,11 +263,11 @@ end_still post (Answers answer) = refl
 
 -- a step
 step_of : (K : ℕ → Type 0) (w : World) (i : ℕ) → First (λ post told. AllOf K told) (w.seat i).phase (counted (w.seat i).post) (finds w i) → AllOf K (told_in w i)
-step_of K w i h = step_goes (λ post told. AllOf K told) (all_closed K) (w.seat i).phase (counted (w.seat i).post) (w.seat i).desk (finds w i) h
+step_of K w i h = step_goes (λ post told. AllOf K told) (all_closed K) (w.seat i).phase (counted (w.seat i).post) (offered w i).desk (finds w i) h
 
 run_still : (w : World) (i : ℕ) (why : Why) (base : Base) → (w.seat i).phase ≡ Runs why base → all_of is_still (told_in w i) ≡ true
 run_still w i why base e =
-    let t : CallTurn = turn (w.seat i) (finds w i) in
+    let t : CallTurn = turn (offered w i) (finds w i) in
     let o : InOrder (ordered (w.seat i).phase (w.seat i).post (finds w i)) t.told = step_order w i in
     let is : t.told ≡ o.rest = o.is ∙ ap (λ (x : Phase). ordered x (w.seat i).post (finds w i) ++ o.rest) e in
     subst (λ (told : List Event). all_of is_still (told ++ told_end t.post t.outcome) ≡ true) (sym is)

@@ -14,7 +14,7 @@ use Rattle.law_steps.proofs.laws.Tells.{seen_other, seen_own}
 use Rattle.law_steps.specs.laws.AnswerLaw.{full_ok, suits}
 use Rattle.law_steps.specs.laws.HistoryAnswers.{answer_right, answers_ok, owes, reason, reasons_ok, same_told}
 use Rattle.law_steps.specs.laws.HistoryHolds.{sources_ok}
-use Rattle.law_steps.specs.laws.Once.{order_ok}
+use Rattle.law_steps.specs.laws.Once.{lists_ok, order_ok}
 use Rattle.law_steps.specs.laws.Standing.{open_ok}
 use Rattle.law_steps.specs.laws.MapLaw.{map_ok}
 use Rattle.law_steps.specs.laws.QueueLaw.{queue_ok}
@@ -30,6 +30,7 @@ use Rattle.law_logs.proofs.Grows.{grows_entry}
 use Rattle.law_logs.proofs.Heard.{AllHeard, all_on, heard_now, told_more}
 use Rattle.law_logs.proofs.Holds.{told_row}
 use Rattle.law_logs.proofs.Ledgers.{ledger_began}
+use Rattle.law_logs.proofs.Lists.{all_told}
 use Rattle.law_logs.proofs.Meets.{Rises, call_rises, logs_extend}
 use Rattle.law_logs.proofs.Says.{rows_now, says_now}
 use Rattle.law_logs.proofs.Shows.{shown_version}
@@ -43,6 +44,7 @@ pub record Lawful (c : Config) (r : Past) : Type 0 where
   pub queue : Each queue_ok r
   pub order : Each (order_ok c.slots) r
   pub sources : Each (sources_ok c) r
+  pub lists : Each lists_ok r
   pub full : (s : ℕ) → s ≤ c.slots → Each (full_ok c s) r
 
 pub lawful_before : (c : Config) (p : Past) (i : ℕ) (event : Event) → Lawful c (Then p i event) → Lawful c p
@@ -54,6 +56,7 @@ lawful_before c p i event l = record {
   queue = l.queue.1;
   order = l.order.1;
   sources = l.sources.1;
+  lists = l.lists.1;
   full = λ s low. (l.full s low).1;
 }
 
@@ -136,8 +139,9 @@ answers_by c k steps p answer (Some call) e h r l g = record {
   began = e;
   says = says_now c k p call answer (told_of k p) (rest_of (suits call answer) (same_told (told_of k p) (owes c.buckets call answer)) h) r (begun_most k p) g.heard
       (λ key slot same held. told_row c k p key slot l.order.1 l.sources.1 (e ∙ ap (λ (x : Call). Some x) same) held)
+      (all_told k p l.open_calls.1 l.lists.1)
       (λ slot bucket version shows. shown_version c.buckets c.slots slot bucket version p l.order.1 l.map.1 shows);
-  rows = rows_now c k steps p call answer r (λ s low. (l.full s low).0);
+  rows = rows_now c k steps p call answer (told_of k p) (rest_of (suits call answer) (same_told (told_of k p) (owes c.buckets call answer)) h) r (all_told k p l.open_calls.1 l.lists.1) (λ s low. (l.full s low).0);
 }
 
 pub answers_of : (c : Config) (k steps : ℕ) (p : Past) (answer : Answer) → Lawful c (Then p k (events.End steps answer)) → Knows c.buckets k p → Answers c k steps p answer

@@ -9,7 +9,7 @@ use Rattle.law_steps.specs.inv.model.Locals.{Local, after, begun, begun_post, bu
 use Rattle.law_steps.specs.inv.model.Posts.{counted}
 use Rattle.law_steps.specs.inv.model.Scan.{Entry, giving_back, scanned, scan_turn, unmet_from, with_back, with_kept}
 use Rattle.law_steps.specs.inv.model.Steps.{first_phase, phase_turn}
-use Rattle.law_steps.specs.inv.model.World.{World, begin, step, finds, is_busy, told_in}
+use Rattle.law_steps.specs.inv.model.World.{World, begin, finds, is_busy, offered, step, told_in}
 use Rattle.law_steps.specs.inv.model.declared.post.Post.{Post}
 use Rattle.law_steps.specs.inv.model.defs.Shown.{Seen}
 use Rattle.law_steps.specs.inv.model.defs.declared.call.Call.{Call}
@@ -173,11 +173,11 @@ record Keeps (layout : Layout) (made : Made) : Type 0 where
 own_step : (layout : Layout) (made : Made) (i : ℕ) → Keeps layout made → SeatReads (guards layout.config) i ((step made.world i).seat i) (tells_of made.past i (told_in made.world i))
 own_step layout made i g =
     let w : World = made.world in
-    let own : Local = w.seat i in
+    let own : Local = offered w i in
     let s = g.known.known.seats in
     let a : own.post.layout ≡ layout = (s.fits i).post.layout ∙ g.table in
     let f : ScanFits own.post.layout.config own.phase = subst (λ (x : Layout). ScanFits x.config own.phase) (sym (s.fits i).post.layout) (scans_fit w.layout own.post own.phase (s.fits i).phase) in
-    let h : SeatReads (guards own.post.layout.config) i own made.past = subst (λ (x : Layout). SeatReads (guards x.config) i own made.past) (sym a) (g.seats i) in
+    let h : SeatReads (guards own.post.layout.config) i own made.past = subst (λ (x : Layout). SeatReads (guards x.config) i own made.past) (sym a) (record { reads = (g.seats i).reads; stands = (g.seats i).stands }) in
     let t : Told (guards layout.config) i (turn own (finds w i)) made.past = subst (λ (x : Layout). Told (guards x.config) i (turn own (finds w i)) made.past) a (phase_told i own.phase (counted own.post) own.desk (finds w i) made.past f h.reads h.stands) in
     subst (λ (l : Local). SeatReads (guards layout.config) i l (tells_of made.past i (told_in w i))) (sym (seat_steps w i)) (after_reads (guards layout.config) i own (finds w i) made.past t)
 

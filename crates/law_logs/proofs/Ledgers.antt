@@ -7,7 +7,7 @@ use Rattle.law_steps.specs.inv.model.Calls.{Phase, Idle, Runs, Scans, Works, Cal
 use Rattle.law_steps.specs.inv.model.Desks.{Desk, Notes, noted, noted_all, noting}
 use Rattle.law_steps.specs.inv.model.Locals.{Local, begun, begun_post, busy_in, rounds_told, settled_by, told_by, told_end, turn}
 use Rattle.law_steps.specs.inv.model.Steps.{first_phase}
-use Rattle.law_steps.specs.inv.model.World.{World, begin, step, finds, is_busy, told_in}
+use Rattle.law_steps.specs.inv.model.World.{World, begin, finds, is_busy, offered, step, told_in}
 use Rattle.law_steps.specs.inv.model.declared.post.Post.{Post}
 use Rattle.law_steps.specs.inv.model.defs.declared.call.Call.{Call}
 use Rattle.law_steps.specs.inv.model.defs.declared.event.Event.{Event}
@@ -131,13 +131,13 @@ record Keeps (n : ℕ) (made : Made) : Type 0 where
 own_matches : (n : ℕ) (made : Made) (i : ℕ) → is_busy made.world i ≡ true → Keeps n made → MatchesAt ((step made.world i).seat i) i (tells_of made.past i (told_in made.world i))
 own_matches n made i b g =
     let w : World = made.world in
-    let l : Local = w.seat i in
+    let l : Local = offered w i in
     let t : CallTurn = turn l (finds w i) in
     let a = g.kept in
     let s = a.seats i in
     let o : Owes n l.call (owed.owed n l.call l.phase) t = owes_of n w i a.table a.known (s.serves b) in
     let h = g.matches i in
-    let y : Matches l (ledger_of i made.past) true = subst (λ (x : Bool). Matches l (ledger_of i made.past) x) (h.busy ∙ b) h in
+    let y : Matches l (ledger_of i made.past) true = record { log = h.log; notes = h.notes; call = h.call; busy = sym b } in
     let r = turn_matches l t (ledger_of i made.past) (turns_leave_notes l (finds w i)) (first_all is_within t.told (told_end t.post t.outcome) (within_of w i)) o.told.goes o.serves b y in
     subst (λ (m : Local). MatchesAt m i (tells_of made.past i (told_in w i))) (sym (seat_steps w i))
     (subst (λ (x : Ledger). Matches (settled_by l t.post (noting t.desk (told_by t)) (rounds_told l.rounds (told_by t)) t.outcome) x (seen opened_by false i (tells_of made.past i (told_in w i)))) (sym (seen_tells ledger_by no_ledger i (told_in w i) made.past))

@@ -18,6 +18,7 @@ pub mod Knows
 pub mod LastScans
 pub mod Ledgers
 pub mod Links
+pub mod Lists
 pub mod Meets
 pub mod Notes
 pub mod Records

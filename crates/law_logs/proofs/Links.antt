@@ -7,7 +7,7 @@ use Rattle.law_steps.specs.inv.model.Change.{changed_bucket, told_change, told_c
 use Rattle.law_steps.specs.inv.model.Enqueue.{told_link}
 use Rattle.law_steps.specs.inv.model.Locals.{may_begin, told_end, turn}
 use Rattle.law_steps.specs.inv.model.Posts.{counted, stands}
-use Rattle.law_steps.specs.inv.model.World.{World, finds, told_in}
+use Rattle.law_steps.specs.inv.model.World.{World, finds, is_here, offered, told_in}
 use Rattle.law_steps.specs.inv.model.declared.post.Post.{Post}
 use Rattle.law_steps.specs.inv.model.defs.declared.event.Event.TheVariants as events
 use Rattle.law_steps.specs.inv.model.defs.declared.event.Event.{Event}
@@ -164,7 +164,7 @@ links_step w i k j s p a e g =
     let phase : Phase = (w.seat i).phase in
     let post : Post = (w.seat i).post in
     let front : List Event = ordered phase post (finds w i) in
-    let t : CallTurn = turn (w.seat i) (finds w i) in
+    let t : CallTurn = turn (offered w i) (finds w i) in
     let o : InOrder front t.told = step_order w i in
     let more : List Event = o.rest ++ told_end t.post t.outcome in
     let m : all_of is_plain more ≡ true =
@@ -201,7 +201,7 @@ starts_each c i (event ∷ told) p h g =
 
 begun_steady : (layout : Layout) → Steady (Begun layout)
 begun_steady layout = record {
-  begins = λ made i call b y m g. record { table = g.table; starts = (subst (λ (x : Layout). may_begin x.config call ≡ true) g.table m, g.starts) };
+  begins = λ made i call b y m g. record { table = g.table; starts = (subst (λ (x : Layout). may_begin x.config call ≡ true) g.table (rest_of (is_here made.world i) (may_begin made.world.layout.config call) m), g.starts) };
   steps = λ made i b y g. record { table = g.table; starts = starts_each layout.config i (told_in made.world i) made.past (within_of made.world i) g.starts };
 }
 

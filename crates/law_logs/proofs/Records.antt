@@ -16,7 +16,7 @@ use Rattle.law_steps.specs.inv.model.words.declared.config.Config.{Config}
 use Rattle.law_steps.specs.inv.model.words.declared.layout.Layout.{Layout}
 use Rattle.law_steps.specs.laws.HistoryAnswers.{full_ok}
 use Rattle.law_steps.specs.laws.HistoryHolds.{sources_ok}
-use Rattle.law_steps.specs.laws.Once.{order_ok}
+use Rattle.law_steps.specs.laws.Once.{lists_ok, order_ok}
 use Rattle.law_steps.specs.laws.StateAt.{began_of, bucket_of, count_of, pairs_at, value_at}
 use Rattle.law_letter.proofs.Clocks.{full_kept}
 use Rattle.law_reasons.proofs.Full.Keeps.{records_keep_full}
@@ -27,6 +27,7 @@ use Rattle.law_steps.proofs.held.places.answers.AnswersTold.Answering.{records_k
 use Rattle.law_steps.proofs.held.places.answers.Lawful.Maps.{records_keep_map}
 use Rattle.law_steps.proofs.held.places.answers.Lawful.Queues.{records_keep_queue}
 use Rattle.law_steps.proofs.held.places.answers.OpenCalls.{records_open_calls}
+use Rattle.law_steps.proofs.held.reuse.Once.Handed.{records_keep_lists}
 use Rattle.law_steps.proofs.inv.history.Entries.{each_of_entries}
 use Rattle.law_steps.specs.inv.history.History.{Item, record_of, world_of}
 use Rattle.law_steps.specs.inv.history.Record.{Past, tells}
@@ -55,6 +56,7 @@ lawful layout items d = record {
   queue = each_of_entries _ (record_of layout items) (records_keep_queue layout items d);
   order = each_of_entries (order_ok layout.config.slots) (record_of layout items) (records_keep_order layout items d).each;
   sources = each_of_entries (sources_ok layout.config) (record_of layout items) (records_find_sources layout items d);
+  lists = each_of_entries lists_ok (record_of layout items) (records_keep_lists layout items d);
   full = λ s low. full_kept layout.config s (record_of layout items) (each_of_entries (full_ok layout.config s) (record_of layout items) (records_keep_full layout items d s low));
 }
 

@@ -31,6 +31,7 @@ use Rattle.law_logs.proofs.Answered.{empty_on}
 use Rattle.law_logs.proofs.Counts.{begun_counts, begun_most, begun_unless, most_same}
 use Rattle.law_logs.proofs.Grows.{grows_entry}
 use Rattle.law_logs.proofs.Heard.{AllHeard, ChangeHeard, QueuedHeard, heard_one, met_now, same_got, same_put, same_queued_event, same_removed, same_taken, value_of}
+use Rattle.law_logs.proofs.Lists.{AllTold, adopted_now, gone_now, handed_now, same_adopted, same_left, staying_now, taken_over, told_one}
 use Rattle.law_logs.proofs.Shows.{IsVersion}
 
 bare_of : (x : Option ℕ) → is_none x ≡ true → x ≡ None
@@ -220,32 +221,35 @@ empty_now k (Then p i event) h =
 -- by call and answer
 pub says_now : (c : Config) (k : ℕ) (p : Past) (call : Call) (answer : Answer) (told : List Event) → same_told told (owes c.buckets call answer) ≡ true → reason c k p (Some call) answer ≡ true → AtMost (begun_counts k p) (counts_of p) → AllHeard c.buckets (begun_counts k p) p told
     → ((key slot : ℕ) → call ≡ calls.Hold key → has_told k (is_held 2 slot) p ≡ true → IsRow (begun_counts k p) p (bucket_of c.buckets key) slot)
-    → ((slot bucket version : ℕ) → shows_of slot p ≡ ShowsVersion bucket version → IsVersion bucket version slot p) → Says c (begun_counts k p) p call answer
-says_now c k p (calls.Get key) (answers.Got version value) told s r low a f v = got_now c k p told key version value s a
-says_now c k p (calls.Put key value) (answers.Done version clock) told s r low a f v =
+    → AllTold k p told → ((slot bucket version : ℕ) → shows_of slot p ≡ ShowsVersion bucket version → IsVersion bucket version slot p) → Says c (begun_counts k p) p call answer
+says_now c k p (calls.Get key) (answers.Got version value) told s r low a f t v = got_now c k p told key version value s a
+says_now c k p (calls.Put key value) (answers.Done version clock) told s r low a f t v =
     let b : ℕ = bucket_of c.buckets key in
     put_now c k p told key value version s a (first_of (nat_le version c.last_version) (had_version b (version - 1) p && (is_there b (version - 1) key p || nat_lt (length (pairs_at b (version - 1) p)) c.pairs)) r)
-says_now c k p (calls.Put key value) (answers.BucketFull version) told s r low a f v = full_now c k (bucket_of c.buckets key) key version p r
-says_now c k p (calls.Put key value) (answers.Spent version) told s r low a f v = spent_put c k (bucket_of c.buckets key) version p r low
-says_now c k p (calls.PutIf key value wanted) (answers.Done version clock) told s r low a f v = done_at_now c k key value wanted version clock p told s a r
-says_now c k p (calls.PutIf key value wanted) (answers.BucketFull version) told s r low a f v = full_at_now c k (bucket_of c.buckets key) key wanted version p r
-says_now c k p (calls.PutIf key value wanted) (answers.Spent version) told s r low a f v = spent_at_now c k (bucket_of c.buckets key) key wanted version p r low
-says_now c k p (calls.PutIf key value wanted) (answers.Stale version) told s r low a f v = stale_now c k (bucket_of c.buckets key) key wanted version p r
-says_now c k p (calls.Look index key) (answers.Looked slot version value) told s r low a f v = looked_now k index key slot version value p r (v slot)
-says_now c k p (calls.Remove key) (answers.Done version clock) told s r low a f v =
+says_now c k p (calls.Put key value) (answers.BucketFull version) told s r low a f t v = full_now c k (bucket_of c.buckets key) key version p r
+says_now c k p (calls.Put key value) (answers.Spent version) told s r low a f t v = spent_put c k (bucket_of c.buckets key) version p r low
+says_now c k p (calls.PutIf key value wanted) (answers.Done version clock) told s r low a f t v = done_at_now c k key value wanted version clock p told s a r
+says_now c k p (calls.PutIf key value wanted) (answers.BucketFull version) told s r low a f t v = full_at_now c k (bucket_of c.buckets key) key wanted version p r
+says_now c k p (calls.PutIf key value wanted) (answers.Spent version) told s r low a f t v = spent_at_now c k (bucket_of c.buckets key) key wanted version p r low
+says_now c k p (calls.PutIf key value wanted) (answers.Stale version) told s r low a f t v = stale_now c k (bucket_of c.buckets key) key wanted version p r
+says_now c k p (calls.Look index key) (answers.Looked slot version value) told s r low a f t v = looked_now k index key slot version value p r (v slot)
+says_now c k p (calls.Remove key) (answers.Done version clock) told s r low a f t v =
     let b : ℕ = bucket_of c.buckets key in
     remove_now c k p told key version s a (first_of (nat_le version c.last_version) (had_version b (version - 1) p && is_there b (version - 1) key p) r)
-says_now c k p (calls.Remove key) (answers.Absent version) told s r low a f v = absent_now k (bucket_of c.buckets key) key version p r
-says_now c k p (calls.Remove key) (answers.Spent version) told s r low a f v = spent_remove c k (bucket_of c.buckets key) key version p r low
-says_now c k p (calls.Enqueue value) (answers.Queued number) told s r low a f v = queued_now c (begun_counts k p) p number value r (heard_one c.buckets (begun_counts k p) p (events.Queued number value) told (same_queued_event number value) s a)
-says_now c k p (calls.Enqueue value) (answers.Spent number) told s r low a f v = last_now c k number p r low
-says_now c k p calls.Dequeue (answers.Taken number value clock) told s r low a f v = heard_one c.buckets (begun_counts k p) p (events.Taken number value) told (same_taken number value) s a
-says_now c k p calls.Dequeue answers.Empty told s r low a f v = empty_now k p (first_of (was_empty k p) (has_told k (is_null 1) p) r)
-says_now c k p (calls.Hold key) (answers.Holding slot) told s r low a f v = f key slot refl (first_of (has_told k (is_held 2 slot) p) (is_row slot (stood_at k 2 p)) r)
-says_now c k p (calls.Hold key) answers.Nothing told s r low a f v =
+says_now c k p (calls.Remove key) (answers.Absent version) told s r low a f t v = absent_now k (bucket_of c.buckets key) key version p r
+says_now c k p (calls.Remove key) (answers.Spent version) told s r low a f t v = spent_remove c k (bucket_of c.buckets key) key version p r low
+says_now c k p (calls.Enqueue value) (answers.Queued number) told s r low a f t v = queued_now c (begun_counts k p) p number value r (heard_one c.buckets (begun_counts k p) p (events.Queued number value) told (same_queued_event number value) s a)
+says_now c k p (calls.Enqueue value) (answers.Spent number) told s r low a f t v = last_now c k number p r low
+says_now c k p calls.Dequeue (answers.Taken number value clock) told s r low a f t v = heard_one c.buckets (begun_counts k p) p (events.Taken number value) told (same_taken number value) s a
+says_now c k p calls.Dequeue answers.Empty told s r low a f t v = empty_now k p (first_of (was_empty k p) (has_told k (is_null 1) p) r)
+says_now c k p (calls.Hold key) (answers.Holding slot) told s r low a f t v = f key slot refl (first_of (has_told k (is_held 2 slot) p) (is_row slot (stood_at k 2 p)) r)
+says_now c k p (calls.Hold key) answers.Nothing told s r low a f t v =
     let b : ℕ = bucket_of c.buckets key in
     number_is (begun_at k b p) 0 (rest_of (has_told k (is_null 2) p) (begun_at k b p == 0) r)
-says_now c k p call answer told s r low a f v = tt
+says_now c k p (calls.Adopt place) (answers.Adopted count) told s r low a f t v = handed_now k p place count (told_one k p (events.Adopted place count) told (same_adopted place count) s t)
+says_now c k p (calls.Adopt place) answers.NotLeft told s r low a f t v = staying_now k p place r
+says_now c k p (calls.Adopt place) answers.AdoptedBefore told s r low a f t v = adopted_now k place p r
+says_now c k p call answer told s r low a f t v = tt
 
 -- what it says of rows
 crowded_now : (c : Config) (k : ℕ) (p : Past) → ((s : ℕ) → s ≤ c.slots → (not (has_told k is_give p) && (times k is_read p == guards c && taken_since c.slots k s p)) ≡ true) → IsCrowded c k p
@@ -258,29 +262,33 @@ crowded_now c k p f =
       taken = λ s low. rest_of (times k is_read p == guards c) (taken_since c.slots k s p) (rest_of (not (has_told k is_give p)) (times k is_read p == guards c && taken_since c.slots k s p) (f s low));
     }
 
-pub rows_now : (c : Config) (k steps : ℕ) (p : Past) (call : Call) (answer : Answer) → reason c k p (Some call) answer ≡ true → ((s : ℕ) → s ≤ c.slots → full_ok c s p k (events.End steps answer) ≡ true) → SaysOfRows c k p call answer
-rows_now c k steps p (calls.Put key value) answers.Full r f = crowded_now c k p f
-rows_now c k steps p (calls.PutIf key value wanted) answers.Full r f = crowded_now c k p f
-rows_now c k steps p (calls.Remove key) answers.Full r f = crowded_now c k p f
-rows_now c k steps p (calls.Enqueue value) answers.Full r f = crowded_now c k p f
-rows_now c k steps p (calls.Hold key) (answers.Holding slot) r f = record {
+pub rows_now : (c : Config) (k steps : ℕ) (p : Past) (call : Call) (answer : Answer) (told : List Event) → same_told told (owes c.buckets call answer) ≡ true → reason c k p (Some call) answer ≡ true → AllTold k p told → ((s : ℕ) → s ≤ c.slots → full_ok c s p k (events.End steps answer) ≡ true) → SaysOfRows c k p call answer
+rows_now c k steps p (calls.Put key value) answers.Full told s r t f = crowded_now c k p f
+rows_now c k steps p (calls.PutIf key value wanted) answers.Full told s r t f = crowded_now c k p f
+rows_now c k steps p (calls.Remove key) answers.Full told s r t f = crowded_now c k p f
+rows_now c k steps p (calls.Enqueue value) answers.Full told s r t f = crowded_now c k p f
+rows_now c k steps p (calls.Hold key) (answers.Holding slot) told s r t f = record {
   told = first_of (has_told k (is_held 2 slot) p) (is_row slot (stood_at k 2 p)) r;
   stands = row_of slot (stood_at k 2 p) (rest_of (has_told k (is_held 2 slot) p) (is_row slot (stood_at k 2 p)) r);
 }
-rows_now c k steps p calls.Release answers.Released r f = bare_of (stood_at k 2 p) r
-rows_now c k steps p (calls.DropIndex index) answers.Dropped r f = bare_of (stood_at k index p) r
-rows_now c k steps p (calls.Copy from index) (answers.Copied slot) r f = record {
+rows_now c k steps p calls.Release answers.Released told s r t f = bare_of (stood_at k 2 p) r
+rows_now c k steps p (calls.DropIndex index) answers.Dropped told s r t f = bare_of (stood_at k index p) r
+rows_now c k steps p (calls.Copy from index) (answers.Copied slot) told s r t f = record {
   stood = row_of slot (stood_at k from p) (first_of (is_row slot (stood_at k from p)) (is_row slot (stood_at k index p)) r);
   stands = row_of slot (stood_at k index p) (rest_of (is_row slot (stood_at k from p)) (is_row slot (stood_at k index p)) r);
 }
-rows_now c k steps p (calls.Copy from index) answers.Nothing r f = bare_of (stood_at k from p) (first_of (is_none (stood_at k from p)) (tells_none k p) r)
-rows_now c k steps p (calls.Look index key) (answers.Looked slot version value) r f =
-    let s : Shown key slot version value p = shown_now k index key slot version value p r in
+rows_now c k steps p (calls.Copy from index) answers.Nothing told s r t f = bare_of (stood_at k from p) (first_of (is_none (stood_at k from p)) (tells_none k p) r)
+rows_now c k steps p (calls.Look index key) (answers.Looked slot version value) told s r t f =
+    let x : Shown key slot version value p = shown_now k index key slot version value p r in
     record {
-      bucket = s.bucket;
+      bucket = x.bucket;
       stands = row_of slot (stood_at k index p) (first_of (is_row slot (stood_at k index p)) (shows_value version key value p (shows_of slot p)) r);
-      shows = s.shows;
-      value_is = s.value_is;
+      shows = x.shows;
+      value_is = x.value_is;
     }
-rows_now c k steps p (calls.Look index key) answers.Nothing r f = bare_of (stood_at k index p) r
-rows_now c k steps p call answer r f = tt
+rows_now c k steps p (calls.Look index key) answers.Nothing told s r t f = bare_of (stood_at k index p) r
+rows_now c k steps p calls.Leave (answers.Left count) told s r t f = gone_now c k p count (told_one k p (events.Left count) told (same_left count) s t) r
+rows_now c k steps p (calls.Adopt place) (answers.Adopted count) told s r t f = taken_over k p place count (told_one k p (events.Adopted place count) told (same_adopted place count) s t)
+rows_now c k steps p (calls.Adopt place) answers.NotLeft told s r t f = r
+rows_now c k steps p (calls.Adopt place) answers.AdoptedBefore told s r t f = r
+rows_now c k steps p call answer told s r t f = tt

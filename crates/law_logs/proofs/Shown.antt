@@ -6,7 +6,7 @@ use Rattle.law_steps.specs.inv.model.Calls.{CallTurn, CallOutcome, GoesOn, Answe
 use Rattle.law_steps.specs.inv.model.Desks.{Desk, noting}
 use Rattle.law_steps.specs.inv.model.Locals.{Local, begun, begun_post, rounds_told, settled_by, told_by, told_end, turn}
 use Rattle.law_steps.specs.inv.model.Posts.{counted, stands}
-use Rattle.law_steps.specs.inv.model.World.{World, begin, finds, is_busy, step, told_in}
+use Rattle.law_steps.specs.inv.model.World.{World, begin, finds, is_busy, offered, step, told_in}
 use Rattle.law_steps.specs.inv.model.declared.post.Post.{Post}
 use Rattle.law_steps.specs.inv.model.defs.declared.call.Answer.TheVariants as the_answers
 use Rattle.law_steps.specs.inv.model.defs.declared.call.Answer.{Answer}
@@ -102,10 +102,10 @@ settled_holds l post desk rounds (Answers answer) h = λ c. refl
 
 step_holds : (w : World) (i k : ℕ) (same : Bool) → (k == i) ≡ same → ((m : ℕ) → HoldsAt (w.seat m)) → HoldsAt ((step w i).seat k)
 step_holds w i k true e h =
-    let t : CallTurn = turn (w.seat i) (finds w i) in
+    let t : CallTurn = turn (offered w i) (finds w i) in
     subst (λ (m : ℕ). HoldsAt ((step w i).seat m)) (sym (number_is k i e)) (subst HoldsAt (sym (seat_steps w i))
-    (settled_holds (w.seat i) t.post (noting t.desk (told_by t)) (rounds_told (w.seat i).rounds (told_by t)) t.outcome
-    (λ c. hold_goes (w.seat i).phase (counted (w.seat i).post) (w.seat i).desk (finds w i) (h i c))))
+    (settled_holds (offered w i) t.post (noting t.desk (told_by t)) (rounds_told (w.seat i).rounds (told_by t)) t.outcome
+    (λ c. hold_goes (w.seat i).phase (counted (w.seat i).post) (offered w i).desk (finds w i) (h i c))))
 step_holds w i k false e h = subst HoldsAt (sym (seat_stays w i k e)) (h k)
 
 -- what a step tells before its End is no end
@@ -136,17 +136,17 @@ before_stood : (i j : ℕ) (post : Post) (outcome : CallOutcome) (q : Past) → 
 before_stood i j post (GoesOn phase) q = refl
 before_stood i j post (Answers answer) q = end_stood i j post.steps answer q
 
-step_misses : (w : World) (i : ℕ) (p : Past) → Inv w → began_of i p ≡ Some (w.seat i).call → all_of is_open (turn (w.seat i) (finds w i)).told ≡ true → HoldsAt (w.seat i)
+step_misses : (w : World) (i : ℕ) (p : Past) → Inv w → began_of i p ≡ Some (w.seat i).call → all_of is_open (turn (offered w i) (finds w i)).told ≡ true → HoldsAt (w.seat i)
     → stood_at i 2 (tells_of p i (told_in w i)) ≡ stands ((step w i).seat i).post 2 → Each misses_ok p → Each misses_ok (tells_of p i (told_in w i))
 step_misses w i p a b o h s g =
-    let t : CallTurn = turn (w.seat i) (finds w i) in
+    let t : CallTurn = turn (offered w i) (finds w i) in
     let q : Past = tells_of p i t.told in
     let within : all_of is_within t.told ≡ true = first_all is_within t.told (told_end t.post t.outcome) (within_of w i) in
     let along : tells_of p i (told_in w i) ≡ tells_of q i (told_end t.post t.outcome) = tells_both i t.told (told_end t.post t.outcome) p in
     let stood : stood_at i 2 q ≡ stands t.post 2 = sym (before_stood i 2 t.post t.outcome q) ∙ sym (ap (stood_at i 2) along) ∙ s ∙ ap (λ (x : Post). stands x 2) (stepped_post w i) in
     subst (Each misses_ok) (sym along)
     (end_misses i (w.seat i).call q t.post t.outcome (began_along i t.told p within ∙ b) stood
-    (λ c. phase_missed w.layout (w.seat i).phase (w.seat i).post (counted (w.seat i).post) (w.seat i).desk (finds w i) (h c) (λ why base e. run_of w i why base a.known.seats e) (a.known.rests.vacant i))
+    (λ c. phase_missed w.layout (w.seat i).phase (w.seat i).post (counted (w.seat i).post) (offered w i).desk (finds w i) (h c) (λ why base e. run_of w i why base a.known.seats e) (a.known.rests.vacant i))
     (open_each i t.told p o g))
 
 -- what holds tell that find nothing
@@ -164,7 +164,7 @@ misses_item layout d path (Steps i) true f g =
     let y : is_busy w i ≡ true = rest_of (nat_lt i w.layout.config.seats) (is_busy w i) f in
     let k = answers_of layout path d in
     let right = k.seats i in
-    let o : Owes layout.config.buckets (w.seat i).call (owed layout.config.buckets (w.seat i).call (w.seat i).phase) (turn (w.seat i) (finds w i)) = owes_of layout.config.buckets w i k.table a (right.serves y) in
+    let o : Owes layout.config.buckets (w.seat i).call (owed layout.config.buckets (w.seat i).call (w.seat i).phase) (turn (offered w i) (finds w i)) = owes_of layout.config.buckets w i k.table a (right.serves y) in
     let e : done (made_of layout path) (Steps i) ≡ made_of layout (path ++ Steps i ∷ []) = ap (done_if (made_of layout path) (Steps i)) (sym f) ∙ sym (made_snoc (first_made layout) path (Steps i)) in
     let stood : stood_at i 2 (tells_of p i (told_in w i)) ≡ stands ((step w i).seat i).post 2 =
     subst (λ (made : Made). stood_at i 2 made.past ≡ stands (made.world.seat i).post 2) (sym e) (record_stands layout (path ++ Steps i ∷ []) i 2 d) in

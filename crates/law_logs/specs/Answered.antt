@@ -1,6 +1,6 @@
--- What a call's answer says of the map and of the queue, by the counts where the call began and a record that has its end; and what it
--- says of rows, at its end.
-use Rattle.std.specs.Prelude.{ℕ, ◌≡◌, ◌≤◌, ◌<◌, ◌+◌, ◌-◌, ◌==◌, List, length, slice_index_or, Option, None, Some, true, false}
+-- What a call's answer says of the map, of the queue and of lists that are left, by the counts where the call began and a record that has
+-- its end; and what it says of rows and of the seat's own list, at its end.
+use Rattle.std.specs.Prelude.{ℕ, ◌≡◌, ◌≤◌, ◌<◌, ◌+◌, ◌-◌, ◌==◌, List, [], ◌++◌, length, slice_index_or, Option, None, Some, true, false}
 use Rattle.law_steps.specs.inv.model.defs.Entry.{Entry}
 use Rattle.law_steps.specs.inv.model.defs.Events.{is_held}
 use Rattle.law_steps.specs.inv.model.defs.Pairs.{changed}
@@ -11,10 +11,13 @@ use Rattle.law_steps.specs.inv.model.defs.declared.call.Call.TheVariants as call
 use Rattle.law_steps.specs.inv.model.defs.declared.fold.Change.{Change}
 use Rattle.law_steps.specs.inv.model.defs.declared.fold.Change.TheVariants as changes
 use Rattle.law_steps.specs.inv.model.words.declared.config.Config.{Config}
+use Rattle.law_steps.specs.inv.model.defs.declared.event.Event.TheVariants as events
+use Rattle.law_steps.specs.laws.AnswerLaw.{adopted_else, stayed}
 use Rattle.law_steps.specs.laws.ScanLaw.{guards}
-use Rattle.law_steps.specs.laws.StateAt.{bucket_of, count_of, has_told, is_give, is_read, is_there, pairs_at, queued_of, row_at, shows_of, stood_at, taken_of, taken_since, times, value_at}
+use Rattle.law_steps.specs.laws.StateAt.{bucket_of, count_of, has_left, has_told, is_adopted, is_give, is_read, is_there, list_of, pairs_at, queued_of, row_at, shows_of, stood_at, taken_of, taken_since, times, value_at}
 use Rattle.law_steps.specs.laws.StateAt.RowShows.{ShowsVersion}
-use Rattle.law_steps.specs.inv.history.Record.{Past, tells}
+use Rattle.law_steps.specs.inv.history.Record.{Past, begins, held_since, tells}
+use Rattle.law_steps.specs.inv.history.Record.Past.{Then}
 use Rattle.law_logs.specs.Versions.{AtMost, Counts, counts_of}
 
 -- a version that bucket b had at a position from the beginning on
@@ -125,6 +128,19 @@ pub record IsRow (from : Counts) (last : Past) (b slot : ℕ) : Type 0 where
   pub met : IsMet from last b version
   pub row_is : row_at b version last ≡ Some slot
 
+-- the list of this seat was left, and another seat has it
+pub record IsHanded (place : ℕ) (last : Past) : Type 0 where
+  pub left : has_left place last ≡ true
+  pub adopted : is_adopted place last ≡ true
+
+-- at a position since the beginning this seat had not left
+pub record IsStaying (from : Counts) (last : Past) (place : ℕ) : Type 0 where
+  pub at : Past
+  pub later : List Entry
+  pub cut : last ≡ tells at later
+  pub since : AtMost from (counts_of at)
+  pub stays : has_left place at ≡ false
+
 -- by call and answer
 abbrev pub Says : Config → Counts → Past → Call → Answer → Type 0
 Says c from last (calls.Get key) (answers.Got version value) = IsGot from last (bucket_of c.buckets key) key version value
@@ -147,6 +163,10 @@ Says c from last calls.Dequeue answers.Empty = IsEmpty from last
 Says c from last (calls.Hold key) (answers.Holding slot) = IsRow from last (bucket_of c.buckets key) slot
 -- a hold that finds nothing found a bucket that had not been changed
 Says c from last (calls.Hold key) answers.Nothing = from.versions (bucket_of c.buckets key) ≡ 0
+Says c from last (calls.Adopt place) (answers.Adopted count) = IsHanded place last
+-- the list that is not taken over had not been left, or another call has taken it over
+Says c from last (calls.Adopt place) answers.NotLeft = IsStaying from last place
+Says c from last (calls.Adopt place) answers.AdoptedBefore = is_adopted place last ≡ true
 Says c from last call answer = Unit {0}
 
 -- the call told that the row stands at index 2 of its seat, and it stands there
@@ -173,7 +193,29 @@ pub record IsCrowded (c : Config) (k : ℕ) (at : Past) : Type 0 where
   pub reads : times k is_read at ≡ guards c
   pub taken : (s : ℕ) → s ≤ c.slots → taken_since c.slots k s at ≡ true
 
--- what an answer says of rows, at the position where the call of seat k ends: only there, since a row that stands may be let go later
+-- the call told that its seat leaves its list, which had so many lives; and nothing stands at the seat
+pub record IsGone (c : Config) (k : ℕ) (at : Past) (count : ℕ) : Type 0 where
+  pub before : Past
+  pub later : List Entry
+  pub cut : at ≡ tells (Then before k (events.Left count)) later
+  pub long : count ≡ length (list_of k before)
+  pub left : has_left k at ≡ true
+  pub bare : (j : ℕ) → j < c.indexes → stood_at k j at ≡ None
+
+-- The call told that its seat takes the list of this seat over, which had so many lives. That list had been left, and no seat had taken
+-- it over; then it comes last in the list of the call's seat, and is none at its own.
+pub record IsTakenOver (k place : ℕ) (at : Past) (count : ℕ) : Type 0 where
+  pub before : Past
+  pub later : List Entry
+  pub cut : at ≡ tells (Then before k (events.Adopted place count)) later
+  pub left : has_left place before ≡ true
+  pub first : is_adopted place before ≡ false
+  pub long : count ≡ length (list_of place before)
+  pub gains : list_of k (Then before k (events.Adopted place count)) ≡ list_of k before ++ list_of place before
+  pub hands : list_of place (Then before k (events.Adopted place count)) ≡ []
+
+-- what an answer says of rows and of lists, at the position where the call of seat k ends: only there, since a row that stands may be let
+-- go later
 abbrev pub SaysOfRows : Config → ℕ → Past → Call → Answer → Type 0
 SaysOfRows c k at (calls.Put key value) answers.Full = IsCrowded c k at
 SaysOfRows c k at (calls.PutIf key value wanted) answers.Full = IsCrowded c k at
@@ -186,4 +228,10 @@ SaysOfRows c k at (calls.Copy from index) (answers.Copied slot) = IsCopied k fro
 SaysOfRows c k at (calls.Copy from index) answers.Nothing = stood_at k from at ≡ None
 SaysOfRows c k at (calls.Look index key) (answers.Looked slot version value) = IsShown k index key at slot version value
 SaysOfRows c k at (calls.Look index key) answers.Nothing = stood_at k index at ≡ None
+SaysOfRows c k at calls.Leave (answers.Left count) = IsGone c k at count
+SaysOfRows c k at (calls.Adopt place) (answers.Adopted count) = IsTakenOver k place at count
+-- at a position of the call the seat had not left
+SaysOfRows c k at (calls.Adopt place) answers.NotLeft = held_since (begins k) (stayed place) at ≡ true
+-- another call than this one has taken the list over
+SaysOfRows c k at (calls.Adopt place) answers.AdoptedBefore = adopted_else k place at ≡ true
 SaysOfRows c k at call answer = Unit {0}

@@ -73,7 +73,8 @@ pub record IsBegun (k : ℕ) (at : Past) (call : Call) : Type 0 where
   pub log : log_of k from ≡ log_of k at
 
 -- A call that has ended. By the counts where it began: what its answer says, at its end and in the record; and its seat had met nothing
--- beyond them. At its end: what the answer says of rows; and the seat has met nothing beyond the counts there, and no less than before.
+-- beyond them. At its end: what the answer says of rows and lists; and the seat has met nothing beyond the counts there, and no less than
+-- before.
 pub record IsAnswered (c : Config) (k : ℕ) (r : Past) (before : List Group) (group : Group) : Type 0 where
   pub end : IsEnded k r before group
   pub begun : IsBegun k end.at group.call

@@ -38,7 +38,9 @@ pub fn logs_are_cut()
 /// these. Where it ends, the row that a hold answers stands at index 2 of its seat. A call that is
 /// answered Full was given no row and has read each guard, and since then each row was taken. What a
 /// copy answers stands at both indexes; what a look answers stands at its index, and shows the version
-/// and the value; after a release or a drop nothing stands there.
+/// and the value; after a release or a drop nothing stands there. Where a seat has left, nothing stands
+/// at it, and it has told how long its list is. A list that is taken over had been left, and not been
+/// taken over; then it comes last in the list of the seat that takes it over, and is none at its own.
 pub fn logs_answer()
     ensures { LogsAnswer }
 {}

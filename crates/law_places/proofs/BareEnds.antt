@@ -8,10 +8,10 @@ use Rattle.law_reuse.specs.inv.model.defs.declared.event.Event.{Event}
 use Rattle.law_reuse.specs.inv.model.defs.declared.event.Event.TheVariants as events
 use Rattle.law_reuse.specs.inv.model.declared.post.Post.{Post}
 use Rattle.law_reuse.specs.inv.model.Calls.{Phase, CallTurn, CallOutcome, GoesOn, Answers}
-use Rattle.law_reuse.specs.inv.model.Locals.{may_begin, told_by, told_end, turn}
+use Rattle.law_reuse.specs.inv.model.Locals.{told_by, told_end, turn}
 use Rattle.std.proofs.lemmas.Bool.Decides.{nat_tests}
 use Rattle.law_reuse.specs.inv.model.Posts.{stands}
-use Rattle.law_reuse.specs.inv.model.World.{World, finds, is_busy, step}
+use Rattle.law_reuse.specs.inv.model.World.{World, finds, is_busy, offered, step, may_start}
 use Rattle.law_reuse.proofs.inv.model.Facts.{first_of, rest_of}
 use Rattle.law_reuse.specs.inv.covers.Rests.{Vacant, spare, vacant}
 use Rattle.law_reuse.proofs.inv.covers.Held.{stepped_phase}
@@ -82,17 +82,17 @@ step_bare layout made i b y s g =
     let w : World = made.world in
     let n : ℕ = layout.config.buckets in
     let later = answering.step_keeps n made i b y g.answers in
-    let o : Owes n (w.seat i).call (owed n (w.seat i).call (w.seat i).phase) (turn (w.seat i) (finds w i)) = owes_of n w i g.answers.table g.answers.known ((g.answers.seats i).serves y) in
+    let o : Owes n (w.seat i).call (owed n (w.seat i).call (w.seat i).phase) (turn (offered w i) (finds w i)) = owes_of n w i g.answers.table g.answers.known ((g.answers.seats i).serves y) in
     let a : Inv (step w i) = later.known in
-    let v : Vacant (vacant (phase_left (turn (w.seat i) (finds w i)).outcome)) ((step w i).seat i).post =
+    let v : Vacant (vacant (phase_left (turn (offered w i) (finds w i)).outcome)) ((step w i).seat i).post =
     subst (λ (phase : Phase). Vacant (vacant phase) ((step w i).seat i).post) (stepped_phase w i) (a.known.rests.vacant i) in
-    record { answers = later; law = λ j. step_each i j (turn (w.seat i) (finds w i)) ((step w i).seat i).post made.past o.told.goes v (s i j) (g.law j) }
+    record { answers = later; law = λ j. step_each i j (turn (offered w i) (finds w i)) ((step w i).seat i).post made.past o.told.goes v (s i j) (g.law j) }
 
 item_bare : (layout : Layout) (made : Made) (item : Item) (fit : Bool) → fits made.world item ≡ fit → Stood (done_if made item fit) → Bare layout made → Bare layout (done_if made item fit)
 item_bare layout made item false f s g = g
 item_bare layout made (Begins i call) true f s g =
     let seats : ℕ = made.world.layout.config.seats in
-    let may : Bool = may_begin made.world.layout.config call in
+    let may : Bool = may_start made.world i call in
     record { answers = answering.begin_keeps layout.config.buckets made i call (begins_right i seats (is_busy made.world i) may f) (begins_within i seats (is_busy made.world i) may f) g.answers; law = λ j. (refl, g.law j) }
 item_bare layout made (Steps i) true f s g =
     step_bare layout made i (low_seat i made.world.layout.config.seats (is_busy made.world i) f) (rest_of (nat_lt i made.world.layout.config.seats) (is_busy made.world i) f) s g

@@ -4,6 +4,7 @@ pub mod Emptied
 pub mod Keeps
 pub mod Later
 pub mod Missing
+pub mod Parting
 pub mod Reading
 pub mod Refusing
 pub mod Saying

@@ -7,7 +7,9 @@ ghost use Rattle.law_reasons.specs.Records.{RecordsKeepFull, RecordsKeepLacks, R
 /// Where a call ends, in the record of any history, its answer has its reason in the record: a change
 /// was refused, or made, as the pairs of its bucket at a version current during the call say; the
 /// queue's numbers are spent; a dequeue found all taken at a position of its call; a hold found a
-/// bucket that had not been changed; and what was held stands, or stands no more.
+/// bucket that had not been changed; what was held stands, or stands no more; nothing stands at a seat
+/// that left; and a list that was not taken over had not been left at a position of the call, or
+/// another call had taken it over.
 pub fn records_keep_reasons()
     ensures { RecordsKeepReasons }
 {}
@@ -39,8 +41,8 @@ pub fn records_keep_repeats()
     ensures { RecordsKeepRepeats }
 {}
 
-/// Each entry is of a seat of the table, and the indexes, rows and buckets that it tells of are those
-/// of the table.
+/// Each entry is of a seat of the table, and the indexes, rows, buckets and places that it tells of are
+/// those of the table. No list that is left or taken over has more entries than there are rows.
 pub fn records_stay_in_range()
     ensures { RecordsStayInRange }
 {}

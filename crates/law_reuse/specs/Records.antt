@@ -9,7 +9,7 @@ use Rattle.law_answers.specs.inv.history.History.{Item, record_of, world_of}
 use Rattle.law_answers.specs.laws.HistoryEras.{BirthLaw}
 use Rattle.law_answers.specs.laws.HoldLaw.{is_held}
 use Rattle.law_answers.specs.laws.HistoryHolds.{ReuseLaw}
-use Rattle.law_answers.specs.laws.HistoryRows.{FreeLaw, BackOnce}
+use Rattle.law_answers.specs.laws.HistoryRows.{FreeLaw, BackOnce, ListLaw}
 use Rattle.law_answers.specs.laws.HistoryScans.{BlockLaw, CountLaw, ReadLaw}
 use Rattle.law_answers.specs.laws.StateAt.{stood_at, value_of}
 
@@ -30,6 +30,10 @@ RecordsKeepOnce = (layout : Layout) (items : List Item) → is_valid layout ≡ 
 
 abbrev pub RecordsGoBackOnce : Type 0
 RecordsGoBackOnce = (layout : Layout) (items : List Item) → is_valid layout ≡ true → BackOnce (record_of layout items)
+
+-- each history's record keeps it, whatever calls begin and whichever seats make their steps
+abbrev pub RecordsKeepLists : Type 0
+RecordsKeepLists = (layout : Layout) (items : List Item) → is_valid layout ≡ true → ListLaw (record_of layout items)
 
 -- each history's record keeps it, whatever calls begin and whichever seats make their steps
 abbrev pub RecordsKeepScans : Type 0

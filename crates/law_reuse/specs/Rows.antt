@@ -3,7 +3,8 @@ use Rattle.std.specs.Prelude.{Bool, false, true, ℕ, ◌==◌, ◌≡◌, List}
 use Rattle.law_answers.specs.inv.rows.Rows.Status.{Born, Claimed, Cut, Free, InQueue, Linked, Listed, Sealed}
 use Rattle.law_answers.specs.inv.rows.Rows.{Status, View, is_taken}
 use Rattle.law_answers.specs.inv.history.Record.{Past}
-use Rattle.law_answers.specs.inv.model.World.{World}
+use Rattle.law_answers.specs.Records.{PlacesSay}
+use Rattle.law_answers.specs.inv.model.World.{World, list_in}
 use Rattle.law_answers.specs.laws.StateAt.{cut_at, list_of, retired_at, taken_at}
 use Rattle.law_answers.specs.inv.rows.Agree.{Agree}
 use Rattle.law_answers.specs.inv.history.History.{Item, record_of, world_of}
@@ -32,12 +33,13 @@ is_cut i (Cut by) = i == by
 is_cut i (Sealed by retire) = i == by
 is_cut i (Listed by retire) = false
 
--- the record says of the rows what is so in the World: which are taken and which retired; each seat's list, entry by entry; and
--- whatever row a seat has cut and not retired, it has told so
+-- the record says of the rows what is so in the World: which are taken and which retired; the list that is each seat's own, entry by
+-- entry, which seats have left, and whose lists are taken over; and whatever row a seat has cut and not retired, it has told so
 pub record Shows (w : World) (v : View) (p : Past) : Type 0 where
   pub taken : (s : ℕ) → taken_at w.layout.config.slots s p ≡ is_taken (v.status s)
   pub retired : (s : ℕ) → retired_at s p ≡ is_listed (v.status s)
-  pub lists : (k : ℕ) → list_of k p ≡ (w.seat k).desk.list
+  pub lists : (k : ℕ) → list_of k p ≡ list_in w k
+  pub places : PlacesSay w.mem p
   pub cuts : (k s : ℕ) → is_cut k (v.status s) ≡ true → cut_at k s p ≡ true
 
 -- with the rows as the words show them

@@ -4,7 +4,7 @@
 #![tactic(auto)]
 
 ghost use Rattle.law_reuse.specs.Holds.{AlwaysShown, StandsShown};
-ghost use Rattle.law_reuse.specs.Records.{RecordStands, RecordValues, RecordsCountScans, RecordsGoBackOnce, RecordsHold, RecordsKeepBirths, RecordsKeepOnce, RecordsKeepReuse, RecordsKeepScans, RecordsReadGuards};
+ghost use Rattle.law_reuse.specs.Records.{RecordStands, RecordValues, RecordsCountScans, RecordsGoBackOnce, RecordsHold, RecordsKeepBirths, RecordsKeepLists, RecordsKeepOnce, RecordsKeepReuse, RecordsKeepScans, RecordsReadGuards};
 ghost use Rattle.law_reuse.specs.Reuse.{NeverReused, NoReuse};
 ghost use Rattle.law_reuse.specs.Rows.{RecordShows};
 
@@ -44,7 +44,8 @@ pub fn records_keep_reuse()
 {}
 
 /// What a record says of rows is so: which of them are taken and which retired, what is in the list
-/// of each seat, and which rows a seat has cut and not retired.
+/// that is each seat's own, which seats have left and whose lists are taken over, and which rows a
+/// seat has cut and not retired.
 pub fn record_shows()
     ensures { RecordShows }
 {}
@@ -60,6 +61,13 @@ pub fn records_keep_once()
 /// most once.
 pub fn records_go_back_once()
     ensures { RecordsGoBackOnce }
+{}
+
+/// A list is left only by a call with which its seat leaves, and is taken over only by a call for it,
+/// once its seat has left it and before any other seat has taken it over. The numbers told are the
+/// lengths of the lists, so each list goes over whole and at most once.
+pub fn records_keep_lists()
+    ensures { RecordsKeepLists }
 {}
 
 /// A row is retired with the birth era with which it was given last.

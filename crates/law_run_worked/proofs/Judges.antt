@@ -1,10 +1,11 @@
 -- The plain reader of runs judges as the law does.
-use Rattle.std.proofs.Common.{Bool, List, None, Option, Some, [], ap, arith, drop, false, length, refl, subst, suc, sym, true, ℕ, ◌++◌, ◌+◌, ◌<◌, ◌==◌, ◌∙◌, ◌∷◌, ◌≡◌, ◌≤◌}
-use Rattle.std.proofs.lemmas.Bool.Decides.{Decides-and, Decides-eqb}
+use Rattle.std.proofs.Common.{Bool, List, None, Option, Some, [], ap, arith, drop, false, length, refl, subst, suc, sym, true, zero, ℕ, ◌++◌, ◌+◌, ◌<◌, ◌==◌, ◌∙◌, ◌∷◌, ◌≡◌, ◌≤◌}
+use Rattle.std.proofs.lemmas.Bool.Decides.{Decides-and, Decides-eqb, nat_tests}
+use Rattle.std.proofs.lemmas.List.{get_or_past}
 use Rattle.std.specs.Bool.{Decides}
 use Rattle.std.specs.List.{list_all, range_with_len, slice_get}
-use Rattle.std.specs.Prelude.{filter, if◌then◌else◌, nat_le, nat_lt, ◌&&◌}
-use Rattle.law_all.proofs.inv.model.Facts.{both}
+use Rattle.std.specs.Prelude.{count_by, filter, if◌then◌else◌, nat_le, nat_lt, not, ◌&&◌}
+use Rattle.law_all.proofs.inv.model.Facts.{both, by_cases}
 use Rattle.law_all.specs.inv.model.Locals.{Group}
 use Rattle.law_all.specs.inv.model.defs.Pairs.{pairs_after}
 use Rattle.law_all.specs.inv.model.defs.declared.call.Answer.TheVariants as answers
@@ -14,13 +15,13 @@ use Rattle.law_all.specs.laws.AnswerLaw.{retires_for, suits}
 use Rattle.law_all.specs.laws.StateAt.{bucket_of, is_among, numbered_from, one}
 use Rattle.law_all.specs.logs.Versions.{version_told}
 use Rattle.law_all.specs.RunLaw as law
-use Rattle.law_run_worked.specs.Readers.{Bullet, Holds, ReadersJudge, Sentence, back_ok, bare_ok, bullets, change_in, changes_rise_ok, clock_ok, each_below, each_call, each_pair, empty_ok, final_ok, full_ok, if_some_ok, keeps_ok, kept_ok, later_ok, made_in, moved_by, never_fall_ok, once_ok, plain_ok, queued_by, queued_in, queues_ok, reads, reads_ok, rises_ok, same_ok, same_pairs, sentences_of, spent_ok, taken_by, taken_in, takes, tellers, versions_ok}
+use Rattle.law_run_worked.specs.Readers.{Bullet, Holds, ReadersJudge, Sentence, adopted_by, adopted_ok, back_ok, bare_ok, bullets, change_in, changes_rise_ok, clock_ok, each_below, each_call, each_pair, empty_ok, final_ok, full_ok, if_some_ok, keeps_ok, kept_ok, later_ok, made_in, moved_by, never_fall_ok, once_ok, parted_ok, plain_ok, queued_by, queued_in, queues_ok, reads, reads_ok, rises_ok, same_numbers, same_ok, same_pairs, sentences_of, spent_ok, taken_by, taken_in, takes, tellers, versions_ok}
 use Rattle.law_run_worked.specs.Runs.{Run}
 use Rattle.law_run_worked.proofs.Keeps.{Later, Same, decides_keeps, decides_later, decides_same}
 use Rattle.law_run_worked.proofs.Made.{changes_told, keeps_of, made_is, queued_is, reads_of, taken_is}
 use Rattle.law_run_worked.proofs.Numbers.{decides_once, decides_single}
 use Rattle.law_run_worked.proofs.Splits.{decides_below, decides_call, decides_pair, decides_two, get_read}
-use Rattle.law_run_worked.proofs.Tests.{LessBy, Less, Versions, decides_back, decides_bare, decides_clock, decides_empty, decides_final, decides_full, decides_kept, decides_less, decides_most, decides_numbers, decides_pairs, decides_plain, decides_queues, decides_reads, decides_rises, decides_slots, decides_some, decides_versions, itself}
+use Rattle.law_run_worked.proofs.Tests.{LessBy, Less, Versions, decides_adopted, decides_back, decides_bare, decides_clock, decides_empty, decides_final, decides_full, decides_kept, decides_less, decides_most, decides_numbers, decides_other, decides_pairs, decides_parted, decides_plain, decides_queues, decides_reads, decides_rises, decides_slots, decides_some, decides_versions, itself}
 
 -- a sentence of a bullet
 part : (run : Run) (bullet : Bullet) (place : ℕ) (sentence : Sentence) → takes run bullet ≡ true
@@ -371,29 +372,103 @@ plain_all run =
 
 early_all : (run : Run)
     → Decides (reads run Sentence.Early)
-    ((before : List Group) (group : Group) → law.IsCall run.logs before group → law.is_part_of (law.early_backs group.notes) (law.list_from [] before) ≡ true)
+    ((before : List Group) (group : Group) → law.IsCall run.logs before group → law.is_part_of (law.early_backs group.notes) (law.list_in run.logs before) ≡ true)
 early_all run =
-    decides_call (λ before group. law.is_part_of (law.early_backs group.notes) (law.list_from [] before))
-    (λ before group. law.is_part_of (law.early_backs group.notes) (law.list_from [] before) ≡ true)
-    (λ before group. itself (law.is_part_of (law.early_backs group.notes) (law.list_from [] before))) run.logs
+    decides_call (λ before group. law.is_part_of (law.early_backs group.notes) (law.list_in run.logs before))
+    (λ before group. law.is_part_of (law.early_backs group.notes) (law.list_in run.logs before) ≡ true)
+    (λ before group. itself (law.is_part_of (law.early_backs group.notes) (law.list_in run.logs before))) run.logs
+
+-- a seat's list in a call, and after it
+abbrev between : Run → List Group → Group → List ℕ
+between run before group = law.list_between (law.left_in run.logs) (law.list_in run.logs before) group
+
+abbrev after : Run → List Group → Group → List ℕ
+after run before group = law.list_after (law.left_in run.logs) (law.list_in run.logs before) group
 
 late_all : (run : Run)
     → Decides (reads run Sentence.Late)
-    ((before : List Group) (group : Group) → law.IsCall run.logs before group
-    → law.is_part_of (law.late_backs group.notes) (law.list_between (law.list_from [] before) group) ≡ true)
+    ((before : List Group) (group : Group) → law.IsCall run.logs before group → law.is_part_of (law.late_backs group.notes) (between run before group) ≡ true)
 late_all run =
-    decides_call (λ before group. law.is_part_of (law.late_backs group.notes) (law.list_between (law.list_from [] before) group))
-    (λ before group. law.is_part_of (law.late_backs group.notes) (law.list_between (law.list_from [] before) group) ≡ true)
-    (λ before group. itself (law.is_part_of (law.late_backs group.notes) (law.list_between (law.list_from [] before) group))) run.logs
+    decides_call (λ before group. law.is_part_of (law.late_backs group.notes) (between run before group))
+    (λ before group. law.is_part_of (law.late_backs group.notes) (between run before group) ≡ true)
+    (λ before group. itself (law.is_part_of (law.late_backs group.notes) (between run before group))) run.logs
 
 kept_all : (run : Run)
     → Decides (reads run Sentence.Kept)
     ((before : List Group) (group : Group) → law.IsCall run.logs before group
-    → (kept back : ℕ) → group.answer ≡ answers.Scanned kept back → kept ≡ length (law.list_after (law.list_from [] before) group))
+    → (kept back : ℕ) → group.answer ≡ answers.Scanned kept back → kept ≡ length (after run before group))
 kept_all run =
-    decides_call (λ before group. kept_ok group.answer (length (law.list_after (law.list_from [] before) group)))
-    (λ before group. (kept back : ℕ) → group.answer ≡ answers.Scanned kept back → kept ≡ length (law.list_after (law.list_from [] before) group))
-    (λ before group. decides_kept group.answer (length (law.list_after (law.list_from [] before) group))) run.logs
+    decides_call (λ before group. kept_ok group.answer (length (after run before group)))
+    (λ before group. (kept back : ℕ) → group.answer ≡ answers.Scanned kept back → kept ≡ length (after run before group))
+    (λ before group. decides_kept group.answer (length (after run before group))) run.logs
+
+left_all : (run : Run)
+    → Decides (reads run Sentence.LeftCount)
+    ((before : List Group) (group : Group) → law.IsCall run.logs before group
+    → (count : ℕ) → group.answer ≡ answers.Left count → count ≡ length (after run before group))
+left_all run =
+    decides_call (λ before group. parted_ok group.answer (length (after run before group)))
+    (λ before group. (count : ℕ) → group.answer ≡ answers.Left count → count ≡ length (after run before group))
+    (λ before group. decides_parted group.answer (length (after run before group))) run.logs
+
+adopted_all : (run : Run)
+    → Decides (reads run Sentence.TakenCount)
+    ((before : List Group) (group : Group) → law.IsCall run.logs before group
+    → (place count : ℕ) → law.taken_over group.call group.answer ≡ Some place → group.answer ≡ answers.Adopted count → count ≡ length (law.left_in run.logs place))
+adopted_all run =
+    decides_call (λ before group. adopted_ok (law.left_in run.logs) (adopted_by group) group.answer)
+    (λ before group. (place count : ℕ) → adopted_by group ≡ Some place → group.answer ≡ answers.Adopted count → count ≡ length (law.left_in run.logs place))
+    (λ before group. decides_adopted (law.left_in run.logs) (adopted_by group) group.answer) run.logs
+
+-- a seat that the run does not have has no list
+none_left : (times : ℕ) (logs : List (List Group)) (seat : ℕ) → law.log_in logs seat ≡ [] → law.left_after times logs seat ≡ []
+none_left zero logs seat e = ap (law.list_from (λ (place : ℕ). []) []) e
+none_left (suc times) logs seat e = ap (law.list_from (law.left_after times logs) []) e
+
+whole_all : (run : Run)
+    → Decides (reads run Sentence.Whole) ((seat : ℕ) → law.list_in run.logs (law.log_in run.logs seat) ≡ law.left_in run.logs seat)
+whole_all run =
+    let below : Decides (reads run Sentence.Whole) ((seat : ℕ) → seat < length run.logs → law.list_in run.logs (law.log_in run.logs seat) ≡ law.left_in run.logs seat) =
+    decides_below (λ seat. same_numbers (law.list_in run.logs (law.log_in run.logs seat)) (law.left_in run.logs seat))
+    (λ seat. law.list_in run.logs (law.log_in run.logs seat) ≡ law.left_in run.logs seat)
+    (λ seat. decides_slots (law.list_in run.logs (law.log_in run.logs seat)) (law.left_in run.logs seat)) (length run.logs) in (
+      (λ e seat.
+          by_cases (nat_lt seat (length run.logs)) (law.list_in run.logs (law.log_in run.logs seat) ≡ law.left_in run.logs seat)
+          (λ t. below.0 e seat (grind (arith, nat_tests)))
+          (λ t.
+          let past : length run.logs ≤ seat = grind (arith, nat_tests) in
+          let none : law.log_in run.logs seat ≡ [] = get_or_past run.logs seat [] past in
+          ap (law.list_in run.logs) none ∙ sym (none_left (law.total_of law.leaves run.logs) run.logs seat none))),
+      (λ h. below.1 (λ seat l. h seat)),
+    )
+
+last_all : (run : Run) → Decides (reads run Sentence.LastCall) ((one two : Group) → law.InOrder run.logs one two → law.leaves one ≡ false)
+last_all run =
+    decides_pair (λ one two. not (law.leaves one)) (λ one two. law.leaves one ≡ false) (λ one two. decides_other (law.leaves one)) run.logs
+
+gone_all : (run : Run)
+    → Decides (reads run Sentence.Gone)
+    ((before : List Group) (group : Group) → law.IsCall run.logs before group
+    → (place : ℕ) → law.taken_over group.call group.answer ≡ Some place → 1 ≤ count_by law.leaves (law.log_in run.logs place))
+gone_all run =
+    decides_call (λ before group. if_some_ok (λ place. nat_le 1 (count_by law.leaves (law.log_in run.logs place))) (adopted_by group))
+    (λ before group. (place : ℕ) → adopted_by group ≡ Some place → 1 ≤ count_by law.leaves (law.log_in run.logs place))
+    (λ before group.
+    decides_some (λ place. nat_le 1 (count_by law.leaves (law.log_in run.logs place))) (λ place. 1 ≤ count_by law.leaves (law.log_in run.logs place))
+    (λ place. decides_most 1 (count_by law.leaves (law.log_in run.logs place))) (adopted_by group))
+    run.logs
+
+found_all : (run : Run)
+    → Decides (reads run Sentence.FoundAdopted)
+    ((before : List Group) (group : Group) → law.IsCall run.logs before group
+    → (place : ℕ) → law.found_taken group.call group.answer ≡ Some place → 1 ≤ law.total_of (law.takes_over place) run.logs)
+found_all run =
+    decides_call (λ before group. if_some_ok (λ place. nat_le 1 (law.total_of (law.takes_over place) run.logs)) (law.found_taken group.call group.answer))
+    (λ before group. (place : ℕ) → law.found_taken group.call group.answer ≡ Some place → 1 ≤ law.total_of (law.takes_over place) run.logs)
+    (λ before group.
+    decides_some (λ place. nat_le 1 (law.total_of (law.takes_over place) run.logs)) (λ place. 1 ≤ law.total_of (law.takes_over place) run.logs)
+    (λ place. decides_most 1 (law.total_of (law.takes_over place) run.logs)) (law.found_taken group.call group.answer))
+    run.logs
 
 lists : (run : Run) → Decides (takes run Bullet.Lists) (Holds run Bullet.Lists)
 lists run = (
@@ -405,13 +480,27 @@ lists run = (
               early = (early_all run).0 (part run Bullet.Lists 1 Sentence.Early e refl) before group k;
               late = (late_all run).0 (part run Bullet.Lists 2 Sentence.Late e refl) before group k;
               kept = (kept_all run).0 (part run Bullet.Lists 3 Sentence.Kept e refl) before group k;
+              left = (left_all run).0 (part run Bullet.Lists 4 Sentence.LeftCount e refl) before group k;
+              taken = (adopted_all run).0 (part run Bullet.Lists 5 Sentence.TakenCount e refl) before group k;
             };
+        whole = (whole_all run).0 (part run Bullet.Lists 6 Sentence.Whole e refl);
+        last = (last_all run).0 (part run Bullet.Lists 7 Sentence.LastCall e refl);
+        gone = λ before group place k. (gone_all run).0 (part run Bullet.Lists 8 Sentence.Gone e refl) before group k place;
+        once = (decides_single adopted_by run.logs).0 (part run Bullet.Lists 9 Sentence.OnceAdopted e refl);
+        found = λ before group place k. (found_all run).0 (part run Bullet.Lists 10 Sentence.FoundAdopted e refl) before group k place;
       }),
   (λ h.
       both (reads run Sentence.Plain) _ ((plain_all run).1 (λ before group k. (h.right before group k).plain))
       (both (reads run Sentence.Early) _ ((early_all run).1 (λ before group k. (h.right before group k).early))
       (both (reads run Sentence.Late) _ ((late_all run).1 (λ before group k. (h.right before group k).late))
-      (both (reads run Sentence.Kept) _ ((kept_all run).1 (λ before group k. (h.right before group k).kept)) refl)))),
+      (both (reads run Sentence.Kept) _ ((kept_all run).1 (λ before group k. (h.right before group k).kept))
+      (both (reads run Sentence.LeftCount) _ ((left_all run).1 (λ before group k. (h.right before group k).left))
+      (both (reads run Sentence.TakenCount) _ ((adopted_all run).1 (λ before group k. (h.right before group k).taken))
+      (both (reads run Sentence.Whole) _ ((whole_all run).1 h.whole)
+      (both (reads run Sentence.LastCall) _ ((last_all run).1 h.last)
+      (both (reads run Sentence.Gone) _ ((gone_all run).1 (λ before group k place. h.gone before group place k))
+      (both (reads run Sentence.OnceAdopted) _ ((decides_single adopted_by run.logs).1 h.once)
+      (both (reads run Sentence.FoundAdopted) _ ((found_all run).1 (λ before group k place. h.found before group place k)) refl))))))))))),
 )
 
 -- Eras.

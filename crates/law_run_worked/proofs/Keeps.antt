@@ -119,6 +119,7 @@ fronts_by before (calls.Hold key) (answers.Holding slot) kept f j k e =
 fronts_by before (calls.Hold key) answers.Nothing kept f j k e = either before k (j == 2) None (kept j) (λ n. absurd (cc)) (λ o. f j k o) e
 fronts_by before calls.Release answer kept f j k e = either before k (j == 2) None (kept j) (λ n. absurd (cc)) (λ o. f j k o) e
 fronts_by before (calls.DropIndex index) answer kept f j k e = either before k (j == index) None (kept j) (λ n. absurd (cc)) (λ o. f j k o) e
+fronts_by before calls.Leave answer kept f j k e = absurd (cc)
 fronts_by before (calls.Copy from index) (answers.Copied slot) kept f j k e = either before k (j == index) (kept from) (kept j) (λ n. f from k n) (λ o. f j k o) e
 fronts_by before call answer kept f j k e = f j k e
 

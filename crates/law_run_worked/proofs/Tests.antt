@@ -15,14 +15,14 @@ use Rattle.law_all.specs.inv.model.defs.declared.fold.Change.TheVariants as chan
 use Rattle.law_all.specs.inv.model.words.declared.config.Config.{Config}
 use Rattle.law_all.specs.laws.StateAt.{bucket_of, same_value}
 use Rattle.law_all.specs.RunLaw.{IsAway, IsMade, IsThere, QueuesRight, ReadsRight, could_put, has_number, is_still, is_version, pairs_by}
-use Rattle.law_run_worked.specs.Readers.{away_ok, back_ok, bare_ok, clock_ok, empty_ok, final_ok, full_ok, if_some_ok, is_this, kept_ok, made_ok, plain_ok, queues_ok, reads_ok, rises_ok, same_numbers, same_pairs, versions_ok}
+use Rattle.law_run_worked.specs.Readers.{adopted_ok, away_ok, back_ok, bare_ok, clock_ok, empty_ok, final_ok, full_ok, if_some_ok, is_this, kept_ok, made_ok, parted_ok, plain_ok, queues_ok, reads_ok, rises_ok, same_numbers, same_pairs, versions_ok}
 
 -- of numbers and values
 
 pub itself : (b : Bool) → Decides b (b ≡ true)
 itself b = ((λ e. e), (λ e. e))
 
-decides_other : (b : Bool) → Decides (not b) (b ≡ false)
+pub decides_other : (b : Bool) → Decides (not b) (b ≡ false)
 decides_other b = ((λ t. false_of_not b t), (λ t. not_of_false b t))
 
 pub decides_most : (a b : ℕ) → Decides (nat_le a b) (a ≤ b)
@@ -125,6 +125,25 @@ decides_kept (answers.Scanned kept back) many = (
   (λ h. (Decides-eqb kept many).1 (h kept back refl)),
 )
 decides_kept answer many = ((λ t kept back e. absurd (cc)), (λ h. refl))
+
+pub decides_parted : (answer : Answer) (many : ℕ) → Decides (parted_ok answer many) ((count : ℕ) → answer ≡ answers.Left count → count ≡ many)
+decides_parted (answers.Left count) many = (
+  (λ t count' e. let same : count ≡ count' = cc in sym same ∙ number_is count many t),
+  (λ h. (Decides-eqb count many).1 (h count refl)),
+)
+decides_parted answer many = ((λ t count e. absurd (cc)), (λ h. refl))
+
+pub decides_adopted : (left : ℕ → List ℕ) (place : Option ℕ) (answer : Answer)
+    → Decides (adopted_ok left place answer) ((from count : ℕ) → place ≡ Some from → answer ≡ answers.Adopted count → count ≡ length (left from))
+decides_adopted left None answer = ((λ t from count e f. absurd (cc)), (λ h. refl))
+decides_adopted left (Some place) (answers.Adopted count) = (
+  (λ t from count' e f.
+      let one : place ≡ from = cc in
+      let same : count ≡ count' = cc in
+      sym same ∙ number_is count (length (left place)) t ∙ ap (λ (x : ℕ). length (left x)) one),
+  (λ h. (Decides-eqb count (length (left place))).1 (h place count refl refl)),
+)
+decides_adopted left (Some place) answer = ((λ t from count e f. absurd (cc)), (λ h. refl))
 
 pub decides_bare : (bare : Bool) (given : Option (ℕ × ℕ)) (back : List ℕ) → Decides (bare_ok bare given back) (bare ≡ true → (given ≡ None) × (back ≡ []))
 decides_bare true None [] = ((λ t e. (refl, refl)), (λ h. refl))

@@ -37,6 +37,8 @@ same_own_call calls.Scan = refl
 same_own_call (calls.Copy from index) = two from index
 same_own_call (calls.DropIndex index) = same_number index
 same_own_call (calls.Look index key) = two index key
+same_own_call calls.Leave = refl
+same_own_call (calls.Adopt place) = same_number place
 same_own_call (calls.PutIf key value version) = both (key == key) (value == value && version == version) (same_number key) (two value version)
 
 same_own_value : (value : Option ℕ) → same_value value value ≡ true
@@ -55,9 +57,11 @@ same_owed n (calls.Remove key) (answers.Done version clock) =
     both (key % n == key % n && version == version) (key == key) (two (key % n) version) (same_number key)
 same_owed n (calls.Enqueue value) (answers.Queued number) = two number value
 same_owed n calls.Dequeue (answers.Taken number value clock) = two number value
+same_owed n calls.Leave (answers.Left count) = same_number count
+same_owed n (calls.Adopt place) (answers.Adopted count) = two place count
 same_owed n call answer = refl
 
--- what a call has done of the map or of the queue is read as that
+-- what a call has done of the map, of the queue or of lists is read as that
 owed_next : (n : ℕ) (s : Stand) (call : Call) (answer : Answer) (event : Event) → change_told n call answer ≡ Some event → next n s event ≡ told_next s event
 owed_next n s (calls.Get key) (answers.Got version value) event e =
     let same : events.Got (key % n) version key value ≡ event = cc in subst (λ x. next n s x ≡ told_next s x) same refl
@@ -71,6 +75,10 @@ owed_next n s (calls.Enqueue value) (answers.Queued number) event e =
     let same : events.Queued number value ≡ event = cc in subst (λ x. next n s x ≡ told_next s x) same refl
 owed_next n s calls.Dequeue (answers.Taken number value clock) event e =
     let same : events.Taken number value ≡ event = cc in subst (λ x. next n s x ≡ told_next s x) same refl
+owed_next n s calls.Leave (answers.Left count) event e =
+    let same : events.Left count ≡ event = cc in subst (λ x. next n s x ≡ told_next s x) same refl
+owed_next n s (calls.Adopt place) (answers.Adopted count) event e =
+    let same : events.Adopted place count ≡ event = cc in subst (λ x. next n s x ≡ told_next s x) same refl
 owed_next n s call answer event e = absurd (cc)
 
 -- One part of a call's lines after another.

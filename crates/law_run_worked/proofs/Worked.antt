@@ -4,6 +4,7 @@ use Rattle.std.specs.List.{AllByRecursion, list_all}
 use Rattle.std.specs.Prelude.{nat_le, ◌&&◌}
 use Rattle.law_all.proofs.inv.model.Facts.{first_of, rest_of}
 use Rattle.law_run_worked.specs.Crowded.{CrowdedWorked, crowded}
+use Rattle.law_run_worked.specs.Handed.{HandedWorked, handed}
 use Rattle.law_run_worked.specs.Kept.{KeptWorked, kept}
 use Rattle.law_run_worked.specs.Loose.{LooseTaken, loose}
 use Rattle.law_run_worked.specs.Readers.{bullets, takes}
@@ -39,6 +40,12 @@ unfolding halves pending_word answered_word read_request read_reservation read_s
 kept_worked =
     let law = (readers_judge.whole kept (omega arith)).0 refl in
     record { logs = refl; closed = refl; idle = refl; lawful = law; is_run = record { logs = kept.logs; texts = refl; scripts_are = refl; law = law } }
+
+pub handed_worked : HandedWorked
+unfolding halves pending_word answered_word read_request read_reservation read_span read_life claim_mask claim_others claim_start number place_at
+handed_worked =
+    let law = (readers_judge.whole handed (omega arith)).0 refl in
+    record { logs = refl; closed = refl; idle = refl; lawful = law; is_run = record { logs = handed.logs; texts = refl; scripts_are = refl; law = law } }
 
 -- each of these runs
 

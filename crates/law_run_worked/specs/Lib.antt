@@ -1,4 +1,5 @@
 pub mod Crowded
+pub mod Handed
 pub mod Kept
 pub mod Loose
 pub mod Readers

@@ -7,7 +7,8 @@ use Rattle.law_all.specs.inv.model.defs.declared.call.Answer.TheVariants as answ
 use Rattle.law_all.specs.inv.model.defs.declared.call.Call.TheVariants as calls
 use Rattle.law_all.specs.inv.model.defs.declared.call.ClockMove.TheVariants as moves
 use Rattle.law_all.specs.RunLaw.{RunLaw, no_bucket}
-use Rattle.law_run_worked.specs.Runs.{Run, closing, group, life, notes, noting, setting, then_call}
+use Rattle.law_run_worked.specs.Handed.{handed}
+use Rattle.law_run_worked.specs.Runs.{Run, answering, closing, group, life, notes, noting, setting, then_call}
 use Rattle.law_run_worked.specs.Shared.{shared}
 
 -- one value is queued and taken
@@ -45,7 +46,11 @@ loose =
     -- a seat takes a value before it queues it
     ∷ of_queue (takes_one ∷ queues_one ∷ [])
     -- a hold finds no row in a bucket that its seat has changed
-    ∷ then_call 0 (group (calls.Hold 0) answers.Nothing no_notes) shared ∷ []
+    ∷ then_call 0 (group (calls.Hold 0) answers.Nothing no_notes) shared
+    -- a call finds a list taken over that its seat takes over after that
+    ∷ answering 1 0 answers.AdoptedBefore handed
+    -- a seat takes a list over, and then finds that it was not left
+    ∷ then_call 2 (group (calls.Adopt 1) answers.NotLeft no_notes) handed ∷ []
 
 abbrev pub LooseTaken : Type 0
 LooseTaken = AllByRecursion (λ run. RunLaw run.config run.logs run.closed) loose

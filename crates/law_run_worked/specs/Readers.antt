@@ -1,5 +1,5 @@
 -- A plain reader of runs: each sentence of the law of runs is a test of it, and so is each bullet.
-use Rattle.std.specs.Prelude.{Bool, List, None, Option, Some, [], drop, false, filter, if◌then◌else◌, is_some, length, max, nat_le, nat_lt, not, suc, true, zero, ℕ, ◌&&◌, ◌++◌, ◌+◌, ◌-◌, ◌<◌, ◌==◌, ◌∷◌, ◌≡◌, ◌≤◌}
+use Rattle.std.specs.Prelude.{Bool, List, None, Option, Some, [], count_by, drop, false, filter, if◌then◌else◌, is_some, length, max, nat_le, nat_lt, not, suc, true, zero, ℕ, ◌&&◌, ◌++◌, ◌+◌, ◌-◌, ◌<◌, ◌==◌, ◌∷◌, ◌≡◌, ◌≤◌}
 use Rattle.std.specs.Bool.{Decides}
 use Rattle.std.specs.List.{cons_option, find, list_all, range_with_len, slice_get}
 use Rattle.law_all.specs.inv.model.Locals.{Group}
@@ -165,6 +165,20 @@ abbrev pub kept_ok : Answer → ℕ → Bool
 kept_ok (answers.Scanned kept back) many = kept == many
 kept_ok answer many = true
 
+-- a seat that leaves counts what it leaves
+abbrev pub parted_ok : Answer → ℕ → Bool
+parted_ok (answers.Left count) many = count == many
+parted_ok answer many = true
+
+-- and one that takes a list over what was left
+abbrev pub adopted_ok : (left : ℕ → List ℕ) → (place : Option ℕ) → Answer → Bool
+adopted_ok left None answer = true
+adopted_ok left (Some place) (answers.Adopted count) = count == length (left place)
+adopted_ok left (Some place) answer = true
+
+abbrev pub adopted_by : Group → Option ℕ
+adopted_by group = law.taken_over group.call group.answer
+
 abbrev pub away_ok : List Change → (key version : ℕ) → Bool
 away_ok cs key version = nat_le version (length cs) && not (is_some (value_in (law.pairs_by cs version) key))
 
@@ -328,6 +342,13 @@ pub data Sentence : Type 0 where
   Early : Sentence
   Late : Sentence
   Kept : Sentence
+  LeftCount : Sentence
+  TakenCount : Sentence
+  Whole : Sentence
+  LastCall : Sentence
+  Gone : Sentence
+  OnceAdopted : Sentence
+  FoundAdopted : Sentence
   -- of eras
   Most : Sentence
   OnceMoved : Sentence
@@ -376,9 +397,22 @@ reads run Sentence.Balance =
     law.total (law.gives slot) run.logs + one (slot == run.config.slots)
     == law.total (law.unuseds slot) run.logs + law.total (law.backs_in slot) run.logs + one (is_among slot run.closed.used))
 reads run Sentence.Plain = each_call (λ before group. plain_ok group.notes.given group.notes.early) run.logs
-reads run Sentence.Early = each_call (λ before group. law.is_part_of (law.early_backs group.notes) (law.list_from [] before)) run.logs
-reads run Sentence.Late = each_call (λ before group. law.is_part_of (law.late_backs group.notes) (law.list_between (law.list_from [] before) group)) run.logs
-reads run Sentence.Kept = each_call (λ before group. kept_ok group.answer (length (law.list_after (law.list_from [] before) group))) run.logs
+reads run Sentence.Early = each_call (λ before group. law.is_part_of (law.early_backs group.notes) (law.list_in run.logs before)) run.logs
+reads run Sentence.Late =
+    each_call (λ before group. law.is_part_of (law.late_backs group.notes) (law.list_between (law.left_in run.logs) (law.list_in run.logs before) group)) run.logs
+reads run Sentence.Kept =
+    each_call (λ before group. kept_ok group.answer (length (law.list_after (law.left_in run.logs) (law.list_in run.logs before) group))) run.logs
+reads run Sentence.LeftCount =
+    each_call (λ before group. parted_ok group.answer (length (law.list_after (law.left_in run.logs) (law.list_in run.logs before) group))) run.logs
+reads run Sentence.TakenCount = each_call (λ before group. adopted_ok (law.left_in run.logs) (adopted_by group) group.answer) run.logs
+reads run Sentence.Whole =
+    each_below (length run.logs) (λ seat. same_numbers (law.list_in run.logs (law.log_in run.logs seat)) (law.left_in run.logs seat))
+reads run Sentence.LastCall = each_pair (λ one two. not (law.leaves one)) run.logs
+reads run Sentence.Gone =
+    each_call (λ before group. if_some_ok (λ place. nat_le 1 (count_by law.leaves (law.log_in run.logs place))) (adopted_by group)) run.logs
+reads run Sentence.OnceAdopted = single_ok adopted_by run.logs
+reads run Sentence.FoundAdopted =
+    each_call (λ before group. if_some_ok (λ place. nat_le 1 (law.total_of (law.takes_over place) run.logs)) (law.found_taken group.call group.answer)) run.logs
 reads run Sentence.Most = nat_le run.closed.clock run.config.last_era
 reads run Sentence.OnceMoved = single_ok moved_by run.logs
 reads run Sentence.Later = each_call (λ before group. if_some_ok (λ era. nat_le 2 era) (law.era_told (law.clock_told group.answer))) run.logs
@@ -413,7 +447,9 @@ sentences_of Bullet.Queue =
     Sentence.MostTaken ∷ Sentence.OnceQueued ∷ Sentence.OnceTaken ∷ Sentence.Right
     ∷ Sentence.QueuedRise ∷ Sentence.TakenRise ∷ Sentence.Left ∷ Sentence.Empty ∷ []
 sentences_of Bullet.Rows = Sentence.Used ∷ Sentence.Balance ∷ []
-sentences_of Bullet.Lists = Sentence.Plain ∷ Sentence.Early ∷ Sentence.Late ∷ Sentence.Kept ∷ []
+sentences_of Bullet.Lists =
+    Sentence.Plain ∷ Sentence.Early ∷ Sentence.Late ∷ Sentence.Kept ∷ Sentence.LeftCount ∷ Sentence.TakenCount
+    ∷ Sentence.Whole ∷ Sentence.LastCall ∷ Sentence.Gone ∷ Sentence.OnceAdopted ∷ Sentence.FoundAdopted ∷ []
 sentences_of Bullet.Eras = Sentence.Most ∷ Sentence.OnceMoved ∷ Sentence.Later ∷ Sentence.Seen ∷ Sentence.Rise ∷ Sentence.Spent ∷ Sentence.Final ∷ []
 
 -- each sentence of the bullet takes the run

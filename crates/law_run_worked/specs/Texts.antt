@@ -21,6 +21,8 @@ same_call calls.Scan calls.Scan = true
 same_call (calls.Copy from index) (calls.Copy lower higher) = from == lower && index == higher
 same_call (calls.DropIndex index) (calls.DropIndex other) = index == other
 same_call (calls.Look index key) (calls.Look other sought) = index == other && key == sought
+same_call calls.Leave calls.Leave = true
+same_call (calls.Adopt place) (calls.Adopt other) = place == other
 same_call (calls.PutIf key value version) (calls.PutIf other worth wanted) = key == other && (value == worth && version == wanted)
 same_call call other = false
 
@@ -30,8 +32,8 @@ same_told None (Some event) = false
 same_told (Some event) None = false
 same_told (Some event) (Some other) = same_event event other
 
--- how far a seat's lines have come: 0 between calls, 1 after a call began, and after a row was given 2, after what was done of the map or of
--- the queue 3, after a row was given up 4, after one was retired 5, after rows went back late 6, and after a line that may not stand there 9;
+-- how far a seat's lines have come: 0 between calls, 1 after a call began, and after a row was given 2, after what was done of the map, of
+-- the queue or of lists 3, after a row was given up 4, after one was retired 5, after rows went back late 6, and after a line that may not stand there 9;
 -- the calls to come, and of the call under way its name, the row given, and what was done
 pub record Stand : Type 0 where
   pub stage : ℕ
@@ -75,6 +77,8 @@ next n s (events.Put bucket version key value) = told_next s (events.Put bucket 
 next n s (events.Removed bucket version key) = told_next s (events.Removed bucket version key)
 next n s (events.Queued number value) = told_next s (events.Queued number value)
 next n s (events.Taken number value) = told_next s (events.Taken number value)
+next n s (events.Left count) = told_next s (events.Left count)
+next n s (events.Adopted place count) = told_next s (events.Adopted place count)
 next n s (events.Unused slot) =
     if (s.stage == 2 || s.stage == 3) && is_slot slot s.given then stand 4 s.script s.call s.given s.told else lost
 next n s (events.Retire slot birth retire) = if nat_le 1 s.stage && nat_le s.stage 4 then stand 5 s.script s.call s.given s.told else lost

@@ -6,6 +6,7 @@ use Rattle.law_all.specs.inv.model.defs.declared.call.Call.TheVariants as calls
 use Rattle.law_all.specs.inv.model.defs.declared.call.ClockMove.TheVariants as moves
 use Rattle.law_all.specs.RunLaw.{no_bucket}
 use Rattle.law_run_worked.specs.Crowded.{crowded}
+use Rattle.law_run_worked.specs.Handed.{handed}
 use Rattle.law_run_worked.specs.Kept.{kept}
 use Rattle.law_run_worked.specs.Readers.{Bullet, Sentence}
 use Rattle.law_run_worked.specs.Refusals.{AreRefused, Wrong, wrong}
@@ -78,7 +79,26 @@ wrong_answers =
     -- the clock had not to be moved, and was
     ∷ wrong shared (answering 1 0 (answers.Done 2 (moves.Moved 2)) ∷ []) Bullet.Answers (Sentence.Clock ∷ [])
     -- a scan counts a row that did not go back
-    ∷ wrong shared (answering 1 2 (answers.Scanned 1 1) ∷ []) Bullet.Answers (Sentence.Counted ∷ []) ∷ []
+    ∷ wrong shared (answering 1 2 (answers.Scanned 1 1) ∷ []) Bullet.Answers (Sentence.Counted ∷ [])
+    -- a call for a list answers that its seat leaves, and one by which its seat leaves that it takes a list over
+    ∷ wrong handed (answering 1 0 (answers.Left 0) ∷ []) Bullet.Answers (Sentence.Suits ∷ [])
+    ∷ wrong handed (then_call 2 (group calls.Leave (answers.Adopted 0) no_notes) ∷ []) Bullet.Answers (Sentence.Suits ∷ [])
+    -- a row goes back while its seat leaves, and while a seat takes over the list that it is on
+    ∷ wrong handed
+    (noting 0 2 (λ n. record n { back = 0 ∷ [] })
+    ∷ answering 0 2 (answers.Left 0)
+    ∷ answering 1 1 (answers.Adopted 0)
+    ∷ answering 1 2 (answers.Scanned 0 0)
+    ∷ answering 1 3 (answers.Left 0)
+    ∷ answering 2 2 (answers.Adopted 0)
+    ∷ noting 2 4 (λ n. record n { back = [] })
+    ∷ answering 2 4 (answers.Scanned 0 0) ∷ [])
+    Bullet.Answers (Sentence.Bare ∷ [])
+    ∷ wrong handed
+    (noting 2 2 (λ n. record n { back = 0 ∷ [] })
+    ∷ noting 2 4 (λ n. record n { back = [] })
+    ∷ answering 2 4 (answers.Scanned 0 0) ∷ [])
+    Bullet.Answers (Sentence.Bare ∷ []) ∷ []
 
 abbrev pub WrongAnswersRefused : Type 0
 WrongAnswersRefused = AreRefused wrong_answers

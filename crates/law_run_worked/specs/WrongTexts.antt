@@ -10,6 +10,7 @@ use Rattle.law_all.specs.inv.model.defs.declared.event.Event.{Event}
 use Rattle.law_all.specs.inv.model.defs.declared.event.Event.TheVariants as events
 use Rattle.law_all.specs.inv.model.words.declared.config.Config.{Config}
 use Rattle.law_all.specs.RunLaw.{AtClose, IsRun}
+use Rattle.law_run_worked.specs.Handed.{handed_lines_0, handed_lines_1, handed_lines_2, handed_scripts, handed_setting}
 use Rattle.law_run_worked.specs.Kept.{kept_lines_0, kept_lines_1, kept_scripts, kept_setting}
 use Rattle.law_run_worked.specs.Runs.{at_place}
 use Rattle.law_run_worked.specs.Shared.{shared_lines_0, shared_lines_1, shared_scripts, shared_setting}
@@ -25,6 +26,9 @@ shared_text = record { config = shared_setting; scripts = shared_scripts; seats 
 
 abbrev kept_text : Text
 kept_text = record { config = kept_setting; scripts = kept_scripts; seats = kept_lines_0 ∷ kept_lines_1 ∷ [] }
+
+abbrev handed_text : Text
+handed_text = record { config = handed_setting; scripts = handed_scripts; seats = handed_lines_0 ∷ handed_lines_1 ∷ handed_lines_2 ∷ [] }
 
 -- in the place of a seat's line these are printed; lines count from 0
 abbrev line_in : Text → (seat place : ℕ) → List Event → Text
@@ -90,7 +94,22 @@ wrong_texts =
     ∷ line_in kept_text 0 4 (events.Begin (calls.PutIf 0 11 0) ∷ [])
     ∷ line_in kept_text 1 5 (events.Begin (calls.Copy 2 4) ∷ [])
     ∷ line_in kept_text 1 7 (events.Begin (calls.Look 3 2) ∷ [])
-    ∷ line_in kept_text 1 21 (events.Begin (calls.DropIndex 4) ∷ []) ∷ []
+    ∷ line_in kept_text 1 21 (events.Begin (calls.DropIndex 4) ∷ [])
+    -- a seat leaves and does not tell so, tells it twice, or of another number than it answers
+    ∷ line_in handed_text 0 10 []
+    ∷ line_in handed_text 0 10 (events.Left 1 ∷ events.Left 1 ∷ [])
+    ∷ line_in handed_text 0 10 (events.Left 2 ∷ [])
+    -- a scan tells that its seat leaves
+    ∷ line_in handed_text 1 6 (events.Left 1 ∷ events.End 9 (answers.Scanned 1 0) ∷ [])
+    -- a list is taken over and not told to be, told twice, told to be another one, or with another number
+    ∷ line_in handed_text 1 3 []
+    ∷ line_in handed_text 1 3 (events.Adopted 0 1 ∷ events.Adopted 0 1 ∷ [])
+    ∷ line_in handed_text 1 3 (events.Adopted 2 1 ∷ [])
+    ∷ line_in handed_text 1 3 (events.Adopted 0 2 ∷ [])
+    -- a call tells that it takes over a list that was not left
+    ∷ line_in handed_text 1 1 (events.Adopted 0 0 ∷ events.End 1 answers.NotLeft ∷ [])
+    -- a call for another list than the script's
+    ∷ line_in handed_text 2 2 (events.Begin (calls.Adopt 1) ∷ []) ∷ []
 
 abbrev pub IsNoRun : Text → Type 0
 IsNoRun text = (closed : AtClose) → IsRun text.config text.scripts text.seats closed → ⊥

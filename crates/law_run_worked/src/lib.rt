@@ -3,6 +3,7 @@
 #![tactic(auto)]
 
 ghost use Rattle.law_run_worked.specs.Crowded.{CrowdedWorked};
+ghost use Rattle.law_run_worked.specs.Handed.{HandedWorked};
 ghost use Rattle.law_run_worked.specs.Kept.{KeptWorked};
 ghost use Rattle.law_run_worked.specs.Loose.{LooseTaken};
 ghost use Rattle.law_run_worked.specs.Readers.{ReadersJudge};
@@ -44,6 +45,11 @@ pub fn kept_rows_are_worked()
     ensures { KeptWorked }
 {}
 
+/// A list that a seat leaves goes by way of another seat to a third one.
+pub fn a_list_handed_over_is_worked()
+    ensures { HandedWorked }
+{}
+
 /// Runs that are wrong by a sentence on answers: that bullet alone refuses each of them.
 pub fn wrong_answers_are_refused()
     ensures { WrongAnswersRefused }
@@ -74,7 +80,7 @@ pub fn wrong_rows_are_refused()
     ensures { WrongRowsRefused }
 {}
 
-/// The same of retire lists.
+/// The same of retire lists, and of those that are left and taken over.
 pub fn wrong_lists_are_refused()
     ensures { WrongListsRefused }
 {}

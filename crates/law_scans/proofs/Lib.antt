@@ -8,3 +8,4 @@ pub mod ClockAnswers
 pub mod ClockTimes
 pub mod DueScans
 pub mod FewRetired
+pub mod Leaving

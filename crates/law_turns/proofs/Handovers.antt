@@ -8,12 +8,12 @@ use Rattle.law_answers.specs.inv.model.defs.declared.event.Event.{Event}
 use Rattle.law_answers.specs.inv.model.declared.post.Post.{Post}
 use Rattle.law_answers.specs.inv.model.Posts.{cleared, reserves_index, stands, counted}
 use Rattle.law_answers.specs.inv.model.Rounds.{scheme_of, clear_told, let_index}
-use Rattle.law_answers.specs.inv.model.World.{World, finds, told_in}
+use Rattle.law_answers.specs.inv.model.World.{World, finds, offered, told_in}
 use Rattle.law_answers.specs.inv.model.Phases.{ProtectAt, Base}
 use Rattle.law_answers.specs.inv.model.Phases.ProtectAt.{LoadOwnClock, PublishHelper, LoadOwnLink, CheckOwnClock, AnswerOwn, LoadAnswer, TakeAnswer}
 use Rattle.law_answers.specs.inv.model.Phases.MoveAt.{HandOver}
 use Rattle.law_answers.specs.inv.model.Phases.Base.{Protect, Move}
-use Rattle.law_answers.specs.inv.model.Calls.{Why, ReadGuard, GiveBack, KeepAt, Loosens, LoadHeld, StoreHeld, Looks, Misses, Work, Keeping, Phase, Idle, Runs, Scans, Works}
+use Rattle.law_answers.specs.inv.model.Calls.{Why, ReadGuard, GiveBack, KeepAt, Loosens, LoadHeld, StoreHeld, Looks, Misses, HideSpan, MarkLeft, TakeList, MarkTaken, Work, Keeping, Phase, Idle, Runs, Scans, Works}
 use Rattle.law_answers.specs.inv.model.words.Schemes.{has_one_interval, is_ibr}
 use Rattle.law_answers.proofs.inv.history.Passes.{Closed, First, copied_told, keep_told, work_told, step_goes, scan_told}
 use Rattle.law_answers.specs.inv.history.History.{Made}
@@ -22,7 +22,7 @@ use Rattle.law_answers.proofs.OneStep.Along.{Kept, history_keeps}
 use Rattle.law_turns.proofs.Counting.Counting.{Keeps, published, since_of, begin_kept, step_kept, first_kept}
 use Rattle.law_turns.proofs.Counting.Fits.{Fits, own, base_own, paced, taken}
 use Rattle.law_answers.proofs.inv.history.MayTell.{Tells, may_store, base_index, hands, same_span, base_shows, base_all}
-use Rattle.law_turns.proofs.Counting.Told.{is_dull, all_dull, quiet_dull, clear_dull, cleared_dull}
+use Rattle.law_turns.proofs.Counting.Told.{is_dull, all_dull, quiet_dull, clear_dull, cleared_dull, hide_dull}
 use Rattle.law_answers.specs.inv.model.defs.declared.event.Guard.TheVariants.{Helper, Index, Whole}
 use Rattle.law_answers.specs.inv.model.Links.{link_number}
 use Rattle.law_answers.specs.inv.Inv.{Inv}
@@ -142,6 +142,10 @@ keep_handed i x (LoadHeld from index) post s = by (has_one_interval (scheme_of p
 keep_handed i x (StoreHeld from index era) post s = copied_handed i x from index post (reserves_index post index era) (stands post from) (let e : (post.seat == i) ≡ true = grind (arith, nat_tests) in rw e refl)
 keep_handed i x (Looks index key at) post s = refl
 keep_handed i x (Misses index) post s = refl
+keep_handed i x HideSpan post s = dull_handed i x (keep_told HideSpan post) (hide_dull post)
+keep_handed i x MarkLeft post s = refl
+keep_handed i x (TakeList place) post s = refl
+keep_handed i x (MarkTaken place count) post s = refl
 
 work_handed : (i : ℕ) (x : ℕ → ℕ → ℕ) (work : Work) (post : Post) → post.seat ≡ i → events_handed i x (work_told work post) ≡ true
 work_handed i x (Keeping at) post s = keep_handed i x at post s
@@ -159,7 +163,7 @@ phase_handed layout made h i (Scans later (GiveBack place slot)) a b e g = refl
 phase_handed layout made h i (Works work) a b e g = let k = a.known in let f = k.seats.fits i in work_handed i (published h) work (counted (made.world.seat i).post) f.post.seat
 
 step_handed : (layout : Layout) (made : Made) (h : schedule.History) (i : ℕ) → Inv made.world → i < made.world.layout.config.seats → Keeps layout made h → handed_right h i (told_in made.world i) ≡ true
-step_handed layout made h i a b g = step_goes (λ post told. events_handed i (published h) told ≡ true) (handed_closed i (published h)) (made.world.seat i).phase (counted (made.world.seat i).post) (made.world.seat i).desk (finds made.world i) (phase_handed layout made h i (made.world.seat i).phase a b refl g)
+step_handed layout made h i a b g = step_goes (λ post told. events_handed i (published h) told ≡ true) (handed_closed i (published h)) (made.world.seat i).phase (counted (made.world.seat i).post) (offered made.world i).desk (finds made.world i) (phase_handed layout made h i (made.world.seat i).phase a b refl g)
 
 -- along a history
 record Handovers (layout : Layout) (made : Made) (h : schedule.History) : Type 0 where

@@ -15,7 +15,7 @@ use Rattle.law_answers.specs.inv.model.Memory.{bump}
 use Rattle.law_answers.specs.inv.model.Posts.{with_row, counted}
 use Rattle.law_answers.specs.inv.model.Protect.{held_post, told_held, concluded}
 use Rattle.law_answers.specs.inv.model.Rounds.{scheme_of, clear_told, index_of}
-use Rattle.law_answers.specs.inv.model.World.{World, finds, is_busy, told_in}
+use Rattle.law_answers.specs.inv.model.World.{World, finds, is_busy, offered, told_in}
 use Rattle.law_answers.specs.inv.model.Phases.{Aim, ProtectAt, Base, Turn, ends}
 use Rattle.law_answers.specs.inv.model.Phases.ProtectAt.{CheckClock, CheckOwnClock, AnswerOwn, TakeAnswer, WithdrawHelper, LoadWithin, CheckUpper, RaiseUpper}
 use Rattle.law_answers.specs.inv.model.Phases.Base.{Begin, Protect, Reload, Release}
@@ -133,7 +133,7 @@ turn_tried x u layout i Idle post found e s = refl
 turn_tried x u layout i (Runs why base) post found e s = run_tried x u layout why base (counted post) found post.steps e (stage_of x u layout i why base post found s)
 turn_tried x u layout i (Scans later (ReadGuard number)) post found e s = refl
 turn_tried x u layout i (Scans later (GiveBack place slot)) post found e s = refl
-turn_tried x u layout i (Works work) post found e s = unfound_tried (λ j. phase_x (Works work) j (x j)) (work_told work (counted post)) (work_all (λ event. not (is_find event)) (λ index slot. refl) (λ from index slot. refl) (λ seat index era. refl) work (counted post))
+turn_tried x u layout i (Works work) post found e s = unfound_tried (λ j. phase_x (Works work) j (x j)) (work_told work (counted post)) (work_all (λ event. not (is_find event)) (λ index slot. refl) (λ from index slot. refl) (λ seat index era. refl) (λ seat. refl) work (counted post))
 
 event_same : (x y : ℕ → ℕ) (event : Event) → ((j : ℕ) → y j ≡ x j) → event_tried x event ≡ true → event_tried y event ≡ true
 event_same x y (events.Held index slot n) p h = rw (p index) h
@@ -162,7 +162,7 @@ step_law layout made h i e a b y g =
     let q : is_he (scheme_of (w.seat i).post) ≡ true = ap (λ (table : Layout). is_he table.config.scheme) o.layout ∙ e in
     let x : ℕ → ℕ = λ j. phase_x (w.seat i).phase j (published h i j) in
     let r : events_tried x (told_in w i) ≡ true =
-    step_goes (λ p told. events_tried x told ≡ true) (tried_closed x) (w.seat i).phase (counted (w.seat i).post) (w.seat i).desk (finds w i) (turn_tried (published h i) (since_of h i) layout i (w.seat i).phase (w.seat i).post (finds w i) q s) in
+    step_goes (λ p told. events_tried x told ≡ true) (tried_closed x) (w.seat i).phase (counted (w.seat i).post) (offered w i).desk (finds w i) (turn_tried (published h i) (since_of h i) layout i (w.seat i).phase (w.seat i).post (finds w i) q s) in
     events_same x (published (Turns h i (told_in w i)) i) (told_in w i) (λ j. published_here w i j h a.known b) r
 
 pub kept : (layout : Layout) → is_he layout.config.scheme ≡ true → Kept (Tries layout)

@@ -16,7 +16,7 @@ use Rattle.law_answers.specs.inv.model.Phases.{Base}
 use Rattle.law_answers.specs.inv.model.Phases.ProtectAt.{CheckClock, CheckUpper, TakeAnswer}
 use Rattle.law_answers.specs.inv.model.Phases.Base.{Protect, Reload}
 use Rattle.law_answers.specs.inv.model.Posts.{counted}
-use Rattle.law_answers.specs.inv.model.World.{World, finds, told_in}
+use Rattle.law_answers.specs.inv.model.World.{World, finds, offered, told_in}
 use Rattle.law_answers.proofs.inv.model.Facts.{first_of, rest_of, same_number}
 use Rattle.law_answers.specs.inv.history.History as histories
 use Rattle.law_answers.specs.inv.history.History.{Item, Made, Steps, done}
@@ -113,7 +113,7 @@ phase_unfound Idle post there h = refl
 phase_unfound (Runs why base) post there h = no_find base post there h
 phase_unfound (Scans later (ReadGuard number)) post there h = refl
 phase_unfound (Scans later (GiveBack place slot)) post there h = refl
-phase_unfound (Works work) post there h = work_all unfound (λ index slot. refl) (λ from index slot. refl) (λ seat index era. refl) work post
+phase_unfound (Works work) post there h = work_all unfound (λ index slot. refl) (λ from index slot. refl) (λ seat index era. refl) (λ seat. refl) work post
 
 phase_unindexed : (layout : Layout) (phase : Phase) (post last : Post) (there : ℕ) → is_he layout.config.scheme ≡ true → PhaseFits layout last phase → phase_finds phase ≡ true → First (λ p told. all_of unindexed told ≡ true) phase post there
 phase_unindexed layout (Runs why base) post last there e f h = no_index base post there (find_stores layout.config base e f.fits h)
@@ -135,13 +135,13 @@ step_entries layout made h i e a t r g = by (phase_finds phase) refl
     by : (f : Bool) → phase_finds phase ≡ f → Each tried_ok (tells_of (record_of h) i (told_in made.world i))
     by false f =
         let w : World = made.world in
-        unfound_each i (told_in w i) (record_of h) (step_all unfound unfound_passes phase (counted (w.seat i).post) (w.seat i).desk (finds w i) (phase_unfound phase (counted (w.seat i).post) (finds w i) f)) g
+        unfound_each i (told_in w i) (record_of h) (step_all unfound unfound_passes phase (counted (w.seat i).post) (offered w i).desk (finds w i) (phase_unfound phase (counted (w.seat i).post) (finds w i) f)) g
     by true f =
         let w : World = made.world in
         let k = a.known.known in
         let s = k.seats.fits i in
         let q : is_he w.layout.config.scheme ≡ true = ap (λ (table : Layout). is_he table.config.scheme) t ∙ e in
-        let n : all_of unindexed (told_in w i) ≡ true = step_all unindexed unindexed_passes phase (counted (w.seat i).post) (w.seat i).desk (finds w i) (phase_unindexed w.layout phase (counted (w.seat i).post) (w.seat i).post (finds w i) q s.phase f) in
+        let n : all_of unindexed (told_in w i) ≡ true = step_all unindexed unindexed_passes phase (counted (w.seat i).post) (offered w i).desk (finds w i) (phase_unindexed w.layout phase (counted (w.seat i).post) (w.seat i).post (finds w i) q s.phase f) in
         unindexed_each i (told_in w i) (record_of h) n (events_same (λ j. reserves_of i j (tells_of (record_of h) i (told_in w i))) (λ j. reserves_of i j (record_of h)) (told_in w i) (λ j. sym (told_reserves i j (told_in w i) (record_of h) n)) r) g
 
 kept : (layout : Layout) → is_he layout.config.scheme ≡ true → Kept (Entries layout)

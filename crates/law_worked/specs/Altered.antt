@@ -12,7 +12,7 @@ use Rattle.wfe_core.specs.defs.declared.event.Event.TheVariants as events
 use Rattle.wfe_core.specs.defs.declared.lifetime.Interval.{Interval}
 use Rattle.wfe_core.specs.Guards.{from_to}
 
--- a call with the next key, value, index or version, or of another kind
+-- a call with the next key, value, index, version or seat, or of another kind
 abbrev pub other_call : Call → Call
 other_call (calls.Get key) = calls.Get (key + 1)
 other_call (calls.Put key value) = calls.Put key (value + 1)
@@ -27,6 +27,8 @@ other_call (calls.Copy from index) = calls.Copy from (index + 1)
 other_call (calls.DropIndex index) = calls.DropIndex (index + 1)
 other_call (calls.Look index key) = calls.Look index (key + 1)
 other_call (calls.PutIf key value version) = calls.PutIf key value (version + 1)
+other_call calls.Leave = calls.Scan
+other_call (calls.Adopt place) = calls.Adopt (place + 1)
 
 abbrev pub other_clock : ClockMove → ClockMove
 other_clock moves.Still = moves.Moved 2
@@ -54,13 +56,17 @@ other_answer (answers.Copied slot) = answers.Copied (slot + 1)
 other_answer answers.Dropped = answers.Released
 other_answer (answers.Looked slot version value) = answers.Looked slot (version + 1) value
 other_answer (answers.Stale version) = answers.Stale (version + 1)
+other_answer (answers.Left count) = answers.Left (count + 1)
+other_answer (answers.Adopted count) = answers.Adopted (count + 1)
+other_answer answers.NotLeft = answers.AdoptedBefore
+other_answer answers.AdoptedBefore = answers.NotLeft
 
 -- the next era, or the first where there is none
 abbrev pub other_span : Option Interval → Option Interval
 other_span None = from_to 1 1
 other_span (Some span) = from_to (span.lo + 1) (span.hi + 1)
 
--- an event with its row, version, number or era raised by one
+-- an event with its row, version, number, era or count raised by one
 abbrev pub other_event : Event → Event
 other_event (events.Begin call) = events.Begin (other_call call)
 other_event (events.End steps answer) = events.End steps (other_answer answer)
@@ -82,6 +88,8 @@ other_event (events.Removed bucket version key) = events.Removed bucket (version
 other_event (events.Got bucket version key value) = events.Got bucket (version + 1) key value
 other_event (events.Queued number value) = events.Queued (number + 1) value
 other_event (events.Taken number value) = events.Taken number (value + 1)
+other_event (events.Left count) = events.Left (count + 1)
+other_event (events.Adopted place count) = events.Adopted place (count + 1)
 
 -- the line has another number
 abbrev pub altered : List Entry → List Entry

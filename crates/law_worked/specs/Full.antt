@@ -12,7 +12,7 @@ use Rattle.wfe_core.specs.defs.declared.event.Root.TheVariants as roots
 use Rattle.wfe_core.specs.Guards.{from_to}
 use Rattle.model_history.specs.History.{Item}
 use Rattle.model_history.specs.Among.{call, said, setting, to_end}
-use Rattle.law_worked.specs.Judges.Law.{Calls, Clears, Indexes, Copies, Reuse, Free, Placing, Order, Nexts, Retiring, Backs, Blocks, Reads, Due, Room, Eras, Moves, Births, Retires, Current, Single, Rising, Guards, Throughout, Sources, Finds, Gots, Links, Behind, Bare, Rests, Map, Values, Emptied, Steps, Withdrawals, Tries, Raises, Asks, CallSteps, Told, Reasons, Full, Lacks, Counted, Refusals, Clock, Repeats, Alone, Named, Ranges}
+use Rattle.law_worked.specs.Judges.Law.{Calls, Clears, Indexes, Copies, Reuse, Free, Placing, Order, Nexts, Retiring, Backs, Lists, Blocks, Reads, Due, Room, Eras, Moves, Births, Retires, Current, Single, Rising, Guards, Throughout, Sources, Finds, Gots, Links, Behind, Bare, Rests, Map, Values, Emptied, Steps, Withdrawals, Tries, Raises, Asks, CallSteps, Told, Reasons, Full, Lacks, Counted, Refusals, Clock, Repeats, Alone, Named, Ranges}
 use Rattle.law_worked.specs.Refusals.{IsWorked, Row, row}
 
 abbrev pub full_setting : Layout
@@ -103,6 +103,7 @@ full_table =
     ∷ row Nexts [] [] [] [] []
     ∷ row Retiring (17 ∷ 21 ∷ 55 ∷ 59 ∷ []) (17 ∷ 21 ∷ 55 ∷ 59 ∷ []) (21 ∷ 59 ∷ []) (17 ∷ 55 ∷ []) []
     ∷ row Backs (21 ∷ []) (50 ∷ []) [] (50 ∷ []) []
+    ∷ row Lists [] [] [] [] []
     ∷ row Blocks (21 ∷ 29 ∷ 30 ∷ 31 ∷ 47 ∷ 48 ∷ 49 ∷ 50 ∷ []) (29 ∷ 30 ∷ 31 ∷ 47 ∷ 48 ∷ 49 ∷ 50 ∷ []) (28 ∷ 29 ∷ 30 ∷ 31 ∷ 46 ∷ 47 ∷ 48 ∷ 49 ∷ 50 ∷ []) (31 ∷ 47 ∷ 48 ∷ 49 ∷ 50 ∷ []) []
     ∷ row Reads (9 ∷ 27 ∷ 39 ∷ 45 ∷ []) [] [] (9 ∷ 27 ∷ 29 ∷ 30 ∷ 31 ∷ 39 ∷ 45 ∷ 47 ∷ 48 ∷ 49 ∷ []) []
     ∷ row Due (23 ∷ 41 ∷ []) (29 ∷ 30 ∷ 31 ∷ 47 ∷ 48 ∷ 49 ∷ []) [] [] []

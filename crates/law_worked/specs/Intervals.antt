@@ -12,7 +12,7 @@ use Rattle.wfe_core.specs.defs.declared.event.Root.TheVariants as roots
 use Rattle.wfe_core.specs.Guards.{from_to}
 use Rattle.model_history.specs.History.{Item}
 use Rattle.model_history.specs.Among.{call, said, setting, to_end}
-use Rattle.law_worked.specs.Judges.Law.{Calls, Clears, Indexes, Copies, Reuse, Free, Placing, Order, Nexts, Retiring, Backs, Blocks, Reads, Due, Room, Eras, Moves, Births, Retires, Current, Single, Rising, Guards, Throughout, Sources, Finds, Gots, Links, Behind, Bare, Rests, Map, Values, Emptied, Steps, Withdrawals, Tries, Raises, Asks, CallSteps, Told, Reasons, Full, Lacks, Counted, Refusals, Clock, Repeats, Alone, Named, Ranges}
+use Rattle.law_worked.specs.Judges.Law.{Calls, Clears, Indexes, Copies, Reuse, Free, Placing, Order, Nexts, Retiring, Backs, Lists, Blocks, Reads, Due, Room, Eras, Moves, Births, Retires, Current, Single, Rising, Guards, Throughout, Sources, Finds, Gots, Links, Behind, Bare, Rests, Map, Values, Emptied, Steps, Withdrawals, Tries, Raises, Asks, CallSteps, Told, Reasons, Full, Lacks, Counted, Refusals, Clock, Repeats, Alone, Named, Ranges}
 use Rattle.law_worked.specs.Refusals.{IsWorked, Row, row}
 
 abbrev pub intervals_setting : Layout
@@ -82,6 +82,7 @@ intervals_table =
     ∷ row Nexts [] [] [] [] []
     ∷ row Retiring (26 ∷ 30 ∷ []) (26 ∷ 30 ∷ []) [] (26 ∷ []) []
     ∷ row Backs (30 ∷ []) (42 ∷ []) [] (42 ∷ []) []
+    ∷ row Lists [] [] [] [] []
     ∷ row Blocks (30 ∷ 32 ∷ 33 ∷ 40 ∷ 41 ∷ 42 ∷ []) (32 ∷ 33 ∷ 40 ∷ 41 ∷ 42 ∷ []) (31 ∷ 32 ∷ 33 ∷ 39 ∷ 40 ∷ 41 ∷ 42 ∷ []) (40 ∷ 41 ∷ 42 ∷ []) []
     ∷ row Reads (16 ∷ 29 ∷ 37 ∷ []) [] [] (16 ∷ 29 ∷ 32 ∷ 33 ∷ 37 ∷ 40 ∷ 41 ∷ []) []
     ∷ row Due (30 ∷ 39 ∷ []) (32 ∷ 33 ∷ 40 ∷ 41 ∷ []) (39 ∷ []) (12 ∷ 39 ∷ []) []

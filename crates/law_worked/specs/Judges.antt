@@ -36,6 +36,7 @@ pub data Law : Type 0 where
   Nexts : Law
   Retiring : Law
   Backs : Law
+  Lists : Law
   Blocks : Law
   Reads : Law
   Due : Law
@@ -170,6 +171,7 @@ test_of c Order p i e = once.order_ok c.slots p i e
 test_of c Nexts p i e = once.nexts_ok c.slots p i e
 test_of c Retiring p i e = once.retiring_ok p i e
 test_of c Backs p i e = once.backs_ok p i e
+test_of c Lists p i e = once.lists_ok p i e
 test_of c Blocks p i e = scan_ok c p i e
 test_of c Reads p i e = read_ok p i e
 test_of c Due p i e = blocks_ok c p i e

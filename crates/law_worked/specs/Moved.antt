@@ -9,7 +9,7 @@ use Rattle.wfe_core.specs.defs.declared.call.ClockMove.TheVariants as moves
 use Rattle.wfe_core.specs.defs.declared.event.Event.TheVariants as events
 use Rattle.model_history.specs.History.{Item, times}
 use Rattle.model_history.specs.Among.{call, said, setting, to_end}
-use Rattle.law_worked.specs.Judges.Law.{Calls, Clears, Indexes, Copies, Reuse, Free, Placing, Order, Nexts, Retiring, Backs, Blocks, Reads, Due, Room, Eras, Moves, Births, Retires, Current, Single, Rising, Guards, Throughout, Sources, Finds, Gots, Links, Behind, Bare, Rests, Map, Values, Emptied, Steps, Withdrawals, Tries, Raises, Asks, CallSteps, Told, Reasons, Full, Lacks, Counted, Refusals, Clock, Repeats, Alone, Named, Ranges}
+use Rattle.law_worked.specs.Judges.Law.{Calls, Clears, Indexes, Copies, Reuse, Free, Placing, Order, Nexts, Retiring, Backs, Lists, Blocks, Reads, Due, Room, Eras, Moves, Births, Retires, Current, Single, Rising, Guards, Throughout, Sources, Finds, Gots, Links, Behind, Bare, Rests, Map, Values, Emptied, Steps, Withdrawals, Tries, Raises, Asks, CallSteps, Told, Reasons, Full, Lacks, Counted, Refusals, Clock, Repeats, Alone, Named, Ranges}
 use Rattle.law_worked.specs.Refusals.{IsWorked, Row, row}
 
 abbrev pub moved_setting : Layout
@@ -45,6 +45,7 @@ moved_table =
     ∷ row Nexts [] [] [] [] []
     ∷ row Retiring [] [] [] [] []
     ∷ row Backs [] [] [] [] []
+    ∷ row Lists [] [] [] [] []
     ∷ row Blocks [] [] [] [] []
     ∷ row Reads [] [] [] [] []
     ∷ row Due [] [] [] (0 ∷ 1 ∷ 5 ∷ 8 ∷ []) []

@@ -12,7 +12,7 @@ use Rattle.wfe_core.specs.defs.declared.event.Root.TheVariants as roots
 use Rattle.wfe_core.specs.Guards.{from_to}
 use Rattle.model_history.specs.History.{Item}
 use Rattle.model_history.specs.Among.{call, said, setting, to_end}
-use Rattle.law_worked.specs.Judges.Law.{Calls, Clears, Indexes, Copies, Reuse, Free, Placing, Order, Nexts, Retiring, Backs, Blocks, Reads, Due, Room, Eras, Moves, Births, Retires, Current, Single, Rising, Guards, Throughout, Sources, Finds, Gots, Links, Behind, Bare, Rests, Map, Values, Emptied, Steps, Withdrawals, Tries, Raises, Asks, CallSteps, Told, Reasons, Full, Lacks, Counted, Refusals, Clock, Repeats, Alone, Named, Ranges}
+use Rattle.law_worked.specs.Judges.Law.{Calls, Clears, Indexes, Copies, Reuse, Free, Placing, Order, Nexts, Retiring, Backs, Lists, Blocks, Reads, Due, Room, Eras, Moves, Births, Retires, Current, Single, Rising, Guards, Throughout, Sources, Finds, Gots, Links, Behind, Bare, Rests, Map, Values, Emptied, Steps, Withdrawals, Tries, Raises, Asks, CallSteps, Told, Reasons, Full, Lacks, Counted, Refusals, Clock, Repeats, Alone, Named, Ranges}
 use Rattle.law_worked.specs.Refusals.{IsWorked, Row, row}
 
 abbrev pub queued_setting : Layout
@@ -95,6 +95,7 @@ queued_table =
     ∷ row Nexts (4 ∷ 6 ∷ 14 ∷ 25 ∷ []) (4 ∷ 6 ∷ 14 ∷ 16 ∷ 25 ∷ 39 ∷ []) [] (4 ∷ 6 ∷ 14 ∷ 16 ∷ 25 ∷ 39 ∷ []) []
     ∷ row Retiring (26 ∷ 32 ∷ 40 ∷ 46 ∷ []) (26 ∷ 32 ∷ 40 ∷ 46 ∷ []) (32 ∷ 46 ∷ []) (26 ∷ 40 ∷ []) []
     ∷ row Backs [] [] [] [] []
+    ∷ row Lists [] [] [] [] []
     ∷ row Blocks [] [] [] [] []
     ∷ row Reads [] [] [] [] []
     ∷ row Due [] [] [] (20 ∷ 34 ∷ 48 ∷ []) []

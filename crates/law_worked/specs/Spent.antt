@@ -12,7 +12,7 @@ use Rattle.wfe_core.specs.defs.declared.event.Root.TheVariants as roots
 use Rattle.wfe_core.specs.Guards.{from_to}
 use Rattle.model_history.specs.History.{Item}
 use Rattle.model_history.specs.Among.{call, said, setting, to_end}
-use Rattle.law_worked.specs.Judges.Law.{Calls, Clears, Indexes, Copies, Reuse, Free, Placing, Order, Nexts, Retiring, Backs, Blocks, Reads, Due, Room, Eras, Moves, Births, Retires, Current, Single, Rising, Guards, Throughout, Sources, Finds, Gots, Links, Behind, Bare, Rests, Map, Values, Emptied, Steps, Withdrawals, Tries, Raises, Asks, CallSteps, Told, Reasons, Full, Lacks, Counted, Refusals, Clock, Repeats, Alone, Named, Ranges}
+use Rattle.law_worked.specs.Judges.Law.{Calls, Clears, Indexes, Copies, Reuse, Free, Placing, Order, Nexts, Retiring, Backs, Lists, Blocks, Reads, Due, Room, Eras, Moves, Births, Retires, Current, Single, Rising, Guards, Throughout, Sources, Finds, Gots, Links, Behind, Bare, Rests, Map, Values, Emptied, Steps, Withdrawals, Tries, Raises, Asks, CallSteps, Told, Reasons, Full, Lacks, Counted, Refusals, Clock, Repeats, Alone, Named, Ranges}
 use Rattle.law_worked.specs.Refusals.{IsWorked, Row, row}
 
 abbrev pub spent_setting : Layout
@@ -94,6 +94,7 @@ spent_table =
     ∷ row Nexts (40 ∷ 42 ∷ 50 ∷ []) (40 ∷ 42 ∷ 50 ∷ 52 ∷ []) [] (40 ∷ 42 ∷ 50 ∷ 52 ∷ []) []
     ∷ row Retiring (18 ∷ 22 ∷ []) (18 ∷ 22 ∷ []) (22 ∷ []) (18 ∷ []) []
     ∷ row Backs [] [] [] [] []
+    ∷ row Lists [] [] [] [] []
     ∷ row Blocks [] [] [] [] []
     ∷ row Reads [] [] [] [] []
     ∷ row Due [] [] [] [] []

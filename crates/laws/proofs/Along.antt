@@ -12,7 +12,7 @@ use Rattle.model_record.specs.defs.declared.event.Event.TheVariants as events
 use Rattle.model_record.specs.defs.declared.event.Guard.{Guard}
 use Rattle.model_record.specs.defs.declared.event.Guard.TheVariants.{Helper, Index, Whole}
 use Rattle.model_record.specs.defs.declared.lifetime.Lifetime.{Lifetime}
-use Rattle.laws.specs.StateAt.{is_row, taken_by, taken_at, retired_by, retired_at, list_by, list_of, cut_by, cut_at, same_guard, is_index_word}
+use Rattle.laws.specs.StateAt.{is_row, taken_by, taken_at, retired_by, retired_at, gained_by, handed_by, hands_none, is_handed, list_by, list_of, cut_by, cut_at, same_guard, is_index_word}
 
 pub row_of : (s : ℕ) (x : Option ℕ) → is_row s x ≡ true → x ≡ Some s
 row_of s None h = absurd (cc)
@@ -32,6 +32,13 @@ pub along_kind : {X : Type 0} (f : Event → X → X) (kind : Event → Bool) �
 along_kind f kind q [] x = refl
 along_kind f kind q (event ∷ told) x = along_one f kind event told x (kind event) refl q (along_kind f kind q told)
 
+-- what no event of which takes a list over
+first_none : (event : Event) (told : List Event) → hands_none (event ∷ told) ≡ true → is_handed event ≡ false
+first_none event told h = grind (arith, nat_tests)
+
+rest_none : (event : Event) (told : List Event) → hands_none (event ∷ told) ≡ true → hands_none told ≡ true
+rest_none event told h = grind (arith, nat_tests)
+
 -- the record after all that is told
 pub taken_tells : (slots s i : ℕ) (told : List Event) (p : Past) → taken_at slots s (tells_of p i told) ≡ along (taken_by s) told (taken_at slots s p)
 taken_tells slots s i [] p = refl
@@ -41,16 +48,29 @@ pub retired_tells : (s i : ℕ) (told : List Event) (p : Past) → retired_at s 
 retired_tells s i [] p = refl
 retired_tells s i (event ∷ told) p = retired_tells s i told (Then p i event)
 
-pub list_own : (i : ℕ) (event : Event) (p : Past) → list_of i (Then p i event) ≡ list_by event (list_of i p)
-list_own i event p = rw (same_number i) refl
+-- lists change by their own seats alone, but where one is taken over
+gained_own : (event : Event) (other : ℕ → List Lifetime) (list : List Lifetime) → is_handed event ≡ false → gained_by event other list ≡ list_by event list
+gained_own (events.Adopted place count) other list h = absurd (cc)
+gained_own event other list h = refl
 
-pub list_tells : (i : ℕ) (told : List Event) (p : Past) → list_of i (tells_of p i told) ≡ along list_by told (list_of i p)
-list_tells i [] p = refl
-list_tells i (event ∷ told) p = list_tells i told (Then p i event) ∙ ap (along list_by told) (list_own i event p)
+handed_not : (k : ℕ) (event : Event) (list : List Lifetime) → is_handed event ≡ false → handed_by k event list ≡ list
+handed_not k (events.Adopted place count) list h = absurd (cc)
+handed_not k event list h = refl
 
-pub list_stays : (k i : ℕ) (told : List Event) (p : Past) → (k == i) ≡ false → list_of k (tells_of p i told) ≡ list_of k p
-list_stays k i [] p h = refl
-list_stays k i (event ∷ told) p h = list_stays k i told (Then p i event) h ∙ rw h refl
+pub list_own : (i : ℕ) (event : Event) (p : Past) → is_handed event ≡ false → list_of i (Then p i event) ≡ list_by event (list_of i p)
+list_own i event p h = rw (same_number i) (gained_own event (λ (place : ℕ). list_of place p) (list_of i p) h)
+
+pub list_other : (k i : ℕ) (event : Event) (p : Past) → (k == i) ≡ false → is_handed event ≡ false → list_of k (Then p i event) ≡ list_of k p
+list_other k i event p e h = rw e (handed_not k event (list_of k p) h)
+
+pub list_tells : (i : ℕ) (told : List Event) (p : Past) → hands_none told ≡ true → list_of i (tells_of p i told) ≡ along list_by told (list_of i p)
+list_tells i [] p h = refl
+list_tells i (event ∷ told) p h =
+    list_tells i told (Then p i event) (rest_none event told h) ∙ ap (along list_by told) (list_own i event p (first_none event told h))
+
+pub list_stays : (k i : ℕ) (told : List Event) (p : Past) → (k == i) ≡ false → hands_none told ≡ true → list_of k (tells_of p i told) ≡ list_of k p
+list_stays k i [] p e h = refl
+list_stays k i (event ∷ told) p e h = list_stays k i told (Then p i event) e (rest_none event told h) ∙ list_other k i event p e (first_none event told h)
 
 cut_own : (i s : ℕ) (event : Event) (p : Past) → cut_at i s (Then p i event) ≡ cut_by s event (cut_at i s p)
 cut_own i s event p = rw (same_number i) refl

@@ -13,7 +13,7 @@ use Rattle.model_record.specs.defs.declared.event.Event.{Event}
 use Rattle.model_record.specs.defs.declared.event.Event.TheVariants as events
 use Rattle.wfe_words.specs.declared.config.Config.{Config}
 use Rattle.laws.specs.ScanLaw.{guards, blocks_of}
-use Rattle.laws.specs.StateAt.{retires_of, changed_of, seen, same_value, began_of, count_of, is_there, pairs_at, was_current, queued_of, has_told, begun_at, is_bare, stands, bucket_of, taken_since, clock_of, taken_of, tails_of, finds_of, times, is_read, is_back, is_give, list_of, is_among, RowShows, ShowsVersion, shows_of, value_at}
+use Rattle.laws.specs.StateAt.{retires_of, changed_of, seen, same_value, began_of, count_of, is_there, pairs_at, was_current, queued_of, adopts, has_left, has_told, is_adopted, begun_at, is_bare, stands, bucket_of, taken_since, clock_of, taken_of, tails_of, finds_of, times, is_read, is_back, is_give, list_of, is_among, RowShows, ShowsVersion, shows_of, value_at}
 
 -- the answers that a call may have
 abbrev pub suits : Call → Answer → Bool
@@ -46,9 +46,13 @@ suits (calls.PutIf key value wanted) (answers.Stale version) = true
 suits (calls.PutIf key value wanted) answers.Full = true
 suits (calls.PutIf key value wanted) (answers.BucketFull version) = true
 suits (calls.PutIf key value wanted) (answers.Spent number) = true
+suits calls.Leave (answers.Left count) = true
+suits (calls.Adopt place) (answers.Adopted count) = true
+suits (calls.Adopt place) answers.NotLeft = true
+suits (calls.Adopt place) answers.AdoptedBefore = true
 suits call answer = false
 
--- what a call with this answer has told of the map, of the queue or of a copy, in a table with so many buckets
+-- what a call with this answer has told of the map, of the queue, of a copy or of a list, in a table with so many buckets
 abbrev pub owes : ℕ → Call → Answer → Option Event
 owes n (calls.Get key) (answers.Got version value) = Some (events.Got (key % n) version key value)
 owes n (calls.Put key value) (answers.Done version clock) = Some (events.Put (key % n) version key value)
@@ -57,6 +61,8 @@ owes n (calls.Enqueue value) (answers.Queued number) = Some (events.Queued numbe
 owes n calls.Dequeue (answers.Taken number value clock) = Some (events.Taken number value)
 owes n (calls.Copy from index) (answers.Copied slot) = Some (events.Copied from index slot)
 owes n (calls.PutIf key value wanted) (answers.Done version clock) = Some (events.Put (key % n) version key value)
+owes n calls.Leave (answers.Left count) = Some (events.Left count)
+owes n (calls.Adopt place) (answers.Adopted count) = Some (events.Adopted place count)
 owes n call answer = None
 
 abbrev pub same_event : Event → Event → Bool
@@ -66,6 +72,8 @@ same_event (events.Removed b version key) (events.Removed b' version' key') = (b
 same_event (events.Queued number value) (events.Queued number' value') = number == number' && value == value'
 same_event (events.Taken number value) (events.Taken number' value') = number == number' && value == value'
 same_event (events.Copied from index slot) (events.Copied from' index' slot') = from == from' && (index == index' && slot == slot')
+same_event (events.Left count) (events.Left count') = count == count'
+same_event (events.Adopted place count) (events.Adopted place' count') = place == place' && count == count'
 same_event event other = false
 
 -- the call of seat i told the event once
@@ -169,6 +177,31 @@ put_if_reason c i b key wanted p (answers.Spent version) = version == wanted && 
 put_if_reason c i b key wanted p (answers.BucketFull version) = version == wanted && put_reason c i b key p (answers.BucketFull version)
 put_if_reason c i b key wanted p answer = true
 
+-- nothing stands at any of so many indexes of the seat
+abbrev pub is_bare_below : (indexes : ℕ) → ℕ → Past → Bool
+is_bare_below zero i p = true
+is_bare_below (suc j) i p = is_bare i j p && is_bare_below j i p
+
+-- a call by which the seat leaves: nothing stands at the seat
+abbrev pub leave_reason : (indexes i : ℕ) → Past → Answer → Bool
+leave_reason n i p (answers.Left count) = is_bare_below n i p
+leave_reason n i p answer = true
+
+-- the seat had left at a position
+abbrev pub stayed : ℕ → Past → Bool
+stayed place p = not (has_left place p)
+
+-- another call than the present one of seat i has taken the list over
+abbrev pub adopted_else : (i place : ℕ) → Past → Bool
+adopted_else i place Start = false
+adopted_else i place (Then p k event) = if begins i p k event then is_adopted place p else (not (i == k) && adopts place event) || adopted_else i place p
+
+-- a call that takes a list over: at a position of the call its seat had not left, or another call had taken it over
+abbrev pub adopt_reason : (i place : ℕ) → Past → Answer → Bool
+adopt_reason i place p answers.NotLeft = held_since (begins i) (stayed place) p
+adopt_reason i place p answers.AdoptedBefore = adopted_else i place p
+adopt_reason i place p answer = true
+
 -- by the call of seat i that gives the answer
 abbrev pub reason : Config → ℕ → Past → Option Call → Answer → Bool
 reason c i p (Some (calls.Put key value)) answer = put_reason c i (bucket_of c.buckets key) key p answer
@@ -182,6 +215,8 @@ reason c i p (Some (calls.DropIndex index)) answer = drop_reason i index p answe
 reason c i p (Some (calls.Look index key)) answer = look_reason i index key p answer
 reason c i p (Some (calls.PutIf key value wanted)) answer = put_if_reason c i (bucket_of c.buckets key) key wanted p answer
 reason c i p (Some calls.Scan) answer = scan_reason i p answer
+reason c i p (Some calls.Leave) answer = leave_reason c.indexes i p answer
+reason c i p (Some (calls.Adopt place)) answer = adopt_reason i place p answer
 reason c i p call answer = true
 
 -- where a call ends, its answer has its reason
@@ -341,7 +376,8 @@ pub record AnswerLaw (config : Config) (r : Past) : Type 0 where
   pub told : EachEntry (answers_ok config.buckets) r
   -- a change is done or refused by its bucket's pairs at a version of its call, and so are an enqueue, a dequeue and a hold by what the
   -- queue and the bucket had; what a hold or a copy answers stands, and after a release or a drop nothing does; a look answers what the
-  -- row shows that stands; a scan counts what it kept and gave back
+  -- row shows that stands; a scan counts what it kept and gave back; nothing stands at a seat that left; a list that was not taken over
+  -- had not been left, or another call had taken it over
   pub reasons : EachEntry (reasons_ok config) r
   -- a call that answers Full was given no row and had one block, and since then each row was taken at a position
   pub full : (s : ℕ) → s ≤ config.slots → EachEntry (full_ok config s) r

@@ -1,5 +1,5 @@
 -- What calls answer, and why.
-use Rattle.std.specs.Prelude.{Bool, List, None, Option, Some, [], false, if◌then◌else◌, is_none, length, nat_le, nat_lt, not, true, ℕ, ◌%◌, ◌&&◌, ◌+◌, ◌-◌, ◌==◌, ◌||◌, ◌∷◌, ◌≤◌}
+use Rattle.std.specs.Prelude.{Bool, List, None, Option, Some, [], false, if◌then◌else◌, is_none, length, nat_le, nat_lt, not, true, ℕ, ◌%◌, ◌&&◌, ◌+◌, ◌-◌, ◌==◌, ◌||◌, ◌∷◌, ◌≤◌, suc, zero}
 use Rattle.model_record.specs.Record.{EachEntry, Past, Test}
 use Rattle.model_record.specs.defs.Events.{is_held, is_null}
 use Rattle.model_record.specs.defs.declared.call.Answer.TheVariants as answers
@@ -11,7 +11,7 @@ use Rattle.model_record.specs.defs.declared.call.ClockMove.{ClockMove}
 use Rattle.model_record.specs.defs.declared.event.Event.TheVariants as events
 use Rattle.model_record.specs.defs.declared.event.Event.{Event}
 use Rattle.wfe_words.specs.declared.config.Config.{Config}
-use Rattle.laws.specs.AnswerLaw.{enqueue_reason, from_of, is_advance, lacks_ok, moves_before, moves_of, retires_for, same_event, suits, shows_value, tells_none}
+use Rattle.laws.specs.AnswerLaw.{adopt_reason, enqueue_reason, from_of, is_advance, lacks_ok, moves_before, moves_of, retires_for, same_event, suits, shows_value, tells_none}
 use Rattle.laws.specs.HistoryScans.{Search, search_of}
 use Rattle.laws.specs.ScanLaw.{guards}
 use Rattle.laws.specs.StateAt.{began_of, begun_at, bucket_of, changed_of, clock_of, count_of, finds_of, had_version, has_told, is_row, is_there, pairs_at, retires_of, seen, stood_at, taken_since, told, told_of, was_current, was_empty, shows_of}
@@ -103,6 +103,8 @@ owes n (calls.Enqueue value) (answers.Queued number) = events.Queued number valu
 owes n calls.Dequeue (answers.Taken number value clock) = events.Taken number value ∷ []
 owes n (calls.Copy from index) (answers.Copied slot) = events.Copied from index slot ∷ []
 owes n (calls.PutIf key value wanted) (answers.Done version clock) = events.Put (key % n) version key value ∷ []
+owes n calls.Leave (answers.Left count) = events.Left count ∷ []
+owes n (calls.Adopt place) (answers.Adopted count) = events.Adopted place count ∷ []
 owes n call answer = []
 
 abbrev pub same_told : List Event → List Event → Bool
@@ -189,6 +191,16 @@ put_if_reason c i b key wanted p (answers.Spent version) = version == wanted && 
 put_if_reason c i b key wanted p (answers.BucketFull version) = version == wanted && put_reason c i b key p (answers.BucketFull version)
 put_if_reason c i b key wanted p answer = true
 
+-- nothing stands at any of so many indexes of the seat
+abbrev pub is_bare_below : (indexes : ℕ) → ℕ → Past → Bool
+is_bare_below zero i p = true
+is_bare_below (suc j) i p = is_none (stood_at i j p) && is_bare_below j i p
+
+-- a call by which the seat leaves: nothing stands at the seat
+abbrev pub leave_reason : (indexes i : ℕ) → Past → Answer → Bool
+leave_reason n i p (answers.Left count) = is_bare_below n i p
+leave_reason n i p answer = true
+
 -- by the call of seat i that gives the answer
 abbrev pub reason : Config → ℕ → Past → Option Call → Answer → Bool
 reason c i p (Some (calls.Put key value)) answer = put_reason c i (bucket_of c.buckets key) key p answer
@@ -201,6 +213,8 @@ reason c i p (Some (calls.Copy from index)) answer = copy_reason i from index p 
 reason c i p (Some (calls.DropIndex index)) answer = drop_reason i index p answer
 reason c i p (Some (calls.Look index key)) answer = look_reason i index key p answer
 reason c i p (Some (calls.PutIf key value wanted)) answer = put_if_reason c i (bucket_of c.buckets key) key wanted p answer
+reason c i p (Some calls.Leave) answer = leave_reason c.indexes i p answer
+reason c i p (Some (calls.Adopt place)) answer = adopt_reason i place p answer
 reason c i p call answer = true
 
 -- where a call ends, its answer has its reason

@@ -42,14 +42,17 @@ protects_at (Some calls.Dequeue) index = index == 0 || index == 1
 protects_at (Some (calls.Hold key)) index = index == 2
 protects_at call index = false
 
--- a call clears where it protects, a release at index 2, a drop at its index, and a copy where it copies to
+-- a call clears where it protects, a release at index 2, a drop at its index, a copy where it copies to, and one by which the seat leaves
+-- at each index from 2 on
 abbrev pub clears_at : Option Call → ℕ → Bool
 clears_at (Some calls.Release) index = index == 2
 clears_at (Some (calls.DropIndex dropped)) index = (index == dropped) && nat_le 2 dropped
 clears_at (Some (calls.Copy from to)) index = (index == to) && (nat_le 2 from && nat_lt from to)
+clears_at (Some calls.Leave) index = nat_le 2 index
 clears_at call index = protects_at call index
 
--- So index 2 is held only in a hold and cleared only in a hold or a release, and index 1 is used only in a dequeue.
+-- So index 2 is held only in a hold and cleared only in a hold, a release, a drop or where the seat leaves, and index 1 is used only in a
+-- dequeue.
 abbrev pub indexes_ok : Test
 indexes_ok p i (events.Held index slot steps) = protects_at (began_of i p) index
 indexes_ok p i (events.Null index steps) = protects_at (began_of i p) index
@@ -213,7 +216,7 @@ pub record HistoryStands (r : Past) : Type 0 where
   pub reuse : ReuseLaw r
   -- a seat tells that a row stands at an index no more only where the row stands there
   pub clears : ClearLaw r
-  -- only holds and what lets go of them use index 2, only dequeues index 1, and only copies and drops those above 2
+  -- only holds, what lets go of them and a leave use index 2, only dequeues index 1, and only copies, drops and a leave those above 2
   pub indexes : IndexLaw r
   -- what is copied stands where it is copied from
   pub copies : CopyLaw r

@@ -7,7 +7,7 @@ use Rattle.model_record.specs.defs.declared.event.Root.TheVariants as roots
 use Rattle.model_record.specs.defs.declared.call.Call.{Call}
 use Rattle.model_record.specs.defs.declared.call.Call.TheVariants as calls
 use Rattle.laws.specs.Once.Due.{NoneDue}
-use Rattle.laws.specs.Once.{due_at, is_slot, order_ok, retiring_ok}
+use Rattle.laws.specs.Once.{due_at, is_slot, lists_ok, order_ok, retiring_ok}
 use Rattle.laws.specs.StateAt.Given.{InHand, Placed, Without}
 use Rattle.laws.specs.StateAt.{Given, began_of, retires_of, cut_at, given_of, has_slot, head_at, list_of, next_at, retired_at, tail_at, taken_at, was_given}
 
@@ -100,6 +100,9 @@ single_ok p i event = true
 abbrev pub SingleLaw : Past → Type 0
 SingleLaw r = EachEntry single_ok r
 
+abbrev pub ListLaw : Past → Type 0
+ListLaw r = EachEntry lists_ok r
+
 -- The way of a row from free to free.
 pub record HistoryRows (slots : ℕ) (r : Past) : Type 0 where
   -- free rows are given, taken ones told unused or back; a seat tells back of its own list, and retires what it has cut
@@ -116,3 +119,5 @@ pub record HistoryRows (slots : ℕ) (r : Past) : Type 0 where
   pub retiring : RetireLaw r
   -- a call retires one row at most, and only a call that cuts one does
   pub single : SingleLaw r
+  -- a list is left whole by the seat that leaves, and taken over whole, once at most
+  pub lists : ListLaw r

@@ -1,5 +1,5 @@
 -- What an entry names is in the table: its seat, and the guards, indexes, rows and buckets that its event tells of.
-use Rattle.std.specs.Prelude.{Bool, true, ◌&&◌, nat_le, nat_lt}
+use Rattle.std.specs.Prelude.{Bool, true, ◌&&◌, ◌+◌, nat_le, nat_lt}
 use Rattle.model_record.specs.Record.{Test, EachEntry, Past}
 use Rattle.model_record.specs.defs.declared.call.Answer.{Answer}
 use Rattle.model_record.specs.defs.declared.call.Answer.TheVariants as answers
@@ -40,6 +40,8 @@ abbrev pub is_answer : Config → Answer → Bool
 is_answer config (answers.Holding slot) = nat_le slot config.slots
 is_answer config (answers.Copied slot) = nat_le slot config.slots
 is_answer config (answers.Looked slot version value) = nat_le slot config.slots
+is_answer config (answers.Left count) = nat_le count (config.slots + 1)
+is_answer config (answers.Adopted count) = nat_le count (config.slots + 1)
 is_answer config answer = true
 
 -- the indexes, rows and buckets of an event are those of the table
@@ -58,6 +60,8 @@ is_in_range config (events.Copied from index slot) = nat_lt from config.indexes 
 is_in_range config (events.Put bucket version key value) = nat_lt bucket config.buckets
 is_in_range config (events.Removed bucket version key) = nat_lt bucket config.buckets
 is_in_range config (events.Got bucket version key value) = nat_lt bucket config.buckets
+is_in_range config (events.Left count) = nat_le count (config.slots + 1)
+is_in_range config (events.Adopted place count) = nat_lt place config.seats && nat_le count (config.slots + 1)
 is_in_range config event = true
 
 -- and its seat is there

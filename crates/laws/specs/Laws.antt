@@ -14,7 +14,7 @@ use Rattle.laws.specs.Standing.{Standing}
 use Rattle.laws.specs.StepLaw.{StepLaw}
 
 pub record Laws (config : Config) (r : Past) : Type 0 where
-  -- calls begin where their seat is in none, and all else is told in a call
+  -- calls begin where their seat is in none and has not left, and all else is told in a call
   pub calls : EachEntry open_ok r
   -- what seats clear, and at which indexes
   pub standing : Standing r

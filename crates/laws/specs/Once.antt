@@ -1,11 +1,14 @@
 -- Each row is given, linked, cut, retired and given back once, in this order.
-use Rattle.std.specs.Prelude.{not, true, ℕ, ◌&&◌, Bool, false, ◌==◌, None, Option, Some, is_none, ◌||◌, List, if◌then◌else◌}
+use Rattle.std.specs.Prelude.{not, true, ℕ, ◌&&◌, Bool, false, ◌==◌, None, Option, Some, is_none, ◌||◌, List, length, if◌then◌else◌}
 use Rattle.model_record.specs.Record.{Test, EachEntry, Past}
 use Rattle.model_record.specs.Record.Past.{Then, Start}
+use Rattle.model_record.specs.defs.declared.call.Call.{Call}
+use Rattle.model_record.specs.defs.declared.call.Call.TheVariants as calls
 use Rattle.model_record.specs.defs.declared.event.Event.{Event}
 use Rattle.model_record.specs.defs.declared.event.Event.TheVariants as events
 use Rattle.model_record.specs.defs.declared.event.Root.TheVariants as roots
-use Rattle.laws.specs.StateAt.{has_slot, list_of, taken_at, bucket_at, head_at, next_at, tail_at, is_among, is_empty, is_row, cuts_of, seen}
+use Rattle.laws.specs.Standing.{is_leave}
+use Rattle.laws.specs.StateAt.{began_of, has_left, has_slot, is_adopted, list_of, taken_at, bucket_at, head_at, next_at, tail_at, is_among, is_empty, is_row, cuts_of, seen}
 
 -- A row is given only where it is free, and told Unused or Back only where it is taken.
 abbrev pub free_ok : (slots : ℕ) → Test
@@ -156,6 +159,19 @@ abbrev pub backs_ok : Test
 backs_ok p i (events.Back slot) = has_slot slot (list_of i p)
 backs_ok p i event = true
 
+-- a call that takes over the list of this seat
+abbrev pub is_adopt : ℕ → Option Call → Bool
+is_adopt place (Some (calls.Adopt other)) = other == place
+is_adopt place call = false
+
+-- A list is left only in a call by which its seat leaves. It is taken over only in a call for it, once its seat has left it and before
+-- any other seat has taken it over. The numbers told are the lengths of the lists.
+abbrev pub lists_ok : Test
+lists_ok p i (events.Left count) = is_leave (began_of i p) && count == length (list_of i p)
+lists_ok p i (events.Adopted place count) =
+    is_adopt place (began_of i p) && (has_left place p && (not (is_adopted place p) && count == length (list_of place p)))
+lists_ok p i event = true
+
 -- The way of a row from free to free.
 pub record Once (slots : ℕ) (r : Past) : Type 0 where
   -- free rows are given, and taken ones told unused or back
@@ -171,3 +187,5 @@ pub record Once (slots : ℕ) (r : Past) : Type 0 where
   pub retiring : EachEntry retiring_ok r
   -- a row goes back only from the list of the seat that tells so
   pub backs : EachEntry backs_ok r
+  -- a list is left whole by the seat that leaves, and taken over whole, once at most
+  pub lists : EachEntry lists_ok r

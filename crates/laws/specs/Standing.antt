@@ -4,11 +4,12 @@ use Rattle.model_record.specs.Record.{Test, EachEntry, Past}
 use Rattle.model_record.specs.defs.declared.call.Call.{Call}
 use Rattle.model_record.specs.defs.declared.call.Call.TheVariants as calls
 use Rattle.model_record.specs.defs.declared.event.Event.TheVariants as events
-use Rattle.laws.specs.StateAt.{stands, began_of, is_bare, is_dequeue, is_open}
+use Rattle.laws.specs.StateAt.{stands, began_of, has_left, is_bare, is_dequeue, is_open}
 
--- a call begins where its seat is in none, and all else is told in a call
+-- a call begins where its seat is in none and has not left, and all else is told in a call: so a seat that left tells nothing after the
+-- end of that call
 abbrev pub open_ok : Test
-open_ok p i (events.Begin call) = not (is_open i p)
+open_ok p i (events.Begin call) = not (is_open i p) && not (has_left i p)
 open_ok p i event = is_open i p
 
 -- at a Clear of a seat the row stands at that index of the seat
@@ -49,13 +50,19 @@ abbrev pub is_copy : (from index : ℕ) → Option Call → Bool
 is_copy from index (Some (calls.Copy one other)) = one == from && other == index
 is_copy from index call = false
 
--- a call may clear this index: 1 a dequeue, 2 a hold, a release or a drop, and those above 2 a copy to it or a drop
+-- a call by which the seat leaves
+abbrev pub is_leave : Option Call → Bool
+is_leave (Some calls.Leave) = true
+is_leave call = false
+
+-- a call may clear this index: 1 a dequeue, 2 a hold, a release or a drop, and those above 2 a copy to it or a drop; those from 2 on also
+-- one by which the seat leaves
 abbrev pub may_clear : Option Call → ℕ → Bool
 may_clear call index =
     if index == 0 then true
     else if index == 1 then is_dequeue call
-    else if index == 2 then lets_go call || is_drop 2 call
-    else is_copy_to index call || is_drop index call
+    else if index == 2 then lets_go call || (is_drop 2 call || is_leave call)
+    else is_copy_to index call || (is_drop index call || is_leave call)
 
 abbrev pub indexes_ok : Test
 indexes_ok p i (events.Held index slot steps) = may_hold (began_of i p) index
@@ -74,8 +81,8 @@ copies_ok p i event = true
 pub record Standing (r : Past) : Type 0 where
   -- a seat tells that a row stands at an index no more only where the row stands there
   pub clears : EachEntry clears_ok r
-  -- index 2 is held only in a hold, and cleared only in a hold, a release or a drop of it; index 1 is used only in a dequeue; an index
-  -- above 2 is cleared only in a copy to it or a drop of it
+  -- index 2 is held only in a hold, and cleared only in a hold, a release, a drop of it or where the seat leaves; index 1 is used only in
+  -- a dequeue; an index above 2 is cleared only in a copy to it, a drop of it or where the seat leaves
   pub indexes : EachEntry indexes_ok r
   -- what stands is copied in a copy, upwards, to an index at which nothing stands
   pub copies : EachEntry copies_ok r

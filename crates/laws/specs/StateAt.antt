@@ -1,5 +1,5 @@
 -- What is read off a record at a position, that is off the entries before it. What one law alone counts stands with that law.
-use Rattle.std.specs.Prelude.{None, Option, Some, ℕ, ◌==◌, if◌then◌else◌, Bool, false, true, List, [], ◌∷◌, ◌++◌, ◌||◌, ◌+◌, length, ◌&&◌, nat_le, ◌%◌, take, is_some, nat_lt}
+use Rattle.std.specs.Prelude.{None, Option, Some, ℕ, ◌==◌, if◌then◌else◌, Bool, false, not, true, List, [], ◌∷◌, ◌++◌, ◌||◌, ◌+◌, length, ◌&&◌, nat_le, ◌%◌, take, is_some, nat_lt}
 use Rattle.model_record.specs.Record.{Past, begins, own, told_since, Test, held_since, value_since}
 use Rattle.model_record.specs.Record.Past.{Start, Then}
 use Rattle.model_record.specs.defs.Shown.{Seen, shown}
@@ -70,7 +70,7 @@ abbrev pub began_of : ℕ → Past → Option Call
 began_of k Start = None
 began_of k (Then p i event) = if k == i then began_by event (began_of k p) else began_of k p
 
--- what it has told of the map, of the queue and of copies since
+-- what it has told of the map, of the queue, of copies and of lists since
 abbrev pub with_told : Event → List Event → List Event
 with_told (events.Begin call) before = []
 with_told (events.Got bucket version key value) before = before ++ events.Got bucket version key value ∷ []
@@ -79,6 +79,8 @@ with_told (events.Removed bucket version key) before = before ++ events.Removed 
 with_told (events.Queued number value) before = before ++ events.Queued number value ∷ []
 with_told (events.Taken number value) before = before ++ events.Taken number value ∷ []
 with_told (events.Copied from index slot) before = before ++ events.Copied from index slot ∷ []
+with_told (events.Left count) before = before ++ events.Left count ∷ []
+with_told (events.Adopted place count) before = before ++ events.Adopted place count ∷ []
 with_told event before = before
 
 abbrev pub told_of : ℕ → Past → List Event
@@ -383,10 +385,51 @@ list_by (events.Retire slot birth retire) list = list ++ record { slot = slot; b
 list_by (events.Back slot) list = without slot list
 list_by event list = list
 
--- the lives that seat i has retired and not told Back since, in the order of their Retire
+-- a seat's list after any event of the seat: a list that it takes over comes last, in its order
+abbrev pub gained_by : Event → (other : ℕ → List Lifetime) → List Lifetime → List Lifetime
+gained_by (events.Adopted place count) other list = list ++ other place
+gained_by event other list = list_by event list
+
+-- a seat's list after an event of another seat: it is empty once that seat has taken it over
+abbrev pub handed_by : ℕ → Event → List Lifetime → List Lifetime
+handed_by i (events.Adopted place count) list = if i == place then [] else list
+handed_by i event list = list
+
+-- the lives that belong to seat i and were not told Back since, in the order in which they came to it: by its Retire, or with a list
+-- that it took over; and none once another seat has taken its list over
 abbrev pub list_of : ℕ → Past → List Lifetime
 list_of i Start = []
-list_of i (Then p k event) = if i == k then list_by event (list_of i p) else list_of i p
+list_of i (Then p k event) = if i == k then gained_by event (λ (place : ℕ). list_of place p) (list_of i p) else handed_by i event (list_of i p)
+
+-- an event that takes a list over
+abbrev pub is_handed : Event → Bool
+is_handed (events.Adopted place count) = true
+is_handed event = false
+
+-- no list is taken over
+abbrev pub hands_none : List Event → Bool
+hands_none [] = true
+hands_none (event ∷ told) = not (is_handed event) && hands_none told
+
+-- the seat leaves its list
+abbrev pub is_left : Event → Bool
+is_left (events.Left count) = true
+is_left event = false
+
+-- seat i has left its list
+abbrev pub has_left : ℕ → Past → Bool
+has_left i Start = false
+has_left i (Then p k event) = (is_left event && i == k) || has_left i p
+
+-- the list of this seat is taken over
+abbrev pub adopts : ℕ → Event → Bool
+adopts i (events.Adopted place count) = i == place
+adopts i event = false
+
+-- some seat has taken the list of seat i over
+abbrev pub is_adopted : ℕ → Past → Bool
+is_adopted i Start = false
+is_adopted i (Then p k event) = adopts i event || is_adopted i p
 
 -- the list has the slot
 abbrev pub has_slot : ℕ → List Lifetime → Bool

@@ -3,8 +3,7 @@ use Rattle.std.proofs.Common.{ℕ, ◌≡◌, ◌<◌, Bool, true, false, List, 
 use Rattle.std.proofs.lemmas.Bool.Decides.{nat_tests}
 use Rattle.std.specs.Prelude.{◌&&◌, not, nat_lt}
 use Rattle.wfe_core.specs.defs.declared.call.Call.{Call}
-use Rattle.wfe_core.specs.Locals.{may_begin}
-use Rattle.wfe_core.specs.World.{is_busy}
+use Rattle.wfe_core.specs.World.{is_busy, may_start}
 use Rattle.model_history.specs.History.{Item, Begins, Steps, Made, fits, done, done_if, did, made_from, made_of, first_made, world_of}
 use Rattle.wfe_core.proofs.Facts.{rest_of}
 use Rattle.wfe_core.specs.words.declared.layout.Layout.{Layout}
@@ -23,14 +22,14 @@ begins_within seat seats busy false h = absurd (grind (arith, nat_tests))
 
 -- a property of what items come to, which each item that fits keeps
 pub record Steady (K : Made → Type 0) : Type 0 where
-  pub begins : (made : Made) (i : ℕ) (call : Call) → i < made.world.layout.config.seats → is_busy made.world i ≡ false → may_begin made.world.layout.config call ≡ true → K made → K (done made (Begins i call))
+  pub begins : (made : Made) (i : ℕ) (call : Call) → i < made.world.layout.config.seats → is_busy made.world i ≡ false → may_start made.world i call ≡ true → K made → K (done made (Begins i call))
   pub steps : (made : Made) (i : ℕ) → i < made.world.layout.config.seats → is_busy made.world i ≡ true → K made → K (done made (Steps i))
 
 pub item_keeps : (K : Made → Type 0) → Steady K → (made : Made) (item : Item) (fit : Bool) → fits made.world item ≡ fit → K made → K (done_if made item fit)
 item_keeps K s made item false f g = g
 item_keeps K s made (Begins i call) true f g =
     let seats : ℕ = made.world.layout.config.seats in
-    let may : Bool = may_begin made.world.layout.config call in
+    let may : Bool = may_start made.world i call in
     s.begins made i call (low_seat i seats (not (is_busy made.world i) && may) f) (begins_right i seats (is_busy made.world i) may f) (begins_within i seats (is_busy made.world i) may f) g
 item_keeps K s made (Steps i) true f g =
     s.steps made i (low_seat i made.world.layout.config.seats (is_busy made.world i) f) (rest_of (nat_lt i made.world.layout.config.seats) (is_busy made.world i) f) g

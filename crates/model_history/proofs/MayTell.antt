@@ -2,7 +2,7 @@
 -- covered it, or the guard that a reader takes from an answer and what it holds by it. Whoever needs to know that a step tells
 -- no event of some kind weakens this, and goes over no phases again.
 use Rattle.std.proofs.Common.{ℕ, ◌≡◌, ◌+◌, ◌-◌, Bool, true, false, List, [], ◌∷◌, ◌++◌, Option, Some, None, refl, ap, ◌∙◌}
-use Rattle.std.specs.Prelude.{◌==◌, ◌&&◌, ◌||◌, not, if◌then◌else◌}
+use Rattle.std.specs.Prelude.{◌==◌, ◌&&◌, ◌||◌, not, if◌then◌else◌, drop}
 use Rattle.wfe_core.specs.words.declared.config.SchemeKind.{SchemeKind}
 use Rattle.wfe_core.specs.words.declared.config.SchemeKind.TheVariants.{He, Ibr, Wfe}
 use Rattle.wfe_core.specs.words.Packed.{read_reservation, reservation_word}
@@ -21,7 +21,7 @@ use Rattle.wfe_core.specs.Locals.{told_by}
 use Rattle.wfe_core.specs.Machine as machine
 use Rattle.wfe_core.specs.Memory.{bump}
 use Rattle.wfe_core.specs.MoveClock as movers
-use Rattle.wfe_core.specs.Posts.{stands, cleared, reserves_helper, reserves_index, lower, upper}
+use Rattle.wfe_core.specs.Posts.{stands, cleared, cleared_from, reserves_helper, reserves_index, reserves_span, lower, upper}
 use Rattle.wfe_core.specs.Protect as protects
 use Rattle.wfe_core.specs.Rounds.{scheme_of, clear_told, let_index}
 use Rattle.wfe_core.specs.words.Schemes.{has_one_interval}
@@ -35,7 +35,7 @@ use Rattle.wfe_core.specs.Phases.AllocateAt.{ClaimSlot}
 use Rattle.wfe_core.specs.Phases.RetireAt.{StoreRetired}
 use Rattle.wfe_core.specs.Phases.MoveAt.{LoadEra, LoadRequest, ShowEra, LoadAsked, CheckEra, AnswerAsked, LoadReserved, HandOver, HideEra, HideLate, ExchangeClock}
 use Rattle.wfe_core.specs.Phases.Base.{Begin, Protect, Reload, Clear, Finish, Release, Allocate, Write, GiveUp, Retire, Move}
-use Rattle.wfe_core.specs.Calls.{Phase, KeepAt, Loosens, LoadHeld, StoreHeld, Looks, Misses, Work, Getting, Changing, Enqueuing, Dequeuing, Keeping}
+use Rattle.wfe_core.specs.Calls.{Phase, KeepAt, Loosens, LoadHeld, StoreHeld, Looks, Misses, HideSpan, MarkLeft, TakeList, MarkTaken, Work, Getting, Changing, Enqueuing, Dequeuing, Keeping}
 use Rattle.wfe_core.proofs.Facts.{same_number, number_is, both, first_of, rest_of, and_true, false_not_true}
 use Rattle.model_history.proofs.AllOf.{all_of, of_along, of_weaker}
 use Rattle.model_history.proofs.Passes.{is_quiet, Closed, First, copied_told, keep_told, step_goes, work_told}
@@ -489,27 +489,37 @@ copied_all ok from index post reserved None c r p = refl
 copied_all ok from index post reserved (Some slot) c r p =
     of_along ok (cleared index (stands post index) ++ reserved) (events.Copied from index slot ∷ []) (of_along ok (cleared index (stands post index)) reserved c r) (and_true (ok (events.Copied from index slot)) (p slot))
 
-pub keep_all : (ok : Event → Bool) → ((index slot : ℕ) → ok (events.Clear index slot) ≡ true) → ((from index slot : ℕ) → ok (events.Copied from index slot) ≡ true) → ((seat index era : ℕ) → ok (events.Reserve (Index seat index) (one_era era)) ≡ true)
+-- what a seat tells that lets go of all that stands
+pub cleared_from_all : (ok : Event → Bool) (index : ℕ) (rows : List (Option ℕ)) → ((index slot : ℕ) → ok (events.Clear index slot) ≡ true) → all_of ok (cleared_from index rows) ≡ true
+cleared_from_all ok index [] c = refl
+cleared_from_all ok index (row ∷ rows) c = of_along ok (cleared index row) (cleared_from (index + 1) rows) (cleared_all ok index row c) (cleared_from_all ok (index + 1) rows c)
+
+pub keep_all : (ok : Event → Bool) → ((index slot : ℕ) → ok (events.Clear index slot) ≡ true) → ((from index slot : ℕ) → ok (events.Copied from index slot) ≡ true) → ((seat index era : ℕ) → ok (events.Reserve (Index seat index) (one_era era)) ≡ true) → ((seat : ℕ) → ok (events.Reserve (Whole seat) None) ≡ true)
     → (at : KeepAt) (post : Post) → all_of ok (keep_told at post) ≡ true
-keep_all ok c p r (Loosens let_go) post = cleared_all ok (let_index let_go) (stands post (let_index let_go)) c
-keep_all ok c p r (LoadHeld from index) post = by (has_one_interval (scheme_of post))
+keep_all ok c p r w (Loosens let_go) post = cleared_all ok (let_index let_go) (stands post (let_index let_go)) c
+keep_all ok c p r w (LoadHeld from index) post = by (has_one_interval (scheme_of post))
   where
     by : (one : Bool) → all_of ok (if one then copied_told from index post [] (stands post from) else []) ≡ true
     by true = copied_all ok from index post [] (stands post from) (cleared_all ok index (stands post index) c) refl (p from index)
     by false = refl
-keep_all ok c p r (StoreHeld from index era) post =
+keep_all ok c p r w (StoreHeld from index era) post =
     copied_all ok from index post (reserves_index post index era) (stands post from) (cleared_all ok index (stands post index) c) (and_true (ok (events.Reserve (Index post.seat index) (one_era era))) (r post.seat index era)) (p from index)
-keep_all ok c p r (Looks index key at) post = refl
-keep_all ok c p r (Misses index) post = refl
+keep_all ok c p r w (Looks index key at) post = refl
+keep_all ok c p r w (Misses index) post = refl
+keep_all ok c p r w HideSpan post =
+    of_along ok (cleared_from 2 (drop 2 post.standing)) (reserves_span post None) (cleared_from_all ok 2 (drop 2 post.standing) c) (and_true (ok (events.Reserve (Whole post.seat) None)) (w post.seat))
+keep_all ok c p r w MarkLeft post = refl
+keep_all ok c p r w (TakeList place) post = refl
+keep_all ok c p r w (MarkTaken place count) post = refl
 
 -- so of any work
-pub work_all : (ok : Event → Bool) → ((index slot : ℕ) → ok (events.Clear index slot) ≡ true) → ((from index slot : ℕ) → ok (events.Copied from index slot) ≡ true) → ((seat index era : ℕ) → ok (events.Reserve (Index seat index) (one_era era)) ≡ true)
+pub work_all : (ok : Event → Bool) → ((index slot : ℕ) → ok (events.Clear index slot) ≡ true) → ((from index slot : ℕ) → ok (events.Copied from index slot) ≡ true) → ((seat index era : ℕ) → ok (events.Reserve (Index seat index) (one_era era)) ≡ true) → ((seat : ℕ) → ok (events.Reserve (Whole seat) None) ≡ true)
     → (work : Work) (post : Post) → all_of ok (work_told work post) ≡ true
-work_all ok c p r (Keeping at) post = keep_all ok c p r at post
-work_all ok c p r (Getting key at) post = refl
-work_all ok c p r (Changing kept at) post = refl
-work_all ok c p r (Enqueuing kept at) post = refl
-work_all ok c p r (Dequeuing at) post = refl
+work_all ok c p r w (Keeping at) post = keep_all ok c p r w at post
+work_all ok c p r w (Getting key at) post = refl
+work_all ok c p r w (Changing kept at) post = refl
+work_all ok c p r w (Enqueuing kept at) post = refl
+work_all ok c p r w (Dequeuing at) post = refl
 
 -- a test that all passes which comes after a machine
 pub record Passes (ok : Event → Bool) : Type 0 where

@@ -1,6 +1,6 @@
 -- What a machine has told and left passes on to the end of a step: all that comes after it tells is quiet, or clears an index.
 use Rattle.std.proofs.Common.{ℕ, ◌≡◌, ◌+◌, ◌-◌, Bool, true, false, List, [], ◌∷◌, ◌++◌, length, Option, Some, None, refl}
-use Rattle.std.specs.Prelude.{◌==◌, ◌%◌, nat_lt, if◌then◌else◌}
+use Rattle.std.specs.Prelude.{◌==◌, ◌%◌, nat_lt, if◌then◌else◌, drop}
 use Rattle.wfe_core.specs.defs.Shown.{Seen}
 use Rattle.wfe_core.specs.defs.declared.fold.Change.{Change}
 use Rattle.wfe_core.specs.defs.declared.fold.Change.TheVariants as changes
@@ -26,17 +26,17 @@ use Rattle.wfe_core.specs.Guards.{guards, guard_at, eras_in, published}
 use Rattle.wfe_core.specs.Keep as keeps
 use Rattle.wfe_core.specs.Locals.{told_by, told_end}
 use Rattle.wfe_core.specs.Machine as machine
-use Rattle.wfe_core.specs.Posts.{cleared, reserves_index, stands, with_row, withdrawn}
+use Rattle.wfe_core.specs.Posts.{cleared, cleared_from, reserves_index, reserves_span, stands, with_row, withdrawn, withdrawn_all}
 use Rattle.wfe_core.specs.Scan as scan
 use Rattle.wfe_core.specs.Steps as steps
 use Rattle.wfe_core.specs.Rounds.{scheme_of, bucket_of, index_of, taken_of, finish_base, clear_base, clear_post, clear_told, given_up, closed, finishing_by, finishing, clearing_by, clearing, clearing_next_by, clearing_next, let_index}
 use Rattle.wfe_core.specs.words.Schemes.{has_one_interval}
 use Rattle.wfe_core.specs.Phases.{Base, Ending, Outcome, Goes, Ends}
 use Rattle.wfe_core.specs.Phases.Ending.{Done, Protected, Followed, Allocated, Retired, Clocked}
-use Rattle.wfe_core.specs.Calls.{Task, Gets, Changes, Holds, Enqueues, Dequeues, Next, Again, MakeRoom, Answering, Retiring, AfterScan, Answered, Repeated, Counted, ChangeKept, EnqueueKept, GetAt, FindVersion, FindCount, FindKey, FindValue, ChangeAt, LoadVersion, LoadCount, LoadKey, LoadValue, ExchangeRoot, EnqueueAt, LoadNumber, LoadNext, PassTail, ExchangeNext, ExchangeTail, DequeueAt, SwingTail, ExchangeHead, Work, Getting, Changing, Enqueuing, Dequeuing, Keeping, KeepAt, Loosens, LoadHeld, StoreHeld, Looks, Misses, LetGo, Released, Rehold, Dropped, ScanAt, ReadGuard, GiveBack, Why, Opens, FollowsHead, Fills, ClearsNext, Clears, Finishes, GivesUp, Retires, Tidies, Advances, Releases, Phase, Idle, Runs, Scans, Works, CallTurn, CallOutcome, GoesOn, Answers}
+use Rattle.wfe_core.specs.Calls.{Task, Gets, Changes, Holds, Enqueues, Dequeues, Next, Again, MakeRoom, Answering, Retiring, AfterScan, Answered, Repeated, Counted, ChangeKept, EnqueueKept, GetAt, FindVersion, FindCount, FindKey, FindValue, ChangeAt, LoadVersion, LoadCount, LoadKey, LoadValue, ExchangeRoot, EnqueueAt, LoadNumber, LoadNext, PassTail, ExchangeNext, ExchangeTail, DequeueAt, SwingTail, ExchangeHead, Work, Getting, Changing, Enqueuing, Dequeuing, Keeping, KeepAt, Loosens, LoadHeld, StoreHeld, Looks, Misses, HideSpan, MarkLeft, TakeList, MarkTaken, LetGo, Released, Rehold, Dropped, Parting, ScanAt, ReadGuard, GiveBack, Why, Opens, FollowsHead, Fills, ClearsNext, Clears, Finishes, GivesUp, Retires, Tidies, Advances, Releases, Phase, Idle, Runs, Scans, Works, CallTurn, CallOutcome, GoesOn, Answers}
 use Rattle.model_history.proofs.AllOf.{all_of, of_along}
 
--- events of what calls read and link, and of their end
+-- events of what calls read and link, of lists that are left and taken over, and of the ends of calls
 abbrev pub is_quiet : Event → Bool
 is_quiet (events.Got bucket version key value) = true
 is_quiet (events.Put bucket version key value) = true
@@ -46,6 +46,8 @@ is_quiet (events.Cut slot) = true
 is_quiet (events.Queued number value) = true
 is_quiet (events.Taken number value) = true
 is_quiet (events.End steps answer) = true
+is_quiet (events.Left count) = true
+is_quiet (events.Adopted place count) = true
 is_quiet event = false
 
 abbrev pub all_quiet : List Event → Bool
@@ -65,6 +67,8 @@ pub record Closing (P0 P : Post → List Event → Type 0) (A : ℕ → ℕ → 
   pub links : (post : Post) (root : Root) (slot : ℕ) (same : Bool) → P0 post [] → P post (enqueues.told_link root slot same)
   pub queues : (post : Post) (tail slot number value : ℕ) → P0 post [] → P post (events.Link (roots.Next tail) slot ∷ events.Queued number value ∷ [])
   pub takes : (post : Post) (head next number value : ℕ) → P0 post [] → P post (events.Link roots.Head next ∷ events.Cut head ∷ events.Taken number value ∷ [])
+  pub leaves : (post : Post) (count : ℕ) → P0 post [] → P post (events.Left count ∷ [])
+  pub adopts : (post : Post) (place count : ℕ) → P0 post [] → P post (events.Adopted place count ∷ [])
   pub clears : (post : Post) (told : List Event) (index : ℕ) → P post told → P (clear_post (scheme_of post) post index) (told ++ clear_told (scheme_of post) post index)
   pub ends : (post : Post) (told : List Event) (outcome : CallOutcome) → P post told → P post (told ++ told_end post outcome)
 
@@ -76,7 +80,7 @@ abbrev pub scan_told : ScanAt → Post → ℕ → List Event
 scan_told (ReadGuard number) post found = events.Read (guard_at post.layout.config number) (eras_in (guard_at post.layout.config number) found) ∷ []
 scan_told (GiveBack place slot) post found = events.Back slot ∷ []
 
--- what a step of a call on what is kept leaves, and what it tells
+-- what a step of a call on what is kept leaves, and what it tells before what it tells of lists
 abbrev pub copied_post : (index : ℕ) → Post → Option ℕ → Post
 copied_post index post None = post
 copied_post index post (Some slot) = with_row post index slot
@@ -91,6 +95,10 @@ keep_post (LoadHeld from index) post = if has_one_interval (scheme_of post) then
 keep_post (StoreHeld from index era) post = copied_post index post (stands post from)
 keep_post (Looks index key at) post = post
 keep_post (Misses index) post = post
+keep_post HideSpan post = withdrawn_all post
+keep_post MarkLeft post = post
+keep_post (TakeList place) post = post
+keep_post (MarkTaken place count) post = post
 
 abbrev pub keep_told : KeepAt → Post → List Event
 keep_told (Loosens let_go) post = cleared (let_index let_go) (stands post (let_index let_go))
@@ -98,6 +106,10 @@ keep_told (LoadHeld from index) post = if has_one_interval (scheme_of post) then
 keep_told (StoreHeld from index era) post = copied_told from index post (reserves_index post index era) (stands post from)
 keep_told (Looks index key at) post = []
 keep_told (Misses index) post = []
+keep_told HideSpan post = cleared_from 2 (drop 2 post.standing) ++ reserves_span post None
+keep_told MarkLeft post = []
+keep_told (TakeList place) post = []
+keep_told (MarkTaken place count) post = []
 
 -- a step of the other works leaves the post and tells nothing before what comes after it
 abbrev pub work_post : Work → Post → Post
@@ -267,6 +279,7 @@ released_goes : (P0 P : Post → List Event → Type 0) (A : ℕ → ℕ → Typ
 released_goes P0 P A c Released post desk told h = c.weak post told h
 released_goes P0 P A c (Rehold key) post desk told h = c.weak post told h
 released_goes P0 P A c (Dropped index) post desk told h = c.weak post told h
+released_goes P0 P A c (Parting index) post desk told h = c.weak post told h
 
 -- a call on what is kept
 copied_goes : (P0 P : Post → List Event → Type 0) (A : ℕ → ℕ → Type 0) (c : Closing P0 P A) (from index : ℕ) (post : Post) (desk : Desk) (reserved : List Event) (o : Option ℕ) → P0 (copied_post index post o) (copied_told from index post reserved o) → Left P (keeps.copied from index post desk reserved o)
@@ -291,12 +304,20 @@ look_goes P0 P A c index key (FindCount slot version) post desk found h = lookin
 look_goes P0 P A c index key (FindKey slot version count pair) post desk found h = looked_key_goes P0 P A c index key slot version count pair post desk (found == key) h
 look_goes P0 P A c index key (FindValue slot version pair) post desk found h = c.weak post [] h
 
+taking_goes : (P0 P : Post → List Event → Type 0) (A : ℕ → ℕ → Type 0) (c : Closing P0 P A) (place : ℕ) (post : Post) (desk : Desk) (left : Bool) (found : ℕ) → P0 post [] → Left P (keeps.taking place post desk left found)
+taking_goes P0 P A c place post desk true found h = c.adopts post place (length desk.gift) h
+taking_goes P0 P A c place post desk false found h = c.weak post [] h
+
 keep_goes : (P0 P : Post → List Event → Type 0) (A : ℕ → ℕ → Type 0) (c : Closing P0 P A) (at : KeepAt) (post : Post) (desk : Desk) (found : ℕ) → P0 (keep_post at post) (keep_told at post) → Left P (keeps.keep_turn at post desk found)
 keep_goes P0 P A c (Loosens let_go) post desk found h = released_goes P0 P A c let_go (withdrawn post (let_index let_go)) desk (cleared (let_index let_go) (stands post (let_index let_go))) h
 keep_goes P0 P A c (LoadHeld from index) post desk found h = load_held_goes P0 P A c from index post desk found (has_one_interval (scheme_of post)) h
 keep_goes P0 P A c (StoreHeld from index era) post desk found h = copied_goes P0 P A c from index post desk (reserves_index post index era) (stands post from) h
 keep_goes P0 P A c (Looks index key at) post desk found h = look_goes P0 P A c index key at post desk found h
 keep_goes P0 P A c (Misses index) post desk found h = c.weak post [] h
+keep_goes P0 P A c HideSpan post desk found h = c.weak (withdrawn_all post) (cleared_from 2 (drop 2 post.standing) ++ reserves_span post None) h
+keep_goes P0 P A c MarkLeft post desk found h = c.leaves post (length desk.list) h
+keep_goes P0 P A c (TakeList place) post desk found h = taking_goes P0 P A c place post desk (found == 1) found h
+keep_goes P0 P A c (MarkTaken place count) post desk found h = c.weak post [] h
 
 work_goes : (P0 P : Post → List Event → Type 0) (A : ℕ → ℕ → Type 0) (c : Closing P0 P A) (work : Work) (post : Post) (desk : Desk) (found : ℕ) → work_allows A work → P0 (work_post work post) (work_told work post) → Left P (steps.work_turn work post desk found)
 work_goes P0 P A c (Getting key at) post desk found a h = get_goes P0 P A c key at post desk found a h
@@ -480,6 +501,8 @@ closing P c = record {
   links = λ post root slot same h. c.calm post [] (enqueues.told_link root slot same) (link_quiet root slot same) h;
   queues = λ post tail slot number value h. c.calm post [] (events.Link (roots.Next tail) slot ∷ events.Queued number value ∷ []) refl h;
   takes = λ post head next number value h. c.calm post [] (events.Link roots.Head next ∷ events.Cut head ∷ events.Taken number value ∷ []) refl h;
+  leaves = λ post count h. c.calm post [] (events.Left count ∷ []) refl h;
+  adopts = λ post place count h. c.calm post [] (events.Adopted place count ∷ []) refl h;
   clears = c.clears;
   ends = λ post told outcome h. c.calm post told (told_end post outcome) (end_quiet post outcome) h;
 }

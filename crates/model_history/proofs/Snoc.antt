@@ -2,8 +2,7 @@
 use Rattle.std.proofs.Common.{List, [], ap, false, refl, subst, sym, true, ℕ, ◌++◌, ◌<◌, ◌∙◌, ◌∷◌, ◌≡◌}
 use Rattle.wfe_core.specs.words.declared.layout.Layout.{Layout}
 use Rattle.wfe_core.specs.defs.declared.call.Call.{Call}
-use Rattle.wfe_core.specs.Locals.{may_begin}
-use Rattle.wfe_core.specs.World.{World, begin, is_busy, step}
+use Rattle.wfe_core.specs.World.{World, begin, is_busy, may_start, step}
 use Rattle.wfe_core.proofs.Facts.{fits_busy, fits_free}
 use Rattle.model_history.specs.History.{Begins, Item, Made, Steps, done, done_if, first_made, fits, made_of, world_of}
 use Rattle.model_history.proofs.Along.{items_keep, made_snoc}
@@ -26,10 +25,9 @@ one_step layout items i h b =
     let w : World = world_of layout items in
     fit_done layout items (Steps i) (fits_busy i w.layout.config.seats (is_busy w i) (within layout items i h) b)
 
--- a call begins on a seat that is not busy, and names indexes that it may name
-pub one_begin : (layout : Layout) (items : List Item) (i : ℕ) (call : Call) → i < layout.config.seats → is_busy (world_of layout items) i ≡ false → may_begin layout.config call ≡ true
+-- a call begins on a seat that is not busy and has not left, and names indexes and places that it may name
+pub one_begin : (layout : Layout) (items : List Item) (i : ℕ) (call : Call) → i < layout.config.seats → is_busy (world_of layout items) i ≡ false → may_start (world_of layout items) i call ≡ true
     → world_of layout (items ++ Begins i call ∷ []) ≡ begin (world_of layout items) i call
 one_begin layout items i call h b m =
     let w : World = world_of layout items in
-    let may : may_begin w.layout.config call ≡ true = subst (λ (table : Layout). may_begin table.config call ≡ true) (sym (layout_is layout items)) m in
-    fit_done layout items (Begins i call) (fits_free i w.layout.config.seats (is_busy w i) (may_begin w.layout.config call) (within layout items i h) b may)
+    fit_done layout items (Begins i call) (fits_free i w.layout.config.seats (is_busy w i) (may_start w i call) (within layout items i h) b m)

@@ -60,6 +60,8 @@ call_code (calls.Copy from index) = 9 ∷ from ∷ index ∷ []
 call_code (calls.DropIndex index) = 10 ∷ index ∷ []
 call_code (calls.Look index key) = 11 ∷ index ∷ key ∷ []
 call_code (calls.PutIf key value version) = 12 ∷ key ∷ value ∷ version ∷ []
+call_code calls.Leave = 13 ∷ []
+call_code (calls.Adopt place) = 14 ∷ place ∷ []
 
 abbrev answer_code : Answer → List ℕ
 answer_code (answers.Got version value) = 0 ∷ version ∷ value_code value
@@ -80,6 +82,10 @@ answer_code (answers.Copied slot) = 14 ∷ slot ∷ []
 answer_code answers.Dropped = 15 ∷ []
 answer_code (answers.Looked slot version value) = 16 ∷ slot ∷ version ∷ value_code value
 answer_code (answers.Stale version) = 17 ∷ version ∷ []
+answer_code (answers.Left count) = 18 ∷ count ∷ []
+answer_code (answers.Adopted count) = 19 ∷ count ∷ []
+answer_code answers.NotLeft = 20 ∷ []
+answer_code answers.AdoptedBefore = 21 ∷ []
 
 abbrev event_code : Event → List ℕ
 event_code (events.Begin call) = 0 ∷ call_code call
@@ -102,6 +108,8 @@ event_code (events.Got bucket version key value) = 16 ∷ bucket ∷ version ∷
 event_code (events.Queued number value) = 17 ∷ number ∷ value ∷ []
 event_code (events.Taken number value) = 18 ∷ number ∷ value ∷ []
 event_code (events.Copied from index slot) = 19 ∷ from ∷ index ∷ slot ∷ []
+event_code (events.Left count) = 20 ∷ count ∷ []
+event_code (events.Adopted place count) = 21 ∷ place ∷ count ∷ []
 
 abbrev same_numbers : List ℕ → List ℕ → Bool
 same_numbers [] [] = true

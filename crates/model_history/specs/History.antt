@@ -6,9 +6,9 @@ use Rattle.wfe_core.specs.defs.declared.event.Event.TheVariants as events
 use Rattle.model_record.specs.Record.{Past, tells_of}
 use Rattle.model_record.specs.Record.Past.{Start, Then}
 use Rattle.wfe_core.specs.Calls.{CallTurn}
-use Rattle.wfe_core.specs.Locals.{Local, move, turn, told_by, may_begin}
+use Rattle.wfe_core.specs.Locals.{Local, move, turn, told_by}
 use Rattle.wfe_core.specs.Memory.{Move, place_in, found}
-use Rattle.wfe_core.specs.World.{World, start, is_busy, stepped, begin}
+use Rattle.wfe_core.specs.World.{World, start, is_busy, may_start, offered, stepped, begin}
 
 -- a call of a seat begins, or a seat makes a step
 pub data Item : Type 0 where
@@ -20,9 +20,10 @@ pub record Made : Type 0 where
   pub world : World
   pub past : Past
 
--- a call begins only on a seat that is not busy, and names indexes that it may name; only a busy seat makes a step
+-- a call begins only on a seat that is not busy and has not left, and names indexes and places that it may name; only a busy
+-- seat makes a step
 abbrev pub fits : World → Item → Bool
-fits w (Begins i call) = nat_lt i w.layout.config.seats && (not (is_busy w i) && may_begin w.layout.config call)
+fits w (Begins i call) = nat_lt i w.layout.config.seats && (not (is_busy w i) && may_start w i call)
 fits w (Steps i) = nat_lt i w.layout.config.seats && is_busy w i
 
 abbrev pub begun_by : Made → ℕ → Call → Made
@@ -37,7 +38,7 @@ stepped_by made i l m = turned made i l m (turn l (found m (made.world.mem (plac
 
 abbrev pub done : Made → Item → Made
 done made (Begins i call) = begun_by made i call
-done made (Steps i) = stepped_by made i (made.world.seat i) (move (made.world.seat i))
+done made (Steps i) = stepped_by made i (offered made.world i) (move (offered made.world i))
 
 abbrev pub done_if : Made → Item → (fit : Bool) → Made
 done_if made item true = done made item

@@ -5,7 +5,7 @@ use Rattle.wfe_core.specs.defs.declared.call.Answer.TheVariants as answers
 use Rattle.wfe_core.specs.defs.declared.event.Event.{Event}
 use Rattle.wfe_core.specs.declared.post.Post.{Post}
 use Rattle.wfe_core.specs.Phases.{Base}
-use Rattle.wfe_core.specs.Calls.{LetGo, Released, Dropped, Releases, Phase, Runs, CallTurn, goes_on}
+use Rattle.wfe_core.specs.Calls.{LetGo, Released, Dropped, Parting, Releases, Phase, Runs, CallTurn, goes_on}
 use Rattle.wfe_core.specs.Desks.{Desk}
 use Rattle.wfe_core.specs.Keep.{released}
 use Rattle.wfe_core.specs.Rounds.{letting}

@@ -1,5 +1,6 @@
 // One of the calls, by name, and how it begins.
-ghost use Rattle.std.specs.Prelude.{◌≡◌};
+ghost use Rattle.std.specs.Prelude.{◌≡◌, true};
+ghost use Rattle.wfe_call_any.specs.Stays.{stays};
 ghost use Rattle.wfe_core.specs.Steps.{first_phase};
 ghost use Rattle.wfe_core.specs.declared.post.Post.{Post};
 
@@ -100,8 +101,9 @@ pub type CallOf<S> = Running<
     Scan,
 >;
 
-/// The machine of a call on a table of this layout, at its first step.
+/// The machine of a call of a seat that stays, on a table of this layout, at its first step.
 pub fn begin_call<S: Scheme>(layout: Layout, call: Call) -> CallOf<S>
+    requires { stays call ≡ true }
     ensures { (post : Post) → post.layout.config.scheme ≡ S.kind → ⟦<CallOf<S> as CallMachine>⟧.phase result post ≡ first_phase call post }
 {
     match call {
@@ -124,5 +126,6 @@ pub fn begin_call<S: Scheme>(layout: Layout, call: Call) -> CallOf<S>
             value,
             version,
         } => Running::PutsIf(PutIf::new(key, value, version)),
+        Call::Leave | Call::Adopt { .. } => unreachable!(),
     }
 }

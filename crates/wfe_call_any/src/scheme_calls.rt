@@ -1,5 +1,6 @@
 // The calls of each scheme: a type with one parameter, so that types that hold all three stay short.
-ghost use Rattle.std.specs.Prelude.{◌≡◌};
+ghost use Rattle.std.specs.Prelude.{◌≡◌, true};
+ghost use Rattle.wfe_call_any.specs.Stays.{stays};
 ghost use Rattle.wfe_core.specs.Steps.{first_phase};
 ghost use Rattle.wfe_core.specs.declared.post.Post.{Post};
 
@@ -14,8 +15,9 @@ pub struct SchemeCall<S: Scheme> {
 }
 
 impl<S: Scheme> SchemeCall<S> {
-    /// The call on a table of this layout, at its first step.
+    /// The call of a seat that stays, on a table of this layout, at its first step.
     pub fn begin(layout: Layout, call: Call) -> SchemeCall<S>
+        requires { stays call ≡ true }
         ensures phase { (post : Post) → post.layout.config.scheme ≡ S.kind → ⟦<SchemeCall<S> as CallMachine>⟧.phase result post ≡ first_phase call post }
         ensures suits { ⟦<SchemeCall<S> as CallMachine>⟧.suits S.kind }
     {

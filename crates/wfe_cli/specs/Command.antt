@@ -1,6 +1,6 @@
 -- The commands of the program.
 use Rattle.wfe_server_out.specs.Heard.{Seen}
-use Rattle.std.specs.Prelude.{◌≡◌, ◌≤◌, ◌⊎◌, ℕ, List, Option, Some, Ok, codes}
+use Rattle.std.specs.Prelude.{Bool, true, ◌≡◌, ◌≤◌, ◌⊎◌, ℕ, List, Option, Some, Ok, codes}
 use Rattle.std.specs.Io.KnownBytes.{Appends}
 use Rattle.wfe_cli_job.specs.Jobs.{most_turns}
 use Rattle.wfe_cli_job.specs.declared.job.Job.{Job}
@@ -14,6 +14,11 @@ use Rattle.wfe_server.specs.server_replay.Replay.{Replays, whole}
 use Rattle.wfe_server.specs.server_replay.Sunk.{Outside}
 use Rattle.wfe_server.specs.server_replay.Trace.{Progress}
 use Rattle.wfe_server_run.specs.Runs.{Runs}
+use Rattle.wfe_defs.specs.declared.call.Call.{Call}
+
+-- the calls that a replay makes: all
+abbrev pub made_calls : Call → Bool
+made_calls call = true
 
 -- a job that the words can ask for
 abbrev pub Allowed : Job → Type 0
@@ -22,10 +27,10 @@ Allowed jobs.Run = Unit {0}
 Allowed (jobs.Generate seed turns) = turns ≤ most_turns
 
 -- what a job does
-abbrev pub Does : {W : Type 0} → Seen W → Job → Status → (watched : List ℕ) → Option (List ℕ) → Option (List ℕ) → Outside W → Outside W → Type 0
-Does seen jobs.Replay status watched before left old new = Replays seen status watched before left old new
-Does seen jobs.Run status watched before left old new = Runs seen status watched before left old new
-Does seen (jobs.Generate seed turns) status watched before left old new = Generates seen status seed turns watched old new
+abbrev pub Does : (makes : Call → Bool) → {W : Type 0} → Seen W → Job → Status → (watched : List ℕ) → Option (List ℕ) → Option (List ℕ) → Outside W → Outside W → Type 0
+Does makes seen jobs.Replay status watched before left old new = Replays makes seen status watched before left old new
+Does makes seen jobs.Run status watched before left old new = Runs seen status watched before left old new
+Does makes seen (jobs.Generate seed turns) status watched before left old new = Generates seen status seed turns watched old new
 
 -- the line that lists the commands
 abbrev pub usage_line : List ℕ
@@ -43,9 +48,9 @@ abbrev pub IsGenerated : Status → (write_rose : Type 0) → Type 0
 IsGenerated status write_rose = (write_rose → ⊥) → (status ≡ statuses.Done) ⊎ (status ≡ statuses.NoMemory)
 
 -- where the source tells a trace in the grammar, and neither count of faults rose, the work is done or memory ran out
-abbrev pub IsComplete : Status → Option (List ℕ) → (read_rose write_rose : Type 0) → Type 0
-IsComplete status left read_rose write_rose =
-    (bytes : List ℕ) (progress : Progress Given) → left ≡ Some bytes → whole bytes ≡ Ok progress → (read_rose → ⊥) → (write_rose → ⊥) →
+abbrev pub IsComplete : (makes : Call → Bool) → Status → Option (List ℕ) → (read_rose write_rose : Type 0) → Type 0
+IsComplete makes status left read_rose write_rose =
+    (bytes : List ℕ) (progress : Progress Given) → left ≡ Some bytes → whole makes bytes ≡ Ok progress → (read_rose → ⊥) → (write_rose → ⊥) →
     (status ≡ statuses.Done) ⊎ (status ≡ statuses.NoMemory)
 
 -- the number with which the program ends

@@ -1,9 +1,10 @@
 // The commands of the program, over any source and sink.
 ghost use Rattle.wfe_server_out.specs.Heard.{boxed};
-ghost use Rattle.std.specs.Prelude.{◌≡◌, ◌≢◌, ◌≤◌, ℕ, None, Some, map, string_bytes};
-ghost use Rattle.wfe_cli.specs.Command.{Allowed, Does, IsComplete, IsGenerated, Refuses, status_number};
+ghost use Rattle.std.specs.Prelude.{◌≡◌, ◌≢◌, ◌≤◌, Bool, ℕ, None, Some, map, string_bytes};
+ghost use Rattle.wfe_cli.specs.Command.{Allowed, Does, IsComplete, IsGenerated, Refuses, made_calls, status_number};
 ghost use Rattle.wfe_cli.specs.Headline.{GivenLawful, Keeps, Summarizes};
 ghost use Rattle.wfe_cli_job.specs.Jobs.{asked};
+ghost use Rattle.wfe_defs.specs.declared.call.Call.{Call};
 ghost use Rattle.wfe_outside.specs.Faults.{Rose};
 ghost use Rattle.wfe_server.specs.server_replay.Sunk.{outside};
 ghost use Rattle.wfe_server.specs.server_replay.Watched.{watch_text};
@@ -13,11 +14,15 @@ use std::alloc::Global;
 use std::thread::Threads;
 use wfe_cli_job::{Job, job_of};
 use wfe_drive_table::TableCells;
+use wfe_leave::LeaveRig;
 use wfe_outside::{Sink, Source, Watcher};
-use wfe_server::{Rig, generate, replay};
+use wfe_server::{generate, replay};
 use wfe_server_out::write_all;
 use wfe_server_run::{OpenGate, run};
 use wfe_trace::Status;
+
+// The table on which traces are played.
+type Table = LeaveRig<TableCells>;
 
 // The line that lists the commands.
 const USAGE: &[u8] = b"usage: wfe replay | run | gen SEED N\n";
@@ -45,7 +50,7 @@ fn perform<R: Threads + Sync, S: Source, K: Sink>(
     watchers: &mut Vec<Box<dyn Watcher>>,
 ) -> Status
     requires { Allowed job }
-    ensures does { Does (boxed stands) job result (watch_text shown shows watchers.new.items) (S.left source.old) (S.left source.new) (outside (K.written sink.old) watchers.old.items) (outside (K.written sink.new) watchers.new.items) }
+    ensures does { Does made_calls (boxed stands) job result (watch_text shown shows watchers.new.items) (S.left source.old) (S.left source.new) (outside (K.written sink.old) watchers.old.items) (outside (K.written sink.new) watchers.new.items) }
     ensures unread { (seed turns : ℕ) → job ≡ Job.Generate seed turns → source.new ≡ source.old }
     ensures source { S.faults source.old ≤ S.faults source.new }
     ensures sink { K.faults sink.old ≤ K.faults sink.new }
@@ -53,11 +58,9 @@ fn perform<R: Threads + Sync, S: Source, K: Sink>(
     ensures write { result ≡ Status.WriteFault → Rose K.may_stand (K.faults sink.old) (K.faults sink.new) }
 {
     match job {
-        Job::Replay => replay::<Rig<TableCells>, S, K>(alloc, source, sink, watchers),
+        Job::Replay => replay::<Table, S, K>(alloc, source, sink, watchers),
         Job::Run => run(rt, alloc, &OpenGate, source, sink, watchers),
-        Job::Generate { seed, turns } => {
-            generate::<Rig<TableCells>, K>(alloc, seed, turns, sink, watchers)
-        }
+        Job::Generate { seed, turns } => generate::<Table, K>(alloc, seed, turns, sink, watchers),
     }
 }
 
@@ -75,8 +78,8 @@ pub fn main_call<R: Threads + Sync, S: Source, K: Sink>(
     watchers: &mut Vec<Box<dyn Watcher>>,
 ) -> Status
     // The words are judged first.
-    ensures replays { asked (map string_bytes words.now) ≡ Some Job.Replay → Keeps (boxed stands) result (watch_text shown shows watchers.new.items) (S.left source.old) (S.left source.new) (outside (K.written sink.old) watchers.old.items) (outside (K.written sink.new) watchers.new.items) }
-    ensures lawful { GivenLawful }
+    ensures replays { asked (map string_bytes words.now) ≡ Some Job.Replay → Keeps made_calls (boxed stands) result (watch_text shown shows watchers.new.items) (S.left source.old) (S.left source.new) (outside (K.written sink.old) watchers.old.items) (outside (K.written sink.new) watchers.new.items) }
+    ensures lawful { (makes : Call → Bool) → GivenLawful makes }
     ensures runs { asked (map string_bytes words.now) ≡ Some Job.Run → RunsTrace (boxed stands) result (watch_text shown shows watchers.new.items) (S.left source.old) (S.left source.new) (outside (K.written sink.old) watchers.old.items) (outside (K.written sink.new) watchers.new.items) }
     ensures generates { (seed turns : ℕ) → asked (map string_bytes words.now) ≡ Some (Job.Generate seed turns) → Summarizes (boxed stands) result seed turns (watch_text shown shows watchers.new.items) (outside (K.written sink.old) watchers.old.items) (outside (K.written sink.new) watchers.new.items) }
     ensures refuses { asked (map string_bytes words.now) ≡ None → Refuses result (K.written sink.old) (K.written sink.new) }
@@ -84,7 +87,7 @@ pub fn main_call<R: Threads + Sync, S: Source, K: Sink>(
     ensures unheard { asked (map string_bytes words.now) ≡ None → watchers.new ≡ watchers.old }
 
     // A trace in the grammar is replayed or run whole, and a generated one is summarized, but for a fault of the source or the sink, and for want of memory.
-    ensures complete { asked (map string_bytes words.now) ≡ Some Job.Replay → IsComplete result (S.left source.old) (Rose S.may_stand (S.faults source.old) (S.faults source.new)) (Rose K.may_stand (K.faults sink.old) (K.faults sink.new)) }
+    ensures complete { asked (map string_bytes words.now) ≡ Some Job.Replay → IsComplete made_calls result (S.left source.old) (Rose S.may_stand (S.faults source.old) (S.faults source.new)) (Rose K.may_stand (K.faults sink.old) (K.faults sink.new)) }
     ensures run_whole { asked (map string_bytes words.now) ≡ Some Job.Run → IsRunWhole result (S.left source.old) (Rose S.may_stand (S.faults source.old) (S.faults source.new)) (Rose K.may_stand (K.faults sink.old) (K.faults sink.new)) }
     ensures generated { (seed turns : ℕ) → asked (map string_bytes words.now) ≡ Some (Job.Generate seed turns) → IsGenerated result (Rose K.may_stand (K.faults sink.old) (K.faults sink.new)) }
 

@@ -1,5 +1,6 @@
 // Whole replays over memory: worked records, bad input, and sources and sinks that fail.
 mod hostile;
+mod leaving;
 
 use std::process::Abort;
 use std::test::Fail;

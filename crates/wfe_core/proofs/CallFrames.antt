@@ -24,14 +24,14 @@ use Rattle.wfe_core.specs.Posts.{counted, withdrawn}
 use Rattle.wfe_core.specs.Phases.{Base, Ending, Outcome, Goes, Ends}
 use Rattle.wfe_core.specs.Phases.Ending.{Protected, Followed, Allocated, Retired, Clocked}
 use Rattle.wfe_core.specs.Machine.{after}
-use Rattle.wfe_core.specs.Calls.{ChangeKept, EnqueueKept, Task, Gets, Changes, Holds, Enqueues, Dequeues, Next, Again, MakeRoom, Answering, Retiring, AfterScan, Answered, Repeated, Counted, Why, Opens, FollowsHead, Fills, ClearsNext, Clears, Finishes, GivesUp, Retires, Tidies, Advances, Releases, LetGo, Released, Rehold, Dropped, KeepAt, Loosens, LoadHeld, StoreHeld, Looks, Misses, ScanAt, ReadGuard, GiveBack, GetAt, FindVersion, FindCount, FindKey, FindValue, ChangeAt, LoadVersion, LoadCount, LoadKey, LoadValue, ExchangeRoot, EnqueueAt, LoadNumber, LoadNext, PassTail, ExchangeNext, ExchangeTail, DequeueAt, LoadTail, SwingTail, TakeNumber, TakeValue, ExchangeHead, Work, Getting, Changing, Enqueuing, Dequeuing, Keeping, Phase, Idle, Runs, Scans, Works, CallTurn, CallOutcome, GoesOn, Answers}
+use Rattle.wfe_core.specs.Calls.{ChangeKept, EnqueueKept, Task, Gets, Changes, Holds, Enqueues, Dequeues, Next, Again, MakeRoom, Answering, Retiring, AfterScan, Answered, Repeated, Counted, Why, Opens, FollowsHead, Fills, ClearsNext, Clears, Finishes, GivesUp, Retires, Tidies, Advances, Releases, LetGo, Released, Rehold, Dropped, Parting, KeepAt, Loosens, LoadHeld, StoreHeld, Looks, Misses, HideSpan, MarkLeft, TakeList, MarkTaken, ScanAt, ReadGuard, GiveBack, GetAt, FindVersion, FindCount, FindKey, FindValue, ChangeAt, LoadVersion, LoadCount, LoadKey, LoadValue, ExchangeRoot, EnqueueAt, LoadNumber, LoadNext, PassTail, ExchangeNext, ExchangeTail, DequeueAt, LoadTail, SwingTail, TakeNumber, TakeValue, ExchangeHead, Work, Getting, Changing, Enqueuing, Dequeuing, Keeping, Phase, Idle, Runs, Scans, Works, CallTurn, CallOutcome, GoesOn, Answers}
 use Rattle.wfe_core.specs.Rounds.{scheme_of, clear_post, closed, finishing_by, finishing, clearing_by, clearing, clearing_next_by, clearing_next, given_up, let_index}
 use Rattle.wfe_core.specs.Rounds as rounds
 use Rattle.wfe_core.specs.Get.{got, finding, found_key, get_turn}
 use Rattle.wfe_core.specs.Change.{with_read, answer_done, told_linked, at_link, with_walked, no_room, deciding_by, deciding, reading, exchanged, change_turn}
 use Rattle.wfe_core.specs.Enqueue.{told_link, item_walked, appending, at_next, appended, enqueue_turn}
 use Rattle.wfe_core.specs.Dequeue.{followed_row, followed, taken, dequeue_turn}
-use Rattle.wfe_core.specs.Keep.{copied, keep_turn, load_held, look_turn, looked_key, looking, released}
+use Rattle.wfe_core.specs.Keep.{copied, keep_turn, load_held, look_turn, looked_key, looking, released, taking}
 use Rattle.wfe_core.specs.Scan.{Entry, scanned, giving_back, scan_turn}
 use Rattle.wfe_core.specs.Scan as scan
 use Rattle.wfe_core.specs.Steps.{opened_row, opened_null, opened, filled_by, written_row, filled, followed_by, tidying, retired_by, tidied, advanced, resume, resumed, work_turn, phase_turn}
@@ -171,6 +171,7 @@ released_same : (let_go : LetGo) (post : Post) (desk : Desk) (told : List Event)
 released_same Released post desk told = same post
 released_same (Rehold key) post desk told = same post
 released_same (Dropped index) post desk told = same post
+released_same (Parting index) post desk told = same post
 
 copied_same : (from index : ℕ) (post : Post) (desk : Desk) (reserved : List Event) (o : Option ℕ) → SamePlace post (copied from index post desk reserved o).post
 copied_same from index post desk reserved None = same post
@@ -194,6 +195,10 @@ look_same index key (FindCount slot version) post desk found = looking_same inde
 look_same index key (FindKey slot version count pair) post desk found = looked_key_same index key slot version count pair post desk _
 look_same index key (FindValue slot version pair) post desk found = same post
 
+taking_same : (place : ℕ) (post : Post) (desk : Desk) (left : Bool) (found : ℕ) → SamePlace post (taking place post desk left found).post
+taking_same place post desk true found = same post
+taking_same place post desk false found = same post
+
 keep_same : (at : KeepAt) (post : Post) (desk : Desk) (found : ℕ) → SamePlace post (keep_turn at post desk found).post
 keep_same (Loosens let_go) post desk found =
     same_along post (withdrawn post (let_index let_go)) _ (record { layout = refl; seat = refl }) (released_same let_go (withdrawn post (let_index let_go)) desk _)
@@ -201,6 +206,10 @@ keep_same (LoadHeld from index) post desk found = load_held_same from index post
 keep_same (StoreHeld from index era) post desk found = copied_same from index post desk _ _
 keep_same (Looks index key at) post desk found = look_same index key at post desk found
 keep_same (Misses index) post desk found = same post
+keep_same HideSpan post desk found = record { layout = refl; seat = refl }
+keep_same MarkLeft post desk found = same post
+keep_same (TakeList place) post desk found = taking_same place post desk _ found
+keep_same (MarkTaken place count) post desk found = same post
 
 work_same : (work : Work) (post : Post) (desk : Desk) (found : ℕ) → SamePlace post (work_turn work post desk found).post
 work_same (Getting key at) post desk found = get_same key at post desk found

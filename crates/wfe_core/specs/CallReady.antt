@@ -11,7 +11,7 @@ use Rattle.wfe_core.specs.Phases.Base.{Retire}
 use Rattle.wfe_core.specs.Ready.{IndexFits, SlotFits, LinkFits, IsReady, Plausible}
 use Rattle.wfe_core.specs.Rounds.{let_index}
 use Rattle.wfe_core.specs.Scan.{read_before}
-use Rattle.wfe_core.specs.Calls.{ChangeKept, EnqueueKept, Task, Gets, Changes, Holds, Enqueues, Dequeues, AfterScan, Answered, Repeated, Counted, Why, Opens, FollowsHead, Fills, ClearsNext, Clears, Finishes, GivesUp, Retires, Tidies, Advances, Releases, ScanAt, ReadGuard, GiveBack, GetAt, FindVersion, FindCount, FindKey, FindValue, ChangeAt, LoadVersion, LoadCount, LoadKey, LoadValue, ExchangeRoot, EnqueueAt, LoadNumber, LoadNext, PassTail, ExchangeNext, ExchangeTail, DequeueAt, LoadTail, SwingTail, TakeNumber, TakeValue, ExchangeHead, Work, Getting, Changing, Enqueuing, Dequeuing, Keeping, KeepAt, Loosens, LoadHeld, StoreHeld, Looks, Misses, Phase, Idle, Runs, Scans, Works}
+use Rattle.wfe_core.specs.Calls.{ChangeKept, EnqueueKept, Task, Gets, Changes, Holds, Enqueues, Dequeues, AfterScan, Answered, Repeated, Counted, Why, Opens, FollowsHead, Fills, ClearsNext, Clears, Finishes, GivesUp, Retires, Tidies, Advances, Releases, ScanAt, ReadGuard, GiveBack, GetAt, FindVersion, FindCount, FindKey, FindValue, ChangeAt, LoadVersion, LoadCount, LoadKey, LoadValue, ExchangeRoot, EnqueueAt, LoadNumber, LoadNext, PassTail, ExchangeNext, ExchangeTail, DequeueAt, LoadTail, SwingTail, TakeNumber, TakeValue, ExchangeHead, Work, Getting, Changing, Enqueuing, Dequeuing, Keeping, KeepAt, Loosens, LoadHeld, StoreHeld, Looks, Misses, HideSpan, MarkLeft, TakeList, MarkTaken, Phase, Idle, Runs, Scans, Works}
 
 -- a version of a bucket, or a number of the queue
 abbrev pub VersionFits : Post → ℕ → Type 0
@@ -20,6 +20,10 @@ VersionFits post version = version ≤ post.layout.config.last_version
 -- one after which there is another
 abbrev pub VersionLeft : Post → ℕ → Type 0
 VersionLeft post version = version < post.layout.config.last_version
+
+-- a seat's place
+abbrev pub PlaceFits : Post → ℕ → Type 0
+PlaceFits post place = place < post.layout.config.seats
 
 -- a number of pairs for which a row has room
 abbrev pub CountFits : Post → ℕ → Type 0
@@ -130,6 +134,10 @@ keep_ready (LoadHeld from index) post = CopyFits post from index
 keep_ready (StoreHeld from index era) post = CopyFits post from index
 keep_ready (Looks index key at) post = get_ready at post
 keep_ready (Misses index) post = IndexFits post index
+keep_ready HideSpan post = Unit {0}
+keep_ready MarkLeft post = Unit {0}
+keep_ready (TakeList place) post = PlaceFits post place
+keep_ready (MarkTaken place count) post = PlaceFits post place
 
 abbrev pub work_ready : Work → Post → Type 0
 work_ready (Getting key at) post = get_ready at post
@@ -192,6 +200,10 @@ keep_plausible (LoadHeld from index) post found = Unit {0}
 keep_plausible (StoreHeld from index era) post found = Unit {0}
 keep_plausible (Looks index key at) post found = get_plausible at post found
 keep_plausible (Misses index) post found = Unit {0}
+keep_plausible HideSpan post found = Unit {0}
+keep_plausible MarkLeft post found = Unit {0}
+keep_plausible (TakeList place) post found = Unit {0}
+keep_plausible (MarkTaken place count) post found = Unit {0}
 
 abbrev pub work_plausible : Work → Post → ℕ → Type 0
 work_plausible (Getting key at) post found = get_plausible at post found

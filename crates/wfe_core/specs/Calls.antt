@@ -51,11 +51,13 @@ pub data AfterScan : Type 0 where
   Repeated : Task → AfterScan
   Counted : AfterScan
 
--- what is let go, and what comes then: a release answers, or another key is held; or what stands at an index is dropped
+-- what is let go, and what comes then: a release answers, or another key is held; or what stands at an index is dropped, or
+-- a seat that leaves lets it go, and then what stands at higher indexes
 pub data LetGo : Type 0 where
   Released : LetGo
   Rehold : (key : ℕ) → LetGo
   Dropped : (index : ℕ) → LetGo
+  Parting : (index : ℕ) → LetGo
 
 -- what comes after a machine. `Opens`: begin, then the protection of the task's root. `FollowsHead`: a dequeue follows the
 -- next link, with the head's row and the tail's link. `Fills`: a row is taken and written. `ClearsNext`: index 1, and then
@@ -107,13 +109,18 @@ pub data DequeueAt : Type 0 where
 
 -- the calls that work on what stands at indexes from 2 on. `Loosens`: under 2GE something is let go, and the interval stays.
 -- `LoadHeld`, `StoreHeld`: what an index publishes is copied to another. `Looks`: the row that stands at an index is read.
--- `Misses`: nothing stands there
+-- `Misses`: nothing stands there. And those of seats that leave. `HideSpan`: under 2GE all is let go with the interval.
+-- `MarkLeft`: the seat's list is left at its place. `TakeList`, `MarkTaken`: the list at another seat's place is taken over
 pub data KeepAt : Type 0 where
   Loosens : LetGo → KeepAt
   LoadHeld : (from index : ℕ) → KeepAt
   StoreHeld : (from index era : ℕ) → KeepAt
   Looks : (index key : ℕ) → GetAt → KeepAt
   Misses : (index : ℕ) → KeepAt
+  HideSpan : KeepAt
+  MarkLeft : KeepAt
+  TakeList : (place : ℕ) → KeepAt
+  MarkTaken : (place count : ℕ) → KeepAt
 
 -- the steps of a call's own
 pub data Work : Type 0 where

@@ -13,7 +13,7 @@ use Rattle.wfe_core.specs.Held.{report_of, notes_of}
 
 -- the desk without its room
 abbrev pub desk_of : HeldDesk → Desk
-desk_of held = record { list = held.list.lives; report = report_of held.report; notes = notes_of held.notes }
+desk_of held = record { list = held.list.lives; report = report_of held.report; notes = notes_of held.notes; gift = [] }
 
 -- the desk is for this table, with room for all guards, for the rows that two scans of a call may give back, and for one
 -- step's events more

@@ -21,10 +21,13 @@ pub record Notes : Type 0 where
   pub back : List ℕ
   pub early : ℕ
 
+-- `gift` is the list that the seat takes over in its next step, if that step takes one: a World lays it here before the
+-- step, and nothing else reads it
 pub record Desk : Type 0 where
   pub list : List Lifetime
   pub report : Report
   pub notes : Notes
+  pub gift : List Lifetime
 
 abbrev pub no_report : Report
 no_report = record { read = []; kept = 0; back = 0 }
@@ -33,7 +36,7 @@ abbrev pub no_notes : Notes
 no_notes = record { steps = 0; given = None; unused = false; retired = None; back = []; early = 0 }
 
 abbrev pub new_desk : Desk
-new_desk = record { list = []; report = no_report; notes = no_notes }
+new_desk = record { list = []; report = no_report; notes = no_notes; gift = [] }
 
 -- the notes with one event more
 abbrev pub noted : Notes → Event → Notes
@@ -52,6 +55,10 @@ noted_all notes (event ∷ told) = noted_all (noted notes event) told
 -- a life goes on the list
 abbrev pub with_life : Desk → Lifetime → Desk
 with_life desk life = record desk { list = desk.list ++ life ∷ [] }
+
+-- a list that was left goes to the end of the seat's own
+abbrev pub with_gift : Desk → Desk
+with_gift desk = record desk { list = desk.list ++ desk.gift; gift = [] }
 
 -- the desk with these events noted
 abbrev pub noting : Desk → List Event → Desk

@@ -1,20 +1,24 @@
--- Calls that work on what stands at indexes from 2 on: a copy, a look, and under 2GE a release while another row is kept.
-use Rattle.std.specs.Prelude.{ℕ, ◌==◌, ◌+◌, Bool, true, false, nat_lt, List, [], ◌∷◌, ◌++◌, Option, Some, None}
+-- Calls that work on what stands at indexes from 2 on: a copy, a look, and under 2GE a release while another row is kept; and
+-- those of seats that leave.
+use Rattle.std.specs.Prelude.{ℕ, ◌==◌, ◌+◌, Bool, true, false, if◌then◌else◌, nat_lt, List, [], ◌∷◌, ◌++◌, drop, length, Option, Some, None}
 use Rattle.wfe_words.specs.Packed.{read_reservation}
 use Rattle.wfe_words.specs.Place.{Place}
-use Rattle.wfe_words.specs.Place.Place.{Index, Interval}
+use Rattle.wfe_words.specs.Place.Place.{Index, Interval, PlaceOf}
 use Rattle.wfe_words.specs.Schemes.{has_one_interval}
+use Rattle.wfe_defs.specs.declared.call.Answer.{Answer}
 use Rattle.wfe_defs.specs.declared.call.Answer.TheVariants as answers
 use Rattle.wfe_defs.specs.declared.event.Event.{Event}
 use Rattle.wfe_defs.specs.declared.event.Event.TheVariants as events
+use Rattle.wfe_defs.specs.declared.lifetime.Interval.{Interval as Span}
 use Rattle.wfe_core.specs.declared.post.Post.{Post}
-use Rattle.wfe_core.specs.Calls.{Holds, LetGo, Released, Rehold, Dropped, KeepAt, Loosens, LoadHeld, StoreHeld, Looks, Misses, GetAt, FindVersion, FindCount, FindKey, FindValue, Works, Keeping, CallTurn, goes_on}
+use Rattle.wfe_core.specs.Calls.{Holds, LetGo, Released, Rehold, Dropped, Parting, KeepAt, Loosens, LoadHeld, StoreHeld, Looks, Misses, HideSpan, MarkLeft, TakeList, MarkTaken, GetAt, FindVersion, FindCount, FindKey, FindValue, Phase, Runs, Works, Keeping, Releases, CallTurn, goes_on}
 use Rattle.wfe_core.specs.Calls as calls
-use Rattle.wfe_core.specs.Desks.{Desk}
+use Rattle.wfe_core.specs.Desks.{Desk, with_gift}
 use Rattle.wfe_core.specs.Get.{get_move}
 use Rattle.wfe_core.specs.Guards.{guard_place, own_guard}
-use Rattle.wfe_core.specs.Memory.{Move, Load, Store}
-use Rattle.wfe_core.specs.Posts.{cleared, index_word, reserves_index, stands, with_row, withdrawn}
+use Rattle.wfe_core.specs.Memory.{Move, Cas, Load, Store}
+use Rattle.wfe_core.specs.Phases.Base.{Clear}
+use Rattle.wfe_core.specs.Posts.{cleared, cleared_from, index_word, reserves_index, reserves_span, stands, standing_from, with_row, withdrawn, withdrawn_all}
 use Rattle.wfe_core.specs.Rounds.{let_index, round, scheme_of}
 
 -- the word of the guard of an index of the seat
@@ -27,12 +31,34 @@ keep_move (LoadHeld from index) post = Load (own_place post from)
 keep_move (StoreHeld from index era) post = Store (Index post.seat index) (index_word post index era)
 keep_move (Looks index key at) post = get_move at
 keep_move (Misses index) post = Load (own_place post index)
+keep_move HideSpan post = Store (Interval post.seat) 0
+keep_move MarkLeft post = Store (PlaceOf post.seat) 1
+keep_move (TakeList place) post = Cas (PlaceOf place) 1 2
+keep_move (MarkTaken place count) post = Store (PlaceOf place) 3
+
+-- a seat that leaves: what stands is let go, one index after the other, and under 2GE with the interval; then its place is
+-- marked
+abbrev pub parting_index : Option ℕ → Phase
+parting_index None = Works (Keeping MarkLeft)
+parting_index (Some index) = Runs (Releases (Parting index)) (Clear index)
+
+abbrev pub parting_span : Option Span → Phase
+parting_span None = Works (Keeping MarkLeft)
+parting_span (Some span) = Works (Keeping HideSpan)
+
+-- from this index on
+abbrev pub parting_from : ℕ → Post → Phase
+parting_from index post = parting_index (standing_from index (drop index post.standing))
+
+abbrev pub parting : Post → Phase
+parting post = if has_one_interval (scheme_of post) then parting_span post.span else parting_from 2 post
 
 -- what comes once something was let go
 abbrev pub released : LetGo → Post → Desk → List Event → CallTurn
 released Released post desk told = calls.answers post desk told answers.Released
 released (Rehold key) post desk told = goes_on post desk told (round (Holds key) post)
 released (Dropped index) post desk told = calls.answers post desk told answers.Dropped
+released (Parting index) post desk told = goes_on post desk told (parting_from (index + 1) post)
 
 -- what stands at an index stands at another from here on; what stood there stands there no more
 abbrev pub copied : (from index : ℕ) → Post → Desk → (reserved : List Event) → Option ℕ → CallTurn
@@ -66,9 +92,23 @@ look_turn index key (FindCount slot version) post desk found = looking index key
 look_turn index key (FindKey slot version count pair) post desk found = looked_key index key slot version count pair post desk (found == key)
 look_turn index key (FindValue slot version pair) post desk found = calls.answers post desk [] (answers.Looked slot version (Some found))
 
+-- a place from which no list can be taken: none was left there, or another has it
+abbrev pub not_taken : ℕ → Answer
+not_taken found = if found == 0 then answers.NotLeft else answers.AdoptedBefore
+
+-- the list at a seat's place is this seat's from here on, if one was left there
+abbrev pub taking : (place : ℕ) → Post → Desk → (left : Bool) → ℕ → CallTurn
+taking place post desk true found =
+    goes_on post (with_gift desk) (events.Adopted place (length desk.gift) ∷ []) (Works (Keeping (MarkTaken place (length desk.gift))))
+taking place post desk false found = calls.answers post desk [] (not_taken found)
+
 abbrev pub keep_turn : KeepAt → Post → Desk → ℕ → CallTurn
 keep_turn (Loosens let_go) post desk found = released let_go (withdrawn post (let_index let_go)) desk (cleared (let_index let_go) (stands post (let_index let_go)))
 keep_turn (LoadHeld from index) post desk found = load_held from index post desk found (has_one_interval (scheme_of post))
 keep_turn (StoreHeld from index era) post desk found = copied from index post desk (reserves_index post index era) (stands post from)
 keep_turn (Looks index key at) post desk found = look_turn index key at post desk found
 keep_turn (Misses index) post desk found = calls.answers post desk [] answers.Nothing
+keep_turn HideSpan post desk found = goes_on (withdrawn_all post) desk (cleared_from 2 (drop 2 post.standing) ++ reserves_span post None) (Works (Keeping MarkLeft))
+keep_turn MarkLeft post desk found = calls.answers post desk (events.Left (length desk.list) ∷ []) (answers.Left (length desk.list))
+keep_turn (TakeList place) post desk found = taking place post desk (found == 1) found
+keep_turn (MarkTaken place count) post desk found = calls.answers post desk [] (answers.Adopted count)

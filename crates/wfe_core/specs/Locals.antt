@@ -97,11 +97,13 @@ settled l t = settled_by l t.post (noting t.desk (told_by t)) (rounds_told l.rou
 abbrev pub after : Local → ℕ → Local
 after l found = settled l (turn l found)
 
--- the indexes that a call names are some at which a row may stand between calls, and a copy goes upwards
+-- the indexes that a call names are some at which a row may stand between calls, and a copy goes upwards; a place is a
+-- seat's
 abbrev pub may_begin : Config → Call → Bool
 may_begin config (names.Copy from index) = nat_le 2 from && (nat_lt from index && nat_lt index config.indexes)
 may_begin config (names.DropIndex index) = nat_le 2 index && nat_lt index config.indexes
 may_begin config (names.Look index key) = nat_le 2 index && nat_lt index config.indexes
+may_begin config (names.Adopt place) = nat_lt place config.seats
 may_begin config call = true
 
 -- steps are counted from a call's start

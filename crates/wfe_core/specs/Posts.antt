@@ -1,5 +1,5 @@
 -- What a post says, and how steps change it.
-use Rattle.std.specs.Prelude.{ℕ, List, [], ◌∷◌, slice_index, slice_index_or, slice_set, Option, Some, None}
+use Rattle.std.specs.Prelude.{ℕ, ◌+◌, List, [], ◌∷◌, ◌++◌, slice_index, slice_index_or, slice_set, Option, Some, None}
 use Rattle.wfe_words.specs.Packed.{reservation_word}
 use Rattle.wfe_words.specs.declared.layout.Layout.{Layout}
 use Rattle.wfe_defs.specs.declared.event.Event.{Event}
@@ -48,6 +48,22 @@ with_row post index slot = record post { standing = slice_set post.standing inde
 abbrev pub cleared : ℕ → Option ℕ → List Event
 cleared index None = []
 cleared index (Some slot) = events.Clear index slot ∷ []
+
+-- the first of these rows, from this index on, that stands
+abbrev pub standing_from : ℕ → List (Option ℕ) → Option ℕ
+standing_from index [] = None
+standing_from index (None ∷ rows) = standing_from (index + 1) rows
+standing_from index (Some slot ∷ rows) = Some index
+
+-- Clear for each of these rows, from this index on, that stands
+abbrev pub cleared_from : ℕ → List (Option ℕ) → List Event
+cleared_from index [] = []
+cleared_from index (row ∷ rows) = cleared index row ++ cleared_from (index + 1) rows
+
+-- nothing stands at any index, and the interval is withdrawn
+abbrev pub withdrawn_all : Post → Post
+withdrawn_all post =
+    record post { standing = None ∷ None ∷ None ∷ None ∷ None ∷ None ∷ None ∷ None ∷ []; span = None }
 
 -- the word with which an index publishes an era
 abbrev pub index_word : Post → ℕ → ℕ → ℕ

@@ -15,7 +15,7 @@ use Rattle.wfe_core.specs.Phases.RetireAt.{LoadLife, LoadRetire, StoreRetired}
 use Rattle.wfe_core.specs.Phases.MoveAt.{LoadEra, LoadRequest, ShowEra, LoadAsked, CheckEra, AnswerAsked, LoadReserved, HandOver, HideEra, HideLate, ExchangeClock}
 use Rattle.wfe_core.specs.Phases.Base.{Begin, Protect, Reload, Clear, Finish, Release, Allocate, Write, GiveUp, Retire, Move}
 use Rattle.wfe_core.specs.WriteRow.{last_written}
-use Rattle.wfe_core.specs.Calls.{Task, Gets, Changes, Holds, Enqueues, Dequeues, Next, Again, MakeRoom, Answering, Retiring, AfterScan, Answered, Repeated, Counted, Why, Opens, FollowsHead, Fills, ClearsNext, Clears, Finishes, GivesUp, Retires, Tidies, Advances, Releases, LetGo, Released, Rehold, Dropped, KeepAt, Loosens, LoadHeld, StoreHeld, Looks, Misses, ScanAt, ReadGuard, GiveBack, GetAt, FindVersion, FindCount, FindKey, FindValue, ChangeAt, LoadVersion, LoadCount, LoadKey, LoadValue, ExchangeRoot, EnqueueAt, LoadNumber, LoadNext, PassTail, ExchangeNext, ExchangeTail, DequeueAt, LoadTail, SwingTail, TakeNumber, TakeValue, ExchangeHead, Work, Getting, Changing, Enqueuing, Dequeuing, Keeping, Phase, Idle, Runs, Scans, Works}
+use Rattle.wfe_core.specs.Calls.{Task, Gets, Changes, Holds, Enqueues, Dequeues, Next, Again, MakeRoom, Answering, Retiring, AfterScan, Answered, Repeated, Counted, Why, Opens, FollowsHead, Fills, ClearsNext, Clears, Finishes, GivesUp, Retires, Tidies, Advances, Releases, LetGo, Released, Rehold, Dropped, Parting, KeepAt, Loosens, LoadHeld, StoreHeld, Looks, Misses, HideSpan, MarkLeft, TakeList, MarkTaken, ScanAt, ReadGuard, GiveBack, GetAt, FindVersion, FindCount, FindKey, FindValue, ChangeAt, LoadVersion, LoadCount, LoadKey, LoadValue, ExchangeRoot, EnqueueAt, LoadNumber, LoadNext, PassTail, ExchangeNext, ExchangeTail, DequeueAt, LoadTail, SwingTail, TakeNumber, TakeValue, ExchangeHead, Work, Getting, Changing, Enqueuing, Dequeuing, Keeping, Phase, Idle, Runs, Scans, Works}
 use Rattle.wfe_core.specs.Locals.{Local}
 use Rattle.wfe_core.specs.Rounds.{taken_of}
 use Rattle.wfe_core.specs.World.{World}
@@ -227,6 +227,7 @@ abbrev pub let_left : Config → ℕ → LetGo → ℕ
 let_left config lives Released = 0
 let_left config lives (Rehold key) = open_left config (Holds key) + task_left config lives (Holds key) 0
 let_left config lives (Dropped index) = 0
+let_left config lives (Parting index) = 8 - index
 
 abbrev pub why_left : Config → ℕ → ℕ → Base → Why → ℕ
 why_left config lives rounds base (Opens task) =
@@ -276,6 +277,10 @@ keep_left config lives (LoadHeld from index) = 2
 keep_left config lives (StoreHeld from index era) = 1
 keep_left config lives (Looks index key at) = get_left config at
 keep_left config lives (Misses index) = 1
+keep_left config lives HideSpan = 2
+keep_left config lives MarkLeft = 1
+keep_left config lives (TakeList place) = 2
+keep_left config lives (MarkTaken place count) = 1
 
 abbrev pub work_left : Config → ℕ → ℕ → Work → ℕ
 work_left config lives rounds (Getting key at) = get_left config at + task_left config lives (Gets key) (rounds - 1)

@@ -22,7 +22,7 @@ use Rattle.wfe_core.specs.Phases.BeginAt.{LoadLower}
 use Rattle.wfe_core.specs.Phases.RetireAt.{LoadLife}
 use Rattle.wfe_core.specs.Phases.MoveAt.{LoadEra}
 use Rattle.wfe_core.specs.Phases.Base.{Begin, Protect, Clear, Finish, Release, GiveUp, Retire, Move}
-use Rattle.wfe_core.specs.Calls.{AfterScan, Task, Gets, Changes, Holds, Enqueues, Dequeues, Next, Again, MakeRoom, Answering, Retiring, Repeated, Phase, Runs, CallTurn, goes_on, Opens, ClearsNext, Clears, Finishes, GivesUp, Retires, Tidies, Releases, LetGo, Released, Rehold, Dropped, Works, Keeping, Loosens}
+use Rattle.wfe_core.specs.Calls.{AfterScan, Task, Gets, Changes, Holds, Enqueues, Dequeues, Next, Again, MakeRoom, Answering, Retiring, Repeated, Phase, Runs, CallTurn, goes_on, Opens, ClearsNext, Clears, Finishes, GivesUp, Retires, Tidies, Releases, LetGo, Released, Rehold, Dropped, Parting, Works, Keeping, Loosens}
 use Rattle.wfe_core.specs.Calls as calls
 
 -- the scheme of a post's table
@@ -126,6 +126,7 @@ abbrev pub let_index : LetGo → ℕ
 let_index Released = 2
 let_index (Rehold key) = 2
 let_index (Dropped index) = index
+let_index (Parting index) = index
 
 abbrev pub letting_by : LetGo → Option Base → Phase
 letting_by let_go (Some base) = Runs (Releases let_go) base

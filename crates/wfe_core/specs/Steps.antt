@@ -20,14 +20,14 @@ use Rattle.wfe_core.specs.Phases.{Ending, Protected, Followed, Allocated, Retire
 use Rattle.wfe_core.specs.Posts.{stands}
 use Rattle.wfe_core.specs.WriteRow.{writing}
 use Rattle.wfe_core.specs.Machine.{base_move, after}
-use Rattle.wfe_core.specs.Calls.{Task, Gets, Changes, Holds, Enqueues, Dequeues, Next, Again, Answering, AfterScan, Answered, Repeated, Counted, Why, Opens, FollowsHead, Fills, ClearsNext, Clears, Finishes, GivesUp, Retires, Tidies, Advances, Releases, Released, Rehold, Dropped, LoadHeld, Looks, Misses, Keeping, ReadGuard, FindVersion, LoadVersion, ExchangeRoot, LoadNumber, ExchangeNext, LoadTail, Work, Getting, Changing, Enqueuing, Dequeuing, Phase, Idle, Runs, Scans, Works, CallTurn, goes_on}
+use Rattle.wfe_core.specs.Calls.{Task, Gets, Changes, Holds, Enqueues, Dequeues, Next, Again, Answering, AfterScan, Answered, Repeated, Counted, Why, Opens, FollowsHead, Fills, ClearsNext, Clears, Finishes, GivesUp, Retires, Tidies, Advances, Releases, Released, Rehold, Dropped, Parting, LoadHeld, Looks, Misses, HideSpan, MarkLeft, TakeList, MarkTaken, TakeList, Keeping, ReadGuard, FindVersion, LoadVersion, ExchangeRoot, LoadNumber, ExchangeNext, LoadTail, Work, Getting, Changing, Enqueuing, Dequeuing, Phase, Idle, Runs, Scans, Works, CallTurn, goes_on}
 use Rattle.wfe_core.specs.Calls as calls
 use Rattle.wfe_core.specs.Rounds.{scheme_of, first_tidy, opening, round, letting, move_base, closed, finishing, clearing, with_clock}
 use Rattle.wfe_core.specs.Get.{get_move, get_turn, got}
 use Rattle.wfe_core.specs.Change.{change_move, change_turn, deciding, at_link, with_taken, with_walked, no_room, new_row}
 use Rattle.wfe_core.specs.Enqueue.{enqueue_move, enqueue_turn, item_taken, item_walked, new_item}
 use Rattle.wfe_core.specs.Dequeue.{dequeue_move, dequeue_turn, followed}
-use Rattle.wfe_core.specs.Keep.{keep_move, keep_turn, released}
+use Rattle.wfe_core.specs.Keep.{keep_move, keep_turn, parting, released}
 use Rattle.wfe_core.specs.Scan.{scan_move, scan_turn}
 
 abbrev pub work_move : Work → Post → Move
@@ -191,3 +191,5 @@ first_phase (names.Copy from index) post = copying from index (stands post from)
 first_phase (names.DropIndex index) post = letting (Dropped index) post
 first_phase (names.Look index key) post = looking_at index key (stands post index)
 first_phase (names.PutIf key value version) post = round (changing (changes.Put key value) (Some version)) post
+first_phase names.Leave post = parting post
+first_phase (names.Adopt place) post = Works (Keeping (TakeList place))

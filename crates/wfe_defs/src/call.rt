@@ -23,6 +23,11 @@ pub enum Call {
     Look { index: u32, key: u64 },
     /// A put where the bucket is at this version, and at no other.
     PutIf { key: u64, value: u64, version: u64 },
+    /// Lets go of all that stands, and leaves the retire list for another seat. It is the seat's last
+    /// call.
+    Leave,
+    /// Takes over the retire list that the seat of this number has left.
+    Adopt { place: u32 },
 }
 
 /// How one try to move the clock ended.
@@ -105,4 +110,16 @@ pub enum Answer {
     Stale {
         version: u64,
     },
+    /// How many retired rows the seat left.
+    Left {
+        count: u32,
+    },
+    /// How many retired rows were taken over.
+    Adopted {
+        count: u32,
+    },
+    /// The seat has left no list so far.
+    NotLeft,
+    /// The seat's list was taken over before.
+    AdoptedBefore,
 }

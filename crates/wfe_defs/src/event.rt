@@ -122,4 +122,14 @@ pub enum Event {
         number: u64,
         value: u64,
     },
+    /// The seat leaves its list, of so many retired rows, for another seat.
+    Left {
+        count: u32,
+    },
+    /// The list that the seat of this number has left, of so many retired rows, is this seat's from
+    /// here on.
+    Adopted {
+        place: u32,
+        count: u32,
+    },
 }

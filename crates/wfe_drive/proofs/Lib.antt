@@ -1,4 +1,4 @@
-pub use Rattle.law_answers.proofs.inv as inv
-pub use Rattle.law_answers.proofs.history as history
+pub use Rattle.wfe_drive_reached.proofs.inv as inv
+pub use Rattle.wfe_drive_reached.proofs.history as history
 pub use Rattle.wfe_drive_cells.proofs as drive_cells
-pub mod Reached
+pub use Rattle.wfe_drive_reached.proofs.Lists

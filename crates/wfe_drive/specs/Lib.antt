@@ -1,4 +1,6 @@
-pub use Rattle.law_answers.specs.inv as inv
-pub use Rattle.law_answers.specs.history as history
+pub use Rattle.wfe_drive_reached.specs.inv as inv
+pub use Rattle.wfe_drive_reached.specs.history as history
 pub use Rattle.wfe_drive_cells.specs as drive_cells
-pub mod Reached
+pub use Rattle.wfe_drive_reached.specs.Bare
+pub use Rattle.wfe_drive_reached.specs.Leaving
+pub use Rattle.wfe_drive_reached.specs.Reached

@@ -1,9 +1,10 @@
 // What a trace is replayed on.
-ghost use Rattle.std.specs.Prelude.{◌≡◌, ◌<◌, [], IfOk, IsTrue, false, true};
+ghost use Rattle.std.specs.Prelude.{◌≡◌, ◌<◌, [], IfOk, false, true};
 ghost use Rattle.wfe_core.specs.words.Place.{is_valid};
-ghost use Rattle.wfe_drive_cells.specs.Unit.{IsUnit, after_start, seat_at};
+ghost use Rattle.wfe_call_any.specs.Stays.{stays};
+ghost use Rattle.wfe_drive_cells.specs.Unit.{IsUnit, after_start, is_gone, seat_at};
 ghost use Rattle.wfe_core.specs.Locals.{busy_in, may_begin};
-ghost use Rattle.wfe_drive.specs.Reached.{first_table, units_left};
+ghost use Rattle.wfe_drive_reached.specs.Reached.{first_table, units_left};
 
 use crate::Rig;
 use std::alloc::Global;
@@ -13,9 +14,14 @@ use wfe_drive_cells::MakeCells;
 /// A table whose seats make the calls of a trace, one unit after another.
 pub trait Engine: Sized + Drop {
     ghost use Rattle.wfe_drive_cells.specs.Unit.{TableView};
+    ghost use Rattle.std.specs.Prelude.{Bool};
+    ghost use Rattle.wfe_core.specs.defs.declared.call.Call.{Call as GivenCall};
 
     /// The words by number, and what the model knows of each seat.
     ghost table: { Self → TableView };
+
+    /// Which calls the engine takes.
+    ghost taken: { GivenCall → Bool };
 
     /// A table at its start, each seat between calls.
     fn make(alloc: Global, layout: Layout) -> Result<Self, NoMemory>
@@ -24,23 +30,27 @@ pub trait Engine: Sized + Drop {
 
     /// Whether the engine takes the call. Each engine takes every call of a seat that stays.
     fn takes(&self, call: &Call) -> bool
-        ensures { IsTrue result };
+        ensures takes { result ≡ Self.taken call.now }
+        ensures stays { stays call.now ≡ true → result ≡ true };
 
     /// Whether a call of the seat is under way.
     fn busy(&self, seat: u32) -> bool
         requires { seat < (table self.now).layout.config.seats }
         ensures { result ≡ busy_in (seat_at (table self.now) seat).phase };
 
-    /// Whether the seat has left. No seat leaves without a call of its own for that.
+    /// Whether the seat has left.
     fn gone(&self, seat: u32) -> bool
         requires { seat < (table self.now).layout.config.seats }
-        ensures { result ≡ false };
+        ensures { result ≡ is_gone (table self.now) seat };
 
-    /// A call of the seat begins, which names indexes in their ranges. No word changes, and no memory is taken.
+    /// A call begins of a seat that has not left, which the engine takes, and which names indexes and
+    /// seats in their ranges. No word changes, and no memory is taken.
     fn start(&mut self, seat: u32, call: Call)
         requires seat { seat < (table self.old).layout.config.seats }
         requires free { busy_in (seat_at (table self.old) seat).phase ≡ false }
         requires may { may_begin (table self.old).layout.config call ≡ true }
+        requires here { is_gone (table self.old) seat ≡ false }
+        requires takes { Self.taken call ≡ true }
         ensures { table self.new ≡ after_start (table self.old) seat call };
 
     /// Makes one unit of the seat's call: exactly one operation on the words, and exactly one step of
@@ -55,14 +65,19 @@ pub trait Engine: Sized + Drop {
 }
 
 impl<C: MakeCells> Engine for Rig<C> {
-    ghost table = { λ rig. rig };
+    ghost use Rattle.wfe_call_any.specs.Stays.{stays};
+    ghost use Rattle.wfe_drive_reached.specs.Bare.{bare};
+
+    ghost table = { λ rig. bare rig };
+
+    ghost taken = { stays };
 
     fn make(alloc: Global, layout: Layout) -> Result<Rig<C>, NoMemory> {
         Rig::new(alloc, C::make(alloc, layout)?, layout)
     }
 
-    fn takes(&self, _call: &Call) -> bool {
-        true
+    fn takes(&self, call: &Call) -> bool {
+        !matches!(call, Call::Leave | Call::Adopt { .. })
     }
 
     fn busy(&self, seat: u32) -> bool {

@@ -1,6 +1,7 @@
 // A rig in the hands of a test, with the record of what its units told.
-ghost use Rattle.std.specs.Prelude.{◌≡◌};
+ghost use Rattle.std.specs.Prelude.{◌≡◌, true};
 ghost use Rattle.wfe_core.specs.Locals.{may_begin};
+ghost use Rattle.wfe_call_any.specs.Stays.{stays};
 
 use std::alloc::Global;
 use std::test::Fail;
@@ -11,11 +12,13 @@ use wfe_drive_cells::{MakeCells, PlainCells};
 /// How many units a call is given at most before a test gives up.
 const MOST: u32 = 10_000;
 
-// Whether the indexes that the call names are in their ranges.
-fn names_indexes(config: Config, call: &Call) -> bool
-    ensures { result ≡ may_begin config call.now }
+// Whether the call is one that a rig takes, whose seats stay, and the indexes that it names are in their ranges.
+fn is_taken(config: Config, call: &Call) -> bool
+    ensures may { result ≡ true → may_begin config call.now ≡ true }
+    ensures stays { result ≡ true → stays call.now ≡ true }
 {
     match *call {
+        Call::Leave | Call::Adopt { .. } => false,
         Call::Copy { from, index } => 2 <= from && (from < index && index < config.indexes),
         Call::DropIndex { index } => 2 <= index && index < config.indexes,
         Call::Look { index, .. } => 2 <= index && index < config.indexes,
@@ -56,10 +59,10 @@ impl Bench {
         seat < self.config.seats && self.rig.busy(seat)
     }
 
-    /// Begins a call of a seat that is free, which names indexes in their ranges. It answers whether it
-    /// did.
+    /// Begins a call of a seat that is free, which the rig takes and which names indexes in their ranges.
+    /// It answers whether it did.
     pub fn start(&mut self, seat: u32, call: Call) -> bool {
-        if seat >= self.config.seats || self.rig.busy(seat) || !names_indexes(self.config, &call) {
+        if seat >= self.config.seats || self.rig.busy(seat) || !is_taken(self.config, &call) {
             return false;
         }
         self.rig.start(seat, call);

@@ -1,13 +1,16 @@
 -- A call that begins is under way; and where under 2GE no row is kept.
-use Rattle.std.proofs.Common.{None, Option, Some, false, refl, true, ℕ, ◌≡◌}
+use Rattle.std.proofs.Common.{Bool, None, Option, Some, drop, false, if◌then◌else◌, refl, true, ℕ, ◌≡◌}
+use Rattle.wfe_core.specs.words.Schemes.{has_one_interval}
 use Rattle.wfe_core.specs.words.declared.config.SchemeKind.TheVariants.{Ibr}
 use Rattle.wfe_core.specs.defs.declared.call.Call.{Call}
 use Rattle.wfe_core.specs.defs.declared.call.Call.TheVariants as names
 use Rattle.wfe_core.specs.defs.declared.fold.Change.TheVariants as changes
+use Rattle.wfe_core.specs.defs.declared.lifetime.Interval.{Interval}
 use Rattle.wfe_core.specs.Calls.{Dequeues, Dropped, Enqueues, Gets, Holds, LetGo, Rehold, Released, Task}
 use Rattle.wfe_core.specs.Locals.{busy_in}
 use Rattle.wfe_core.specs.Phases.{Base}
-use Rattle.wfe_core.specs.Posts.{stands}
+use Rattle.wfe_core.specs.Keep.{parting_from, parting_index, parting_span}
+use Rattle.wfe_core.specs.Posts.{standing_from, stands}
 use Rattle.wfe_core.specs.Rounds.{begin_base, finish_base, finish_span, kept_row, let_index, letting, letting_by, release_base, round, round_by, scheme_of}
 use Rattle.wfe_core.specs.Steps.{changing, copying, first_phase, holding, looking_at}
 use Rattle.wfe_core.specs.declared.post.Post.{Post}
@@ -38,6 +41,18 @@ looking_busy : (index key : ℕ) (held : Option ℕ) → busy_in (looking_at ind
 looking_busy index key None = refl
 looking_busy index key (Some slot) = refl
 
+span_parts : (span : Option Interval) → busy_in (parting_span span) ≡ true
+span_parts None = refl
+span_parts (Some span) = refl
+
+index_parts : (held : Option ℕ) → busy_in (parting_index held) ≡ true
+index_parts None = refl
+index_parts (Some index) = refl
+
+by_interval : (one : Bool) (post : Post) → busy_in (if one then parting_span post.span else parting_from 2 post) ≡ true
+by_interval true post = span_parts post.span
+by_interval false post = index_parts (standing_from 2 (drop 2 post.standing))
+
 pub first_busy : (call : Call) (post : Post) → busy_in (first_phase call post) ≡ true
 first_busy (names.Get key) post = round_busy (Gets key) post
 first_busy (names.Put key value) post = round_busy (changing (changes.Put key value) None) post
@@ -52,6 +67,8 @@ first_busy (names.Copy from index) post = copying_busy from index (stands post f
 first_busy (names.DropIndex index) post = letting_busy (Dropped index) post
 first_busy (names.Look index key) post = looking_busy index key (stands post index)
 first_busy (names.PutIf key value version) post = round_busy (changing (changes.Put key value) (Some version)) post
+first_busy names.Leave post = by_interval (has_one_interval (scheme_of post)) post
+first_busy (names.Adopt place) post = refl
 
 -- where an interval would end now no row is kept
 span_ends : (row : Option ℕ) (base : Base) → finish_span row ≡ Some base → row ≡ None

@@ -1,6 +1,7 @@
 // The steps of a call, one operation after another, from its beginning to its answer.
 ghost use Rattle.std.specs.Prelude.{◌≡◌, ◌<◌, None, true};
 ghost use Rattle.laws.specs.AnswerLaw.{suits};
+ghost use Rattle.wfe_call_any.specs.Stays.{stays};
 ghost use Rattle.wfe_core.specs.Calls.{Idle};
 ghost use Rattle.wfe_core.specs.DeskHeld.{HasRoom};
 ghost use Rattle.wfe_core.specs.Frames.{SamePlace};
@@ -23,14 +24,15 @@ use wfe_drive_change::queue::{dequeue_item, enqueue_item};
 
 /// Makes a whole call of the seat of this post and desk on its words, and answers as the call does.
 /// No call of the seat may be under way, and the call must be one that may begin: it names indexes in
-/// range. Each operation is the one that the call's state asks for,
-/// and the answer is one that the call may have. It takes no memory, and every call ends.
+/// range, and the seat neither leaves by it nor takes over what another has left. Each operation is the
+/// one that the call's state asks for, and the answer is one that the call may have. It takes no memory, and every call ends.
 #[inline(always)]
 pub fn drive_call<W: Words>(words: &mut W, post: &mut Post, desk: &mut Desk, call: Call) -> Answer
     requires valid { W.valid words.old }
     requires here { Here (W.at words.old) (at_phase Idle post.old desk.old) }
     requires room { HasRoom desk.old post.old.layout }
     requires may { may_begin post.old.layout.config call ≡ true }
+    requires stays { stays call ≡ true }
     ensures valid { W.valid words.new }
     ensures same { W.same words.old words.new }
     ensures here { Here (W.at words.new) (at_phase Idle post.new desk.new) }
@@ -93,6 +95,7 @@ fn drive_he<W: Words>(words: &mut W, post: &mut Post, desk: &mut Desk, call: Cal
     requires valid { W.valid words.old }
     requires scheme { post.old.layout.config.scheme ≡ HeKind }
     requires here { Here (W.at words.old) (at_phase (first_phase call post.old) post.old desk.old) }
+    requires stays { stays call ≡ true }
     requires room { HasRoom desk.old post.old.layout }
     ensures valid { W.valid words.new }
     ensures same { W.same words.old words.new }
@@ -126,6 +129,7 @@ fn drive_wfe<W: Words>(words: &mut W, post: &mut Post, desk: &mut Desk, call: Ca
     requires valid { W.valid words.old }
     requires scheme { post.old.layout.config.scheme ≡ WfeKind }
     requires here { Here (W.at words.old) (at_phase (first_phase call post.old) post.old desk.old) }
+    requires stays { stays call ≡ true }
     requires room { HasRoom desk.old post.old.layout }
     ensures valid { W.valid words.new }
     ensures same { W.same words.old words.new }
@@ -158,6 +162,7 @@ fn drive_ibr<W: Words>(words: &mut W, post: &mut Post, desk: &mut Desk, call: Ca
     requires valid { W.valid words.old }
     requires scheme { post.old.layout.config.scheme ≡ IbrKind }
     requires here { Here (W.at words.old) (at_phase (first_phase call post.old) post.old desk.old) }
+    requires stays { stays call ≡ true }
     requires room { HasRoom desk.old post.old.layout }
     ensures valid { W.valid words.new }
     ensures same { W.same words.old words.new }
@@ -180,6 +185,7 @@ fn drive_free<W: Words>(words: &mut W, post: &mut Post, desk: &mut Desk, call: C
     requires scheme { post.old.layout.config.scheme ≡ IbrKind }
     requires free { kept_row post.old ≡ None }
     requires here { Here (W.at words.old) (at_phase (first_phase call post.old) post.old desk.old) }
+    requires stays { stays call ≡ true }
     requires room { HasRoom desk.old post.old.layout }
     ensures valid { W.valid words.new }
     ensures same { W.same words.old words.new }
@@ -276,6 +282,7 @@ fn drive_under<W: Words, S: Scheme>(
     requires valid { W.valid words.old }
     requires scheme { post.old.layout.config.scheme ≡ S.kind }
     requires here { Here (W.at words.old) (at_phase (first_phase call post.old) post.old desk.old) }
+    requires stays { stays call ≡ true }
     requires room { HasRoom desk.old post.old.layout }
     ensures valid { W.valid words.new }
     ensures same { W.same words.old words.new }
@@ -313,6 +320,7 @@ fn drive_under<W: Words, S: Scheme>(
             desk,
             call,
         ),
+        Call::Leave | Call::Adopt { .. } => unreachable!(),
     }
 }
 

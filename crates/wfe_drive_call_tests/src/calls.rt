@@ -4,7 +4,9 @@ ghost use Rattle.std.specs.Prelude.{◌≡◌, ◌<◌, IfOk, true};
 ghost use Rattle.wfe_core.specs.Calls.{Idle};
 ghost use Rattle.wfe_core.specs.DeskHeld.{HasRoom};
 ghost use Rattle.wfe_core.specs.Locals.{may_begin};
+ghost use Rattle.wfe_drive_call.specs.call_any.Stays.{stays};
 ghost use Rattle.wfe_drive_call.specs.drive_words.Called.{Here, at_phase};
+ghost use Rattle.wfe_drive_call.specs.drive_words.Comes.{departs};
 ghost use Rattle.wfe_drive_call_tests.specs.Plain.{IsAt};
 
 use std::alloc::Global;
@@ -23,13 +25,15 @@ struct KeptCells {
     kept: Vec<(Op, u64)>,
     /// Whether an operation was not kept, for want of memory.
     lost: bool,
+    /// Whether the seat leaves by its last call.
+    left: bool,
 }
 
 impl Words for KeptCells {
     ghost use Rattle.std.specs.Prelude.{◌≡◌, ◌-◌, ◌^◌, false};
     ghost use Rattle.wfe_drive_call_tests.specs.Plain.{IsAt};
 
-    ghost at = { λ w l. IsAt w.cells w.steps l };
+    ghost at = { λ w l. IsAt w.cells w.steps w.left l };
 
     ghost stands = { λ w xs. w.lost ≡ false → w.kept.items ≡ xs };
 
@@ -45,8 +49,9 @@ impl Words for KeptCells {
 
     ghost comes = { λ w l v a. a.comes };
 
-    fn start(&mut self, _call: Call) {
+    fn start(&mut self, call: Call) {
         self.steps = 0;
+        self.left = leaves(call);
     }
 
     fn perform(&mut self, op: Op) -> u64 {
@@ -56,6 +61,16 @@ impl Words for KeptCells {
             self.lost = true;
         }
         found
+    }
+}
+
+// Whether the seat leaves by the call.
+fn leaves(call: Call) -> bool
+    ensures { result ≡ departs call }
+{
+    match call {
+        Call::Leave => true,
+        _ => false,
     }
 }
 
@@ -86,7 +101,7 @@ fn wide(scheme: SchemeKind) -> Config {
 // The words of a new table with its seat's post and desk.
 #[tactic(auto, using(wfe_core::proofs::Ranges::bounds_of))]
 fn table(alloc: Global, config: Config) -> Result<(KeptCells, Post, Desk), Fail>
-    ensures here { IfOk result (λ t. Here (IsAt t.0.cells t.0.steps) (at_phase Idle t.1 t.2)) }
+    ensures here { IfOk result (λ t. Here (IsAt t.0.cells t.0.steps t.0.left) (at_phase Idle t.1 t.2)) }
     ensures room { IfOk result (λ t. HasRoom t.2 t.1.layout) }
 {
     let layout = Layout::new(config)?;
@@ -95,13 +110,24 @@ fn table(alloc: Global, config: Config) -> Result<(KeptCells, Post, Desk), Fail>
         steps: 0,
         kept: Vec::new(alloc),
         lost: false,
+        left: false,
     };
     let post = Post::new(0, layout);
     let desk = Desk::new(alloc, layout)?;
     Ok((words, post, desk))
 }
 
-// Whether the indexes that the call names are in their ranges.
+// Whether the seat neither leaves by the call nor takes over what another has left.
+fn is_staying(call: Call) -> bool
+    ensures { result ≡ stays call }
+{
+    match call {
+        Call::Leave | Call::Adopt { .. } => false,
+        _ => true,
+    }
+}
+
+// Whether the indexes that the call names are in their ranges, and its place too.
 fn names_indexes(config: Config, call: Call) -> bool
     ensures { result ≡ may_begin config call }
 {
@@ -109,6 +135,7 @@ fn names_indexes(config: Config, call: Call) -> bool
         Call::Copy { from, index } => 2 <= from && (from < index && index < config.indexes),
         Call::DropIndex { index } => 2 <= index && index < config.indexes,
         Call::Look { index, .. } => 2 <= index && index < config.indexes,
+        Call::Adopt { place } => place < config.seats,
         _ => true,
     }
 }
@@ -124,6 +151,7 @@ fn make<R: Abort + AllocGlobal>(
     for (call, steps, want) in calls {
         let before = words.kept.len();
         assert!(rt; names_indexes(post.layout.config(), *call));
+        assert!(rt; is_staying(*call));
         let answer = drive_call(&mut words, &mut post, &mut desk, *call);
         assert_eq!(rt; answer, *want, "{call:?} under {scheme:?}");
         assert_eq!(rt; post.steps, *steps, "{call:?} under {scheme:?}");

@@ -9,7 +9,7 @@ use Rattle.wfe_core.specs.Desks.{Desk, noting}
 use Rattle.wfe_core.specs.Locals.{told_by, told_end}
 use Rattle.wfe_core.specs.declared.desk.Desk.{Desk as HeldDesk}
 use Rattle.wfe_core.specs.declared.post.Post.{Post}
-use Rattle.wfe_drive_cells.specs.Unit.{Leaves, SeatView, answer_in, phase_after, phase_left}
+use Rattle.wfe_drive_cells.specs.Unit.{Leaves, SeatView, answer_in, kept_desk, phase_after, phase_left}
 
 -- End is told where the call has an answer
 end-answer : (post : Post) (outcome : CallOutcome) (answer : Option Answer) (phase : Phase) → Leads outcome answer phase → told_answer post answer ≡ told_end post outcome
@@ -27,7 +27,7 @@ phase-left outcome (Some answer) phase e = ap phase_after (sym e)
 pub leaves : (t : CallTurn) (post : Post) (held : HeldDesk) (told : List Event) (answer : Option Answer) (phase : Phase) → Took t post held told answer phase → Leaves t post held told answer phase
 leaves t post held told answer phase k =
     let words : told ≡ told_by t = k.told_is ∙ ap (λ (p : Post). t.told ++ told_answer p answer) k.post_is ∙ ap (λ (l : List Event). t.told ++ l) (end-answer t.post t.outcome answer phase k.outcome_is) in
-    let desk : desk_of held ≡ noting t.desk (told_by t) = k.desk_is ∙ ap (noting t.desk) words in
+    let desk : desk_of held ≡ kept_desk (noting t.desk (told_by t)) = ap kept_desk (k.desk_is ∙ ap (noting t.desk) words) in
     let next : phase_left answer phase ≡ phase_after t.outcome = phase-left t.outcome answer phase k.outcome_is in
     let post_is : post ≡ t.post = k.post_is in
     record {

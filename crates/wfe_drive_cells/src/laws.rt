@@ -1,5 +1,5 @@
 // Words by number and words by place, each law the contract of a function that does nothing.
-ghost use Rattle.std.specs.Prelude.{◌≡◌, ◌<◌, length, List, ℕ, IsTrue, Option};
+ghost use Rattle.std.specs.Prelude.{◌≡◌, ◌<◌, false, length, List, ℕ, IsTrue, Option};
 ghost use Rattle.wfe_core.specs.words.Place.{is_valid, words};
 ghost use Rattle.wfe_core.specs.defs.declared.call.Answer.{Answer};
 ghost use Rattle.wfe_core.specs.defs.declared.call.Call.{Call};
@@ -8,13 +8,13 @@ ghost use Rattle.wfe_core.specs.Calls.{CallTurn, Phase};
 ghost use Rattle.wfe_core.specs.DeskHeld.{Took};
 ghost use Rattle.wfe_core.specs.Locals.{busy_in};
 ghost use Rattle.wfe_core.specs.MayStep.{MayStep};
-ghost use Rattle.wfe_core.specs.World.{World, begin, is_busy, start};
+ghost use Rattle.wfe_core.specs.World.{World, begin, is_busy, list_in, start};
 ghost use Rattle.wfe_core.specs.declared.desk.Desk.{Desk as HeldDesk};
 ghost use Rattle.wfe_core.specs.declared.post.Post.{Post};
 ghost use Rattle.wfe_drive_cells.specs.Bridge.{AsksWithin, IsBridge, MakesSteps, StaysNarrow};
 ghost use Rattle.wfe_drive_cells.specs.Memory.{HoldsStart, memory};
 ghost use Rattle.wfe_drive_cells.specs.Operations.{performed};
-ghost use Rattle.wfe_drive_cells.specs.Unit.{IsStep, IsUnit, Leaves, MayUnit, Shows, TableView, after_start, asked, fresh_seat, seat_at, seat_left, unit_turn, with_seat};
+ghost use Rattle.wfe_drive_cells.specs.Unit.{IsStep, IsUnit, Leaves, ListsStay, MayUnit, Shows, TableView, after_start, asked, found_by, fresh_seat, may_adopt, seat_at, seat_left, turned, with_seat};
 
 use wfe_core::Layout;
 
@@ -46,17 +46,17 @@ pub fn units_are_steps()
     ensures begin { (table : TableView) (w : World) (seat : ℕ) (call : Call) → Shows table w → seat < length table.seats
         → Shows (after_start table seat call) (begin w seat call) }
     ensures unit { (old new : TableView) (w : World) (seat : ℕ) (told : List Event) (answer : Option Answer) → IsUnit old new seat told answer
-        → Shows old w → seat < length old.seats → AsksWithin w seat → IsStep new w seat told answer }
+        → Shows old w → length old.seats ≡ old.layout.config.seats → seat < old.layout.config.seats → AsksWithin w seat → ListsStay w seat → IsStep new w seat told answer }
     ensures ready { (table : TableView) (w : World) (seat : ℕ) → Shows table w
-        → (w.seat seat).post.layout ≡ w.layout → MayStep w seat → MayUnit table seat }
+        → (w.seat seat).post.layout ≡ w.layout → list_in w seat ≡ (w.seat seat).desk.list → MayStep w seat → MayUnit table seat }
 {}
 
 /// What a call's code says that it took is what the turn leaves of its seat, tells and answers. With
-/// the words after the seat's operation that is a unit.
+/// the words after the seat's operation that is a unit, where its step may take over no list.
 pub fn calls_make_units()
     ensures leaves { (t : CallTurn) (post : Post) (held : HeldDesk) (told : List Event) (answer : Option Answer) (phase : Phase)
         → Took t post held told answer phase → Leaves t post held told answer phase }
     ensures unit { (table : TableView) (seat : ℕ) (post : Post) (held : HeldDesk) (told : List Event) (answer : Option Answer) (phase : Phase)
-        → Leaves (unit_turn table seat) post held told answer phase
+        → may_adopt (seat_at table seat).phase ≡ false → Leaves (turned (seat_at table seat) (found_by table seat)) post held told answer phase
         → IsUnit table (with_seat table (performed table.words (asked (seat_at table seat))) seat (seat_left answer phase post held)) seat told answer }
 {}

@@ -1,35 +1,22 @@
 -- A round begins: the root is protected, and its row is read or there is none.
-use Rattle.std.proofs.Common.{Bool, List, None, Option, Some, [], ap, false, subst, sym, ℕ, ◌+◌, ◌∙◌, ◌≡◌}
-use Rattle.wfe_core.specs.words.Schemes.{has_one_interval}
+use Rattle.std.proofs.Common.{List, None, Option, Some, [], ap, subst, sym, ℕ, ◌+◌, ◌∙◌, ◌≡◌}
 use Rattle.wfe_core.specs.defs.declared.call.Answer.{Answer}
 use Rattle.wfe_core.specs.defs.declared.event.Event.{Event}
 use Rattle.wfe_core.specs.defs.declared.event.Root.{Root}
-use Rattle.wfe_core.specs.Calls.{Answering, ChangeKept, Changes, Changing, Fills, LoadVersion, Opens, Phase, Runs, Why, Works}
+use Rattle.wfe_core.specs.Calls.{Answering, ChangeKept, Changes, Changing, Fills, LoadVersion, Opens, Runs, Works}
 use Rattle.wfe_core.specs.Change.{at_link, deciding_by, filling, refused, with_change}
 use Rattle.wfe_core.specs.DeskHeld.{desk_of}
 use Rattle.wfe_core.specs.Desks.{Desk, noting}
-use Rattle.wfe_core.specs.Locals.{Local}
-use Rattle.wfe_core.specs.Phases.{Ending}
-use Rattle.wfe_core.specs.declared.op.Op.{Op}
 use Rattle.wfe_core.specs.Phases.Ending.{Protected}
-use Rattle.wfe_core.specs.Rounds.{begin_where, protect_base, root_of, round, round_by, scheme_of}
+use Rattle.wfe_core.specs.Rounds.{root_of}
 use Rattle.wfe_core.specs.Steps.{resume}
 use Rattle.wfe_core.specs.declared.desk.Desk.{Desk as HeldDesk}
 use Rattle.wfe_core.specs.declared.post.Post.{Post}
-use Rattle.wfe_drive_queue.specs.drive_words.drive_cells.Unit.{SeatView, seat_after}
-use Rattle.wfe_drive_queue.specs.drive_words.Called.{at_phase}
-use Rattle.wfe_drive_queue.specs.drive_runs.Pieces.{LeadsSo, Outer, end_of}
+use Rattle.wfe_drive_queue.specs.drive_words.drive_cells.Unit.{seat_after}
+use Rattle.wfe_drive_queue.specs.drive_runs.Pieces.{Outer, end_of}
 use Rattle.wfe_drive_queue.proofs.drive_runs.Turning.{went_on}
 use Rattle.wfe_drive_change.specs.Changing.{read_at, works_at}
 use Rattle.wfe_drive_change.proofs.RowFilling.{clears_noted}
-
--- a round begins with a protection of its bucket's root, where the scheme begins with no interval
-pub round_opens : (kept : ChangeKept) (post : Post) (held : HeldDesk) (root : Root) → has_one_interval (scheme_of post) ≡ false → root ≡ root_of (Changes kept) post
-    → at_phase (round (Changes kept) post) post held ≡ at_phase (Runs (Opens (Changes kept)) (protect_base (scheme_of post) 0 root)) post held
-round_opens kept post held root one r =
-    let opens : Bool → Phase = λ b. round_by (Changes kept) post (begin_where b post) in
-    let protects : Root → Phase = λ root. Runs (Opens (Changes kept)) (protect_base (scheme_of post) 0 root) in
-    ap (λ (phase : Phase). at_phase phase post held) (ap opens one ∙ ap protects (sym r))
 
 -- no row's next link
 pub root_outer : (kept : ChangeKept) (post : Post) (root : Root) → root ≡ root_of (Changes kept) post → Outer root
@@ -48,7 +35,3 @@ leads_to_none kept as_kept era post before told held d k = either (refused post.
     either : (why : Option Answer) → seat_after (deciding_by (at_link kept 0) post before told why) ≡ seat_after (deciding_by (at_link kept 0) post (desk_of held) [] why)
     either None = went_on (Runs (Fills (Changes (with_change (at_link kept 0)))) (filling (with_change (at_link kept 0)))) post before told held d
     either (Some answer) = clears_noted (at_link kept 0) (Answering answer) post before told held d
-
--- a seat that is as another
-pub so_from : {at0 at1 : Local → Type 0} {stands0 stands1 : List (Op × ℕ) → Type 0} {why : Why} {ending : Ending} {post : Post} {held : HeldDesk} (old as_old : SeatView) → old ≡ as_old → LeadsSo at0 at1 stands0 stands1 old why ending post held → LeadsSo at0 at1 stands0 stands1 as_old why ending post held
-so_from {at0 = at0} {at1 = at1} {stands0 = stands0} {stands1 = stands1} {why = why} {ending = ending} {post = post} {held = held} old as_old e x = subst (λ (v : SeatView). LeadsSo at0 at1 stands0 stands1 v why ending post held) e x

@@ -9,7 +9,7 @@ use Rattle.wfe_core.specs.Locals.{Local}
 use Rattle.wfe_core.specs.Memory.{numbered}
 use Rattle.wfe_core.specs.declared.op.Op.{Op}
 use Rattle.wfe_core.specs.declared.post.Post.{Post}
-use Rattle.wfe_drive_queue.specs.drive_words.drive_cells.Unit.{SeatView, seat_after}
+use Rattle.wfe_drive_queue.specs.drive_words.drive_cells.Unit.{SeatView, kept_desk, seat_after}
 use Rattle.wfe_drive_queue.specs.drive_words.Called.{Here}
 use Rattle.wfe_drive_queue.specs.drive_words.Path.{AsksFor, Leads, StepsOn}
 use Rattle.wfe_drive_queue.proofs.drive_words.Leading.{leads_as}
@@ -25,7 +25,7 @@ pub version_read : {at0 at1 : Local → Type 0} {stands0 stands1 : List (Op × �
 version_read kept slot post desk before found s = s.leads
 
 abbrev pairs_by : ChangeKept → (slot count : ℕ) → Post → Desk → (pairs steps : ℕ) → SeatView
-pairs_by kept slot count post desk pairs steps = seat_after (reading kept slot count (step_post post steps) desk (nat_lt pairs count))
+pairs_by kept slot count post desk pairs steps = seat_after (reading kept slot count (step_post post steps) (kept_desk desk) (nat_lt pairs count))
 
 pub count_read : {at0 at1 : Local → Type 0} {stands0 stands1 : List (Op × ℕ) → Type 0} (kept : ChangeKept) (slot : ℕ) (post : Post) (desk : Desk) (before found : ℕ) → kept.pairs ≡ [] → StepsOn at0 at1 stands0 stands1 (works_at kept (LoadCount slot) (step_post post (before + 1)) desk) found
     → Leads at0 at1 stands0 stands1 (works_at kept (LoadCount slot) (step_post post (before + 1)) desk) (pairs_at kept slot found (step_post post (before + 2)) desk)
@@ -36,7 +36,7 @@ count_read kept slot post desk before found none s =
 
 -- a pair that there is
 pub pair_is : (kept : ChangeKept) (slot count : ℕ) (post : Post) (desk : Desk) → length kept.pairs < count → pairs_at kept slot count post desk ≡ works_at kept (LoadKey slot count) post desk
-pair_is kept slot count post desk h = ap (λ (more : Bool). seat_after (reading kept slot count post desk more)) (lt-ltb (length kept.pairs) count h)
+pair_is kept slot count post desk h = ap (λ (more : Bool). seat_after (reading kept slot count post (kept_desk desk) more)) (lt-ltb (length kept.pairs) count h)
 
 -- its key, and its value
 pub key_read : {at0 at1 : Local → Type 0} {stands0 stands1 : List (Op × ℕ) → Type 0} (kept : ChangeKept) (slot count : ℕ) (post : Post) (desk : Desk) (before found : ℕ) → StepsOn at0 at1 stands0 stands1 (works_at kept (LoadKey slot count) (step_post post before) desk) found
@@ -44,7 +44,7 @@ pub key_read : {at0 at1 : Local → Type 0} {stands0 stands1 : List (Op × ℕ) 
 key_read kept slot count post desk before found s = s.leads
 
 abbrev more_by : ChangeKept → (slot count : ℕ) → Post → Desk → List Pair → (pairs steps : ℕ) → SeatView
-more_by kept slot count post desk ps pairs steps = seat_after (reading (record kept { pairs = ps }) slot count (step_post post steps) desk (nat_lt pairs count))
+more_by kept slot count post desk ps pairs steps = seat_after (reading (record kept { pairs = ps }) slot count (step_post post steps) (kept_desk desk) (nat_lt pairs count))
 
 pub value_read : {at0 at1 : Local → Type 0} {stands0 stands1 : List (Op × ℕ) → Type 0} (kept : ChangeKept) (slot count : ℕ) (post : Post) (desk : Desk) (before key found : ℕ) (ps : List Pair) → ps ≡ kept.pairs ++ (key, found) ∷ []
     → StepsOn at0 at1 stands0 stands1 (works_at kept (LoadValue slot count key) (step_post post (before + 1)) desk) found
@@ -58,7 +58,7 @@ value_read kept slot count post desk before key found ps more s =
 
 -- there is none
 pub pairs_none : (kept : ChangeKept) (slot count : ℕ) (post : Post) (desk : Desk) → count ≤ length kept.pairs → pairs_at kept slot count post desk ≡ read_at kept post desk
-pairs_none kept slot count post desk h = ap (λ (more : Bool). seat_after (reading kept slot count post desk more)) (le-ltb (length kept.pairs) count h)
+pairs_none kept slot count post desk h = ap (λ (more : Bool). seat_after (reading kept slot count post (kept_desk desk) more)) (le-ltb (length kept.pairs) count h)
 
 -- one pair more is counted
 pub more_counted : {ps : List Pair} (qs : List Pair) (p : Pair) (n : ℕ) → length qs ≡ n → ps ≡ qs ++ p ∷ [] → length ps ≡ n + 1

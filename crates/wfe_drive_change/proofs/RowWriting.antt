@@ -15,7 +15,7 @@ use Rattle.wfe_core.specs.Steps.{run_turn, slot_in}
 use Rattle.wfe_core.specs.WriteRow.{pair_word, row_word, side_of}
 use Rattle.wfe_core.specs.declared.op.Op.{Op}
 use Rattle.wfe_core.specs.declared.post.Post.{Post}
-use Rattle.wfe_drive_queue.specs.drive_words.drive_cells.Unit.{SeatView, seat_after}
+use Rattle.wfe_drive_queue.specs.drive_words.drive_cells.Unit.{SeatView, kept_desk, seat_after}
 use Rattle.wfe_drive_queue.specs.drive_words.Called.{Here}
 use Rattle.wfe_drive_queue.specs.drive_words.Path.{AsksFor, Leads, StepsOn}
 use Rattle.wfe_drive_queue.proofs.drive_words.Leading.{here_as, leads_as, leads_from, then_leads}
@@ -32,7 +32,7 @@ word_written kept slot place post desk before n s = s.leads
 
 -- another place comes, or the row is written
 abbrev wrote_by : ChangeKept → (slot place : ℕ) → Post → Desk → (last : Bool) → SeatView
-wrote_by kept slot place post desk last = seat_after (run_turn (Fills (Changes kept)) desk (if last then ends post [] Done else goes post [] (Write slot (new_row kept) (place + 1))))
+wrote_by kept slot place post desk last = seat_after (run_turn (Fills (Changes kept)) (kept_desk desk) (if last then ends post [] Done else goes post [] (Write slot (new_row kept) (place + 1))))
 
 pub writes_on : (kept : ChangeKept) (slot place next : ℕ) (post : Post) (desk : Desk) → place < 2 + 2 * length kept.pairs → place + 1 ≡ next → wrote_at kept slot place post desk ≡ writes_at kept slot next post desk
 writes_on kept slot place next post desk h e =

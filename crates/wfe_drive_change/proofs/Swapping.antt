@@ -13,7 +13,7 @@ use Rattle.wfe_core.specs.Desks.{Desk, Notes, noted_all}
 use Rattle.wfe_core.specs.Locals.{Local}
 use Rattle.wfe_core.specs.declared.op.Op.{Op}
 use Rattle.wfe_core.specs.declared.post.Post.{Post}
-use Rattle.wfe_drive_queue.specs.drive_words.drive_cells.Unit.{SeatView, seat_after}
+use Rattle.wfe_drive_queue.specs.drive_words.drive_cells.Unit.{SeatView, kept_desk, seat_after}
 use Rattle.wfe_drive_queue.specs.drive_words.Path.{Leads, StepsOn}
 use Rattle.wfe_drive_queue.proofs.drive_runs.Closing.{clearing_noted}
 use Rattle.wfe_drive_queue.proofs.drive_words.Leading.{leads_as}
@@ -32,7 +32,7 @@ pub lost : {at0 at1 : Local → Type 0} {stands0 stands1 : List (Op × ℕ) → 
     → StepsOn at0 at1 stands0 stands1 (works_at kept (ExchangeRoot slot) post desk) found
     → Leads at0 at1 stands0 stands1 (works_at kept (ExchangeRoot slot) post desk) (clears_at kept Again (step_post post (post.steps + 1)) desk)
 lost kept slot post desk found other s =
-    leads_as _ _ (ap (λ (b : Bool). seat_after (exchanged kept slot (step_post post (post.steps + 1)) desk b)) (ne_eqb found kept.link other)) s.leads
+    leads_as _ _ (ap (λ (b : Bool). seat_after (exchanged kept slot (step_post post (post.steps + 1)) (kept_desk desk) b)) (ne_eqb found kept.link other)) s.leads
 
 -- it leads to the new row
 abbrev pub unlinked : ChangeKept → ChangeKept
@@ -46,7 +46,7 @@ linked : {at0 at1 : Local → Type 0} {stands0 stands1 : List (Op × ℕ) → Ty
     → Leads at0 at1 stands0 stands1 (works_at kept (ExchangeRoot slot) post desk) (done_by kept (step_post post (post.steps + 1)) desk (kept.link == 0))
 linked kept slot post desk found same s =
     let p : Post = step_post post (post.steps + 1) in
-    leads_as _ _ (ap (λ (b : Bool). seat_after (exchanged kept slot p desk b)) (eq-eqb found kept.link same)
+    leads_as _ _ (ap (λ (b : Bool). seat_after (exchanged kept slot p (kept_desk desk) b)) (eq-eqb found kept.link same)
     ∙ clearing_noted (Changes (unlinked kept)) (if kept.link == 0 then Answering (answers.Done (kept.version + 1) moves.Still) else Retiring (kept.link - 1) (answers.Done (kept.version + 1) moves.Still)) p desk (told_linked kept slot p)
     ∙ ap (λ (notes : Notes). done_by kept p (record desk { notes = notes }) (kept.link == 0)) (linked-noted desk.notes (changed_bucket kept p) slot (kept.link - 1) (kept.version + 1) kept.change (kept.link == 0))) s.leads
 

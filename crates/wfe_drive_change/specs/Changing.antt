@@ -11,7 +11,7 @@ use Rattle.wfe_core.specs.Phases.Base.{Write}
 use Rattle.wfe_core.specs.Steps.{run_turn}
 use Rattle.wfe_core.specs.WriteRow.{after_write}
 use Rattle.wfe_core.specs.declared.post.Post.{Post}
-use Rattle.wfe_drive_queue.specs.drive_words.drive_cells.Unit.{SeatView, seat_after}
+use Rattle.wfe_drive_queue.specs.drive_words.drive_cells.Unit.{SeatView, kept_desk, seat_after}
 use Rattle.wfe_drive_queue.specs.drive_runs.Pieces.{clearing_at}
 use Rattle.wfe_drive_change.specs.declared.kept.Kept.{Kept}
 use Rattle.wfe_drive_change.specs.declared.kept.RoundEnd.{RoundEnd}
@@ -37,19 +37,19 @@ step_post post steps = record post { steps = steps }
 
 -- a step of the change's own is to come
 abbrev pub works_at : ChangeKept → ChangeAt → Post → Desk → SeatView
-works_at kept at post desk = record { phase = Works (Changing kept at); post = post; desk = desk }
+works_at kept at post desk = record { phase = Works (Changing kept at); post = post; desk = kept_desk desk }
 
 -- the next pair is to be read, if there is one
 abbrev pub pairs_at : ChangeKept → (slot count : ℕ) → Post → Desk → SeatView
-pairs_at kept slot count post desk = seat_after (reading kept slot count post desk (nat_lt (length kept.pairs) count))
+pairs_at kept slot count post desk = seat_after (reading kept slot count post (kept_desk desk) (nat_lt (length kept.pairs) count))
 
 -- the row is read, and the change is decided
 abbrev pub read_at : ChangeKept → Post → Desk → SeatView
-read_at kept post desk = seat_after (deciding kept post desk [])
+read_at kept post desk = seat_after (deciding kept post (kept_desk desk) [])
 
 -- a row is to be taken, or written
 abbrev pub fills_at : ChangeKept → Base → Post → Desk → SeatView
-fills_at kept base post desk = record { phase = Runs (Fills (Changes kept)) base; post = post; desk = desk }
+fills_at kept base post desk = record { phase = Runs (Fills (Changes kept)) base; post = post; desk = kept_desk desk }
 
 -- the word at a place is to be written
 abbrev pub writes_at : ChangeKept → (slot place : ℕ) → Post → Desk → SeatView
@@ -57,7 +57,7 @@ writes_at kept slot place post desk = fills_at kept (Write slot (new_row kept) p
 
 -- and was
 abbrev pub wrote_at : ChangeKept → (slot place : ℕ) → Post → Desk → SeatView
-wrote_at kept slot place post desk = seat_after (run_turn (Fills (Changes kept)) desk (after_write slot (new_row kept) place post))
+wrote_at kept slot place post desk = seat_after (run_turn (Fills (Changes kept)) (kept_desk desk) (after_write slot (new_row kept) place post))
 
 -- the root's index is to be cleared
 abbrev pub clears_at : ChangeKept → Next → Post → Desk → SeatView

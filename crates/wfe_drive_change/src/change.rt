@@ -11,7 +11,7 @@ ghost use Rattle.wfe_drive_change.specs.Changing.{clears_at, first_kept, kept_of
 use crate::ending::end_round;
 use crate::fill::fill_row;
 use crate::kept::{Kept, RoundEnd};
-use crate::opening::open_round;
+use crate::opening::begin_round;
 use wfe_core::{Answer, Change, Desk, Post};
 use wfe_drive_queue::on_words::Words;
 
@@ -36,7 +36,7 @@ fn make_round<W: Words>(
     ensures leads { Leads (W.at words.old) (W.at words.new) (W.stands words.old) (W.stands words.new)
         (at_phase (round (Changes (kept_of kept.old)) post.old) post.old desk.old) (clears_at (kept_of kept.new) (next_of result) post.new (desk_of desk.new)) }
 {
-    open_round(words, post, desk, kept);
+    begin_round(words, post, desk, kept);
     match kept.refused(post) {
         Some(answer) => RoundEnd::Answers(answer),
         None => fill_row(words, post, desk, kept),

@@ -1,54 +1,18 @@
 // The beginning of a round: the bucket's root is protected, and its row is read.
-ghost use Rattle.std.specs.Prelude.{◌≡◌, ◌<◌, ◌≤◌, ◌+◌, ℕ, IfSome};
-ghost use Rattle.wfe_core.specs.Calls.{Changes, LoadVersion, Opens};
+ghost use Rattle.std.specs.Prelude.{◌≡◌, ◌<◌, ◌≤◌, ◌+◌};
+ghost use Rattle.wfe_core.specs.Calls.{Changes, LoadVersion};
 ghost use Rattle.wfe_core.specs.Change.{at_link};
 ghost use Rattle.wfe_core.specs.DeskHeld.{HasRoom, desk_of};
-ghost use Rattle.wfe_core.specs.Phases.Ending.{Protected as ProtectedEnd};
-ghost use Rattle.wfe_core.specs.Ready.{SlotFits};
-ghost use Rattle.wfe_core.specs.Rounds.{root_of, round};
+ghost use Rattle.wfe_core.specs.Rounds.{round};
 ghost use Rattle.wfe_drive_queue.specs.drive_words.Called.{Here, at_phase};
 ghost use Rattle.wfe_drive_queue.specs.drive_words.Path.{Leads};
-ghost use Rattle.wfe_drive_queue.specs.drive_runs.Pieces.{IsFree, LeadsSo, end_of};
+ghost use Rattle.wfe_drive_queue.specs.drive_runs.Pieces.{IsFree};
 ghost use Rattle.wfe_drive_change.specs.Changing.{kept_of, read_at, works_at};
 
 use crate::kept::Kept;
 use crate::read::read_row;
-use wfe_core::{Desk, Post, Root, SchemeKind};
-use wfe_drive_queue::on_words::{Words, hold_he, hold_ibr, hold_wfe, open_span};
-
-// Begins a round, by a protection of its root, and answers the row that it holds.
-#[inline(always)]
-fn hold_root<W: Words>(
-    words: &mut W,
-    post: &mut Post,
-    desk: &mut Desk,
-    _kept: &Kept,
-    root: Root,
-) -> Option<u32>
-    requires valid { W.valid words.old }
-    requires root { root ≡ root_of (Changes (kept_of _kept.now)) post.old }
-    requires free { IsFree post.old }
-    requires here { Here (W.at words.old) (at_phase (round (Changes (kept_of _kept.now)) post.old) post.old desk.old) }
-    requires room { HasRoom desk.old post.old.layout }
-    ensures valid { W.valid words.new }
-    ensures same { W.same words.old words.new }
-    ensures rest { W.rest words.new < W.rest words.old }
-    ensures room { HasRoom desk.new post.new.layout }
-    ensures layout { post.new.layout ≡ post.old.layout }
-    ensures free { IsFree post.new }
-    ensures fits { IfSome result (λ slot. SlotFits post.new slot) }
-    ensures leads { (era : ℕ) × LeadsSo (W.at words.old) (W.at words.new) (W.stands words.old) (W.stands words.new)
-        (at_phase (round (Changes (kept_of _kept.now)) post.old) post.old desk.old) (Opens (Changes (kept_of _kept.now))) (ProtectedEnd (end_of result era)) post.new desk.new }
-{
-    match post.layout.config().scheme {
-        SchemeKind::Wfe => hold_wfe(words, post, desk, 0, root),
-        SchemeKind::He => hold_he(words, post, desk, 0, root),
-        SchemeKind::Ibr => {
-            let span = open_span(words, post, desk);
-            hold_ibr(words, post, desk, 0, root, span)
-        }
-    }
-}
+use wfe_core::{Desk, Post};
+use wfe_drive_queue::on_words::{Words, open_round};
 
 // Reads a row that is held.
 #[inline(always)]
@@ -73,7 +37,7 @@ fn read_held<W: Words>(words: &mut W, post: &mut Post, _desk: &Desk, kept: &mut 
 
 // Begins a round.
 #[inline(always)]
-pub fn open_round<W: Words>(words: &mut W, post: &mut Post, desk: &mut Desk, kept: &mut Kept)
+pub fn begin_round<W: Words>(words: &mut W, post: &mut Post, desk: &mut Desk, kept: &mut Kept)
     requires valid { W.valid words.old }
     requires free { IsFree post.old }
     requires room { HasRoom desk.old post.old.layout }
@@ -88,7 +52,7 @@ pub fn open_round<W: Words>(words: &mut W, post: &mut Post, desk: &mut Desk, kep
         (at_phase (round (Changes (kept_of kept.old)) post.old) post.old desk.old) (read_at (kept_of kept.new) post.new (desk_of desk.new)) }
 {
     let root = kept.root(post);
-    match hold_root(words, post, desk, kept, root) {
+    match open_round(words, post, desk, root) {
         Some(slot) => read_held(words, post, desk, kept, slot),
         None => kept.protected(0),
     }

@@ -11,7 +11,7 @@ use Rattle.wfe_core.specs.Phases.Ending.{Allocated, Protected}
 use Rattle.wfe_core.specs.Locals.{Local}
 use Rattle.wfe_core.specs.DeskHeld.{desk_of}
 use Rattle.wfe_core.specs.Change.{no_room}
-use Rattle.std.proofs.Common.{Bool, List, None, ap, arith, false, refl, true, ℕ, ◌+◌, ◌==◌, ◌∙◌, ◌≡◌, Some, sym}
+use Rattle.std.proofs.Common.{Bool, List, None, ap, arith, false, refl, true, ℕ, ◌+◌, ◌==◌, ◌∙◌, ◌≡◌, Some}
 use Rattle.std.proofs.lemmas.Bool.{eq-eqb, ne_eqb}
 use Rattle.wfe_core.specs.defs.declared.call.Answer.TheVariants as answers
 use Rattle.wfe_core.specs.defs.declared.event.Root.{Root}
@@ -21,22 +21,23 @@ use Rattle.wfe_core.specs.Desks.{Desk, noting}
 use Rattle.wfe_core.specs.Enqueue.{appended, appending, at_next, filling, told_link, new_item}
 use Rattle.wfe_core.specs.Rounds.{clearing}
 use Rattle.wfe_core.specs.declared.post.Post.{Post}
-use Rattle.wfe_drive_queue.specs.drive_words.drive_cells.Unit.{SeatView, seat_after}
+use Rattle.wfe_drive_queue.specs.drive_words.drive_cells.Unit.{SeatView, kept_desk, seat_after}
 use Rattle.wfe_drive_queue.specs.drive_runs.Pieces.{clearing_at, seat_of, LeadsSo, end_of}
 use Rattle.wfe_drive_runs.proofs.Closing.{clearing_noted}
+use Rattle.wfe_drive_queue.proofs.Noted.{ends_noted}
 
 -- the next link was read
-pub at_passes : (kept : EnqueueKept) (next : ℕ) (post : Post) (desk : Desk) → (next ≡ 0 → ⊥) → seat_after (at_next kept next post desk (next == 0)) ≡ seat_of (Works (Enqueuing kept (PassTail next))) post desk
-at_passes kept next post desk h = ap (λ (none : Bool). seat_after (at_next kept next post desk none)) (ne_eqb next 0 h)
+pub at_passes : (kept : EnqueueKept) (next : ℕ) (post : Post) (desk : Desk) → (next ≡ 0 → ⊥) → seat_after (at_next kept next post (kept_desk desk) (next == 0)) ≡ seat_of (Works (Enqueuing kept (PassTail next))) post desk
+at_passes kept next post desk h = ap (λ (none : Bool). seat_after (at_next kept next post (kept_desk desk) none)) (ne_eqb next 0 h)
 
-pub at_last : (kept : EnqueueKept) (next : ℕ) (post : Post) (desk : Desk) → next ≡ 0 → seat_after (at_next kept next post desk (next == 0)) ≡ seat_after (appending kept post desk (kept.number == post.layout.config.last_version))
-at_last kept next post desk h = ap (λ (none : Bool). seat_after (at_next kept next post desk none)) (eq-eqb next 0 h)
+pub at_last : (kept : EnqueueKept) (next : ℕ) (post : Post) (desk : Desk) → next ≡ 0 → seat_after (at_next kept next post (kept_desk desk) (next == 0)) ≡ seat_after (appending kept post (kept_desk desk) (kept.number == post.layout.config.last_version))
+at_last kept next post desk h = ap (λ (none : Bool). seat_after (at_next kept next post (kept_desk desk) none)) (eq-eqb next 0 h)
 
-pub is_spent : (kept : EnqueueKept) (post : Post) (desk : Desk) → kept.number ≡ post.layout.config.last_version → seat_after (appending kept post desk (kept.number == post.layout.config.last_version)) ≡ clearing_at (Enqueues kept) (Answering (answers.Spent kept.number)) post desk
-is_spent kept post desk h = ap (λ (spent : Bool). seat_after (appending kept post desk spent)) (eq-eqb kept.number post.layout.config.last_version h)
+pub is_spent : (kept : EnqueueKept) (post : Post) (desk : Desk) → kept.number ≡ post.layout.config.last_version → seat_after (appending kept post (kept_desk desk) (kept.number == post.layout.config.last_version)) ≡ clearing_at (Enqueues kept) (Answering (answers.Spent kept.number)) post desk
+is_spent kept post desk h = ap (λ (spent : Bool). seat_after (appending kept post (kept_desk desk) spent)) (eq-eqb kept.number post.layout.config.last_version h)
 
-pub is_left : (kept : EnqueueKept) (post : Post) (desk : Desk) → (kept.number ≡ post.layout.config.last_version → ⊥) → seat_after (appending kept post desk (kept.number == post.layout.config.last_version)) ≡ seat_of (Runs (Fills (Enqueues kept)) (filling kept)) post desk
-is_left kept post desk h = ap (λ (spent : Bool). seat_after (appending kept post desk spent)) (ne_eqb kept.number post.layout.config.last_version h)
+pub is_left : (kept : EnqueueKept) (post : Post) (desk : Desk) → (kept.number ≡ post.layout.config.last_version → ⊥) → seat_after (appending kept post (kept_desk desk) (kept.number == post.layout.config.last_version)) ≡ seat_of (Runs (Fills (Enqueues kept)) (filling kept)) post desk
+is_left kept post desk h = ap (λ (spent : Bool). seat_after (appending kept post (kept_desk desk) spent)) (ne_eqb kept.number post.layout.config.last_version h)
 
 -- an exchange of a root is not noted
 pub link_quiet : (desk : Desk) (root : Root) (slot : ℕ) (same : Bool) → noting desk (told_link root slot same) ≡ desk
@@ -44,19 +45,19 @@ link_quiet desk root slot true = refl
 link_quiet desk root slot false = refl
 
 -- the tail was moved, by this call or another
-pub passed : (kept : EnqueueKept) (slot : ℕ) (same : Bool) (post : Post) (desk : Desk) → seat_after (clearing (Enqueues kept) Again post desk (told_link roots.Tail slot same)) ≡ clearing_at (Enqueues kept) Again post desk
+pub passed : (kept : EnqueueKept) (slot : ℕ) (same : Bool) (post : Post) (desk : Desk) → seat_after (clearing (Enqueues kept) Again post (kept_desk desk) (told_link roots.Tail slot same)) ≡ clearing_at (Enqueues kept) Again post desk
 passed kept slot same post desk = clearing_noted (Enqueues kept) Again post desk (told_link roots.Tail slot same) ∙ ap (clearing_at (Enqueues kept) Again post) (link_quiet desk roots.Tail slot same)
 
 pub queued : (kept : EnqueueKept) (slot : ℕ) (same : Bool) (post : Post) (desk : Desk)
-    → seat_after (clearing (Enqueues kept) (Answering (answers.Queued (kept.number + 1))) post desk (told_link roots.Tail slot same)) ≡ clearing_at (Enqueues kept) (Answering (answers.Queued (kept.number + 1))) post desk
+    → seat_after (clearing (Enqueues kept) (Answering (answers.Queued (kept.number + 1))) post (kept_desk desk) (told_link roots.Tail slot same)) ≡ clearing_at (Enqueues kept) (Answering (answers.Queued (kept.number + 1))) post desk
 queued kept slot same post desk = clearing_noted (Enqueues kept) (Answering (answers.Queued (kept.number + 1))) post desk (told_link roots.Tail slot same) ∙ ap (clearing_at (Enqueues kept) (Answering (answers.Queued (kept.number + 1))) post) (link_quiet desk roots.Tail slot same)
 
 -- the item was linked, or another was before it
-pub is_linked : (kept : EnqueueKept) (slot found : ℕ) (post : Post) (desk : Desk) → found ≡ 0 → seat_after (appended kept slot post desk (found == 0)) ≡ seat_of (Works (Enqueuing (record kept { taken = None }) (ExchangeTail slot))) post desk
-is_linked kept slot found post desk h = ap (λ (same : Bool). seat_after (appended kept slot post desk same)) (eq-eqb found 0 h)
+pub is_linked : (kept : EnqueueKept) (slot found : ℕ) (post : Post) (desk : Desk) → found ≡ 0 → seat_after (appended kept slot post (kept_desk desk) (found == 0)) ≡ seat_of (Works (Enqueuing (record kept { taken = None }) (ExchangeTail slot))) post desk
+is_linked kept slot found post desk h = ap (λ (same : Bool). seat_after (appended kept slot post (kept_desk desk) same)) (eq-eqb found 0 h)
 
-pub is_lost : (kept : EnqueueKept) (slot found : ℕ) (post : Post) (desk : Desk) → (found ≡ 0 → ⊥) → seat_after (appended kept slot post desk (found == 0)) ≡ clearing_at (Enqueues kept) Again post desk
-is_lost kept slot found post desk h = ap (λ (same : Bool). seat_after (appended kept slot post desk same)) (ne_eqb found 0 h)
+pub is_lost : (kept : EnqueueKept) (slot found : ℕ) (post : Post) (desk : Desk) → (found ≡ 0 → ⊥) → seat_after (appended kept slot post (kept_desk desk) (found == 0)) ≡ clearing_at (Enqueues kept) Again post desk
+is_lost kept slot found post desk h = ap (λ (same : Bool). seat_after (appended kept slot post (kept_desk desk) same)) (ne_eqb found 0 h)
 
 -- so many steps
 pub two : (steps : ℕ) → steps + 1 + 1 ≡ steps + 2
@@ -76,7 +77,7 @@ module _ {at0 at1 : Local → Type 0} {stands0 stands1 : List (Op × ℕ) → Ty
 
   pub tail_null : (kept : EnqueueKept) (era : ℕ) (post : Post) (held : HeldDesk) → LeadsSo at0 at1 stands0 stands1 first (Opens (Enqueues kept)) (Protected (end_of None era)) post held
       → Leads at0 at1 stands0 stands1 first (clearing_at (Enqueues kept) Again post (desk_of held))
-  tail_null kept era post held x = leads_as _ _ (clearing_noted (Enqueues kept) Again post x.before x.told ∙ ap (clearing_at (Enqueues kept) Again post) (sym x.noted)) x.leads
+  tail_null kept era post held x = leads_as _ _ (ends_noted (Enqueues kept) Again post held x.before x.told x.noted) x.leads
 
   -- a row was given, or none was free
   pub row_given : (kept : EnqueueKept) (slot birth : ℕ) (post : Post) (held : HeldDesk) → LeadsSo at0 at1 stands0 stands1 first (Fills (Enqueues kept)) (Allocated (allocate_ends.Given slot birth)) post held
@@ -85,4 +86,4 @@ module _ {at0 at1 : Local → Type 0} {stands0 stands1 : List (Op × ℕ) → Ty
 
   pub none_free : (kept : EnqueueKept) (post : Post) (held : HeldDesk) → LeadsSo at0 at1 stands0 stands1 first (Fills (Enqueues kept)) (Allocated allocate_ends.Full) post held
       → Leads at0 at1 stands0 stands1 first (clearing_at (Enqueues (record kept { walked = true })) (no_room kept.walked) post (desk_of held))
-  none_free kept post held x = leads_as _ _ (clearing_noted (Enqueues (record kept { walked = true })) (no_room kept.walked) post x.before x.told ∙ ap (clearing_at (Enqueues (record kept { walked = true })) (no_room kept.walked) post) (sym x.noted)) x.leads
+  none_free kept post held x = leads_as _ _ (ends_noted (Enqueues (record kept { walked = true })) (no_room kept.walked) post held x.before x.told x.noted) x.leads

@@ -9,7 +9,7 @@ use Rattle.wfe_core.specs.declared.op.Op.{Op}
 use Rattle.wfe_core.specs.Phases.Ending.{Followed, Protected}
 use Rattle.wfe_core.specs.Locals.{Local}
 use Rattle.wfe_core.specs.DeskHeld.{desk_of}
-use Rattle.std.proofs.Common.{Bool, List, [], ap, false, true, ℕ, ◌+◌, ◌==◌, ◌∙◌, ◌∷◌, ◌≡◌, None, Some, sym}
+use Rattle.std.proofs.Common.{Bool, List, [], ap, false, true, ℕ, ◌+◌, ◌==◌, ◌∙◌, ◌∷◌, ◌≡◌, None, Some}
 use Rattle.std.proofs.lemmas.Bool.{eq-eqb, ne_eqb}
 use Rattle.wfe_core.specs.defs.declared.call.Answer.TheVariants as answers
 use Rattle.wfe_core.specs.defs.declared.call.ClockMove.TheVariants as moves
@@ -21,24 +21,25 @@ use Rattle.wfe_core.specs.Desks.{Desk}
 use Rattle.wfe_core.specs.Enqueue.{told_link}
 use Rattle.wfe_core.specs.Rounds.{clearing_next}
 use Rattle.wfe_core.specs.declared.post.Post.{Post}
-use Rattle.wfe_drive_queue.specs.drive_words.drive_cells.Unit.{seat_after, SeatView}
+use Rattle.wfe_drive_queue.specs.drive_words.drive_cells.Unit.{SeatView, kept_desk, seat_after}
 use Rattle.wfe_drive_queue.specs.drive_runs.Pieces.{clearing_next_at, LeadsSo, clearing_at, end_of}
 use Rattle.wfe_drive_queue.proofs.Appending.{link_quiet}
-use Rattle.wfe_drive_runs.proofs.Closing.{clearing_next_noted, clearing_noted}
+use Rattle.wfe_drive_runs.proofs.Closing.{clearing_next_noted}
+use Rattle.wfe_drive_queue.proofs.Noted.{ends_noted, next_noted}
 
 -- the tail was moved on
-pub swung : (next : ℕ) (same : Bool) (post : Post) (desk : Desk) → seat_after (clearing_next Again post desk (told_link roots.Tail next same)) ≡ clearing_next_at Again post desk
+pub swung : (next : ℕ) (same : Bool) (post : Post) (desk : Desk) → seat_after (clearing_next Again post (kept_desk desk) (told_link roots.Tail next same)) ≡ clearing_next_at Again post desk
 swung next same post desk = clearing_next_noted Again post desk (told_link roots.Tail next same) ∙ ap (clearing_next_at Again post) (link_quiet desk roots.Tail next same)
 
 -- the head was moved, or another dequeue was before
 pub is_taken : (head next number value found : ℕ) (post : Post) (desk : Desk) → found ≡ head + 1
-    → seat_after (taken head next number value post desk (found == head + 1)) ≡ clearing_next_at (Retiring head (answers.Taken number value moves.Still)) post desk
+    → seat_after (taken head next number value post (kept_desk desk) (found == head + 1)) ≡ clearing_next_at (Retiring head (answers.Taken number value moves.Still)) post desk
 is_taken head next number value found post desk h =
-    ap (λ (same : Bool). seat_after (taken head next number value post desk same)) (eq-eqb found (head + 1) h)
+    ap (λ (same : Bool). seat_after (taken head next number value post (kept_desk desk) same)) (eq-eqb found (head + 1) h)
     ∙ clearing_next_noted (Retiring head (answers.Taken number value moves.Still)) post desk (events.Link roots.Head next ∷ events.Cut head ∷ events.Taken number value ∷ [])
 
-pub is_lost : (head next number value found : ℕ) (post : Post) (desk : Desk) → (found ≡ head + 1 → ⊥) → seat_after (taken head next number value post desk (found == head + 1)) ≡ clearing_next_at Again post desk
-is_lost head next number value found post desk h = ap (λ (same : Bool). seat_after (taken head next number value post desk same)) (ne_eqb found (head + 1) h)
+pub is_lost : (head next number value found : ℕ) (post : Post) (desk : Desk) → (found ≡ head + 1 → ⊥) → seat_after (taken head next number value post (kept_desk desk) (found == head + 1)) ≡ clearing_next_at Again post desk
+is_lost head next number value found post desk h = ap (λ (same : Bool). seat_after (taken head next number value post (kept_desk desk) same)) (ne_eqb found (head + 1) h)
 
 -- the head's row is held, or the head was null
 module _ {at0 at1 : Local → Type 0} {stands0 stands1 : List (Op × ℕ) → Type 0} {first : SeatView} where
@@ -48,7 +49,7 @@ module _ {at0 at1 : Local → Type 0} {stands0 stands1 : List (Op × ℕ) → Ty
 
   pub head_null : (era : ℕ) (post : Post) (held : HeldDesk) → LeadsSo at0 at1 stands0 stands1 first (Opens Dequeues) (Protected (end_of None era)) post held
       → Leads at0 at1 stands0 stands1 first (clearing_at Dequeues Again post (desk_of held))
-  head_null era post held x = leads_as _ _ (clearing_noted Dequeues Again post x.before x.told ∙ ap (clearing_at Dequeues Again post) (sym x.noted)) x.leads
+  head_null era post held x = leads_as _ _ (ends_noted Dequeues Again post held x.before x.told x.noted) x.leads
 
   -- the row after it is held, and the tail lags or does not
   lags : (head tail next : ℕ) (post : Post) (held : HeldDesk) → LeadsSo at0 at1 stands0 stands1 first (FollowsHead head tail) (Followed (follow_ends.Followed next)) post held
@@ -67,8 +68,8 @@ module _ {at0 at1 : Local → Type 0} {stands0 stands1 : List (Op × ℕ) → Ty
   -- or there is none, or the head has moved
   pub next_null : (head tail : ℕ) (post : Post) (held : HeldDesk) → LeadsSo at0 at1 stands0 stands1 first (FollowsHead head tail) (Followed follow_ends.NoNext) post held
       → Leads at0 at1 stands0 stands1 first (clearing_next_at (Answering answers.Empty) post (desk_of held))
-  next_null head tail post held x = leads_as _ _ (clearing_next_noted (Answering answers.Empty) post x.before x.told ∙ ap (clearing_next_at (Answering answers.Empty) post) (sym x.noted)) x.leads
+  next_null head tail post held x = leads_as _ _ (next_noted (Answering answers.Empty) post held x.before x.told x.noted) x.leads
 
   pub head_moved : (head tail seen : ℕ) (post : Post) (held : HeldDesk) → LeadsSo at0 at1 stands0 stands1 first (FollowsHead head tail) (Followed (follow_ends.RootMoved seen)) post held
       → Leads at0 at1 stands0 stands1 first (clearing_next_at Again post (desk_of held))
-  head_moved head tail seen post held x = leads_as _ _ (clearing_next_noted Again post x.before x.told ∙ ap (clearing_next_at Again post) (sym x.noted)) x.leads
+  head_moved head tail seen post held x = leads_as _ _ (next_noted Again post held x.before x.told x.noted) x.leads

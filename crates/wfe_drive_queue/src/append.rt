@@ -11,7 +11,7 @@ ghost use Rattle.wfe_drive_queue.specs.Items.{kept_of, next_of};
 ghost use Rattle.wfe_drive_queue.specs.drive_words.Called.{Here};
 ghost use Rattle.wfe_drive_queue.specs.drive_words.Path.{Leads};
 ghost use Rattle.wfe_drive_queue.specs.drive_runs.Pieces.{clearing_at, seat_of};
-ghost use Rattle.wfe_drive_queue.specs.drive_words.drive_cells.Unit.{seat_after};
+ghost use Rattle.wfe_drive_queue.specs.drive_words.drive_cells.Unit.{kept_desk, seat_after};
 
 use crate::item::{Item, RoundEnd};
 use wfe_core::{Answer, Op, Post};
@@ -31,7 +31,7 @@ pub fn read_tail<W: Words>(words: &mut W, post: &mut Post, item: &mut Item) -> u
     ensures item { item.new ≡ record item.old { number = item.new.number } }
     ensures leads { (desk : ModelDesk) → Here (W.at words.old) (seat_of (Works (Enqueuing (kept_of item.old) LoadNumber)) post.old desk)
         → Leads (W.at words.old) (W.at words.new) (W.stands words.old) (W.stands words.new) (seat_of (Works (Enqueuing (kept_of item.old) LoadNumber)) post.old desk)
-        (seat_after (at_next (kept_of item.new) result post.new desk (result == 0))) }
+        (seat_after (at_next (kept_of item.new) result post.new (kept_desk desk) (result == 0))) }
 {
     let first = post.layout.row(item.tail, 0);
     let number = step(words, load_cell(post, item.tail, first, 1));

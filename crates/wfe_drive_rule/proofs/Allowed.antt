@@ -15,8 +15,9 @@ use Rattle.wfe_core.specs.defs.declared.call.Call.{Call}
 use Rattle.wfe_core.specs.Frames.{SamePlace}
 use Rattle.wfe_core.specs.Locals.{Local, after, asks, begun, busy_in, may_begin}
 use Rattle.wfe_core.specs.MayStep.{MayStep}
-use Rattle.wfe_core.specs.World.{World, begin, finds, is_busy, step}
+use Rattle.wfe_core.specs.World.{World, begin, finds, is_busy, is_here, offered, step}
 use Rattle.wfe_core.proofs.CallFrames.{stays_in_place}
+use Rattle.wfe_core.proofs.Facts.{both}
 use Rattle.wfe_drive_cells.specs.Bridge.{AsksWithin, MakesSteps}
 use Rattle.wfe_drive_cells.specs.Memory.{memory}
 use Rattle.wfe_drive_cells.specs.Operations.{answered, changed, performed, word_in}
@@ -24,10 +25,11 @@ use Rattle.wfe_drive_cells.proofs.Steps.{makes_step}
 use Rattle.law_answers.specs.history.History.{Begins, Item, Steps, world_of}
 use Rattle.law_answers.proofs.inv.Inv.Reached.{reached_ready}
 use Rattle.law_answers.proofs.inv.requests.Turns.{upd_here, upd_there}
-use Rattle.wfe_drive_rule.specs.Handles.{IsSeated, IsTracked}
+use Rattle.wfe_drive_rule.specs.Handles.{IsSeated, IsTracked, MayStart}
 use Rattle.wfe_drive_rule.specs.Moves.{Stepped, Told, with_own}
 use Rattle.wfe_drive_rule.specs.Rule.{Follows, Holds, Rules, had, taken}
 use Rattle.wfe_drive_rule.specs.Views.{Handle, Track, View, call_in, entered, entry, own, seat_of, standing}
+use Rattle.wfe_drive_rule.proofs.Here.{seats_there}
 use Rattle.wfe_drive_rule.proofs.Numbers.{Alike, numbers_set, once_most}
 use Rattle.wfe_drive_rule.proofs.Kept.{follows_on, follows_own}
 use Rattle.wfe_drive_rule.proofs.Slots.{had_alike, had_itself}
@@ -40,16 +42,18 @@ pub record Entered (layout : Layout) (items later : List Item) (i : ℕ) (l : Lo
   pub own_is : (world_of layout (items ++ later)).seat i ≡ l
   pub others : (k : ℕ) → (k == i) ≡ false → (world_of layout (items ++ later)).seat k ≡ (world_of layout items).seat k
 
-pub enters : (layout : Layout) (items : List Item) (i : ℕ) (l : Local) (call : Option Call) → i < layout.config.seats → ((c : Call) → call ≡ Some c → (busy_in l.phase ≡ false) × (may_begin layout.config c ≡ true)) → (world_of layout items).seat i ≡ l
+pub enters : (layout : Layout) (items : List Item) (i : ℕ) (l : Local) (call : Option Call) → is_valid layout ≡ true → i < layout.config.seats → ((c : Call) → call ≡ Some c → MayStart layout l c) → (world_of layout items).seat i ≡ l
     → Entered layout items (entry i call) i (entered l call)
-enters layout items i l None h free e =
+enters layout items i l None d h free e =
     let same : world_of layout (items ++ []) ≡ world_of layout items = ap (world_of layout) (append-nil items) in
     record { mem = ap (λ (w : World). w.mem) same; own_is = ap (λ (w : World). w.seat i) same ∙ e; others = λ k q. ap (λ (w : World). w.seat k) same }
-enters layout items i l (Some call) h free e =
+enters layout items i l (Some call) d h free e =
     let w : World = world_of layout items in
-    let may = free call refl in
-    let idle : is_busy w i ≡ false = ap (λ (k : Local). busy_in k.phase) e ∙ may.0 in
-    let now : world_of layout (items ++ Begins i call ∷ []) ≡ begin w i call = one_begin layout items i call h idle may.1 in
+    let may : MayStart layout l call = free call refl in
+    let idle : is_busy w i ≡ false = ap (λ (k : Local). busy_in k.phase) e ∙ may.idle in
+    let here : is_here w i ≡ true = seats_there layout items d i idle (λ c. may.there (ap (λ (k : Local). k.call) (sym e) ∙ c)) in
+    let begins : may_begin w.layout.config call ≡ true = ap (λ (table : Layout). may_begin table.config call) (layout_is layout items) ∙ may.may in
+    let now : world_of layout (items ++ Begins i call ∷ []) ≡ begin w i call = one_begin layout items i call h idle (both (is_here w i) (may_begin w.layout.config call) here begins) in
     record {
       mem = ap (λ (v : World). v.mem) now;
       own_is = ap (λ (v : World). v.seat i) now ∙ upd_here w.seat i (begun (w.seat i) call) ∙ ap (λ (k : Local). begun k call) e;
@@ -72,7 +76,7 @@ record Went (layout : Layout) (items : List Item) (i : ℕ) (l : Local) (list : 
   found : answered list (asks l) ≡ finds (world_of layout items) i
   mem : (world_of layout (items ++ Steps i ∷ [])).mem ≡ memory layout (performed list (asks l))
   count : length (performed list (asks l)) ≡ words layout
-  own_is : (world_of layout (items ++ Steps i ∷ [])).seat i ≡ after l (answered list (asks l))
+  own_is : (world_of layout (items ++ Steps i ∷ [])).seat i ≡ after (offered (world_of layout items) i) (answered list (asks l))
   others : (k : ℕ) → (k == i) ≡ false → (world_of layout (items ++ Steps i ∷ [])).seat k ≡ (world_of layout items).seat k
 
 went : (layout : Layout) (items : List Item) (i : ℕ) (l : Local) (list : List ℕ) → is_valid layout ≡ true → i < layout.config.seats → l.post.layout ≡ layout → busy_in l.phase ≡ true → (world_of layout items).seat i ≡ l
@@ -87,8 +91,8 @@ went layout items i l list valid low table busy e mem count =
       found = found;
       mem = ap (λ (v : World). v.mem) now ∙ sym m.performs ∙ ap (λ (t : Layout). memory t (performed list (asks (w.seat i)))) is ∙ ap (λ (k : Local). memory layout (performed list (asks k))) e;
       count = length-set list (word_in (asks l)) (changed (asks l) (slice_index list (word_in (asks l)))) ∙ count;
-      own_is = ap (λ (v : World). v.seat i) now ∙ upd_here w.seat i (after (w.seat i) (finds w i)) ∙ ap (λ (k : Local). after k (finds w i)) e ∙ ap (after l) (sym found);
-      others = λ k q. ap (λ (v : World). v.seat k) now ∙ upd_there w.seat i (after (w.seat i) (finds w i)) k q;
+      own_is = ap (λ (v : World). v.seat i) now ∙ upd_here w.seat i (after (offered w i) (finds w i)) ∙ ap (after (offered w i)) (sym found);
+      others = λ k q. ap (λ (v : World). v.seat k) now ∙ upd_there w.seat i (after (offered w i) (finds w i)) k q;
     }
 
 -- no other view has the seat, and a seat that no view has is another
@@ -119,13 +123,14 @@ allowed layout slots id slot handle seated busy s r ls e bound =
     let f : Follows layout r.items x = follows_own layout s.words s.homes s.views id v r e seated.one in
     let begins : List Item = entry i (call_in handle.1) in
     let items : List Item = r.items ++ begins in
-    let n : Entered layout r.items begins i l = enters layout r.items i x.local (call_in handle.1) t.seat seated.begins f.stands in
+    let n : Entered layout r.items begins i l = enters layout r.items i x.local (call_in handle.1) r.valid t.seat seated.begins f.stands in
     let table : l.post.layout ≡ layout = (entered_same x.local (call_in handle.1)).layout ∙ t.layout_is in
     let g : Went layout items i l s.words = went layout items i l s.words r.valid t.seat table busy n.own_is (n.mem ∙ r.mem) r.count in
     let found : ℕ = answered s.words (asks l) in
-    let y : Track = record { local = after l found; past = items ++ Steps i ∷ [] } in
+    let o : Local = offered (world_of layout items) i in
+    let y : Track = record { local = after o found; past = items ++ Steps i ∷ [] } in
     let u : View = with_own v y in
-    let number : seat_of y ≡ i = (stays_in_place.steps l found).seat ∙ (entered_same x.local (call_in handle.1)).seat in
+    let number : seat_of y ≡ i = (stays_in_place.steps o found).seat ∙ ap (λ (k : Local). k.post.seat) n.own_is ∙ (entered_same x.local (call_in handle.1)).seat in
     let all : List Item = r.items ++ (begins ++ Steps i ∷ []) in
     let cut : items ++ Steps i ∷ [] ≡ all = append_assoc r.items begins (Steps i ∷ []) in
     let apart : (k : ℕ) → (k == i) ≡ false → (world_of layout (items ++ Steps i ∷ [])).seat k ≡ (world_of layout r.items).seat k = (λ k q. g.others k q ∙ n.others k q) in

@@ -3,6 +3,7 @@ pub use Rattle.law_answers.proofs.history as history
 pub use Rattle.wfe_drive_cells.proofs as drive_cells
 pub mod Allowed
 pub mod Ending
+pub mod Here
 pub mod Joining
 pub mod Making
 pub mod Numbers

@@ -7,15 +7,18 @@ use Rattle.wfe_core.specs.words.Place.{words}
 use Rattle.wfe_core.specs.words.Place.Place.{Clock}
 use Rattle.wfe_core.specs.defs.declared.call.Call.{Call}
 use Rattle.wfe_core.specs.Locals.{Local, after, busy_in}
-use Rattle.wfe_core.specs.World.{World, finds}
+use Rattle.wfe_core.specs.World.{World, finds, gift_at, offered}
+use Rattle.wfe_core.specs.Calls.{Keeping, Phase, TakeList, Works}
+use Rattle.wfe_core.specs.defs.declared.lifetime.Lifetime.{Lifetime}
+use Rattle.wfe_drive_cells.specs.Unit.{may_adopt}
 use Rattle.wfe_core.proofs.CallFrames.{stays_in_place}
 use Rattle.wfe_core.proofs.words.Numbers.{number_below}
 use Rattle.law_answers.specs.history.History.{Item, Steps, world_of}
 use Rattle.law_answers.proofs.Turns.Counted.{first_busy}
 use Rattle.law_answers.proofs.inv.requests.Turns.{upd_here}
 use Rattle.wfe_drive_rule.specs.Handles.{IsSeated, IsTracked}
-use Rattle.wfe_drive_rule.specs.Moves.{Told, with_own}
-use Rattle.wfe_drive_rule.specs.Views.{Handle, Track, call_in, entered, own, seat_of, standing}
+use Rattle.wfe_drive_rule.specs.Moves.{Told, keeping, with_own}
+use Rattle.wfe_drive_rule.specs.Views.{Handle, Track, View, call_in, entered, own, seat_of, standing}
 use Rattle.wfe_drive_rule.proofs.Allowed.{entered_same}
 use Rattle.law_answers.proofs.history.Snoc.{one_step}
 
@@ -36,28 +39,44 @@ resting_slot l None e = refl
 resting_slot l (Some call) e = absurd (cc (first_busy call l))
 
 tracked_on : (layout : Layout) (handle : Handle) (found : ℕ) (items : List Item) → IsTracked layout (own handle.0) → busy_in (standing handle).phase ≡ true → (world_of layout items).seat (seat_of (own handle.0)) ≡ standing handle → found ≡ finds (world_of layout items) (seat_of (own handle.0))
-    → IsTracked layout (record { local = after (standing handle) found; past = items ++ Steps (seat_of (own handle.0)) ∷ [] })
+    → IsTracked layout (record { local = after (offered (world_of layout items) (seat_of (own handle.0))) found; past = items ++ Steps (seat_of (own handle.0)) ∷ [] })
 tracked_on layout handle found items t busy e f =
     let i : ℕ = seat_of (own handle.0) in
     let l : Local = standing handle in
     let w : World = world_of layout items in
     let later : List Item = items ++ Steps i ∷ [] in
     let before = entered_same (own handle.0).local (call_in handle.1) in
-    let place = stays_in_place.steps l found in
-    let number : (after l found).post.seat ≡ i = place.seat ∙ before.seat in
-    let here : (world_of layout later).seat i ≡ after l found =
-    ap (λ (v : World). v.seat i) (one_step layout items i t.seat (ap (λ (k : Local). busy_in k.phase) e ∙ busy)) ∙ upd_here w.seat i (after (w.seat i) (finds w i)) ∙ ap (λ (k : Local). after k (finds w i)) e ∙ ap (after l) (sym f) in
+    let o : Local = offered w i in
+    let place = stays_in_place.steps o found in
+    let number : (after o found).post.seat ≡ i = place.seat ∙ ap (λ (k : Local). k.post.seat) e ∙ before.seat in
+    let here : (world_of layout later).seat i ≡ after o found =
+    ap (λ (v : World). v.seat i) (one_step layout items i t.seat (ap (λ (k : Local). busy_in k.phase) e ∙ busy)) ∙ upd_here w.seat i (after o (finds w i)) ∙ ap (after o) (sym f) in
     record {
       valid = t.valid;
       seat = subst (λ (k : ℕ). k < layout.config.seats) (sym number) t.seat;
-      layout_is = place.layout ∙ before.layout ∙ t.layout_is;
+      layout_is = place.layout ∙ ap (λ (k : Local). k.post.layout) e ∙ before.layout ∙ t.layout_is;
       stood = ap (world_of layout later).seat number ∙ here;
     }
 
 pub seated_on : (layout : Layout) (slot found : ℕ) (handle later : Handle) → IsSeated layout slot handle → busy_in (standing handle).phase ≡ true → Told layout handle found later.0 → later.1 ≡ (slot, None) ∷ [] → IsSeated layout slot later
 seated_on layout slot found handle later seated busy told empty =
-    let y : Track = record { local = after (standing handle) found; past = told.items ++ Steps (seat_of (own handle.0)) ∷ [] } in
+    let o : Local = offered (world_of layout told.items) (seat_of (own handle.0)) in
+    let y : Track = record { local = after o found; past = told.items ++ Steps (seat_of (own handle.0)) ∷ [] } in
     let t : IsTracked layout y = tracked_on layout handle found told.items seated.tracked busy told.stands told.found_is in
-    let number : seat_of y ≡ seat_of (own handle.0) = (stays_in_place.steps (standing handle) found).seat ∙ (entered_same (own handle.0).local (call_in handle.1)).seat in
+    let number : seat_of y ≡ seat_of (own handle.0) = (stays_in_place.steps o found).seat ∙ ap (λ (k : Local). k.post.seat) told.stands ∙ (entered_same (own handle.0).local (call_in handle.1)).seat in
     let base : IsSeated layout slot (with_own handle.0 y, (slot, None) ∷ []) = record { one = refl; tracked = t; holds = seated.holds; number = seated.number ∙ sym number; slots = refl; begins = λ call e. absurd (cc) } in
     subst (λ v. IsSeated layout slot (v, later.1)) (sym told.to) (subst (λ s. IsSeated layout slot (with_own handle.0 y, s)) (sym empty) base)
+
+-- where a step takes over no list, its seat goes on by itself
+no_gift : (seat : ℕ → Local) (phase : Phase) → may_adopt phase ≡ false → gift_at seat phase ≡ []
+no_gift seat (Works (Keeping (TakeList place))) h = absurd (cc)
+no_gift seat phase h = refl
+
+keeps_own : (w : World) (i : ℕ) (l : Local) → w.seat i ≡ l → may_adopt l.phase ≡ false → offered w i ≡ keeping l
+keeps_own w i l e none =
+    ap (λ (gift : List Lifetime). record (w.seat i) { desk = record (w.seat i).desk { gift = gift } }) (no_gift w.seat (w.seat i).phase (ap (λ (k : Local). may_adopt k.phase) e ∙ none)) ∙ ap keeping e
+
+pub stands_on : (layout : Layout) (handle later : Handle) (found : ℕ) → Told layout handle found later.0 → call_in later.1 ≡ None → may_adopt (standing handle).phase ≡ false → standing later ≡ after (keeping (standing handle)) found
+stands_on layout handle later found told empty none =
+    ap (entered (own later.0).local) empty ∙ ap (λ (v : View). (own v).local) told.to
+    ∙ ap (λ (l : Local). after l found) (keeps_own (world_of layout told.items) (seat_of (own handle.0)) (standing handle) told.stands none)

@@ -29,7 +29,7 @@ handles_stand layout slot handle seated =
     let x = own handle.0 in
     let t : IsTracked layout x = seated.tracked in
     let more : List Item = entry (seat_of x) (call_in handle.1) in
-    let n : Entered layout x.past more (seat_of x) (standing handle) = enters layout x.past (seat_of x) x.local (call_in handle.1) t.seat seated.begins t.stood in
+    let n : Entered layout x.past more (seat_of x) (standing handle) = enters layout x.past (seat_of x) x.local (call_in handle.1) t.valid t.seat seated.begins t.stood in
     record { more = more; comes = comes_with layout slot handle (x.past ++ more) seated n.own_is }
 
 pub steps_tell : StepsTell

@@ -1,10 +1,11 @@
 -- What holds of a table's handles between two of its steps.
-use Rattle.std.specs.Prelude.{All, Some, [], false, true, ℕ, ◌<◌, ◌∷◌, ◌≡◌}
+use Rattle.std.specs.Prelude.{All, Some, [], false, true, ℕ, ◌<◌, ◌∷◌, ◌≡◌, ◌≢◌}
 use Rattle.atomic_table.specs.Seated.{TableId}
 use Rattle.wfe_core.specs.words.Place.{is_valid, words}
 use Rattle.wfe_core.specs.words.declared.layout.Layout.{Layout}
 use Rattle.wfe_core.specs.defs.declared.call.Call.{Call}
-use Rattle.wfe_core.specs.Locals.{busy_in, may_begin}
+use Rattle.wfe_core.specs.defs.declared.call.Call.TheVariants as names
+use Rattle.wfe_core.specs.Locals.{Local, busy_in, may_begin}
 use Rattle.law_answers.specs.history.History.{world_of}
 use Rattle.wfe_drive_rule.specs.Views.{Handle, Track, call_in, own, seat_of, standing}
 
@@ -20,6 +21,12 @@ pub record IsTracked (layout : Layout) (track : Track) : Type 0 where
   pub layout_is : track.local.post.layout ≡ layout
   pub stood : (world_of layout track.past).seat (seat_of track) ≡ track.local
 
+-- a call that may begin on a seat that stands so: none is under way, the last one was no leave, and the call is one that may begin
+pub record MayStart (layout : Layout) (local : Local) (call : Call) : Type 0 where
+  pub idle : busy_in local.phase ≡ false
+  pub there : local.call ≢ names.Leave
+  pub may : may_begin layout.config call ≡ true
+
 -- a handle of one seat, which has the seat's slot; the slot holds a call only while none is under way, and one that may begin
 pub record IsSeated (layout : Layout) (slot : ℕ) (handle : Handle) : Type 0 where
   pub one : handle.0.tracks ≡ own handle.0 ∷ []
@@ -27,7 +34,7 @@ pub record IsSeated (layout : Layout) (slot : ℕ) (handle : Handle) : Type 0 wh
   pub holds : handle.0.holds ≡ true
   pub number : slot ≡ seat_of (own handle.0)
   pub slots : handle.1 ≡ (slot, call_in handle.1) ∷ []
-  pub begins : (call : Call) → call_in handle.1 ≡ Some call → (busy_in (own handle.0).local.phase ≡ false) × (may_begin layout.config call ≡ true)
+  pub begins : (call : Call) → call_in handle.1 ≡ Some call → MayStart layout (own handle.0).local call
 
 -- a handle of one seat, without its slot
 pub record IsBare (layout : Layout) (handle : Handle) : Type 0 where

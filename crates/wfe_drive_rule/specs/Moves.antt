@@ -3,15 +3,20 @@ use Rattle.std.specs.Prelude.{List, None, Option, [], false, true, ℕ, ◌++◌
 use Rattle.atomic_table.specs.Table.{Step}
 use Rattle.wfe_core.specs.words.declared.layout.Layout.{Layout}
 use Rattle.wfe_core.specs.defs.declared.call.Call.{Call}
-use Rattle.wfe_core.specs.Locals.{after, asks}
-use Rattle.wfe_core.specs.World.{finds}
+use Rattle.wfe_core.specs.Locals.{Local, after, asks}
+use Rattle.wfe_core.specs.World.{finds, offered}
 use Rattle.wfe_drive_cells.specs.Operations.{answer_of}
+use Rattle.wfe_drive_cells.specs.Unit.{kept_desk}
 use Rattle.law_answers.specs.history.History.{Item, Steps, world_of}
 use Rattle.wfe_drive_rule.specs.Views.{Handle, Track, View, bare_view, fresh_track, own, seat_of, standing}
 
 -- the view with another own seat, and no other
 abbrev pub with_own : View → Track → View
 with_own view track = record { made = view.made; tracks = track ∷ []; holds = view.holds }
+
+-- the seat as it makes a step that takes over no list
+abbrev pub keeping : Local → Local
+keeping l = record l { desk = kept_desk l.desk }
 
 -- a step of the handle's seat that answered `found`
 pub record Told (layout : Layout) (handle : Handle) (found : ℕ) (view : View) : Type 0 where
@@ -22,8 +27,8 @@ pub record Told (layout : Layout) (handle : Handle) (found : ℕ) (view : View) 
   -- the seat stands in its World with its call begun, and the step found what that World's seat finds
   pub stands : (world_of layout items).seat (seat_of (own handle.0)) ≡ standing handle
   pub found_is : found ≡ finds (world_of layout items) (seat_of (own handle.0))
-  -- the seat is then where that leaves it, and its past is that history with the step
-  pub to : view ≡ with_own handle.0 (record { local = after (standing handle) found; past = items ++ Steps (seat_of (own handle.0)) ∷ [] })
+  -- the seat is then where that leaves it, with the list that it takes over if it takes one, and its past is that history with the step
+  pub to : view ≡ with_own handle.0 (record { local = after (offered (world_of layout items) (seat_of (own handle.0))) found; past = items ++ Steps (seat_of (own handle.0)) ∷ [] })
 
 -- a handle's step, by what it found in the word
 pub record Stepped (handle : Handle) (word : ℕ) (later : Handle) : Type 0 where

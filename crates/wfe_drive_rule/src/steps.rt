@@ -1,19 +1,22 @@
 // A seat's steps on the shared table, and the beginning of its calls.
-ghost use Rattle.std.specs.Prelude.{◌≡◌, None, false, true};
+ghost use Rattle.std.specs.Prelude.{◌≡◌, ◌≢◌, None, false, true};
+ghost use Rattle.wfe_core.specs.defs.declared.call.Call.TheVariants as calls;
 ghost use Rattle.wfe_core.specs.Locals.{after, asks, begun, busy_in, may_begin};
 ghost use Rattle.wfe_drive_rule.specs.Handles.{IsResting, IsSeated, IsSized};
-ghost use Rattle.wfe_drive_rule.specs.Moves.{Told};
+ghost use Rattle.wfe_drive_cells.specs.Unit.{may_adopt};
+ghost use Rattle.wfe_drive_rule.specs.Moves.{Told, keeping};
 ghost use Rattle.wfe_drive_rule.specs.Views.{call_in, own, seat_of, standing};
 
 use crate::rule::{Handle, Ledger, OneStep};
 use wfe_core::{Call, Op};
 
-/// A call of the handle's seat begins, one that may begin, where none is under way. No word changes: the seat's slot,
+/// A call of the handle's seat begins, one that may begin, where none is under way and the last was no leave. No word changes: the seat's slot,
 /// whose number is the seat's, holds the call until its first step.
 pub fn begin(table: &Ledger, handle: &mut Handle, slot: usize, call: Call)
     requires ids { handle.old.table_id ≡ table.now.table_id }
     requires seated { IsSeated table.now.key slot handle.old.me }
     requires resting { IsResting handle.old.me }
+    requires there { (standing handle.old.me).call ≢ calls.Leave }
     requires may { may_begin table.now.key.config call ≡ true }
     ensures ids { (handle.new.table_id ≡ handle.old.table_id) × (handle.new.id ≡ handle.old.id) }
     ensures seated { IsSeated table.now.key slot handle.new.me }
@@ -37,7 +40,7 @@ pub fn step(table: &Ledger, handle: &mut Handle, slot: usize, op: Op, first: boo
     ensures ids { (handle.new.table_id ≡ handle.old.table_id) × (handle.new.id ≡ handle.old.id) }
     ensures seated { IsSeated table.now.key slot handle.new.me }
     ensures slot { call_in handle.new.me.1 ≡ None }
-    ensures stands { standing handle.new.me ≡ after (standing handle.old.me) result }
+    ensures stands { may_adopt (standing handle.old.me).phase ≡ false → standing handle.new.me ≡ after (keeping (standing handle.old.me)) result }
     ensures told { Told table.now.key handle.old.me result handle.new.me.0 }
 {
     let found = perform(table, handle, op);

@@ -1,10 +1,11 @@
 // What no clause says: that a table and its handles are had where there is memory, and that the steps
 // of handles on one thread and on two are steps on the same words. Each seat moves the clock.
-ghost use Rattle.std.specs.Prelude.{◌≡◌, ◌<◌, ◌≤◌, [], IfOk, IfSome, IsTrue};
+ghost use Rattle.std.specs.Prelude.{◌≡◌, ◌≢◌, ◌<◌, ◌≤◌, [], IfOk, IfSome, IsTrue};
 ghost use Rattle.wfe_core.specs.words.Place.{is_valid};
 ghost use Rattle.wfe_core.specs.words.declared.config.SchemeKind.TheVariants.{He};
 ghost use Rattle.wfe_drive_rule.specs.Handles.{IsBare, IsResting, IsSeated, IsSized};
-ghost use Rattle.wfe_drive_rule.specs.Views.{first_view};
+ghost use Rattle.wfe_core.specs.defs.declared.call.Call.TheVariants as calls;
+ghost use Rattle.wfe_drive_rule.specs.Views.{first_view, standing};
 
 use crate::{
     Handle, Ledger, OwnedLedger, begin, close, finish, give_slot, open, split, step, take_in,
@@ -36,10 +37,12 @@ fn advance(table: &Ledger, handle: &mut Handle, slot: usize, layout: Layout) -> 
     requires sized { IsSized table.now.table_id layout }
     requires seated { IsSeated layout slot handle.old.me }
     requires resting { IsResting handle.old.me }
+    requires there { (standing handle.old.me).call ≢ calls.Leave }
     requires scheme { layout.config.scheme ≡ He }
     ensures ids { handle.new.table_id ≡ handle.old.table_id }
     ensures seated { IsSeated layout slot handle.new.me }
     ensures resting { IfSome result (λ _. IsResting handle.new.me) }
+    ensures there { IfSome result (λ _. (standing handle.new.me).call ≢ calls.Leave) }
 {
     let clock = layout.clock();
     begin(table, handle, slot, Call::Advance);
@@ -67,6 +70,7 @@ fn two_handles(table: &Ledger, first: &mut Handle, layout: Layout) -> Handle
     ensures ids { (first.new.table_id ≡ table.now.table_id) × (result.table_id ≡ table.now.table_id) }
     ensures first { IsSeated layout 0 first.new.me × IsResting first.new.me }
     ensures second { IsSeated layout 1 result.me × IsResting result.me }
+    ensures there { ((standing first.new.me).call ≢ calls.Leave) × ((standing result.me).call ≢ calls.Leave) }
 {
     let mut second = split(table, first);
     take_slot(table, first, 0);
@@ -112,6 +116,7 @@ fn advance_together(
     requires sized { IsSized table.now.table_id layout }
     requires one { IsSeated layout 0 one.old.me × IsResting one.old.me }
     requires other { IsSeated layout 1 other.old.me × IsResting other.old.me }
+    requires there { ((standing one.old.me).call ≢ calls.Leave) × ((standing other.old.me).call ≢ calls.Leave) }
     requires scheme { layout.config.scheme ≡ He }
     ensures ids { (one.new.table_id ≡ one.old.table_id) × (other.new.table_id ≡ other.old.table_id) }
     ensures one { IfSome result (λ _. IsSeated layout 0 one.new.me × IsResting one.new.me) }
@@ -172,6 +177,7 @@ fn advance_in<R: Threads>(
     requires sized { IsSized table.now.table_id layout }
     requires one { IsSeated layout 0 one.me × IsResting one.me }
     requires other { IsSeated layout 1 other.me × IsResting other.me }
+    requires there { ((standing one.me).call ≢ calls.Leave) × ((standing other.me).call ≢ calls.Leave) }
     requires scheme { layout.config.scheme ≡ He }
     ensures ids { (result.0.1.table_id ≡ table.now.table_id) × (result.1.1.table_id ≡ table.now.table_id) }
     ensures seated { IsSeated layout 0 result.0.1.me × IsSeated layout 1 result.1.1.me }
@@ -181,7 +187,7 @@ fn advance_in<R: Threads>(
     thread::join(
         rt,
         move || -> (Option<(u64, u64)>, Handle)
-            requires { (one.table_id ≡ table.now.table_id) × (table.now.key ≡ layout) × IsSized table.now.table_id layout × IsSeated layout 0 one.me × IsResting one.me × (layout.config.scheme ≡ He) }
+            requires { (one.table_id ≡ table.now.table_id) × (table.now.key ≡ layout) × IsSized table.now.table_id layout × IsSeated layout 0 one.me × IsResting one.me × ((standing one.me).call ≢ calls.Leave) × (layout.config.scheme ≡ He) }
             ensures { (result.1.table_id ≡ table.entry.now.table_id) × IsSeated layout 0 result.1.me × IfSome result.0 (λ _. IsResting result.1.me) }
         {
             let mut handle = one;
@@ -189,7 +195,7 @@ fn advance_in<R: Threads>(
             (found, handle)
         },
         move || -> (Option<(u64, u64)>, Handle)
-            requires { (other.table_id ≡ table.now.table_id) × (table.now.key ≡ layout) × IsSized table.now.table_id layout × IsSeated layout 1 other.me × IsResting other.me × (layout.config.scheme ≡ He) }
+            requires { (other.table_id ≡ table.now.table_id) × (table.now.key ≡ layout) × IsSized table.now.table_id layout × IsSeated layout 1 other.me × IsResting other.me × ((standing other.me).call ≢ calls.Leave) × (layout.config.scheme ≡ He) }
             ensures { (result.1.table_id ≡ table.entry.now.table_id) × IsSeated layout 1 result.1.me × IfSome result.0 (λ _. IsResting result.1.me) }
         {
             let mut handle = other;

@@ -14,7 +14,7 @@ use Rattle.wfe_core.specs.Phases.Base.{Clear}
 use Rattle.wfe_core.specs.Posts.{cleared}
 use Rattle.wfe_core.specs.Rounds.{clear_base, clear_post, clear_told, clearing, clearing_by, clearing_next, clearing_next_by, closed, finish_base, finish_span, finishing, finishing_by, given_up, index_of, kept_row, scheme_of, taken_of}
 use Rattle.wfe_core.specs.declared.post.Post.{Post}
-use Rattle.wfe_drive_words.specs.drive_cells.Unit.{seat_after}
+use Rattle.wfe_drive_words.specs.drive_cells.Unit.{kept_desk, seat_after}
 use Rattle.wfe_drive_runs.specs.Pieces.{clearing_at, clearing_next_at, seat_of}
 use Rattle.wfe_drive_runs.proofs.Turning.{noted_append}
 
@@ -73,10 +73,10 @@ clearing-by task next post desk told None =
     ∙ ap (λ (d : Desk). seat_after (finishing task next left d [])) (both-noted desk told more)
     ∙ sym (finishing_noted task next left (noting desk told) more)
 
-pub clearing_noted : (task : Task) (next : Next) (post : Post) (desk : Desk) (told : List Event) → seat_after (clearing task next post desk told) ≡ clearing_at task next post (noting desk told)
-clearing_noted task next post desk told = clearing-by task next post desk told (clear_base (scheme_of post) (index_of task))
+pub clearing_noted : (task : Task) (next : Next) (post : Post) (desk : Desk) (told : List Event) → seat_after (clearing task next post (kept_desk desk) told) ≡ clearing_at task next post (noting desk told)
+clearing_noted task next post desk told = clearing-by task next post (kept_desk desk) told (clear_base (scheme_of post) (index_of task))
 
-next-by : (next : Next) (post : Post) (desk : Desk) (told : List Event) (base : Option Base) → seat_after (clearing_next_by next post desk told base) ≡ seat_after (clearing_next_by next post (noting desk told) [] base)
+next-by : (next : Next) (post : Post) (desk : Desk) (told : List Event) (base : Option Base) → seat_after (clearing_next_by next post (kept_desk desk) told base) ≡ seat_after (clearing_next_by next post (noting (kept_desk desk) told) [] base)
 next-by next post desk told (Some base) = goes_noted post desk told _
 next-by next post desk told None =
     let left : Post = clear_post (scheme_of post) post 1 in
@@ -85,7 +85,7 @@ next-by next post desk told None =
     ∙ ap (clearing_at Dequeues next left) (both-noted desk told more)
     ∙ sym (clearing_noted Dequeues next left (noting desk told) more)
 
-pub clearing_next_noted : (next : Next) (post : Post) (desk : Desk) (told : List Event) → seat_after (clearing_next next post desk told) ≡ clearing_next_at next post (noting desk told)
+pub clearing_next_noted : (next : Next) (post : Post) (desk : Desk) (told : List Event) → seat_after (clearing_next next post (kept_desk desk) told) ≡ clearing_next_at next post (noting desk told)
 clearing_next_noted next post desk told = next-by next post desk told (clear_base (scheme_of post) 1)
 
 -- under a scheme that clears an index by a step
@@ -101,10 +101,10 @@ pub clearing_next_clears : (next : Next) (post : Post) (desk : Desk) (told : Lis
 clearing_next_clears next post desk told one = ap (λ (b : Bool). clearing_next_by next post desk told (if b then None else Some (Clear 1))) one
 
 pub clears_is : (task : Task) (next : Next) (post : Post) (desk : Desk) → index_of task ≡ 0 → has_one_interval (scheme_of post) ≡ false → clearing_at task next post desk ≡ seat_of (Runs (Clears task next) (Clear 0)) post desk
-clears_is task next post desk i one = ap seat_after (clearing_clears task next post desk [] one) ∙ ap (λ (index : ℕ). seat_of (Runs (Clears task next) (Clear index)) post desk) i
+clears_is task next post desk i one = ap seat_after (clearing_clears task next post (kept_desk desk) [] one) ∙ ap (λ (index : ℕ). seat_of (Runs (Clears task next) (Clear index)) post desk) i
 
 pub clears_next_is : (next : Next) (post : Post) (desk : Desk) → has_one_interval (scheme_of post) ≡ false → clearing_next_at next post desk ≡ seat_of (Runs (ClearsNext next) (Clear 1)) post desk
-clears_next_is next post desk one = ap seat_after (clearing_next_clears next post desk [] one)
+clears_next_is next post desk one = ap seat_after (clearing_next_clears next post (kept_desk desk) [] one)
 
 -- and the round is over after it
 abbrev finishing_has : Task → Next → Post → Desk → List Event → (one : Bool) → CallTurn

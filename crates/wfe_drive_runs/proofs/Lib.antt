@@ -1,4 +1,5 @@
 pub use Rattle.wfe_drive_words.proofs as drive_words
+pub mod Claiming
 pub mod Closing
 pub mod Followings
 pub mod Holds

@@ -15,7 +15,7 @@ use Rattle.wfe_core.specs.Phases.BeginAt.{LoadLower}
 use Rattle.wfe_core.specs.Posts.{cleared, stands, withdrawn}
 use Rattle.wfe_core.specs.Rounds.{begin_span, begin_where, clearing, clearing_by, clearing_next_by, finish_span, finishing, finishing_by, first_row, index_of, kept_row, opening, round, round_by, scheme_of}
 use Rattle.wfe_core.specs.declared.post.Post.{Post}
-use Rattle.wfe_drive_words.specs.drive_cells.Unit.{SeatView, seat_after}
+use Rattle.wfe_drive_words.specs.drive_cells.Unit.{SeatView, kept_desk, seat_after}
 use Rattle.wfe_drive_words.specs.Path.{beginning_at}
 use Rattle.wfe_drive_runs.specs.Pieces.{Finishing, IsFree, IsSpanned, IsStood, clearing_at, clearing_next_at, seat_of}
 use Rattle.wfe_drive_runs.proofs.Closing.{clearing_noted, goes_noted}
@@ -82,16 +82,16 @@ next_clears next post desk kind =
     let one : has_one_interval (scheme_of post) ≡ true = ap has_one_interval kind in
     let left : Post = withdrawn post 1 in
     let told : List Event = cleared 1 (stands post 1) in
-    let first : Bool → SeatView = λ b. seat_after (clearing_next_by next post desk [] (if b then None else Some (Clear 1))) in
-    let second : Bool → SeatView = λ b. seat_after (clearing Dequeues next (if b then left else post) desk ([] ++ (if b then told else []))) in
+    let first : Bool → SeatView = λ b. seat_after (clearing_next_by next post (kept_desk desk) [] (if b then None else Some (Clear 1))) in
+    let second : Bool → SeatView = λ b. seat_after (clearing Dequeues next (if b then left else post) (kept_desk desk) ([] ++ (if b then told else []))) in
     ap first one ∙ ap second one ∙ clearing_noted Dequeues next left desk told ∙ ap (clearing_at Dequeues next left) (cleared-quiet desk 1 (stands post 1))
 
-clears-once : (task : Task) (next : Next) (post : Post) (desk : Desk) → index_of task ≡ 0 → scheme_of post ≡ Ibr → clearing_at task next post desk ≡ seat_after (finishing task next (withdrawn post 0) desk (cleared 0 (stands post 0)))
+clears-once : (task : Task) (next : Next) (post : Post) (desk : Desk) → index_of task ≡ 0 → scheme_of post ≡ Ibr → clearing_at task next post desk ≡ seat_after (finishing task next (withdrawn post 0) (kept_desk desk) (cleared 0 (stands post 0)))
 clears-once task next post desk i kind =
     let one : has_one_interval (scheme_of post) ≡ true = ap has_one_interval kind in
-    let first : Bool → SeatView = λ b. seat_after (clearing_by task next post desk [] (if b then None else Some (Clear (index_of task)))) in
-    let second : Bool → SeatView = λ b. seat_after (finishing task next (if b then withdrawn post (index_of task) else post) desk ([] ++ (if b then cleared (index_of task) (stands post (index_of task)) else []))) in
-    let third : ℕ → SeatView = λ index. seat_after (finishing task next (withdrawn post index) desk (cleared index (stands post index))) in
+    let first : Bool → SeatView = λ b. seat_after (clearing_by task next post (kept_desk desk) [] (if b then None else Some (Clear (index_of task)))) in
+    let second : Bool → SeatView = λ b. seat_after (finishing task next (if b then withdrawn post (index_of task) else post) (kept_desk desk) ([] ++ (if b then cleared (index_of task) (stands post (index_of task)) else []))) in
+    let third : ℕ → SeatView = λ index. seat_after (finishing task next (withdrawn post index) (kept_desk desk) (cleared index (stands post index))) in
     ap first one ∙ ap second one ∙ ap third i
 
 -- and the interval is to end
@@ -112,7 +112,7 @@ finishes_is task next post desk i f kind free =
     let left : Post = withdrawn post 0 in
     let told : List Event = cleared 0 (stands post 0) in
     clears-once task next post desk i kind
-    ∙ ap seat_after (finishes-by task next left desk told f kind (kept_cleared post left refl ∙ free))
+    ∙ ap seat_after (finishes-by task next left (kept_desk desk) told f kind (kept_cleared post left refl ∙ free))
     ∙ goes_noted left desk told (Runs (Finishes task next) Finish)
     ∙ ap (seat_of (Runs (Finishes task next) Finish) left) (cleared-quiet desk 0 (stands post 0))
 

@@ -8,6 +8,7 @@ use Rattle.wfe_core.specs.defs.declared.event.Event.TheVariants as events
 use Rattle.wfe_core.specs.defs.declared.event.Root.{Root}
 use Rattle.wfe_core.specs.defs.declared.event.Root.TheVariants as roots
 use Rattle.wfe_core.specs.defs.declared.lifetime.Lifetime.{Lifetime}
+use Rattle.wfe_core.specs.Allocate.{after_claim_slot, walk_from}
 use Rattle.wfe_core.specs.Calls.{AfterScan, Again, Answering, Answers, CallTurn, MakeRoom, Next, Phase, Retiring, Task, Why}
 use Rattle.wfe_core.specs.DeskHeld.{desk_of}
 use Rattle.wfe_core.specs.Desks.{Desk, noting}
@@ -17,19 +18,19 @@ use Rattle.wfe_core.specs.Phases.Base.{Allocate}
 use Rattle.wfe_core.specs.Posts.{with_row}
 use Rattle.wfe_core.specs.Rounds.{clearing, clearing_next, index_of, kept_row, root_of}
 use Rattle.wfe_core.specs.Scan.{scanned}
-use Rattle.wfe_core.specs.Steps.{after_move, resume}
+use Rattle.wfe_core.specs.Steps.{after_move, resume, run_turn}
 use Rattle.wfe_core.specs.words.Schemes.{has_one_interval}
 use Rattle.wfe_core.specs.declared.desk.Desk.{Desk as HeldDesk}
 use Rattle.wfe_core.specs.declared.ends.ProtectEnd.{ProtectEnd}
 use Rattle.wfe_core.specs.declared.ends.ProtectEnd.TheVariants as protect_ends
 use Rattle.wfe_core.specs.declared.op.Op.{Op}
 use Rattle.wfe_core.specs.declared.post.Post.{Post}
-use Rattle.wfe_drive_words.specs.drive_cells.Unit.{SeatView, seat_after}
+use Rattle.wfe_drive_words.specs.drive_cells.Unit.{SeatView, kept_desk, seat_after}
 use Rattle.wfe_drive_words.specs.Path.{Closes, Leads, Trial}
 
 -- a seat at a phase
 abbrev pub seat_of : Phase → Post → Desk → SeatView
-seat_of phase post desk = record { phase = phase; post = post; desk = desk }
+seat_of phase post desk = record { phase = phase; post = post; desk = kept_desk desk }
 
 -- the seat made steps, of which the last one took this turn: its call goes on, or is answered
 pub record TurnsTo (at_old at_new : Local → Type 0) (stands_old stands_new : List (Op × ℕ) → Type 0) (old : SeatView) (t : CallTurn) : Type 0 where
@@ -75,10 +76,10 @@ Outer (roots.Next slot) = ⊥
 
 -- a round ends: the task's index is to be cleared; and of a dequeue index 1 before it
 abbrev pub clearing_at : Task → Next → Post → Desk → SeatView
-clearing_at task next post desk = seat_after (clearing task next post desk [])
+clearing_at task next post desk = seat_after (clearing task next post (kept_desk desk) [])
 
 abbrev pub clearing_next_at : Next → Post → Desk → SeatView
-clearing_next_at next post desk = seat_after (clearing_next next post desk [])
+clearing_next_at next post desk = seat_after (clearing_next next post (kept_desk desk) [])
 
 -- what stands at the index once a root was protected that has this link
 pub record IsStood (index link : ℕ) (old new : Post) (held : Option ℕ) : Type 0 where
@@ -107,6 +108,10 @@ IsSpanned post = has_one_interval post.layout.config.scheme ≡ true → IsSome 
 -- a task protects this root, at index 0
 abbrev pub Protects : Task → Root → Post → Type 0
 Protects task root post = (index_of task ≡ 0) × (root_of task post ≡ root)
+
+-- an allocation has set a claim bit that it found in this word; it stood at the seat's cursor, and that step is counted
+abbrev pub claimed_at : Why → (birth found : ℕ) → Post → Desk → SeatView
+claimed_at why birth found post desk = seat_after (run_turn why desk (after_claim_slot birth (walk_from post.layout.config.slots post.cursor) post found))
 
 -- a walk over the rows changes nothing of what stands
 abbrev pub IsWalk : Base → Type 0

@@ -11,6 +11,7 @@ ghost use Rattle.wfe_core.specs.Phases.Ending.{Done};
 ghost use Rattle.wfe_core.specs.Ready.{SlotFits};
 ghost use Rattle.wfe_core.specs.Steps.{resume};
 ghost use Rattle.wfe_core.specs.Valid.{IsValid};
+ghost use Rattle.wfe_drive_words.specs.drive_cells.Unit.{kept_desk};
 ghost use Rattle.wfe_drive_words.specs.Called.{Here};
 ghost use Rattle.wfe_drive_runs.specs.Pieces.{TurnsTo, seat_of};
 
@@ -29,7 +30,7 @@ pub fn write_item<W: Words>(words: &mut W, post: &mut Post, slot: u32, number: u
     ensures rest { W.rest words.new < W.rest words.old }
     ensures post { post.new ≡ record post.old { steps = post.old.steps + 3 } }
     ensures turns { (why : Why) (desk : ModelDesk) → Here (W.at words.old) (seat_of (Runs why (Write slot (QueueRow number value) 0)) post.old desk)
-        → TurnsTo (W.at words.old) (W.at words.new) (W.stands words.old) (W.stands words.new) (seat_of (Runs why (Write slot (QueueRow number value) 0)) post.old desk) (resume why Done post.new desk []) }
+        → TurnsTo (W.at words.old) (W.at words.new) (W.stands words.old) (W.stands words.new) (seat_of (Runs why (Write slot (QueueRow number value) 0)) post.old desk) (resume why Done post.new (kept_desk desk) []) }
 {
     let first = post.layout.row(slot, 0);
     step(words, store_cell(post, slot, first, 0, 0));

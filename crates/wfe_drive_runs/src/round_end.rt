@@ -8,6 +8,7 @@ ghost use Rattle.wfe_core.specs.Rounds.{closed, index_of, round};
 ghost use Rattle.wfe_core.specs.defs.declared.event.Event.{Event as ModelEvent};
 ghost use Rattle.wfe_core.specs.Phases.Ending.{Done};
 ghost use Rattle.wfe_core.specs.Steps.{resume};
+ghost use Rattle.wfe_drive_words.specs.drive_cells.Unit.{kept_desk};
 ghost use Rattle.wfe_drive_words.specs.Called.{Here};
 ghost use Rattle.wfe_drive_words.specs.Path.{Leads};
 ghost use Rattle.wfe_drive_runs.specs.Pieces.{Finishing, IsFree, TurnsTo, clearing_at, clearing_next_at, seat_of};
@@ -25,8 +26,8 @@ fn clear<W: Words>(words: &mut W, post: &mut Post, index: u32)
     ensures same { W.same words.old words.new }
     ensures rest { W.rest words.new < W.rest words.old }
     ensures post { post.new ≡ record post.old { standing = slice_set post.old.standing index None; steps = post.old.steps + 1 } }
-    ensures turns { (why : Why) (desk : ModelDesk) → Here (W.at words.old) (seat_of (Runs why (Clear index)) post.old desk) → (told : List ModelEvent) × (noting desk told ≡ desk)
-        × TurnsTo (W.at words.old) (W.at words.new) (W.stands words.old) (W.stands words.new) (seat_of (Runs why (Clear index)) post.old desk) (resume why Done post.new desk told) }
+    ensures turns { (why : Why) (desk : ModelDesk) → Here (W.at words.old) (seat_of (Runs why (Clear index)) post.old desk) → (told : List ModelEvent) × (noting (kept_desk desk) told ≡ kept_desk desk)
+        × TurnsTo (W.at words.old) (W.at words.new) (W.stands words.old) (W.stands words.new) (seat_of (Runs why (Clear index)) post.old desk) (resume why Done post.new (kept_desk desk) told) }
 {
     step(words, publish(post, index, 0));
     post.standing[index as usize] = None;
@@ -44,7 +45,7 @@ fn close<W: Words>(words: &mut W, post: &mut Post)
     ensures rest { W.rest words.new < W.rest words.old }
     ensures post { post.new ≡ record post.old { standing = slice_set post.old.standing 0 None; steps = post.old.steps + 1 } }
     ensures turns { (task : Task) (next : Next) (desk : ModelDesk) → index_of task ≡ 0 → Here (W.at words.old) (clearing_at task next post.old desk)
-        → TurnsTo (W.at words.old) (W.at words.new) (W.stands words.old) (W.stands words.new) (clearing_at task next post.old desk) (closed task next post.new desk []) }
+        → TurnsTo (W.at words.old) (W.at words.new) (W.stands words.old) (W.stands words.new) (clearing_at task next post.old desk) (closed task next post.new (kept_desk desk) []) }
 {
     clear(words, post, 0);
 }
@@ -82,7 +83,7 @@ pub fn close_round<W: Words>(words: &mut W, post: &mut Post)
     ensures layout { post.new.layout ≡ post.old.layout }
     ensures free { IsFree post.new }
     ensures turns { (task : Task) (next : Next) (desk : ModelDesk) → index_of task ≡ 0 → Finishing next → Here (W.at words.old) (clearing_at task next post.old desk)
-        → TurnsTo (W.at words.old) (W.at words.new) (W.stands words.old) (W.stands words.new) (clearing_at task next post.old desk) (closed task next post.new desk []) }
+        → TurnsTo (W.at words.old) (W.at words.new) (W.stands words.old) (W.stands words.new) (clearing_at task next post.old desk) (closed task next post.new (kept_desk desk) []) }
 {
     match post.layout.config().scheme {
         SchemeKind::Ibr => close_span(words, post),

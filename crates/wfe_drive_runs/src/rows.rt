@@ -1,22 +1,35 @@
-// A row is taken for a call, or given up before it was linked.
-ghost use Rattle.std.specs.Prelude.{◌≡◌, ◌<◌};
+// A row is taken for a call, or given up before it was linked. One that is free at the first try is taken
+// without a walk.
+ghost use Rattle.std.specs.Prelude.{◌≡◌, ◌<◌, ◌≤◌, ◌+◌, ◌^◌, [], IfErr, IfOk, List, ℕ, Some, length, false, true};
+ghost use Rattle.wfe_core.specs.Allocate.{after_claim_slot, is_claimed, next_slot, walk_from};
 ghost use Rattle.wfe_core.specs.defs.declared.call.Answer.{Answer as ModelAnswer};
 ghost use Rattle.wfe_core.specs.Calls.{GivesUp, Idle, Runs, Why};
-ghost use Rattle.wfe_core.specs.DeskHeld.{HasRoom};
+ghost use Rattle.wfe_core.specs.DeskHeld.{HasRoom, desk_of};
+ghost use Rattle.wfe_core.specs.Locals.{Local};
+ghost use Rattle.wfe_core.specs.Memory.{Or as SetsBits, Store as Stores, numbered};
+ghost use Rattle.wfe_core.specs.Phases.{ends as turn_ends, goes as turn_goes};
 ghost use Rattle.wfe_core.specs.Phases.AllocateAt.{LoadBirth};
 ghost use Rattle.wfe_core.specs.Phases.Base.{Allocate as Allocating, GiveUp as GivingUp};
 ghost use Rattle.wfe_core.specs.Phases.Ending.{Allocated};
-ghost use Rattle.wfe_core.specs.Ready.{allocate_within};
+ghost use Rattle.wfe_core.specs.Ready.{EraFits, SlotFits, allocate_within};
+ghost use Rattle.wfe_core.specs.Steps.{run_turn};
+ghost use Rattle.wfe_core.specs.Valid.{IsValid};
+ghost use Rattle.wfe_core.specs.declared.op.Op.{Op as Operation};
+ghost use Rattle.wfe_core.specs.words.Packed.{life_word as word_of};
+ghost use Rattle.wfe_core.specs.words.Place.{claim_mask as mask_of, claim_word};
+ghost use Rattle.wfe_core.specs.words.Place.Place.{Claim, Life as LifeWord};
+ghost use Rattle.wfe_drive_words.specs.drive_cells.Unit.{SeatView};
 ghost use Rattle.wfe_drive_words.specs.Called.{Here, at_phase};
 ghost use Rattle.wfe_drive_words.specs.Path.{Closes};
-ghost use Rattle.wfe_drive_runs.specs.Pieces.{EndsSo};
+ghost use Rattle.wfe_slots.specs.Phases.{allocate_phase};
+ghost use Rattle.wfe_drive_runs.specs.Pieces.{EndsSo, IsWalk, TurnsTo, claimed_at};
 
 use crate::base_run::run;
-use wfe_core::{AllocateEnd, Answer, Desk, Post};
-use wfe_drive_words::{Words, note_steps};
+use wfe_core::{AllocateEnd, Answer, Desk, Life, Machine, Op, Post, Told, life_word};
+use wfe_drive_words::{Words, load_clock, note_steps, step};
 use wfe_slots::{Allocate, GiveUp};
 
-/// Walks over the rows from the seat's cursor on, and takes the first that is free.
+/// Takes the first row that is free from the seat's cursor on.
 pub fn take_row<W: Words>(words: &mut W, post: &mut Post, desk: &mut Desk) -> AllocateEnd
     requires valid { W.valid words.old }
     requires here { (why : Why) × Here (W.at words.old) (at_phase (Runs why (Allocating LoadBirth)) post.old desk.old) }
@@ -32,8 +45,94 @@ pub fn take_row<W: Words>(words: &mut W, post: &mut Post, desk: &mut Desk) -> Al
         → EndsSo (W.at words.old) (W.at words.new) (W.stands words.old) (W.stands words.new)
         (at_phase (Runs why (Allocating LoadBirth)) post.old desk.old) why (Allocated result) post.new desk.new }
 {
-    let machine = Allocate::new(post);
-    run(words, machine, post, desk)
+    let birth = step(words, load_clock(post)) as u32;
+    let slot = post.cursor;
+    let found = step(words, set_claim(post, slot));
+    post.steps += 2;
+    if is_taken(found, slot) {
+        return match walk_past(post, birth, found) {
+            Ok(machine) => run(words, machine, post, desk),
+            Err(end) => end,
+        };
+    }
+    step(words, store_birth(post, slot, birth));
+    post.steps += 1;
+    post.cursor = slot_after(post.layout.config().slots, slot);
+    note_given(desk, slot, birth);
+    AllocateEnd::Given { slot, birth }
+}
+
+// The walk once its first row was found taken: at the next one that it was not shown taken, or at its end.
+#[inline(never)]
+fn walk_past(post: &mut Post, birth: u32, found: u64) -> Result<Allocate, AllocateEnd>
+    requires own { IsValid post.old }
+    requires era { EraFits birth }
+    requires taken { is_claimed found post.old.cursor ≡ true }
+    ensures post { post.new ≡ post.old }
+    ensures goes { IfOk result (λ machine. (after_claim_slot birth (walk_from post.old.layout.config.slots post.old.cursor) post.old found ≡ turn_goes post.old [] (allocate_phase machine)) × IsWalk (allocate_phase machine)) }
+    ensures ends { IfErr result (λ end. (after_claim_slot birth (walk_from post.old.layout.config.slots post.old.cursor) post.old found ≡ turn_ends post.old [] (Allocated end)) × allocate_within end post.new) }
+{
+    let mut machine = Allocate::new(post);
+    let mut told = Told::new();
+    machine.take(post, birth as u64, &mut told);
+    match machine.take(post, found, &mut told) {
+        Some(end) => Err(end),
+        None => Ok(machine),
+    }
+}
+
+// Notes the row that was given, and changes nothing else.
+#[inline(always)]
+fn note_given(desk: &mut Desk, slot: u32, birth: u32)
+    requires few { length desk.old.notes.back < 2 ^ 32 }
+    ensures { desk.new ≡ record desk.old { notes = record desk.old.notes { given = Some (slot, birth); early = length desk.old.notes.back } } }
+{
+    desk.notes.given = Some((slot, birth));
+    desk.notes.early = desk.notes.back.len() as u32;
+}
+
+// The claim word shows the slot taken.
+#[inline(always)]
+#[tactic(auto, using(std::proofs::lemmas::Nat::Bits::shr_and_one))]
+fn is_taken(word: u64, slot: u32) -> bool
+    ensures { result ≡ is_claimed word slot }
+{
+    (word >> (slot % 64)) & 1 == 1
+}
+
+// The slot after it, round the table.
+#[inline(always)]
+fn slot_after(slots: u32, slot: u32) -> u32
+    requires { slot ≤ slots }
+    ensures { result ≡ next_slot slots slot }
+{
+    if slot == slots { 0 } else { slot + 1 }
+}
+
+// An operation that sets a slot's claim bit.
+#[inline(always)]
+fn set_claim(post: &Post, slot: u32) -> Op
+    requires valid { IsValid post.now }
+    requires slot { SlotFits post.now slot }
+    ensures { result ≡ numbered post.now.layout (SetsBits (Claim (claim_word slot)) (mask_of slot)) }
+{
+    Op::Or {
+        word: post.layout.claim(slot),
+        bits: post.layout.claim_mask(slot),
+    }
+}
+
+// A store of the birth era into the slot's lifetime word.
+#[inline(always)]
+fn store_birth(post: &Post, slot: u32, birth: u32) -> Op
+    requires valid { IsValid post.now }
+    requires slot { SlotFits post.now slot }
+    ensures { result ≡ numbered post.now.layout (Stores (LifeWord slot) (word_of (record { birth = birth; retire = 0 }))) }
+{
+    Op::Store {
+        word: post.layout.life(slot),
+        value: life_word(Life { birth, retire: 0 }),
+    }
 }
 
 /// Gives up a row that was not linked, and then the call is answered.

@@ -7,6 +7,7 @@ ghost use Rattle.wfe_core.specs.Desks.{Desk as ModelDesk};
 ghost use Rattle.wfe_core.specs.Phases.Ending.{Protected as ProtectedEnd};
 ghost use Rattle.wfe_core.specs.Ready.{SlotFits};
 ghost use Rattle.wfe_core.specs.Rounds.{closed, index_of, kept_row, opening, protect_base, round};
+ghost use Rattle.wfe_drive_words.specs.drive_cells.Unit.{kept_desk};
 ghost use Rattle.wfe_drive_words.specs.Called.{Here, at_phase};
 ghost use Rattle.wfe_drive_words.specs.Path.{Leads};
 ghost use Rattle.wfe_drive_runs.specs.Pieces.{Finishing, LeadsSo, Outer, TurnsTo, clearing_at, end_of};
@@ -89,7 +90,7 @@ pub fn close_span<W: Words>(words: &mut W, post: &mut Post)
     ensures rest { W.rest words.new < W.rest words.old }
     ensures post { post.new ≡ record post.old { standing = slice_set post.old.standing 0 None; span = None; steps = post.old.steps + 1 } }
     ensures turns { (task : Task) (next : Next) (desk : ModelDesk) → index_of task ≡ 0 → Finishing next → Here (W.at words.old) (clearing_at task next post.old desk)
-        → TurnsTo (W.at words.old) (W.at words.new) (W.stands words.old) (W.stands words.new) (clearing_at task next post.old desk) (closed task next post.new desk []) }
+        → TurnsTo (W.at words.old) (W.at words.new) (W.stands words.old) (W.stands words.new) (clearing_at task next post.old desk) (closed task next post.new (kept_desk desk) []) }
 {
     post.standing[0] = None;
     step(words, store_none(post));

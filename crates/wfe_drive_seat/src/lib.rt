@@ -2,6 +2,7 @@
 //! and the seat's part of a unit.
 #![tactic(auto)]
 
+mod letting;
 mod seat;
 
-pub use seat::{Engaged, SeatState};
+pub use seat::{Engaged, SeatState, move_list};

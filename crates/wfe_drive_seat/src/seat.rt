@@ -1,21 +1,25 @@
 // A seat of a rig: its post, its desk and the call under way on it, and the seat's part of a unit.
-ghost use Rattle.std.specs.Prelude.{◌≡◌, ◌<◌, [], IfOk, length, true, false};
+ghost use Rattle.std.specs.Prelude.{◌≡◌, ◌<◌, ◌≤◌, ◌+◌, ◌==◌, [], IfOk, length, true, false, slice_get, Some};
 ghost use Rattle.wfe_core.specs.words.Place.{is_valid};
 ghost use Rattle.wfe_drive_cells.specs.Operations.{answered, performed, word_in};
 ghost use Rattle.wfe_drive_cells.specs.Unit.{Leaves, SeatView, answer_in, asked, fresh_seat, seat_after, turned};
-ghost use Rattle.wfe_core.specs.CallReady.{IsCallPlausible, IsCallReady, NotesFit};
-ghost use Rattle.wfe_core.specs.Calls.{GoesOn, Phase};
+ghost use Rattle.wfe_core.specs.CallReady.{IsCallPlausible, IsCallReady, NotListed, NotesFit};
+ghost use Rattle.wfe_core.specs.Calls.{GoesOn, Idle, Phase};
 ghost use Rattle.wfe_core.specs.DeskHeld.{HasRoom, desk_of};
-ghost use Rattle.wfe_core.specs.Desks.{no_notes};
+ghost use Rattle.wfe_core.specs.Desks.{no_notes, with_life};
 ghost use Rattle.wfe_core.specs.Locals.{begun_post, busy_in, told_by};
 ghost use Rattle.wfe_core.specs.Posts.{counted};
 ghost use Rattle.wfe_core.specs.Steps.{call_op, phase_turn};
 ghost use Rattle.wfe_core.specs.Valid.{IsValid};
+ghost use Rattle.wfe_drive_seat.specs.Leaving.{MayMove, given_seat, joined_views, leaving, lets_go, seat_in, seat_let, told_let, words_let};
 ghost use Rattle.wfe_drive_seat.specs.Seats.{Suits, engaged_phase, is_engaged};
 
+use crate::letting::let_next;
 use std::alloc::Global;
 use std::marker::Model;
-use wfe_core::{Answer, CallMachine, Desk, Layout, NoMemory, Post, Told};
+use wfe_core::{
+    Answer, CallMachine, Desk, Event, Layout, Lifetime, NoMemory, Post, RetireList, Told,
+};
 use wfe_drive_cells::Cells;
 
 /// A seat's call, by the table's scheme; none between calls.
@@ -115,6 +119,93 @@ impl<H: CallMachine, I: CallMachine, W: CallMachine> SeatState<H, I, W> {
         }
         answer
     }
+
+    /// Lets go of what a seat that leaves lets go next, where it makes no call: what stands at the first
+    /// index, and under 2GE all of it with the interval. It is one operation on the cells, and counts as
+    /// one step of a call that then ended, whose end is not told. It answers whether there was something.
+    pub fn clear<C: Cells>(&mut self, cells: &mut C, told: &mut Told) -> bool
+        requires free { busy_in self.old.phase ≡ false }
+        requires valid { IsValid self.old.post }
+        requires there { word_in (asked (leaving self.old)) < length (C.words cells.old) }
+        requires empty { told.old ≡ [] }
+        ensures more { result ≡ lets_go self.old }
+        ensures seat { self.new ≡ seat_let result self.old (C.words cells.old) }
+        ensures words { C.words cells.new ≡ words_let result self.old (C.words cells.old) }
+        ensures told { told.new ≡ told_let result self.old (C.words cells.old) }
+    {
+        let mut post = self.post;
+        post.steps = 0;
+        if !let_next(cells, &mut post, told) {
+            return false;
+        }
+        self.close(post);
+        true
+    }
+
+    // A call of one step has ended that left this post.
+    fn close(&mut self, post: Post)
+        requires free { busy_in self.old.phase ≡ false }
+        requires layout { post.layout ≡ self.old.post.layout }
+        ensures { self.new ≡ record { phase = Idle; post = post; desk = record self.old.desk { notes = record no_notes { steps = 1 } } } }
+    {
+        self.post = post;
+        self.desk.notes.clear();
+        self.desk.notes.note(&Event::End {
+            steps: 1,
+            answer: Answer::Released,
+        });
+    }
+
+    /// How many rows are in the seat's list.
+    pub fn list_len(&self) -> usize
+        ensures count { result ≡ length self.now.desk.list }
+        ensures most { result ≤ self.now.post.layout.config.slots + 1 }
+    {
+        self.desk.list.len()
+    }
+
+    /// The life at a place of the seat's list, from 0.
+    pub fn life_at(&self, place: usize) -> Lifetime
+        requires { place < length self.now.desk.list }
+        ensures { slice_get self.now.desk.list place ≡ Some result }
+    {
+        self.desk.list.get(place)
+    }
+
+    /// Adds a life at the end of the seat's list. It takes no memory.
+    pub fn take_life(&mut self, life: Lifetime)
+        requires row { life.slot ≤ self.old.post.layout.config.slots }
+        requires apart { NotListed life.slot self.old.desk.list }
+        ensures { self.new ≡ record self.old { desk = with_life self.old.desk life } }
+    {
+        self.desk.list.add(life);
+    }
+
+    /// Leaves the seat's list empty.
+    pub fn empty_list(&mut self)
+        ensures { self.new ≡ given_seat self.old }
+    {
+        empty(&mut self.desk.list);
+    }
+
+    /// Leaves the notes empty.
+    pub fn clear_notes(&mut self)
+        ensures { self.new ≡ record self.old { desk = record self.old.desk { notes = no_notes } } }
+    {
+        self.desk.notes.clear();
+    }
+}
+
+// Leaves a list empty, from its end on.
+fn empty(list: &mut RetireList)
+    ensures lives { list.new.lives ≡ [] }
+    ensures slots { list.new.slots ≡ list.old.slots }
+{
+    let count = list.len();
+    for _turn in 0..count {
+        let last = list.len() - 1;
+        let _life = list.remove(last);
+    }
 }
 
 impl<H: CallMachine, I: CallMachine, W: CallMachine> Engaged<H, I, W> {
@@ -178,4 +269,31 @@ fn make_unit<C: Cells, M: CallMachine>(
     let op = machine.next_op(post, desk);
     let found = cells.perform(post.seat, op);
     machine.take(post, desk, found, told)
+}
+
+/// The list of one seat goes to the end of another's, and the notes of the latter are cleared. It takes no
+/// memory, and answers how many rows went.
+pub fn move_list<H: CallMachine, I: CallMachine, W: CallMachine>(
+    layout: Layout,
+    seats: &mut Vec<SeatState<H, I, W>>,
+    from: usize,
+    to: usize,
+) -> usize
+    requires from { from < length seats.old.items }
+    requires to { to < length seats.old.items }
+    requires apart { (from == to) ≡ false }
+    requires fits { MayMove layout seats.old.items from to }
+    ensures count { result ≡ length (seat_in layout seats.old.items from).desk.list }
+    ensures most { result ≤ (seat_in layout seats.old.items from).post.layout.config.slots + 1 }
+    ensures seats { seats.new.items ≡ joined_views layout seats.old.items from to }
+{
+    let _layout = layout;
+    let count = seats[from].list_len();
+    for place in 0..count {
+        let life = seats[from].life_at(place);
+        seats[to].take_life(life);
+    }
+    seats[to].clear_notes();
+    seats[from].empty_list();
+    count
 }

@@ -1,7 +1,7 @@
 -- Calls on the rows that a seat keeps at its indexes from 2 on: when they may begin, and that a copy and a look answer the row that stood
 -- at their index when they began.
 use Rattle.std.proofs.Common.{Bool, List, None, Option, Some, [], ap, false, refl, subst, sym, true, ℕ, ◌+◌, ◌<◌, ◌==◌, ◌∙◌, ◌∷◌, ◌≡◌, ◌≤◌}
-use Rattle.std.specs.Prelude.{nat_le, nat_lt, option_map, ◌&&◌}
+use Rattle.std.specs.Prelude.{nat_le, nat_lt, ◌&&◌}
 use Rattle.wfe_core.proofs.Facts.{both, le_test, lt_test}
 use Rattle.wfe_core.specs.Calls.{Answers, CallOutcome, CallTurn, FindCount, FindKey, FindValue, FindVersion, GetAt, GoesOn, Keeping, LoadHeld, Looks, Misses, Phase, StoreHeld, Works}
 use Rattle.wfe_core.specs.Desks.{Desk, noting}
@@ -20,6 +20,7 @@ use Rattle.wfe_core.specs.defs.declared.event.Event.{Event}
 use Rattle.wfe_core.specs.words.Schemes.{has_one_interval}
 use Rattle.wfe_core.specs.words.declared.config.Config.{Config}
 use Rattle.wfe_core.specs.words.declared.layout.Layout.{Layout}
+use Rattle.wfe_drive_call.specs.drive_words.Comes.{Given, lent}
 use Rattle.wfe_drive_call.specs.drive_words.Ran.{Performs, Ran}
 use Rattle.wfe_drive_shared.specs.Calls.{IsMade}
 use Rattle.wfe_drive_shared.specs.Public.{SeatNow, stands_at}
@@ -110,14 +111,21 @@ after_for stood l found h b =
 -- a seat that has an operation to make is in its call
 busy_at : (l last : Local) (xs : List (Op × ℕ)) (operation : Op × ℕ) → Ran l xs last → Performs last operation → busy_in l.phase ≡ true
 busy_at l last [] operation same p = ap (λ (m : Local). busy_in m.phase) same ∙ p.busy
-busy_at l last (x ∷ xs) operation ran p = ran.0.busy
+busy_at l last (x ∷ xs) operation ran p = let first : Performs l x = ran.0 in first.busy
 
-told_at : (stood : Option ℕ) (l last : Local) (before : List (Op × ℕ)) (operation : Op × ℕ) (answer : Answer) → Ran l before last → Performs last operation → (turn last operation.1).outcome ≡ Answers answer → IsFor stood l.post l.phase → Tells stood answer
+-- what is lent to the step changes nothing of it
+lent_for : (stood : Option ℕ) (l : Local) (found : ℕ) (g : Given l found) → IsFor stood l.post l.phase → IsFor stood (lent g).post (lent g).phase
+lent_for stood l found g h = subst (λ (k : Local). IsFor stood k.post k.phase) (sym g.comes.stands) h
+
+told_at : (stood : Option ℕ) (l last : Local) (before : List (Op × ℕ)) (operation : Op × ℕ) (answer : Answer) → Ran l before last → (p : Performs last operation) → (turn (lent p.given) operation.1).outcome ≡ Answers answer → IsFor stood l.post l.phase → Tells stood answer
 told_at stood l last [] operation answer same p o h =
-    let here : IsFor stood last.post last.phase = subst (λ (m : Local). IsFor stood m.post m.phase) same h in
-    subst (Keeps stood (turn last operation.1).post) o (turn_keeps stood last.phase last.post last.desk operation.1 here)
+    let from : Local = lent p.given in
+    let here : IsFor stood from.post from.phase = lent_for stood last operation.1 p.given (subst (λ (m : Local). IsFor stood m.post m.phase) same h) in
+    subst (Keeps stood (turn from operation.1).post) o (turn_keeps stood from.phase from.post from.desk operation.1 here)
 told_at stood l last (x ∷ xs) operation answer ran p o h =
-    told_at stood (after l x.1) last xs operation answer ran.1 p o (after_for stood l x.1 h (busy_at (after l x.1) last xs operation ran.1 p))
+    let first : Performs l x = ran.0 in
+    let from : Local = lent first.given in
+    told_at stood (after from x.1) last xs operation answer ran.1 p o (after_for stood from x.1 (lent_for stood l x.1 first.given h) (busy_at (after from x.1) last xs operation ran.1 p))
 
 tells : (stood : Option ℕ) (layout : Layout) (old new : SeatNow) (call : Call) (answer : Answer) → IsMade layout old new call answer → IsFor stood (begun old.track.local call).post (begun old.track.local call).phase → Tells stood answer
 tells stood layout old new call answer m h =

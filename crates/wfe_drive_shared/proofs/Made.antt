@@ -1,5 +1,5 @@
 -- A call that a seat has made on the shared table: the seat after it is sound, and what its record says.
-use Rattle.std.proofs.Common.{List, [], ap, subst, sym, ℕ, ◌++◌, ◌∙◌, ◌≡◌}
+use Rattle.std.proofs.Common.{List, [], ap, false, subst, sym, ℕ, ◌++◌, ◌∙◌, ◌≡◌}
 use Rattle.wfe_core.specs.Locals.{Group, Local, busy_in}
 use Rattle.wfe_core.specs.declared.op.Op.{Op}
 use Rattle.wfe_core.specs.declared.post.Post.{Post}
@@ -12,7 +12,8 @@ use Rattle.law_all.proofs.logs.LastScans.{record_reads}
 use Rattle.law_all.proofs.logs.Meets.{logs_extend}
 use Rattle.law_all.proofs.logs.Records.{logs_answer}
 use Rattle.law_all.proofs.held.places.Placing.Keeps.{records_refuse}
-use Rattle.wfe_drive_call.specs.drive_words.Called.{Called, Ends, LeadsTo}
+use Rattle.wfe_drive_call.specs.drive_words.Called.{Called, Ends, Here, LeadsTo}
+use Rattle.wfe_drive_call.specs.drive_words.Comes.{departs}
 use Rattle.wfe_drive_rule.specs.Handles.{IsResting, IsSeated, IsTracked}
 use Rattle.wfe_drive_rule.specs.Views.{Handle, call_in, entered, own, seat_of, standing}
 use Rattle.wfe_drive_rule.specs.history.History.{Item}
@@ -24,6 +25,17 @@ use Rattle.wfe_drive_shared.specs.Sound.{IsMet}
 -- a resting handle's seat stands where its track says
 pub stands_at : (handle : Handle) → IsResting handle → standing handle ≡ (own handle.0).local
 stands_at handle r = ap (entered (own handle.0).local) (resting_slot (own handle.0).local (call_in handle.1) r)
+
+-- its code may begin a call there
+pub rests_here : (handle : Handle) (seat : SeatView) → IsResting handle → shown (own handle.0).local ≡ seat → departs (own handle.0).local.call ≡ false → Here (λ l. standing handle ≡ l) seat
+rests_here handle seat r e d =
+    let at : standing handle ≡ (own handle.0).local = stands_at handle r in
+    let idle : busy_in (own handle.0).local.phase ≡ false = ap (λ (l : Local). busy_in l.phase) (sym at) ∙ r in
+    record { local = (own handle.0).local; there = at; is = e; staying = λ b. absurd (cc); here = d }
+
+-- and is there after it
+pub still_there : (handle : Handle) (seat : SeatView) → IsResting handle → Here (λ l. standing handle ≡ l) seat → departs (own handle.0).local.call ≡ false
+still_there handle seat r h = ap (λ (l : Local). departs l.call) (sym (stands_at handle r) ∙ h.there) ∙ h.here
 
 -- what the call came to: where its seat stands now, and by which operations
 pub record Over (call : Call) (answer : Answer) (old new : Handle) (seat : SeatView) : Type 0 where

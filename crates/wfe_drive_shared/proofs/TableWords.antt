@@ -5,8 +5,9 @@ use Rattle.std.specs.Prelude.{None, ◌-◌, ◌^◌}
 use Rattle.wfe_core.specs.words.declared.layout.Layout.{Layout}
 use Rattle.wfe_core.specs.defs.declared.call.Call.{Call}
 use Rattle.wfe_core.specs.Locals.{Local, after, busy_in, may_begin}
-use Rattle.wfe_drive_rule.specs.history.History.{Item, Steps}
-use Rattle.wfe_drive_call.specs.drive_words.Comes.{Comes, Given}
+use Rattle.wfe_core.specs.World.{offered}
+use Rattle.wfe_drive_rule.specs.history.History.{Item, Steps, world_of}
+use Rattle.wfe_drive_call.specs.drive_words.Comes.{Comes, Given, lent}
 use Rattle.wfe_drive_call.proofs.drive_words.Histories.{few_steps, settles}
 use Rattle.wfe_drive_rule.specs.Handles.{IsSeated}
 use Rattle.wfe_drive_rule.specs.Moves.{Told}
@@ -28,7 +29,7 @@ may_standing layout slot handle l call s e may =
 
 pub record StepMade (me later : Handle) (found : ℕ) : Type 0 where
   pub given : Given (standing me) found
-  pub next : standing later ≡ after (standing me) found
+  pub next : standing later ≡ after (lent given) found
   pub more : List Item
   pub grows : (own later.0).past ≡ (own me.0).past ++ more
   pub falls : 2 ^ 62 - (standing later).post.steps < 2 ^ 62 - (standing me).post.steps
@@ -44,9 +45,14 @@ step_made layout slot found me later s busy told empty =
     let t = steps_tell layout slot me found later.0 told s in
     let c2 : Comes l = record { items = told.items; valid = t.comes.valid; below = t.comes.seat; stands = t.comes.stands } in
     let g : Given l found = record { comes = c2; found = t.found_is } in
-    let y : Track = record { local = after l found; past = told.items ++ Steps (seat_of o) ∷ [] } in
+    let same = entered_same o.local (call_in me.1) in
+    let table : l.post.layout ≡ layout = same.layout ∙ s.tracked.layout_is in
+    let y : Track = record { local = after (offered (world_of layout told.items) (seat_of o)) found; past = told.items ++ Steps (seat_of o) ∷ [] } in
     let now : own later.0 ≡ y = ap own told.to in
-    let next : standing later ≡ after l found = ap (entered (own later.0).local) empty ∙ ap (λ (t : Track). t.local) now in
+    let next : standing later ≡ after (lent g) found =
+    ap (entered (own later.0).local) empty ∙ ap (λ (t : Track). t.local) now
+    ∙ ap (λ (d : Layout). after (offered (world_of d told.items) (seat_of o)) found) (sym table)
+    ∙ ap (λ (i : ℕ). after (offered (world_of l.post.layout told.items) i) found) (sym same.seat) in
     let one : (standing later).post.steps ≡ l.post.steps + 1 = ap (λ (k : Local). k.post.steps) next ∙ (settles l found g busy).counts in
     record {
       given = g;

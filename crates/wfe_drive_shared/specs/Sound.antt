@@ -1,11 +1,12 @@
 -- What holds of each shared table and of each seat between calls.
-use Rattle.std.specs.Prelude.{List, length, slice_index, true, ℕ, ◌<◌, ◌≡◌}
+use Rattle.std.specs.Prelude.{List, false, length, slice_index, true, ℕ, ◌<◌, ◌≡◌}
 use Rattle.wfe_core.specs.words.Place.{is_valid}
 use Rattle.wfe_core.specs.Calls.{Idle}
 use Rattle.wfe_core.specs.DeskHeld.{HasRoom}
 use Rattle.wfe_drive_rule.specs.drive_cells.Unit.{shown}
 use Rattle.law_all.specs.logs.Versions.{Counts, met_in}
 use Rattle.wfe_drive_call.specs.drive_words.Called.{at_phase}
+use Rattle.wfe_drive_call.specs.drive_words.Comes.{departs}
 use Rattle.wfe_drive_rule.specs.Handles.{IsResting, IsSeated, IsSized}
 use Rattle.wfe_drive_rule.specs.Views.{own}
 use Rattle.wfe_drive_shared.specs.declared.seat.Seat.TheInside.{Inside as SeatInside}
@@ -29,4 +30,6 @@ pub record IsSound (s : SeatInside) : Type 0 where
   pub resting : IsResting s.handle.me
   pub here : shown (own s.handle.me.0).local ≡ at_phase Idle s.post s.desk
   pub room : HasRoom s.desk s.post.layout
+  -- it has not left
+  pub there : departs (own s.handle.me.0).local.call ≡ false
   pub met : IsMet s.post.layout.config.buckets (met_in s.post.layout.config.buckets (own s.handle.me.0).local.log) s.seen.items

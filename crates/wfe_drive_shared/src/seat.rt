@@ -5,6 +5,7 @@ ghost use Rattle.wfe_core.specs.Held.{notes_of, report_of};
 ghost use Rattle.wfe_core.specs.Locals.{may_begin};
 ghost use Rattle.wfe_core.specs.defs.declared.call.Answer.TheVariants.{Got as GotAnswer};
 ghost use Rattle.wfe_core.specs.defs.declared.call.Call.TheVariants.{Get as GetCall};
+ghost use Rattle.wfe_drive_call.specs.call_any.Stays.{stays};
 ghost use Rattle.law_all.specs.logs.Versions.{met_by, met_in, seen_in, version_told};
 ghost use Rattle.wfe_drive_rule.specs.Handles.{IsGathered, IsResting, IsSeated, IsSized};
 ghost use Rattle.wfe_drive_rule.specs.Views.{fresh_track, own, seat_of};
@@ -107,12 +108,13 @@ impl Seat {
         }
     }
 
-    // Makes a whole call on the table that the seat is of. A get is compiled apart from the others.
+    // Makes a whole call of a seat that stays, on the table that it is of. A get is compiled apart from the others.
     pub(crate) fn make(&mut self, ledger: &Ledger, call: Call) -> Answer
         requires table { self.old.table ≡ ledger.now.table_id }
         requires layout { self.old.track.local.post.layout ≡ ledger.now.key }
         requires sized { IsSized ledger.now.table_id ledger.now.key }
         requires may { may_begin ledger.now.key.config call ≡ true }
+        requires stays { stays call ≡ true }
         ensures table { self.new.table ≡ self.old.table }
         ensures layout { self.new.track.local.post.layout ≡ self.old.track.local.post.layout }
         ensures made { IsMade ledger.now.key self.old self.new call result }
@@ -136,6 +138,7 @@ impl Seat {
         requires layout { self.old.track.local.post.layout ≡ ledger.now.key }
         requires sized { IsSized ledger.now.table_id ledger.now.key }
         requires may { may_begin ledger.now.key.config call ≡ true }
+        requires stays { stays call ≡ true }
         ensures table { self.new.table ≡ self.old.table }
         ensures layout { self.new.track.local.post.layout ≡ self.old.track.local.post.layout }
         ensures made { IsMade ledger.now.key self.old self.new call result }

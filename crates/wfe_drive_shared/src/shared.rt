@@ -1,6 +1,7 @@
 // The shared table, and how it is made.
 ghost use Rattle.std.specs.Prelude.{◌≡◌, ◌≤◌, [], All, IfErr, IfOk, Ok, length, map, true};
 ghost use Rattle.wfe_core.specs.Locals.{may_begin};
+ghost use Rattle.wfe_drive_call.specs.call_any.Stays.{stays};
 ghost use Rattle.wfe_core.specs.words.Place.{is_valid, layout_of};
 ghost use Rattle.wfe_drive_shared.specs.Calls.{IsMade};
 ghost use Rattle.wfe_drive_shared.specs.Closing.{IsLeft, track_of};
@@ -108,10 +109,11 @@ impl Shared {
 
     /// Makes a call on a seat of this table, named by a value, and gives its answer. The call must be one
     /// that may begin: the indexes that it names are from 2 on and the table has them, and a copy goes
-    /// upwards.
+    /// upwards; and the seat neither leaves by it nor takes over what another has left.
     pub fn call(&self, seat: &mut Seat, call: Call) -> Answer
         requires of { IsOf seat.old self.now }
         requires may { may_begin self.now.layout.config call ≡ true }
+        requires stays { stays call ≡ true }
         ensures of { IsOf seat.new self.now }
         ensures made { IsMade self.now.layout seat.old seat.new call result }
     {

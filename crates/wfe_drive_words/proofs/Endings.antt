@@ -29,7 +29,7 @@ use Rattle.wfe_core.specs.declared.op.Op.{Op}
 use Rattle.wfe_core.specs.Posts.{cleared, stands, withdrawn}
 use Rattle.wfe_core.specs.Rounds.{begin_span, begin_where, bucket_of, clearing_by, finish_base, finish_span, finishing_by, first_row, kept_row, protect_base, root_of, round_by, scheme_of}
 use Rattle.wfe_core.specs.declared.post.Post.{Post}
-use Rattle.wfe_drive_cells.specs.Unit.{SeatView, seat_after}
+use Rattle.wfe_drive_cells.specs.Unit.{SeatView, kept_desk, seat_after}
 use Rattle.wfe_drive_words.specs.Called.{Here, at_phase}
 use Rattle.wfe_drive_words.specs.declared.found.Found.{Found}
 use Rattle.wfe_drive_words.specs.declared.protect.Guarded.{Guarded}
@@ -44,7 +44,7 @@ cleared-noted notes (Some slot) = refl
 
 -- the interval is to end
 abbrev pub ends_at : ℕ → (version : ℕ) → Option ℕ → Post → Desk → SeatView
-ends_at key version value post desk = record { phase = Runs (Finishes (Gets key) (Answering (answers.Got version value))) Finish; post = post; desk = desk }
+ends_at key version value post desk = record { phase = Runs (Finishes (Gets key) (Answering (answers.Got version value))) Finish; post = post; desk = kept_desk desk }
 
 pub got_ends : (key version : ℕ) (value : Option ℕ) (post : Post) (desk : Desk) (told : List Event) → has_one_interval (scheme_of post) ≡ true → kept_row (withdrawn post 0) ≡ None
     → noted_all desk.notes (told ++ events.Got (bucket_of post key) version key value ∷ [] ++ cleared 0 (stands post 0) ++ []) ≡ desk.notes
@@ -74,7 +74,7 @@ pub found_ends : (key : ℕ) (post : Post) (bucket link : ℕ) (desk : Desk) (st
 found_ends key post bucket link desk steps found kind free =
     let p : Post = read_post (held_reader post bucket link desk steps) found.steps in
     let one : has_one_interval (scheme_of p) ≡ true = ap has_one_interval (scheme-stays (link == 0) post (link - 1) ∙ kind) in
-    got_ends key found.version found.value p desk [] one (kept-left (link == 0) post (link - 1) (steps + found.steps) free) (cleared-noted desk.notes (stands p 0))
+    got_ends key found.version found.value p (kept_desk desk) [] one (kept-left (link == 0) post (link - 1) (steps + found.steps) free) (cleared-noted desk.notes (stands p 0))
     ∙ ap (λ (q : Post). ends_at key found.version found.value q desk) (post-cleared (link == 0) post (link - 1) (steps + found.steps))
 
 pub null_ends : (key : ℕ) (post : Post) (bucket link n era : ℕ) (desk : Desk) (steps : ℕ) → scheme_of post ≡ Ibr → kept_row post ≡ None → link ≡ 0
@@ -84,8 +84,8 @@ null_ends key post bucket link n era desk steps kind free e =
     let test : (link == 0) ≡ true = eq-eqb link 0 e in
     let one : has_one_interval (scheme_of p) ≡ true = ap has_one_interval kind in
     let zero : steps ≡ steps + 0 = omega arith in
-    ap (held_by key n (link - 1) era p desk) test
-    ∙ got_ends key 0 None p desk (events.Null 0 n ∷ []) one (kept-left true post 0 steps free) (cleared-noted desk.notes (stands p 0))
+    ap (held_by key n (link - 1) era p (kept_desk desk)) test
+    ∙ got_ends key 0 None p (kept_desk desk) (events.Null 0 n ∷ []) one (kept-left true post 0 steps free) (cleared-noted desk.notes (stands p 0))
     ∙ ap (λ (k : ℕ). ends_at key 0 None (record post { standing = slice_set post.standing 0 None; steps = k }) desk) zero
 
 -- a get begins with an interval, and then protects its bucket's root
@@ -98,7 +98,7 @@ begins_span key post held kind free =
 pub begun_protects : (key : ℕ) (post : Post) (desk : Desk) (steps era : ℕ) (root : Root) → scheme_of post ≡ Ibr → root ≡ root_of (Gets key) post
     → begun_at (Gets key) desk post steps era ≡ protecting (asking_trial key desk 0 steps) 0 root LoadWithin (spanned post era era)
 begun_protects key post desk steps era root kind r =
-    let protects : SchemeKind → Root → SeatView = λ scheme root. record { phase = Runs (Opens (Gets key)) (protect_base scheme 0 root); post = record (spanned post era era) { steps = steps }; desk = desk } in
+    let protects : SchemeKind → Root → SeatView = λ scheme root. record { phase = Runs (Opens (Gets key)) (protect_base scheme 0 root); post = record (spanned post era era) { steps = steps }; desk = kept_desk desk } in
     ap (λ (scheme : SchemeKind). protects scheme (root_of (Gets key) post)) kind ∙ ap (protects Ibr) (sym r)
 
 -- and where it has ended, its row is read

@@ -31,7 +31,7 @@ use Rattle.wfe_core.specs.declared.ends.ProtectEnd.TheVariants as protect_ends
 use Rattle.wfe_core.specs.declared.desk.Desk.{Desk as HeldDesk}
 use Rattle.wfe_core.specs.declared.op.Op.{Op}
 use Rattle.wfe_core.specs.declared.post.Post.{Post}
-use Rattle.wfe_drive_cells.specs.Unit.{SeatView, seat_after}
+use Rattle.wfe_drive_cells.specs.Unit.{SeatView, kept_desk, seat_after}
 use Rattle.wfe_drive_words.specs.Called.{Here, at_phase}
 use Rattle.wfe_drive_words.specs.declared.found.Found.{Found}
 use Rattle.wfe_drive_words.specs.declared.protect.Guarded.{Guarded}
@@ -98,7 +98,7 @@ pub found_closes : (key : ℕ) (post : Post) (bucket link : ℕ) (desk : Desk) (
 found_closes key post bucket link desk steps found one =
     let p : Post = read_post (held_reader post bucket link desk steps) found.steps in
     let none : has_one_interval (scheme_of p) ≡ false = ap has_one_interval (scheme-stays (link == 0) post (link - 1)) ∙ one in
-    ap (got_by key found.version found.value p desk (events.Got (bucket_of p key) found.version key found.value ∷ [])) none
+    ap (got_by key found.version found.value p (kept_desk desk) (events.Got (bucket_of p key) found.version key found.value ∷ [])) none
 
 -- a protection has ended
 abbrev pub held_by : ℕ → (n slot era : ℕ) → Post → Desk → (null : Bool) → SeatView
@@ -112,10 +112,10 @@ held_null key post bucket link n era desk steps one e =
     let p : Post = record post { steps = steps } in
     let test : (link == 0) ≡ true = eq-eqb link 0 e in
     let told : List Event = events.Null 0 n ∷ events.Got (bucket_of p key) 0 key None ∷ [] in
-    let closing : Bool → ℕ → SeatView = λ null k. record { phase = Runs (Clears (Gets key) (Answering (answers.Got 0 None))) (Clear 0); post = record (standing_by null post (link - 1)) { steps = k }; desk = desk } in
+    let closing : Bool → ℕ → SeatView = λ null k. record { phase = Runs (Clears (Gets key) (Answering (answers.Got 0 None))) (Clear 0); post = record (standing_by null post (link - 1)) { steps = k }; desk = kept_desk desk } in
     let zero : steps ≡ steps + 0 = omega arith in
-    ap (held_by key n (link - 1) era p desk) test
-    ∙ ap (got_by key 0 None p desk told) one
+    ap (held_by key n (link - 1) era p (kept_desk desk)) test
+    ∙ ap (got_by key 0 None p (kept_desk desk) told) one
     ∙ ap (λ (null : Bool). closing null steps) (sym test)
     ∙ ap (closing (link == 0)) zero
 
@@ -125,9 +125,9 @@ pub held_row : (key : ℕ) (post : Post) (bucket link n era : ℕ) (desk : Desk)
 held_row key post bucket link n era desk steps e =
     let p : Post = record post { steps = steps } in
     let test : (link == 0) ≡ false = ne_eqb link 0 e in
-    let reads : Bool → ℕ → SeatView = λ null k. record { phase = Works (Getting key (FindVersion (link - 1))); post = record (standing_by null post (link - 1)) { steps = k }; desk = desk } in
+    let reads : Bool → ℕ → SeatView = λ null k. record { phase = Works (Getting key (FindVersion (link - 1))); post = record (standing_by null post (link - 1)) { steps = k }; desk = kept_desk desk } in
     let zero : steps ≡ steps + 0 = omega arith in
-    ap (held_by key n (link - 1) era p desk) test
+    ap (held_by key n (link - 1) era p (kept_desk desk)) test
     ∙ ap (λ (null : Bool). reads null steps) (sym test)
     ∙ ap (reads (link == 0)) zero
 

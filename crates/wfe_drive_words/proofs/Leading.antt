@@ -1,22 +1,24 @@
 -- Steps that code makes without a machine, at every state at which the seat may be.
-use Rattle.std.proofs.Common.{List, [], ap, append-nil, append_assoc, refl, subst, sym, true, ℕ, ◌+◌, ◌++◌, ◌<◌, ◌^◌, ◌∙◌, ◌∷◌, ◌≡◌, arith}
+use Rattle.std.proofs.Common.{List, [], ap, append-nil, append_assoc, false, refl, subst, sym, true, ℕ, ◌+◌, ◌++◌, ◌<◌, ◌^◌, ◌∙◌, ◌∷◌, ◌≡◌, arith}
 use Rattle.std.proofs.lemmas.Bool.Decides.{nat_tests}
 use Rattle.wfe_core.specs.defs.declared.call.Answer.{Answer}
-use Rattle.wfe_core.specs.Calls.{Answers, CallOutcome, CallTurn, GoesOn}
+use Rattle.wfe_core.specs.Calls.{CallTurn}
 use Rattle.wfe_core.specs.Desks.{noting}
-use Rattle.wfe_core.specs.Locals.{Local, after, asks, busy_in, rounds_told, settled_by, told_by, turn}
+use Rattle.wfe_core.specs.Locals.{Local, after, asks, busy_in, rounds_told, told_by, turn}
 use Rattle.wfe_core.specs.Memory.{bump}
 use Rattle.wfe_core.specs.Posts.{counted}
 use Rattle.wfe_core.specs.Steps.{phase_turn}
 use Rattle.wfe_core.specs.declared.op.Op.{Op}
 use Rattle.wfe_core.specs.declared.post.Post.{Post}
-use Rattle.wfe_drive_cells.specs.Unit.{SeatView, asked, phase_after, seat_after, shown, turned}
+use Rattle.wfe_drive_cells.specs.Unit.{SeatView, asked, seat_after, shown}
 use Rattle.wfe_drive_words.specs.Called.{Here, LeadsTo, Makes}
-use Rattle.wfe_drive_words.specs.Comes.{Comes}
+use Rattle.wfe_drive_words.specs.Comes.{Comes, departs, lent}
 use Rattle.wfe_drive_words.specs.Path.{AsksFor, Closes, Leads, StepsOn, left_by, stepped, taken}
 use Rattle.wfe_drive_words.specs.Ran.{Answered, Performs, Ran}
+use Rattle.wfe_drive_words.specs.Readiness.{MayTake, may_adopt}
+use Rattle.wfe_drive_words.proofs.Groups.{ran_call, ran_stays}
 use Rattle.wfe_drive_words.proofs.Histories.{few_steps}
-use Rattle.wfe_drive_words.proofs.Makes.{Steps, busy_shown, may_ask_at, takes_at}
+use Rattle.wfe_drive_words.proofs.Makes.{Steps, busy_shown, may_ask_at, shown_settled, takes_at, turned_lent}
 
 -- a call has few steps, so one more is counted
 bump-is : (n : ℕ) → n < 2 ^ 62 → bump n ≡ n + 1
@@ -27,26 +29,24 @@ counted-is post h = ap (λ (n : ℕ). let p : Post = record post { steps = n } i
 
 -- the seat after its step
 after-is : (l : Local) (n : ℕ) → shown (after l n) ≡ seat_after (turn l n)
-after-is l n = by_outcome (turn l n).outcome
-  where
-    by_outcome : (outcome : CallOutcome) → shown (settled_by l (turn l n).post (noting (turn l n).desk (told_by (turn l n))) (rounds_told l.rounds (told_by (turn l n))) outcome) ≡ record { phase = phase_after outcome; post = (turn l n).post; desk = noting (turn l n).desk (told_by (turn l n)) }
-    by_outcome (GoesOn next) = refl
-    by_outcome (Answers given) = refl
+after-is l n =
+    let t : CallTurn = turn l n in
+    shown_settled l t.post (noting t.desk (told_by t)) (rounds_told l.rounds (told_by t)) t.outcome
 
 -- the state after a step, and that step
 record Stepped (at : Local → Type 0) (op : Op) (n : ℕ) (seat : SeatView) (l : Local) : Type 0 where
   performs : Performs l (op, n)
-  there : at (after l n)
-  is : shown (after l n) ≡ left_by seat n
-  same : turn l n ≡ taken seat n
+  there : at (after (lent performs.given) n)
+  is : shown (after (lent performs.given) n) ≡ left_by seat n
+  same : turn (lent performs.given) n ≡ taken seat n
 
-stepped-at : (at_old at_new : Local → Type 0) (seat : SeatView) (op : Op) (n : ℕ) → busy_in seat.phase ≡ true → op ≡ asked seat → seat.post.steps < 2 ^ 62 → Steps at_old at_new op n → (l : Local) → at_old l → shown l ≡ seat → Stepped at_new op n seat l
-stepped-at at_old at_new seat op n b o few s l a e =
+stepped-at : (at_old at_new : Local → Type 0) (seat : SeatView) (op : Op) (n : ℕ) → busy_in seat.phase ≡ true → may_adopt seat.phase ≡ false → op ≡ asked seat → seat.post.steps < 2 ^ 62 → Steps at_old at_new op n → (l : Local) → at_old l → shown l ≡ seat → Stepped at_new op n seat l
+stepped-at at_old at_new seat op n b alone o few s l a e =
     let busy : busy_in l.phase ≡ true = busy_shown l seat true e b in
     let asked_is : op ≡ asks l = o ∙ ap asked (sym e) in
     let g = s l a busy asked_is in
-    let same : turn l n ≡ taken seat n = ap (λ (v : SeatView). turned v n) e ∙ ap (λ (p : Post). phase_turn seat.phase p seat.desk n) (counted-is seat.post few) in
-    record { performs = record { busy = busy; asked = asked_is; given = g.0 }; there = g.1; is = after-is l n ∙ ap seat_after same; same = same }
+    let same : turn (lent g.0) n ≡ taken seat n = sym (turned_lent l n g.0 seat e alone) ∙ ap (λ (p : Post). phase_turn seat.phase p seat.desk n) (counted-is seat.post few) in
+    record { performs = record { busy = busy; asked = asked_is; given = g.0 }; there = g.1; is = after-is (lent g.0) n ∙ ap seat_after same; same = same }
 
 -- what is known of a step that was made
 pub steps_on : (at_old at_new : Local → Type 0) (stands_old stands_new : List (Op × ℕ) → Type 0) (seat : SeatView) (op : Op) (n : ℕ) → AsksFor at_old seat op → ((l : Local) → at_old l → Comes l) → Steps at_old at_new op n
@@ -55,23 +55,26 @@ steps_on at_old at_new stands_old stands_new seat op n a comes s more =
     let h : Here at_old seat = a.here in
     let c : Comes h.local = comes h.local h.there in
     let few : seat.post.steps < 2 ^ 62 = subst (λ (v : SeatView). v.post.steps < 2 ^ 62) h.is (few_steps h.local c (busy_shown h.local seat true h.is a.busy)) in
+    let may : MayTake seat n = takes_at at_old at_new seat op n h a.busy a.is s in
     record {
       ask = may_ask_at h.local seat c h.is;
-      take = takes_at at_old at_new seat op n h a.busy a.is s;
+      take = may;
       few = few;
       leads = record {
         ops = (op, n) ∷ [];
         each = λ l there e.
-            let x : Stepped at_new op n seat l = stepped-at at_old at_new seat op n a.busy a.is few s l there e in
-            record { left = after l n; by = (x.performs, refl); there = x.there; is = x.is };
+            let x : Stepped at_new op n seat l = stepped-at at_old at_new seat op n a.busy may.alone a.is few s l there e in
+            let p : Performs l (op, n) = x.performs in
+            record { left = after (lent p.given) n; by = (p, refl); there = x.there; is = x.is };
         stands = more;
       };
       closes = λ answer ends. record {
         ops = (op, n) ∷ [];
         each = λ l there e.
-            let x : Stepped at_new op n seat l = stepped-at at_old at_new seat op n a.busy a.is few s l there e in
+            let x : Stepped at_new op n seat l = stepped-at at_old at_new seat op n a.busy may.alone a.is few s l there e in
+            let p : Performs l (op, n) = x.performs in
             record {
-              left = after l n;
+              left = after (lent p.given) n;
               by = record {
                 before = [];
                 last = l;
@@ -90,10 +93,10 @@ steps_on at_old at_new stands_old stands_new seat op n a comes s more =
     }
 
 -- where the seat is after steps
-pub here_on : {path : List (Op × ℕ) → Local → Local → Type 0} {at_old at_new : Local → Type 0} {stands_old stands_new : List (Op × ℕ) → Type 0} {old new : SeatView} → Here at_old old → Makes path at_old at_new stands_old stands_new old new → Here at_new new
-here_on h m =
-    let to = m.each h.local h.there h.is in
-    record { local = to.left; there = to.there; is = to.is }
+pub here_on : {at_old at_new : Local → Type 0} {stands_old stands_new : List (Op × ℕ) → Type 0} {old new : SeatView} → Here at_old old → Leads at_old at_new stands_old stands_new old new → Here at_new new
+here_on {at_new = at_new} {new = new} h m =
+    let to : LeadsTo (λ ops l k. Ran l ops k) at_new new m.ops h.local = m.each h.local h.there h.is in
+    record { local = to.left; there = to.there; is = to.is; staying = ran_stays h.local m.ops to.left to.by h.staying; here = ap departs (ran_call h.local m.ops to.left to.by) ∙ h.here }
 
 -- no steps
 pub leads_none : (at : Local → Type 0) (stands : List (Op × ℕ) → Type 0) (seat : SeatView) → Leads at at stands stands seat seat
@@ -106,7 +109,9 @@ leads_none at stands seat = record {
 -- steps after steps
 ran-append : (l m k : Local) (xs ys : List (Op × ℕ)) → Ran l xs m → Ran m ys k → Ran l (xs ++ ys) k
 ran-append l m k [] ys r s = subst (λ (i : Local). Ran i ys k) (sym r) s
-ran-append l m k (x ∷ xs) ys r s = (r.0, ran-append (after l x.1) m k xs ys r.1 s)
+ran-append l m k (x ∷ xs) ys r s =
+    let p : Performs l x = r.0 in
+    (p, ran-append (after (lent p.given) x.1) m k xs ys r.1 s)
 
 answered-append : (answer : Answer) (l m k : Local) (xs ys : List (Op × ℕ)) → Ran l xs m → Answered m ys answer k → Answered l (xs ++ ys) answer k
 answered-append answer l m k xs ys r a = record {

@@ -5,6 +5,7 @@ pub mod Getting
 pub mod Groups
 pub mod Histories
 pub mod Leading
+pub mod Lending
 pub mod Looks
 pub mod Makes
 pub mod RowReads

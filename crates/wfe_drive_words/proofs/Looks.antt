@@ -15,7 +15,7 @@ use Rattle.wfe_core.specs.Steps.{run_turn}
 use Rattle.wfe_core.specs.Valid.{IsValid}
 use Rattle.wfe_core.specs.declared.op.Op.{Op}
 use Rattle.wfe_core.specs.declared.post.Post.{Post}
-use Rattle.wfe_drive_cells.specs.Unit.{SeatView, seat_after}
+use Rattle.wfe_drive_cells.specs.Unit.{SeatView, kept_desk, seat_after}
 use Rattle.wfe_drive_words.specs.Called.{Here}
 use Rattle.wfe_drive_words.specs.declared.within.Looked.TheVariants.{Raised, Stands}
 use Rattle.wfe_drive_words.specs.Path.{AsksFor, Leads, StepFrom, StepsOn, Trial, held_at, looked_at, protecting, spanned, within_at}
@@ -49,7 +49,7 @@ abbrev upper_checked : Trial → ℕ → Root → (lo hi : ℕ) → Post → (li
 upper_checked t index root lo hi post link seen steps =
     let n : ℕ = bump (bump t.made) in
     let counted : Post = record (spanned post lo hi) { steps = steps } in
-    seat_after (run_turn t.why t.desk (if seen == hi then protected t.aim index root n link seen counted else goes counted [] (Protect t.aim index root n (RaiseUpper seen))))
+    seat_after (run_turn t.why (kept_desk t.desk) (if seen == hi then protected t.aim index root n link seen counted else goes counted [] (Protect t.aim index root n (RaiseUpper seen))))
 
 two : (steps : ℕ) → steps + 1 + 1 ≡ steps + 2
 two steps = omega arith

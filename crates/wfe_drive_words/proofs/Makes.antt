@@ -3,6 +3,7 @@ use Rattle.std.proofs.Common.{Bool, List, [], ap, append-nil, append_assoc, fals
 use Rattle.std.specs.Prelude.{None, Option, Some}
 use Rattle.wfe_core.specs.defs.declared.call.Answer.{Answer}
 use Rattle.wfe_core.specs.defs.declared.call.Call.{Call}
+use Rattle.wfe_core.specs.defs.declared.call.Call.TheVariants as names
 use Rattle.wfe_core.specs.defs.declared.event.Event.{Event}
 use Rattle.wfe_core.specs.Calls.{Answers, CallOutcome, CallTurn, GoesOn, Idle, Phase}
 use Rattle.wfe_core.specs.DeskHeld.{Took, desk_of}
@@ -14,14 +15,16 @@ use Rattle.wfe_core.specs.declared.desk.Desk.{Desk as HeldDesk}
 use Rattle.wfe_core.specs.declared.op.Op.{Op}
 use Rattle.wfe_core.specs.declared.post.Post.{Post}
 use Rattle.laws.specs.AnswerLaw.{suits}
-use Rattle.wfe_drive_cells.specs.Unit.{Leaves, SeatView, asked, begun_seat, phase_after, seat_left, shown, turned}
+use Rattle.wfe_call_any.specs.Stays.{stays}
+use Rattle.wfe_drive_cells.specs.Unit.{Leaves, SeatView, asked, begun_seat, kept_desk, phase_after, seat_left, shown, turned}
 use Rattle.wfe_drive_cells.proofs.Turns.{leaves}
 use Rattle.wfe_drive_words.specs.Called.{Called, Ends, Here, LeadsTo, Makes, at_phase}
-use Rattle.wfe_drive_words.specs.Comes.{Comes, Given}
+use Rattle.wfe_drive_words.specs.Comes.{Comes, Given, departs, lent}
 use Rattle.wfe_drive_words.specs.Ran.{Answered, Left, Performs, Ran}
-use Rattle.wfe_drive_words.specs.Readiness.{MayAsk, MayTake}
-use Rattle.wfe_drive_words.proofs.Groups.{left_by}
+use Rattle.wfe_drive_words.specs.Readiness.{MayAsk, MayTake, may_adopt}
+use Rattle.wfe_drive_words.proofs.Groups.{answered_call, left_by, ran_call, ran_stays}
 use Rattle.wfe_drive_words.proofs.Histories.{may_ask, may_take}
+use Rattle.wfe_drive_words.proofs.Lending.{lent_lone}
 
 -- the seat is as its code has it
 pub busy_shown : (l : Local) (seat : SeatView) (b : Bool) → shown l ≡ seat → busy_in seat.phase ≡ b → busy_in l.phase ≡ b
@@ -35,7 +38,7 @@ may_ask_at l seat c e = subst MayAsk e (may_ask l c)
 
 -- what the words' clauses say of one step, at each state
 abbrev pub Steps : (at_old at_new : Local → Type 0) (op : Op) (n : ℕ) → Type 0
-Steps at_old at_new op n = (l : Local) → at_old l → busy_in l.phase ≡ true → op ≡ asks l → Given l n × at_new (after l n)
+Steps at_old at_new op n = (l : Local) → at_old l → busy_in l.phase ≡ true → op ≡ asks l → (g : Given l n) × at_new (after (lent g) n)
 
 -- the code may make its step
 pub asks_at : (at : Local → Type 0) (seat : SeatView) (op : Op) → Here at seat → busy_in seat.phase ≡ true → op ≡ asked seat → (l : Local) × at l × (busy_in l.phase ≡ true) × (op ≡ asks l)
@@ -45,19 +48,24 @@ pub takes_at : (at_old at_new : Local → Type 0) (seat : SeatView) (op : Op) (n
 takes_at at_old at_new seat op n h b o s =
     let busy : busy_in h.local.phase ≡ true = busy_shown h.local seat true h.is b in
     let g = s h.local h.there busy (asks_shown h.local seat op h.is o) in
-    subst (λ (v : SeatView). MayTake v n) h.is (may_take h.local n g.0 busy)
+    subst (λ (v : SeatView). MayTake v n) h.is (may_take h.local n g.0 busy (h.staying busy))
+
+-- where no list is taken over the step makes of the seat what the code makes of it
+pub turned_lent : (l : Local) (n : ℕ) (g : Given l n) (seat : SeatView) → shown l ≡ seat → may_adopt seat.phase ≡ false → turned seat n ≡ turn (lent g) n
+turned_lent l n g seat e alone = ap (λ (v : SeatView). turned v n) (sym e) ∙ ap (λ (k : Local). turn k n) (sym (lent_lone g (ap (λ (v : SeatView). may_adopt v.phase) e ∙ alone)))
+
+pub shown_settled : (l : Local) (post : Post) (desk : Desk) (rounds : ℕ) (outcome : CallOutcome) → shown (settled_by l post desk rounds outcome) ≡ record { phase = phase_after outcome; post = post; desk = kept_desk desk }
+shown_settled l post desk rounds (GoesOn next) = refl
+shown_settled l post desk rounds (Answers given) = refl
 
 -- what the code took is what the step leaves of the seat
-after_shown : (l : Local) (n : ℕ) (seat : SeatView) (post : Post) (held : HeldDesk) (told : List Event) (answer : Option Answer) (phase : Phase) → shown l ≡ seat → Took (turned seat n) post held told answer phase → shown (after l n) ≡ seat_left answer phase post held
-after_shown l n seat post held told answer phase e k =
-    let same : turned seat n ≡ turn l n = ap (λ (v : SeatView). turned v n) (sym e) in
-    let t : CallTurn = turn l n in
+after_shown : (l : Local) (n : ℕ) (g : Given l n) (seat : SeatView) (post : Post) (held : HeldDesk) (told : List Event) (answer : Option Answer) (phase : Phase) → shown l ≡ seat → may_adopt seat.phase ≡ false → Took (turned seat n) post held told answer phase → shown (after (lent g) n) ≡ seat_left answer phase post held
+after_shown l n g seat post held told answer phase e alone k =
+    let from : Local = lent g in
+    let same : turned seat n ≡ turn from n = turned_lent l n g seat e alone in
+    let t : CallTurn = turn from n in
     let left : Leaves t post held told answer phase = leaves t post held told answer phase (subst (λ (x : CallTurn). Took x post held told answer phase) same k) in
-    by_outcome t.outcome ∙ sym left.seat_is
-  where
-    by_outcome : (outcome : CallOutcome) → shown (settled_by l (turn l n).post (noting (turn l n).desk (told_by (turn l n))) (rounds_told l.rounds (told_by (turn l n))) outcome) ≡ record { phase = phase_after outcome; post = (turn l n).post; desk = noting (turn l n).desk (told_by (turn l n)) }
-    by_outcome (GoesOn next) = refl
-    by_outcome (Answers given) = refl
+    shown_settled from t.post (noting t.desk (told_by t)) (rounds_told from.rounds (told_by t)) t.outcome ∙ sym left.seat_is
 
 pub took_busy : (seat : SeatView) (n : ℕ) (post : Post) (held : HeldDesk) (told : List Event) (phase : Phase) → MayTake seat n → Took (turned seat n) post held told None phase → busy_in phase ≡ true
 took_busy seat n post held told phase m k = m.goes phase k.outcome_is
@@ -65,23 +73,24 @@ took_busy seat n post held told phase m k = m.goes phase k.outcome_is
 -- one step at one state
 record Stepped (at : Local → Type 0) (op : Op) (n : ℕ) (seat : SeatView) (l : Local) : Type 0 where
   performs : Performs l (op, n)
-  there : at (after l n)
-  is : shown (after l n) ≡ seat
+  there : at (after (lent performs.given) n)
+  is : shown (after (lent performs.given) n) ≡ seat
 
-step_at : (at_old at_new : Local → Type 0) (seat : SeatView) (op : Op) (n : ℕ) (post : Post) (held : HeldDesk) (told : List Event) (answer : Option Answer) (phase : Phase) → busy_in seat.phase ≡ true → op ≡ asked seat → Steps at_old at_new op n
+step_at : (at_old at_new : Local → Type 0) (seat : SeatView) (op : Op) (n : ℕ) (post : Post) (held : HeldDesk) (told : List Event) (answer : Option Answer) (phase : Phase) → busy_in seat.phase ≡ true → may_adopt seat.phase ≡ false → op ≡ asked seat → Steps at_old at_new op n
     → Took (turned seat n) post held told answer phase → (l : Local) → at_old l → shown l ≡ seat → Stepped at_new op n (seat_left answer phase post held) l
-step_at at_old at_new seat op n post held told answer phase b o s k l a e =
+step_at at_old at_new seat op n post held told answer phase b alone o s k l a e =
     let busy : busy_in l.phase ≡ true = busy_shown l seat true e b in
     let asked_is : op ≡ asks l = asks_shown l seat op e o in
     let g = s l a busy asked_is in
-    record { performs = record { busy = busy; asked = asked_is; given = g.0 }; there = g.1; is = after_shown l n seat post held told answer phase e k }
+    record { performs = record { busy = busy; asked = asked_is; given = g.0 }; there = g.1; is = after_shown l n g.0 seat post held told answer phase e alone k }
 
 -- a state at which the seat may be after it
-pub here_after : (at_old at_new : Local → Type 0) (seat : SeatView) (op : Op) (n : ℕ) (post : Post) (held : HeldDesk) (told : List Event) (phase : Phase) → Here at_old seat → busy_in seat.phase ≡ true → op ≡ asked seat → Steps at_old at_new op n
+pub here_after : (at_old at_new : Local → Type 0) (seat : SeatView) (op : Op) (n : ℕ) (post : Post) (held : HeldDesk) (told : List Event) (phase : Phase) → Here at_old seat → busy_in seat.phase ≡ true → may_adopt seat.phase ≡ false → op ≡ asked seat → Steps at_old at_new op n
     → Took (turned seat n) post held told None phase → Here at_new (at_phase phase post held)
-here_after at_old at_new seat op n post held told phase h b o s k =
-    let x : Stepped at_new op n (at_phase phase post held) h.local = step_at at_old at_new seat op n post held told None phase b o s k h.local h.there h.is in
-    record { local = after h.local n; there = x.there; is = x.is }
+here_after at_old at_new seat op n post held told phase h b alone o s k =
+    let x : Stepped at_new op n (at_phase phase post held) h.local = step_at at_old at_new seat op n post held told None phase b alone o s k h.local h.there h.is in
+    let p : Performs h.local (op, n) = x.performs in
+    record { local = after (lent p.given) n; there = x.there; is = x.is; staying = ran_stays h.local ((op, n) ∷ []) (after (lent p.given) n) (p, refl) h.staying; here = ap departs (ran_call h.local ((op, n) ∷ []) (after (lent p.given) n) (p, refl)) ∙ h.here }
 
 -- the operations so far: none yet
 pub makes_none : (at : Local → Type 0) (stands : List (Op × ℕ) → Type 0) (seat : SeatView) → Makes (λ ops l m. Ran l ops m) at at stands stands seat seat
@@ -92,38 +101,42 @@ makes_none at stands seat = record {
 }
 
 -- and one more
-ran_on : (l : Local) (xs : List (Op × ℕ)) (m : Local) (x : Op × ℕ) → Ran l xs m → Performs m x → Ran l (xs ++ x ∷ []) (after m x.1)
-ran_on l [] m x r p = (subst (λ (k : Local). Performs k x) (sym r) p, ap (λ (k : Local). after k x.1) r)
-ran_on l (y ∷ ys) m x r p = (r.0, ran_on (after l y.1) ys m x r.1 p)
+ran_on : (l : Local) (xs : List (Op × ℕ)) (m : Local) (x : Op × ℕ) → Ran l xs m → (p : Performs m x) → Ran l (xs ++ x ∷ []) (after (lent p.given) x.1)
+ran_on l [] m x r p = subst (λ (k : Local). (q : Performs k x) → Ran l (x ∷ []) (after (lent q.given) x.1)) r (λ q. (q, refl)) p
+ran_on l (y ∷ ys) m x r p =
+    let first : Performs l y = r.0 in
+    (first, ran_on (after (lent first.given) y.1) ys m x r.1 p)
 
 stands_more : (stands0 stands1 stands2 : List (Op × ℕ) → Type 0) (ops : List (Op × ℕ)) (x : Op × ℕ) → ((xs : List (Op × ℕ)) → stands0 xs → stands1 (xs ++ ops)) → ((xs : List (Op × ℕ)) → stands1 xs → stands2 (xs ++ x ∷ []))
     → (xs : List (Op × ℕ)) → stands0 xs → stands2 (xs ++ (ops ++ x ∷ []))
 stands_more stands0 stands1 stands2 ops x f g xs s = subst stands2 (append_assoc xs ops (x ∷ [])) (g (xs ++ ops) (f xs s))
 
 pub makes_more : (at0 at1 at2 : Local → Type 0) (stands0 stands1 stands2 : List (Op × ℕ) → Type 0) (first seat : SeatView) (op : Op) (n : ℕ) (post : Post) (held : HeldDesk) (told : List Event) (phase : Phase)
-    → Makes (λ ops l m. Ran l ops m) at0 at1 stands0 stands1 first seat → busy_in seat.phase ≡ true → op ≡ asked seat → Steps at1 at2 op n → ((xs : List (Op × ℕ)) → stands1 xs → stands2 (xs ++ (op, n) ∷ []))
+    → Makes (λ ops l m. Ran l ops m) at0 at1 stands0 stands1 first seat → busy_in seat.phase ≡ true → may_adopt seat.phase ≡ false → op ≡ asked seat → Steps at1 at2 op n → ((xs : List (Op × ℕ)) → stands1 xs → stands2 (xs ++ (op, n) ∷ []))
     → Took (turned seat n) post held told None phase → Makes (λ ops l m. Ran l ops m) at0 at2 stands0 stands2 first (at_phase phase post held)
-makes_more at0 at1 at2 stands0 stands1 stands2 first seat op n post held told phase d b o s more k = record {
+makes_more at0 at1 at2 stands0 stands1 stands2 first seat op n post held told phase d b alone o s more k = record {
   ops = d.ops ++ (op, n) ∷ [];
   each = λ l a e.
       let to : LeadsTo (λ ops l m. Ran l ops m) at1 seat d.ops l = d.each l a e in
-      let x : Stepped at2 op n (at_phase phase post held) to.left = step_at at1 at2 seat op n post held told None phase b o s k to.left to.there to.is in
-      record { left = after to.left n; by = ran_on l d.ops to.left (op, n) to.by x.performs; there = x.there; is = x.is };
+      let x : Stepped at2 op n (at_phase phase post held) to.left = step_at at1 at2 seat op n post held told None phase b alone o s k to.left to.there to.is in
+      let p : Performs to.left (op, n) = x.performs in
+      record { left = after (lent p.given) n; by = ran_on l d.ops to.left (op, n) to.by x.performs; there = x.there; is = x.is };
   stands = stands_more stands0 stands1 stands2 d.ops (op, n) d.stands more;
 }
 
 -- the last one answers
 pub makes_answer : (at0 at1 at2 : Local → Type 0) (stands0 stands1 stands2 : List (Op × ℕ) → Type 0) (first seat : SeatView) (op : Op) (n : ℕ) (post : Post) (held : HeldDesk) (told : List Event) (answer : Answer) (phase : Phase)
-    → Makes (λ ops l m. Ran l ops m) at0 at1 stands0 stands1 first seat → busy_in seat.phase ≡ true → op ≡ asked seat → Steps at1 at2 op n → ((xs : List (Op × ℕ)) → stands1 xs → stands2 (xs ++ (op, n) ∷ []))
+    → Makes (λ ops l m. Ran l ops m) at0 at1 stands0 stands1 first seat → busy_in seat.phase ≡ true → may_adopt seat.phase ≡ false → op ≡ asked seat → Steps at1 at2 op n → ((xs : List (Op × ℕ)) → stands1 xs → stands2 (xs ++ (op, n) ∷ []))
     → Took (turned seat n) post held told (Some answer) phase → Makes (λ ops l m. Answered l ops answer m) at0 at2 stands0 stands2 first (at_phase Idle post held)
-makes_answer at0 at1 at2 stands0 stands1 stands2 first seat op n post held told answer phase d b o s more k = record {
+makes_answer at0 at1 at2 stands0 stands1 stands2 first seat op n post held told answer phase d b alone o s more k = record {
   ops = d.ops ++ (op, n) ∷ [];
   each = λ l a e.
       let to : LeadsTo (λ ops l m. Ran l ops m) at1 seat d.ops l = d.each l a e in
-      let x : Stepped at2 op n (at_phase Idle post held) to.left = step_at at1 at2 seat op n post held told (Some answer) phase b o s k to.left to.there to.is in
-      let same : turned seat n ≡ turn to.left n = ap (λ (v : SeatView). turned v n) (sym to.is) in
+      let x : Stepped at2 op n (at_phase Idle post held) to.left = step_at at1 at2 seat op n post held told (Some answer) phase b alone o s k to.left to.there to.is in
+      let p : Performs to.left (op, n) = x.performs in
+      let same : turned seat n ≡ turn (lent p.given) n = turned_lent to.left n p.given seat to.is alone in
       record {
-        left = after to.left n;
+        left = after (lent p.given) n;
         by = record {
           before = d.ops;
           last = to.left;
@@ -149,8 +162,13 @@ may_shown l seat call e m = ap (λ (v : SeatView). may_begin v.post.layout.confi
 
 -- the code may begin it
 pub starts_at : (at : Local → Type 0) (post : Post) (held : HeldDesk) (call : Call) → Here at (at_phase Idle post held) → may_begin post.layout.config call ≡ true
-    → (l : Local) × at l × (busy_in l.phase ≡ false) × (may_begin l.post.layout.config call ≡ true)
-starts_at at post held call h m = (h.local, h.there, busy_shown h.local (at_phase Idle post held) false h.is refl, may_shown h.local (at_phase Idle post held) call h.is m)
+    → (l : Local) × at l × (busy_in l.phase ≡ false) × (departs l.call ≡ false) × (may_begin l.post.layout.config call ≡ true)
+starts_at at post held call h m = (h.local, h.there, busy_shown h.local (at_phase Idle post held) false h.is refl, h.here, may_shown h.local (at_phase Idle post held) call h.is m)
+
+-- one who stays has not left
+stays_here : (call : Call) → stays call ≡ true → departs call ≡ false
+stays_here names.Leave s = absurd (cc)
+stays_here call s = refl
 
 -- a call begins
 begun_shown : (l : Local) (call : Call) (post : Post) (old new : HeldDesk) (phase : Phase) → shown l ≡ at_phase Idle post old → phase ≡ first_phase call (begun_post post) → desk_of new ≡ record (desk_of old) { notes = no_notes }
@@ -161,12 +179,14 @@ begun_shown l call post old new phase e p d =
     ∙ ap (λ (desk : Desk). let v : SeatView = record { phase = begins.phase; post = begins.post; desk = desk } in v) (sym d)
     ∙ ap (λ (x : Phase). let v : SeatView = record { phase = x; post = begins.post; desk = desk_of new } in v) (sym p)
 
-pub here_begun : (at_old at_new : Local → Type 0) (call : Call) (post : Post) (old new : HeldDesk) (phase : Phase) → Here at_old (at_phase Idle post old) → Starts at_old at_new call → may_begin post.layout.config call ≡ true
+pub here_begun : (at_old at_new : Local → Type 0) (call : Call) (post : Post) (old new : HeldDesk) (phase : Phase) → Here at_old (at_phase Idle post old) → Starts at_old at_new call → may_begin post.layout.config call ≡ true → stays call ≡ true
     → phase ≡ first_phase call (begun_post post) → desk_of new ≡ record (desk_of old) { notes = no_notes } → Here at_new (at_phase phase (begun_post post) new)
-here_begun at_old at_new call post old new phase h begins m p d = record {
+here_begun at_old at_new call post old new phase h begins m s p d = record {
   local = begun h.local call;
   there = begins h.local h.there (busy_shown h.local (at_phase Idle post old) false h.is refl) (may_shown h.local (at_phase Idle post old) call h.is m);
   is = begun_shown h.local call post old new phase h.is p d;
+  staying = λ b. s;
+  here = stays_here call s;
 }
 
 -- and what it has made once it is answered
@@ -188,16 +208,16 @@ pub record Over (at : Local → Type 0) (call : Call) (answer : Answer) (old : P
   pub place : SamePlace old post
   pub suits : suits call answer ≡ true
 
-pub over_by : (at0 at1 : Local → Type 0) (stands0 stands1 : List (Op × ℕ) → Type 0) (call : Call) (answer : Answer) (old : Post) (held0 : HeldDesk) (post : Post) (held : HeldDesk) → Here at0 (at_phase Idle old held0)
+pub over_by : (at0 at1 : Local → Type 0) (stands0 stands1 : List (Op × ℕ) → Type 0) (call : Call) (answer : Answer) (old : Post) (held0 : HeldDesk) (post : Post) (held : HeldDesk) → stays call ≡ true → Here at0 (at_phase Idle old held0)
     → Called call answer at0 at1 stands0 stands1 (at_phase Idle old held0) (at_phase Idle post held) → Over at1 call answer old post held
-over_by at0 at1 stands0 stands1 call answer old held0 post held h c =
+over_by at0 at1 stands0 stands1 call answer old held0 post held s h c =
     let to : LeadsTo (Ends call answer) at1 (at_phase Idle post held) c.ops h.local = c.each h.local h.there h.is in
     let e : Ends call answer c.ops h.local to.left = to.by in
     let left : Left h.local call c.ops answer to.left = e.left in
     let first : h.local.post ≡ old = ap (λ (v : SeatView). v.post) h.is in
     let last : to.left.post ≡ post = ap (λ (v : SeatView). v.post) to.is in
     record {
-      here = record { local = to.left; there = to.there; is = to.is };
+      here = record { local = to.left; there = to.there; is = to.is; staying = λ b. let no : busy_in to.left.phase ≡ false = ap busy_in left.idle in absurd (cc); here = ap departs (answered_call (begun h.local call) c.ops answer to.left e.answered) ∙ stays_here call s };
       place = subst (λ (p : Post). SamePlace p post) first (subst (λ (p : Post). SamePlace h.local.post p) last left.place);
       suits = left.may;
     }

@@ -7,7 +7,7 @@ use Rattle.wfe_core.specs.Get.{finding, found_key, get_move, got}
 use Rattle.wfe_core.specs.Locals.{Local}
 use Rattle.wfe_core.specs.Memory.{numbered}
 use Rattle.wfe_core.specs.declared.op.Op.{Op}
-use Rattle.wfe_drive_cells.specs.Unit.{SeatView, seat_after}
+use Rattle.wfe_drive_cells.specs.Unit.{SeatView, kept_desk, seat_after}
 use Rattle.wfe_drive_words.specs.Called.{Here}
 use Rattle.wfe_drive_words.specs.Path.{AsksFor, Leads, Reader, StepsOn, found_at, next_pair, reading}
 use Rattle.wfe_drive_words.proofs.Leading.{leads_as}
@@ -18,16 +18,16 @@ read_asks key r steps find layout op e h o = record { here = h; busy = refl; is 
 
 -- the same with the steps of the call in one number
 abbrev read_at : ℕ → Reader → GetAt → ℕ → SeatView
-read_at key r find n = record { phase = Works (Getting key find); post = record r.post { steps = n }; desk = r.desk }
+read_at key r find n = record { phase = Works (Getting key find); post = record r.post { steps = n }; desk = kept_desk r.desk }
 
 abbrev pair_at : ℕ → Reader → (slot version count : ℕ) → (more : Bool) → (pair n : ℕ) → SeatView
-pair_at key r slot version count more pair n = seat_after (finding key slot version count (record r.post { steps = n }) r.desk more pair)
+pair_at key r slot version count more pair n = seat_after (finding key slot version count (record r.post { steps = n }) (kept_desk r.desk) more pair)
 
 abbrev key_at : ℕ → Reader → (slot version count pair : ℕ) → (own : Bool) → (n : ℕ) → SeatView
-key_at key r slot version count pair own n = seat_after (found_key key slot version count pair (record r.post { steps = n }) r.desk own)
+key_at key r slot version count pair own n = seat_after (found_key key slot version count pair (record r.post { steps = n }) (kept_desk r.desk) own)
 
 abbrev value_at : ℕ → Reader → (version : ℕ) → Option ℕ → (n : ℕ) → SeatView
-value_at key r version value n = seat_after (got key version value (record r.post { steps = n }) r.desk [])
+value_at key r version value n = seat_after (got key version value (record r.post { steps = n }) (kept_desk r.desk) [])
 
 -- the version, and the count
 pub version_read : {at0 at1 : Local → Type 0} {stands0 stands1 : List (Op × ℕ) → Type 0} (key : ℕ) (r : Reader) (slot : ℕ) (found : ℕ) → StepsOn at0 at1 stands0 stands1 (reading key r 0 (FindVersion slot)) found

@@ -15,7 +15,7 @@ use Rattle.wfe_core.specs.Ready.{LinkFits}
 use Rattle.wfe_core.specs.Steps.{run_turn}
 use Rattle.wfe_core.specs.declared.op.Op.{Op}
 use Rattle.wfe_core.specs.declared.post.Post.{Post}
-use Rattle.wfe_drive_cells.specs.Unit.{SeatView, seat_after}
+use Rattle.wfe_drive_cells.specs.Unit.{SeatView, kept_desk, seat_after}
 use Rattle.wfe_drive_words.specs.Path.{AsksFor, Leads, Publishes, StepFrom, StepsOn, Trial, failed, held_at, protecting, publishing}
 use Rattle.wfe_drive_words.proofs.Leading.{here_on, leads_as, then_leads}
 
@@ -76,7 +76,7 @@ abbrev checked : Trial → ℕ → Root → ℕ → ℕ → ℕ → Post → ℕ
 checked t index root era link seen post steps =
     let n : ℕ = bump (bump (bump t.made)) in
     let counted : Post = record post { steps = steps } in
-    seat_after (run_turn t.why t.desk (if seen == era then protected t.aim index root n link era counted else goes counted [] (Protect t.aim index root n (PublishEra seen (failed_once t.tries)))))
+    seat_after (run_turn t.why (kept_desk t.desk) (if seen == era then protected t.aim index root n link era counted else goes counted [] (Protect t.aim index root n (PublishEra seen (failed_once t.tries)))))
 
 pub held : {at0 at1 at2 at3 : Local → Type 0} {stands0 stands1 stands2 stands3 : List (Op × ℕ) → Type 0} (t : Trial) (index : ℕ) (root : Root) (era : ℕ) (post : Post) (n link seen : ℕ) → seen ≡ era → Tries at0 at1 at2 at3 stands0 stands1 stands2 stands3 t index root era post n link seen
     → Leads at0 at3 stands0 stands3 (publishing t index root era post) (held_at t index root (bump (bump (bump t.made))) link era (t.steps + 3) post)

@@ -1,26 +1,30 @@
 -- What code that holds a seat's post and desk knows of the seat on its words, before a call and after it. Words may leave open at
 -- which state of the model the seat is, so each fact is of every state at which it may be. `at` and `stands` are those of the words.
-use Rattle.std.specs.Prelude.{List, ℕ, ◌++◌, ◌≡◌}
+use Rattle.std.specs.Prelude.{List, false, true, ℕ, ◌++◌, ◌≡◌}
 use Rattle.wfe_core.specs.defs.declared.call.Answer.{Answer}
 use Rattle.wfe_core.specs.defs.declared.call.Call.{Call}
 use Rattle.wfe_core.specs.Calls.{Phase}
 use Rattle.wfe_core.specs.DeskHeld.{desk_of}
-use Rattle.wfe_core.specs.Locals.{Local, begun}
+use Rattle.wfe_core.specs.Locals.{Local, begun, busy_in}
 use Rattle.wfe_core.specs.declared.desk.Desk.{Desk as HeldDesk}
 use Rattle.wfe_core.specs.declared.op.Op.{Op}
 use Rattle.wfe_core.specs.declared.post.Post.{Post}
+use Rattle.wfe_call_any.specs.Stays.{stays}
 use Rattle.wfe_drive_cells.specs.Unit.{SeatView, shown}
+use Rattle.wfe_drive_words.specs.Comes.{departs}
 use Rattle.wfe_drive_words.specs.Ran.{Answered, Left}
 
 -- the seat as its code has it
 abbrev pub at_phase : Phase → Post → HeldDesk → SeatView
 at_phase phase post held = record { phase = phase; post = post; desk = desk_of held }
 
--- the seat may be at a state that is as its code has it
+-- the seat may be at a state that is as its code has it; a call under way is one of a seat that stays, and it has not left
 pub record Here (at : Local → Type 0) (seat : SeatView) : Type 0 where
   pub local : Local
   pub there : at local
   pub is : shown local ≡ seat
+  pub staying : busy_in local.phase ≡ true → stays local.call ≡ true
+  pub here : departs local.call ≡ false
 
 -- from this state the operations lead to one at which the seat may be, and that is as its code has it
 pub record LeadsTo (path : List (Op × ℕ) → Local → Local → Type 0) (at : Local → Type 0) (seat : SeatView) (ops : List (Op × ℕ)) (l : Local) : Type 0 where

@@ -20,7 +20,7 @@ use Rattle.wfe_core.specs.Rounds.{opening}
 use Rattle.wfe_core.specs.Steps.{phase_turn, run_turn}
 use Rattle.wfe_core.specs.declared.op.Op.{Op}
 use Rattle.wfe_core.specs.declared.post.Post.{Post}
-use Rattle.wfe_drive_cells.specs.Unit.{SeatView, asked, seat_after}
+use Rattle.wfe_drive_cells.specs.Unit.{SeatView, asked, kept_desk, seat_after}
 use Rattle.wfe_drive_words.specs.Called.{Here, Makes}
 use Rattle.wfe_drive_words.specs.Ran.{Answered, Ran}
 use Rattle.wfe_drive_words.specs.Readiness.{MayAsk, MayTake}
@@ -80,7 +80,7 @@ pub record Trial : Type 0 where
   pub steps : ℕ
 
 abbrev pub protecting : Trial → ℕ → Root → ProtectAt → Post → SeatView
-protecting t index root at post = record { phase = Runs t.why (Protect t.aim index root t.made at); post = record post { steps = t.steps }; desk = t.desk }
+protecting t index root at post = record { phase = Runs t.why (Protect t.aim index root t.made at); post = record post { steps = t.steps }; desk = kept_desk t.desk }
 
 -- where it publishes an era
 abbrev pub publishing : Trial → ℕ → Root → ℕ → Post → SeatView
@@ -97,7 +97,7 @@ failed t = record t { made = bump (bump (bump t.made)); tries = failed_once t.tr
 
 -- the link was found at an era that was still the clock, in this step of the protection
 abbrev pub held_at : Trial → ℕ → Root → ℕ → ℕ → ℕ → ℕ → Post → SeatView
-held_at t index root n link era steps post = seat_after (run_turn t.why t.desk (protected t.aim index root n link era (record post { steps = steps })))
+held_at t index root n link era steps post = seat_after (run_turn t.why (kept_desk t.desk) (protected t.aim index root n link era (record post { steps = steps })))
 
 -- what a try leaves
 abbrev pub tried_at : Trial → ℕ → Root → ℕ → Post → Tried → SeatView
@@ -128,15 +128,15 @@ abbrev pub read_post : Reader → ℕ → Post
 read_post r steps = record r.post { steps = r.post.steps + steps }
 
 abbrev pub reading : ℕ → Reader → ℕ → GetAt → SeatView
-reading key r steps at = record { phase = Works (Getting key at); post = read_post r steps; desk = r.desk }
+reading key r steps at = record { phase = Works (Getting key at); post = read_post r steps; desk = kept_desk r.desk }
 
 -- it comes to a pair, if there is one of this number
 abbrev pub next_pair : ℕ → Reader → (steps : ℕ) → (slot version count pair : ℕ) → SeatView
-next_pair key r steps slot version count pair = seat_after (finding key slot version count (read_post r steps) r.desk (nat_lt pair count) pair)
+next_pair key r steps slot version count pair = seat_after (finding key slot version count (read_post r steps) (kept_desk r.desk) (nat_lt pair count) pair)
 
 -- the value was found, and the round ends
 abbrev pub found_at : ℕ → Reader → Found → SeatView
-found_at key r found = seat_after (got key found.version found.value (read_post r found.steps) r.desk [])
+found_at key r found = seat_after (got key found.version found.value (read_post r found.steps) (kept_desk r.desk) [])
 
 -- a get that protects the root of a bucket, after so many steps of the protection and of the call
 abbrev pub asking_trial : ℕ → Desk → (made steps : ℕ) → Trial
@@ -151,7 +151,7 @@ held_reader post bucket link desk steps = record { post = record (held_post post
 
 -- the index is to be cleared, and then comes the answer
 abbrev pub closing_at : ℕ → Reader → Found → SeatView
-closing_at key r found = record { phase = Runs (Clears (Gets key) (Answering (answers.Got found.version found.value))) (Clear 0); post = read_post r found.steps; desk = r.desk }
+closing_at key r found = record { phase = Runs (Clears (Gets key) (Answering (answers.Got found.version found.value))) (Clear 0); post = read_post r found.steps; desk = kept_desk r.desk }
 
 -- tries until so many have failed, of a protection that made a step before them
 abbrev pub asked_after : Trial → (failed : ℕ) → Trial
@@ -194,15 +194,15 @@ within_at t index root lo post n guarded = held_at t index root n guarded.link g
 
 -- an interval begins, and then a protection
 abbrev pub beginning_at : Task → Desk → Post → (steps : ℕ) → BeginAt → SeatView
-beginning_at task desk post steps at = record { phase = Runs (Opens task) (Begin at); post = record post { steps = steps }; desk = desk }
+beginning_at task desk post steps at = record { phase = Runs (Opens task) (Begin at); post = record post { steps = steps }; desk = kept_desk desk }
 
 abbrev pub begun_at : Task → Desk → Post → (steps era : ℕ) → SeatView
-begun_at task desk post steps era = record { phase = opening task (record (spanned post era era) { steps = steps }); post = record (spanned post era era) { steps = steps }; desk = desk }
+begun_at task desk post steps era = record { phase = opening task (record (spanned post era era) { steps = steps }); post = record (spanned post era era) { steps = steps }; desk = kept_desk desk }
 
 -- the interval is to end, nothing stands at index 0, and then comes the answer
 abbrev pub ending_at : ℕ → Post → Desk → (steps : ℕ) → Found → SeatView
 ending_at key post desk steps found = record {
   phase = Runs (Finishes (Gets key) (Answering (answers.Got found.version found.value))) Finish;
   post = record post { standing = slice_set post.standing 0 None; steps = steps + found.steps };
-  desk = desk;
+  desk = kept_desk desk;
 }

@@ -7,7 +7,7 @@ use Rattle.wfe_core.specs.Frames.{SamePlace}
 use Rattle.wfe_core.specs.Locals.{Local, after, asks, busy_in, turn}
 use Rattle.wfe_core.specs.declared.op.Op.{Op}
 use Rattle.laws.specs.AnswerLaw.{suits}
-use Rattle.wfe_drive_words.specs.Comes.{Given}
+use Rattle.wfe_drive_words.specs.Comes.{Given, lent}
 
 -- a seat whose call is under way performs the operation that it asks for, and a World that a history comes to gives what it found
 pub record Performs (l : Local) (operation : Op × ℕ) : Type 0 where
@@ -18,7 +18,7 @@ pub record Performs (l : Local) (operation : Op × ℕ) : Type 0 where
 -- from the first state to the last by just these operations
 abbrev pub Ran : Local → List (Op × ℕ) → Local → Type 0
 Ran l [] m = l ≡ m
-Ran l (x ∷ xs) m = Performs l x × Ran (after l x.1) xs m
+Ran l (x ∷ xs) m = (p : Performs l x) × Ran (after (lent p.given) x.1) xs m
 
 -- by these operations, of which the last one and no other ends the call, with this answer
 pub record Answered (l : Local) (ops : List (Op × ℕ)) (answer : Answer) (m : Local) : Type 0 where
@@ -28,8 +28,8 @@ pub record Answered (l : Local) (ops : List (Op × ℕ)) (answer : Answer) (m : 
   pub ops_are : ops ≡ before ++ operation ∷ []
   pub ran : Ran l before last
   pub performs : Performs last operation
-  pub answers : (turn last operation.1).outcome ≡ Answers answer
-  pub left : m ≡ after last operation.1
+  pub answers : (turn (lent performs.given) operation.1).outcome ≡ Answers answer
+  pub left : m ≡ after (lent performs.given) operation.1
 
 -- what a call that began at a state leaves of it
 pub record Left (l : Local) (call : Call) (ops : List (Op × ℕ)) (answer : Answer) (m : Local) : Type 0 where

@@ -2,7 +2,7 @@
 ghost use Rattle.std.specs.Prelude.{◌≡◌, ◌<◌, ◌++◌, ◌∷◌, [], ℕ, List, true, false};
 ghost use Rattle.wfe_core.specs.Locals.{Local, after, asks, begun, busy_in, may_begin};
 ghost use Rattle.wfe_core.specs.declared.op.Op.{Op as Operation};
-ghost use Rattle.wfe_drive_words.specs.Comes.{Comes, Given};
+ghost use Rattle.wfe_drive_words.specs.Comes.{Comes, Given, departs, lent};
 
 use wfe_core::{Call, Op};
 
@@ -32,10 +32,11 @@ pub trait Words: Drop {
     /// A history comes to each state at which the seat may be.
     ghost comes: { (w : Self) (l : Local) → valid w → at w l → Comes l };
 
-    /// A call of the seat begins, one that may begin in the table's setting. No word changes.
+    /// A call of the seat, which has not left, begins, one that may begin in the table's setting. No
+    /// word changes.
     fn start(&mut self, call: Call)
         requires valid { valid self.old }
-        requires idle { (l : Local) × at self.old l × (busy_in l.phase ≡ false)
+        requires idle { (l : Local) × at self.old l × (busy_in l.phase ≡ false) × (departs l.call ≡ false)
             × (may_begin l.post.layout.config call ≡ true) }
         ensures valid { valid self.new }
         ensures same { same self.old self.new }
@@ -51,7 +52,7 @@ pub trait Words: Drop {
         ensures valid { valid self.new }
         ensures same { same self.old self.new }
         ensures at { (l : Local) → at self.old l → busy_in l.phase ≡ true → op ≡ asks l
-            → Given l result × at self.new (after l result) }
+            → (g : Given l result) × at self.new (after (lent g) result) }
         ensures rest { rest self.new < rest self.old }
         ensures stands { (xs : List (Operation × ℕ)) → stands self.old xs
             → stands self.new (xs ++ (op, result) ∷ []) };

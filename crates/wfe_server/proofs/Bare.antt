@@ -3,11 +3,13 @@ use Rattle.std.proofs.Common.{Bool, List, [], ap, ap₂, false, if◌then◌else
 use Rattle.wfe_outside.specs.defs.declared.command.Command.{Command}
 use Rattle.wfe_outside.specs.defs.declared.command.Command.TheVariants as commands
 use Rattle.wfe_outside.specs.defs.declared.event.Event.{Event}
+use Rattle.wfe_outside.specs.defs.declared.event.Event.TheVariants as events
+use Rattle.wfe_watch.specs.Lists.{lists_after}
 use Rattle.wfe_server_replay.specs.drive_cells.Unit.{TableView, after_unit, unit_turn}
 use Rattle.wfe_core.specs.Locals.{told_by}
 use Rattle.wfe_outside.specs.declared.watcher.WatchRow.{WatchRow}
 use Rattle.wfe_server_out.specs.Pieces.{Piece, heard_of}
-use Rattle.wfe_server_replay.specs.Counts.{counted_all}
+use Rattle.wfe_server_replay.specs.Counts.{counted_all, listed_all}
 use Rattle.wfe_server_replay.specs.Playing.{Played, call_most, is_playing, played, played_out, seats_out, seats_run, unit_made, unit_out, units_made, units_out}
 use Rattle.wfe_server_replay.proofs.Entries.{heard_of-table_pieces}
 use Rattle.wfe_server.specs.declared.summary.Summary.{Summary}
@@ -21,8 +23,20 @@ none_counted : (seat : ℕ) (told : List Event) → counted_all [] seat told ≡
 none_counted seat [] = refl
 none_counted seat (event ∷ told) = none_counted seat told
 
+no_list : (seat : ℕ) (event : Event) → lists_after [] seat event ≡ []
+no_list seat (events.Retire slot birth retire) = refl
+no_list seat (events.Back slot) = refl
+no_list seat (events.Adopted place count) = refl
+no_list seat event = refl
+
+none_listed : (seat : ℕ) (told : List Event) → listed_all [] seat told ≡ []
+none_listed seat [] = refl
+none_listed seat (event ∷ told) = ap (λ (waiting : List ℕ). listed_all waiting seat told) (no_list seat event) ∙ none_listed seat told
+
 pub strip_unit : (seat : ℕ) (s : Played) → unit_made (stripped s) seat ≡ stripped (unit_made s seat)
-strip_unit seat s = ap (λ (rows : List WatchRow). let p : Played = record { table = after_unit s.table seat; garbage = rows } in p) (none_counted seat (told_by (unit_turn s.table seat)))
+strip_unit seat s =
+    ap₂ (λ (rows : List WatchRow) (waiting : List ℕ). let p : Played = record { table = after_unit s.table seat; garbage = rows; waiting = waiting } in p) (none_counted seat (told_by (unit_turn s.table seat)))
+    (none_listed seat (told_by (unit_turn s.table seat)))
 
 if_along : {X Y : Type 0} (f : X → Y) (b : Bool) (x y : X) → f (if b then x else y) ≡ (if b then f x else f y)
 if_along f true x y = refl
@@ -60,7 +74,7 @@ pub strip_heard : (line : Command) (s : Played) → heard_of (played_out line (s
 strip_heard (commands.Call seat call) s = refl
 strip_heard (commands.Step seat units) s = ap heard_of (strip_units_out units seat s)
 strip_heard (commands.Run seat) s = ap heard_of (strip_units_out call_most seat s)
-strip_heard commands.Table s = heard_of-table_pieces [] ∙ sym (heard_of-table_pieces s.garbage)
+strip_heard commands.Table s = heard_of-table_pieces [] [] ∙ sym (heard_of-table_pieces s.garbage s.waiting)
 strip_heard commands.End s = ap heard_of (strip_seats_out s.table.layout.config.seats s)
 
 -- a unit of a table that is seen without the counts

@@ -5,6 +5,7 @@ use Rattle.wfe_outside.specs.declared.watcher.WatchRow.{WatchRow}
 use Rattle.wfe_server_out.specs.Heard.{Hears, HearsSome, Seen}
 use Rattle.wfe_server_out.specs.Some.{AppendsSome}
 use Rattle.wfe_trace.specs.declared.reason.Status.TheVariants as statuses
+use Rattle.wfe_call_any.specs.Stays.{stays}
 use Rattle.wfe_server_replay.specs.Given.{IsTaken}
 use Rattle.wfe_server_replay.specs.Sunk.{outside}
 use Rattle.wfe_server_replay.specs.Watched.{watch_text}
@@ -28,7 +29,7 @@ written_back : {W : Type 0} (P : List ℕ → Type 0) (text : List W → List �
 written_back P text seed turns ds fs s d sum h = subst (λ (x : Summary). P (report x (text fs))) sum (subst (λ xs. P (report s (text xs))) d h)
 
 pub generates_done : {W : Type 0} (seen : Seen W) (shown : W → ℕ) (shows : W → ℕ → WatchRow) (seed turns : ℕ) (old new : Option (List ℕ)) (ws vs us ds : List W) (n : ℕ) (s : Summary) → ws ≡ vs → length us ≡ length vs → n ≡ length vs
-    → ds ≡ back n us vs → s ≡ summary_of (entries_of (generated seed turns)) → IsTaken (trace_of (generated seed turns)) → Hears seen ws us (entries_of (generated seed turns)) → Appends old new (report s (watch_text shown shows ds))
+    → ds ≡ back n us vs → s ≡ summary_of (entries_of (generated seed turns)) → IsTaken stays (trace_of (generated seed turns)) → Hears seen ws us (entries_of (generated seed turns)) → Appends old new (report s (watch_text shown shows ds))
     → Generates seen statuses.Done seed turns (watch_text shown shows (back n us vs)) (outside old vs) (outside new (back n us vs))
 generates_done seen shown shows seed turns old new ws vs us ds n s e l m d sum taken heard wrote = record {
   taken = taken;
@@ -39,7 +40,7 @@ generates_done seen shown shows seed turns old new ws vs us ds n s e l m d sum t
 }
 
 pub generates_fault : {W : Type 0} (seen : Seen W) (shown : W → ℕ) (shows : W → ℕ → WatchRow) (seed turns : ℕ) (old new : Option (List ℕ)) (ws vs us ds : List W) (n : ℕ) (s : Summary) → ws ≡ vs → length us ≡ length vs → n ≡ length vs
-    → ds ≡ back n us vs → s ≡ summary_of (entries_of (generated seed turns)) → IsTaken (trace_of (generated seed turns)) → Hears seen ws us (entries_of (generated seed turns)) → AppendsSome old new (report s (watch_text shown shows ds))
+    → ds ≡ back n us vs → s ≡ summary_of (entries_of (generated seed turns)) → IsTaken stays (trace_of (generated seed turns)) → Hears seen ws us (entries_of (generated seed turns)) → AppendsSome old new (report s (watch_text shown shows ds))
     → Generates seen statuses.WriteFault seed turns (watch_text shown shows (back n us vs)) (outside old vs) (outside new (back n us vs))
 generates_fault seen shown shows seed turns old new ws vs us ds n s e l m d sum taken heard wrote = record {
   taken = taken;
@@ -50,7 +51,7 @@ generates_fault seen shown shows seed turns old new ws vs us ds n s e l m d sum 
 }
 
 pub generates_nothing : {W : Type 0} (seen : Seen W) (watched : List ℕ) (seed turns : ℕ) (old : Option (List ℕ)) (ws vs us : List W) (n : ℕ) → ws ≡ vs → length us ≡ length vs → n ≡ length vs
-    → IsTaken (trace_of (generated seed turns)) → HearsSome seen ws us (entries_of (generated seed turns))
+    → IsTaken stays (trace_of (generated seed turns)) → HearsSome seen ws us (entries_of (generated seed turns))
     → Generates seen statuses.NoMemory seed turns watched (outside old vs) (outside old (back n us vs))
 generates_nothing seen watched seed turns old ws vs us n e l m taken some = record {
   taken = taken;

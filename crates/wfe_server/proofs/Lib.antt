@@ -5,5 +5,6 @@ pub mod Counted
 pub mod Going
 pub mod HandedBack
 pub mod History
+pub mod Staying
 pub mod Turning
 pub mod Written

@@ -1,6 +1,7 @@
 -- What a generated trace comes to, and what is put out of it.
 use Rattle.std.specs.Prelude.{List, ℕ, ◌≡◌}
 use Rattle.std.specs.Io.KnownBytes.{Appends}
+use Rattle.wfe_call_any.specs.Stays.{stays}
 use Rattle.wfe_outside.specs.defs.declared.command.Command.{Command}
 use Rattle.wfe_outside.specs.defs.Entry.{Entry}
 use Rattle.wfe_server_out.specs.Heard.{Hears, HearsSome, Seen}
@@ -26,7 +27,7 @@ Says seen statuses.ReadFault watched told old new = ⊥
 Says seen statuses.WriteFault watched told old new = AppendsSome old.written new.written (report (summary_of told) watched) × Hears seen old.watchers new.watchers told
 Says seen statuses.NoMemory watched told old new = (new.written ≡ old.written) × HearsSome seen old.watchers new.watchers told
 
--- The lines of so many turns of a seed are a trace that is taken, and what is put out tells of its record.
+-- The lines of so many turns of a seed are a trace of seats that stay, which is taken, and what is put out tells of its record.
 pub record Generates {W : Type 0} (seen : Seen W) (status : Status) (seed turns : ℕ) (watched : List ℕ) (old new : Outside W) : Type 0 where
-  pub taken : IsTaken (trace_of (generated seed turns))
+  pub taken : IsTaken stays (trace_of (generated seed turns))
   pub says : Says seen status watched (entries_of (generated seed turns)) old new

@@ -12,9 +12,9 @@ pub record Tally : Type 0 where
   pub played : Played
   pub summary : Summary
 
--- a table where no seat's garbage is counted
+-- a table where no seat's garbage is counted, and no list's rows are
 abbrev pub bare : TableView → Played
-bare table = record { table = table; garbage = [] }
+bare table = record { table = table; garbage = []; waiting = [] }
 
 -- the table after lines, in order
 abbrev pub lines_made : List Command → Played → Played

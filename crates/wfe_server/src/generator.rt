@@ -6,6 +6,7 @@ ghost use Rattle.wfe_server_replay.specs.drive.Reached.{first_table};
 ghost use Rattle.wfe_server.specs.Summary.{summary_of};
 ghost use Rattle.wfe_server.specs.Tally.{bare, lines_told};
 ghost use Rattle.wfe_server.specs.Turns.{generated, trace_of};
+ghost use Rattle.wfe_call_any.specs.Stays.{stays};
 ghost use Rattle.wfe_server_replay.specs.Given.{IsTaken};
 ghost use Rattle.wfe_server.specs.Generated.{Generates, entries_of};
 ghost use Rattle.wfe_outside.specs.Faults.{Rose};
@@ -28,7 +29,7 @@ fn summarize<E: Engine>(
     turns: u64,
     watchers: &mut [Box<dyn Watcher>],
 ) -> Result<Summary, NoMemory>
-    ensures taken { IsTaken (trace_of (generated seed turns)) }
+    ensures taken { IsTaken stays (trace_of (generated seed turns)) }
     ensures counted { IfOk result (λ summary. summary ≡ summary_of (entries_of (generated seed turns))) }
     ensures heard { OnOk result (Hears (boxed stands) watchers.old watchers.new (entries_of (generated seed turns))) }
     ensures some { OnErr result (HearsSome (boxed stands) watchers.old watchers.new (entries_of (generated seed turns))) }

@@ -1,5 +1,6 @@
 // A table that takes the lines of a generated trace.
 ghost use Rattle.std.specs.Prelude.{◌≡◌, ◌<◌, ◌≤◌, [], ◌∷◌, OnOk, OnErr, IfOk, true, false};
+ghost use Rattle.wfe_call_any.specs.Stays.{stays};
 ghost use Rattle.wfe_core.specs.Locals.{may_begin};
 ghost use Rattle.wfe_outside.specs.defs.Entry.{entry};
 ghost use Rattle.wfe_server_replay.specs.drive.Reached.{first_table, units_left};
@@ -23,7 +24,7 @@ use wfe_server_out::{Fault, tell, tell_all};
 use wfe_server_replay::Engine;
 use wfe_trace::Layout;
 
-/// A table with the fixed setting, and the numbers of the events that it told.
+/// A table with the fixed setting, whose seats stay, and the numbers of the events that it told.
 #[derive(Drop)]
 pub struct Table<E: Engine> {
     engine: E,
@@ -35,7 +36,11 @@ impl<E: Engine> Model for Table<E> {
 
     ghost Value = { Tally };
 
+    ghost use Rattle.wfe_server_replay.specs.drive.Reached.{IsReached};
+
     ghost view = { λ t. record { played = bare (E.table t.engine); summary = t.summary } };
+
+    ghost invariant = { λ t. IsReached (E.table t.engine) };
 }
 
 impl<E: Engine> Table<E> {
@@ -135,10 +140,13 @@ impl<E: Engine> Table<E> {
         requires seat { seat < self.old.played.table.layout.config.seats }
         requires free { is_playing seat self.old.played ≡ false }
         requires may { may_begin self.old.played.table.layout.config call ≡ true }
+        requires stays { stays call ≡ true }
         ensures after { self.new.played ≡ started self.old.played seat call }
         ensures ok { OnOk result (Tells (boxed stands) watchers.old watchers.new self.old.summary self.new.summary (told_piece (entry seat (Event.Begin call)) ∷ [])) }
         ensures err { OnErr result (HearsSome (boxed stands) watchers.old watchers.new (heard_of (told_piece (entry seat (Event.Begin call)) ∷ []))) }
     {
+        let takes = self.engine.takes(&call);
+        prove!(takes);
         self.engine.start(seat, call);
         let event = Event::Begin { call };
         self.summary.count(seat, &event);

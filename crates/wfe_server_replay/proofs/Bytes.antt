@@ -1,6 +1,6 @@
 -- What bytes in a row give, from what each gives.
 use Rattle.wfe_server_out.specs.Heard.{Seen}
-use Rattle.std.proofs.Common.{ℕ, ◌≡◌, ◌+◌, ◌<◌, List, [], ◌∷◌, ◌++◌, length, take, drop, get_or, Result, Ok, Err, refl, sym, ap, ◌∙◌, subst, append_assoc, append-nil, take-append-drop}
+use Rattle.std.proofs.Common.{Bool, ℕ, ◌≡◌, ◌+◌, ◌<◌, List, [], ◌∷◌, ◌++◌, length, take, drop, get_or, Result, Ok, Err, refl, sym, ap, ◌∙◌, subst, append_assoc, append-nil, take-append-drop}
 use Rattle.std.proofs.lemmas.List.{take_more}
 use Rattle.wfe_trace.specs.declared.reason.BadLine.{BadLine}
 use Rattle.wfe_server_replay.specs.declared.stop.Stop.{Stop}
@@ -10,6 +10,7 @@ use Rattle.wfe_server_out.specs.Pieces.{Piece}
 use Rattle.wfe_server_replay.specs.Sunk.{Outside, Puts, PutsPart, StopsAt}
 use Rattle.wfe_server_replay.specs.Trace.{Engine, Progress, after_byte, byte_output, after_bytes, bytes_output, output_of, ◌>>=◌}
 use Rattle.wfe_server_replay.proofs.Outs.{part_first, part_then, puts_trans}
+use Rattle.wfe_outside.specs.defs.declared.call.Call.{Call}
 
 pub after_bytes-append : {S : Type 0} (E : Engine S) (r : Result (Progress S) BadLine) (xs ys : List ℕ) → after_bytes E r (xs ++ ys) ≡ after_bytes E (after_bytes E r xs) ys
 after_bytes-append E r [] ys = refl
@@ -52,29 +53,29 @@ after_split : {S : Type 0} (E : Engine S) (p q : Progress S) (xs : List ℕ) (x 
 after_split E p q xs x ys before = after_bytes-append E (Ok p) xs (x ∷ ys) ∙ ap (λ t. after_bytes E (t >>= (λ s. after_byte E s x)) ys) before
 
 -- a byte at which the work stops, after those before
-pub StopsAt-more : {W : Type 0} (seen : Seen W) (stop : Stop) (p q : Progress Played) (xs : List ℕ) (x : ℕ) (ys : List ℕ) (a b c : Outside W) →
-    after_bytes player (Ok p) xs ≡ Ok q → Puts seen a b (bytes_output player (Ok p) xs) → StopsAt seen stop (after_byte player q x) b c (byte_output player q x) →
-    StopsAt seen stop (after_bytes player (Ok p) (xs ++ x ∷ ys)) a c (bytes_output player (Ok p) (xs ++ x ∷ ys))
-StopsAt-more seen (stops.Bad bad) p q xs x ys a b c before wrote (here, more) = (
-  after_split player p q xs x ys before ∙ ap (λ t. after_bytes player t ys) here ∙ after_bytes-bad player bad ys,
-  subst (Puts seen a c) (sym (output_split player p q xs x ys before ∙ ap (λ t. (bytes_output player (Ok p) xs ++ byte_output player q x) ++ bytes_output player t ys) here
-      ∙ ap (λ (t : List Piece). (bytes_output player (Ok p) xs ++ byte_output player q x) ++ t) (bytes_output-bad player bad ys) ∙ append-nil _))
+pub StopsAt-more : (makes : Call → Bool) {W : Type 0} (seen : Seen W) (stop : Stop) (p q : Progress Played) (xs : List ℕ) (x : ℕ) (ys : List ℕ) (a b c : Outside W) →
+    after_bytes (player makes) (Ok p) xs ≡ Ok q → Puts seen a b (bytes_output (player makes) (Ok p) xs) → StopsAt seen stop (after_byte (player makes) q x) b c (byte_output (player makes) q x) →
+    StopsAt seen stop (after_bytes (player makes) (Ok p) (xs ++ x ∷ ys)) a c (bytes_output (player makes) (Ok p) (xs ++ x ∷ ys))
+StopsAt-more makes seen (stops.Bad bad) p q xs x ys a b c before wrote (here, more) = (
+  after_split (player makes) p q xs x ys before ∙ ap (λ t. after_bytes (player makes) t ys) here ∙ after_bytes-bad (player makes) bad ys,
+  subst (Puts seen a c) (sym (output_split (player makes) p q xs x ys before ∙ ap (λ t. (bytes_output (player makes) (Ok p) xs ++ byte_output (player makes) q x) ++ bytes_output (player makes) t ys) here
+      ∙ ap (λ (t : List Piece). (bytes_output (player makes) (Ok p) xs ++ byte_output (player makes) q x) ++ t) (bytes_output-bad (player makes) bad ys) ∙ append-nil _))
       (puts_trans seen a b c _ _ wrote more),
 )
-StopsAt-more seen (stops.Fault fault) p q xs x ys a b c before wrote some =
-    subst (PutsPart seen a c) (sym (output_split player p q xs x ys before)) (part_first seen a c _ _ (part_then seen a b c _ _ wrote some))
+StopsAt-more makes seen (stops.Fault fault) p q xs x ys a b c before wrote some =
+    subst (PutsPart seen a c) (sym (output_split (player makes) p q xs x ys before)) (part_first seen a c _ _ (part_then seen a b c _ _ wrote some))
 
 -- up to a place, the element there, and the rest
 pub cut_at : (xs : List ℕ) (i : ℕ) → i < length xs → xs ≡ take i xs ++ get_or xs i 0 ∷ drop (i + 1) xs
 cut_at xs i within = sym (take-append-drop (i + 1) xs) ∙ ap (λ (t : List ℕ). t ++ drop (i + 1) xs) (take_more xs i 0 within) ∙ append_assoc (take i xs) (get_or xs i 0 ∷ []) (drop (i + 1) xs)
 
 -- the work stops at the byte at a place
-pub StopsAt-at : {W : Type 0} (seen : Seen W) (stop : Stop) (p q : Progress Played) (bs : List ℕ) (i : ℕ) (a b c : Outside W) → i < length bs →
-    after_bytes player (Ok p) (take i bs) ≡ Ok q → Puts seen a b (bytes_output player (Ok p) (take i bs)) → StopsAt seen stop (after_byte player q (get_or bs i 0)) b c (byte_output player q (get_or bs i 0)) →
-    StopsAt seen stop (after_bytes player (Ok p) bs) a c (bytes_output player (Ok p) bs)
-StopsAt-at seen stop p q bs i a b c within before wrote here =
-    subst (λ (xs : List ℕ). StopsAt seen stop (after_bytes player (Ok p) xs) a c (bytes_output player (Ok p) xs)) (sym (cut_at bs i within))
-    (StopsAt-more seen stop p q (take i bs) (get_or bs i 0) (drop (i + 1) bs) a b c before wrote here)
+pub StopsAt-at : (makes : Call → Bool) {W : Type 0} (seen : Seen W) (stop : Stop) (p q : Progress Played) (bs : List ℕ) (i : ℕ) (a b c : Outside W) → i < length bs →
+    after_bytes (player makes) (Ok p) (take i bs) ≡ Ok q → Puts seen a b (bytes_output (player makes) (Ok p) (take i bs)) → StopsAt seen stop (after_byte (player makes) q (get_or bs i 0)) b c (byte_output (player makes) q (get_or bs i 0)) →
+    StopsAt seen stop (after_bytes (player makes) (Ok p) bs) a c (bytes_output (player makes) (Ok p) bs)
+StopsAt-at makes seen stop p q bs i a b c within before wrote here =
+    subst (λ (xs : List ℕ). StopsAt seen stop (after_bytes (player makes) (Ok p) xs) a c (bytes_output (player makes) (Ok p) xs)) (sym (cut_at bs i within))
+    (StopsAt-more makes seen stop p q (take i bs) (get_or bs i 0) (drop (i + 1) bs) a b c before wrote here)
 
 -- the byte at a place is taken
 pub after_bytes-at : {S : Type 0} (E : Engine S) (p q r : Progress S) (bs : List ℕ) (i : ℕ) → i < length bs →

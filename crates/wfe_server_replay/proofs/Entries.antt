@@ -14,8 +14,10 @@ use Rattle.wfe_server_out.specs.Pieces.{Piece, heard_of, told_pieces}
 use Rattle.wfe_server_out.proofs.Texts.{heard_of-append}
 use Rattle.wfe_watch.specs.Counts.{row_of}
 use Rattle.wfe_watch.specs.Garbage.{garbage_rows, with_garbage}
+use Rattle.wfe_watch.specs.Lists.{lists_after, lists_told, no_lists, waiting_in}
+use Rattle.wfe_watch.proofs.ListsLemmas.{lists_told-append}
 use Rattle.wfe_watch.proofs.GarbageLemmas.{get_or-garbage_rows, rows_told}
-use Rattle.wfe_server_replay.specs.Counts.{counted_all, seat_lines, table_pieces}
+use Rattle.wfe_server_replay.specs.Counts.{counted_all, listed_all, seat_lines, table_pieces}
 use Rattle.wfe_server_replay.specs.Given.{fit_pieces, made_pieces, past_entries}
 
 -- the events of a step
@@ -56,10 +58,24 @@ rows_begun seats seat call past h =
     ∙ ap (λ (row : WatchRow). slice_set rows seat row) (sym (get_or-garbage_rows seats seat (past_entries past) (row_of 0 0 0) h))
     ∙ set-get_or rows seat (row_of 0 0 0)
 
--- watchers hear nothing of the lines of a table
-heard_of-seat_lines : (rows : List WatchRow) (seat : ℕ) → heard_of (seat_lines seat rows) ≡ []
-heard_of-seat_lines [] seat = refl
-heard_of-seat_lines (row ∷ rows) seat = heard_of-seat_lines rows _
+-- the rows in each list after the events of a step, and after the beginning of a call
+listed_by : (told : List Event) (counts : List ℕ) (seat : ℕ) → listed_all counts seat told ≡ lists_told counts (heard_of (told_pieces seat told))
+listed_by [] counts seat = refl
+listed_by (event ∷ told) counts seat = listed_by told (lists_after counts seat event) seat
 
-pub heard_of-table_pieces : (rows : List WatchRow) → heard_of (table_pieces rows) ≡ []
-heard_of-table_pieces rows = heard_of-append (seat_lines 0 rows) _ ∙ ap (λ (xs : List Entry). xs ++ []) (heard_of-seat_lines rows 0)
+pub listed_told : (told : List Event) (seats seat : ℕ) (past : Past) → listed_all (waiting_in seats (past_entries past)) seat told ≡ waiting_in seats (past_entries (tells_of past seat told))
+listed_told told seats seat past =
+    listed_by told (waiting_in seats (past_entries past)) seat
+    ∙ sym (lists_told-append (past_entries past) (heard_of (told_pieces seat told)) (no_lists seats))
+    ∙ ap (waiting_in seats) (sym (entries_told told past seat))
+
+pub lists_begun : (seats seat : ℕ) (call : Call) (past : Past) → waiting_in seats (past_entries (Then past seat (events.Begin call))) ≡ waiting_in seats (past_entries past)
+lists_begun seats seat call past = lists_told-append (past_entries past) (entry seat (events.Begin call) ∷ []) (no_lists seats)
+
+-- watchers hear nothing of the lines of a table
+heard_of-seat_lines : (rows : List WatchRow) (seat : ℕ) (waiting : List ℕ) → heard_of (seat_lines seat rows waiting) ≡ []
+heard_of-seat_lines [] seat waiting = refl
+heard_of-seat_lines (row ∷ rows) seat waiting = heard_of-seat_lines rows _ waiting
+
+pub heard_of-table_pieces : (rows : List WatchRow) (waiting : List ℕ) → heard_of (table_pieces rows waiting) ≡ []
+heard_of-table_pieces rows waiting = heard_of-append (seat_lines 0 rows waiting) _ ∙ ap (λ (xs : List Entry). xs ++ []) (heard_of-seat_lines rows 0 waiting)

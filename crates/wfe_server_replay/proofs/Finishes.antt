@@ -11,6 +11,7 @@ use Rattle.wfe_server_replay.specs.Trace.{Progress, after_bytes, after_last, aft
 use Rattle.wfe_server_replay.proofs.Lines.{Good}
 use Rattle.wfe_server_replay.proofs.Steps.{Follows, GoodIn, mapped, mapped_result}
 use Rattle.wfe_server_replay.proofs.Streams.{Shows, SoundIn, after_bytes-mapped, after_bytes-shows, after_bytes-sound, bytes_output-mapped, last-line, start-sound}
+use Rattle.wfe_outside.specs.defs.declared.call.Call.{Call}
 
 -- whether the line `end` came
 ended-mapped : (p : Progress Given) (bad : BadLine) (ended : Bool) → (if ended then Ok (mapped p) else Err bad) ≡ mapped_result (if ended then Ok p else Err bad)
@@ -21,32 +22,32 @@ at_end-mapped : (r : Result (Progress Given) BadLine) → (mapped_result r >>= a
 at_end-mapped (Ok p) = ended-mapped p (bad_line p reasons.NoEnd) p.ended
 at_end-mapped (Err bad) = refl
 
-finished-mapped : (r : Result (Progress Given) BadLine) → SoundIn r → (mapped_result r >>= finished player) ≡ mapped_result (r >>= finished keeper)
-finished-mapped (Ok p) s = ap (λ t. t >>= at_end) (last-line p s).after ∙ at_end-mapped (after_last keeper p)
-finished-mapped (Err bad) s = refl
+finished-mapped : (makes : Call → Bool) (r : Result (Progress Given) BadLine) → SoundIn makes r → (mapped_result r >>= finished (player makes)) ≡ mapped_result (r >>= finished (keeper makes))
+finished-mapped makes (Ok p) s = ap (λ t. t >>= at_end) (last-line makes p s).after ∙ at_end-mapped (after_last (keeper makes) p)
+finished-mapped makes (Err bad) s = refl
 
-pub last-mapped : (r : Result (Progress Given) BadLine) → SoundIn r → output_of (last_output player) (mapped_result r) ≡ output_of (last_output keeper) r
-last-mapped (Ok p) s = (last-line p s).output
-last-mapped (Err bad) s = refl
+pub last-mapped : (makes : Call → Bool) (r : Result (Progress Given) BadLine) → SoundIn makes r → output_of (last_output (player makes)) (mapped_result r) ≡ output_of (last_output (keeper makes)) r
+last-mapped makes (Ok p) s = (last-line makes p s).output
+last-mapped makes (Err bad) s = refl
 
 pub closing-mapped : (watched : List ℕ) (r : Result (Progress Given) BadLine) → closing watched (mapped_result r) ≡ closing watched r
 closing-mapped watched (Ok p) = refl
 closing-mapped watched (Err bad) = refl
 
-pub after_trace-mapped : (mode : Mode) (bytes : List ℕ) → after_trace player mode bytes ≡ mapped_result (after_trace keeper mode bytes)
-after_trace-mapped mode bytes =
-    ap (λ t. t >>= finished player) (after_bytes-mapped (Ok (progress_start mode)) bytes (start-sound mode))
-    ∙ finished-mapped (after_bytes keeper (Ok (progress_start mode)) bytes) (after_bytes-sound (Ok (progress_start mode)) bytes (start-sound mode))
+pub after_trace-mapped : (makes : Call → Bool) (mode : Mode) (bytes : List ℕ) → after_trace (player makes) mode bytes ≡ mapped_result (after_trace (keeper makes) mode bytes)
+after_trace-mapped makes mode bytes =
+    ap (λ t. t >>= finished (player makes)) (after_bytes-mapped makes (Ok (progress_start mode)) bytes (start-sound makes mode))
+    ∙ finished-mapped makes (after_bytes (keeper makes) (Ok (progress_start mode)) bytes) (after_bytes-sound makes (Ok (progress_start mode)) bytes (start-sound makes mode))
 
-pub lines_output-mapped : (mode : Mode) (bytes : List ℕ) → lines_output player mode bytes ≡ lines_output keeper mode bytes
-lines_output-mapped mode bytes =
-    ap₂ (λ (xs ys : List Piece). xs ++ ys) (bytes_output-mapped (Ok (progress_start mode)) bytes (start-sound mode))
-    (ap (output_of (last_output player)) (after_bytes-mapped (Ok (progress_start mode)) bytes (start-sound mode))
-    ∙ last-mapped (after_bytes keeper (Ok (progress_start mode)) bytes) (after_bytes-sound (Ok (progress_start mode)) bytes (start-sound mode)))
+pub lines_output-mapped : (makes : Call → Bool) (mode : Mode) (bytes : List ℕ) → lines_output (player makes) mode bytes ≡ lines_output (keeper makes) mode bytes
+lines_output-mapped makes mode bytes =
+    ap₂ (λ (xs ys : List Piece). xs ++ ys) (bytes_output-mapped makes (Ok (progress_start mode)) bytes (start-sound makes mode))
+    (ap (output_of (last_output (player makes))) (after_bytes-mapped makes (Ok (progress_start mode)) bytes (start-sound makes mode))
+    ∙ last-mapped makes (after_bytes (keeper makes) (Ok (progress_start mode)) bytes) (after_bytes-sound makes (Ok (progress_start mode)) bytes (start-sound makes mode)))
 
-pub trace_output-mapped : (mode : Mode) (watched bytes : List ℕ) → trace_output player mode watched bytes ≡ trace_output keeper mode watched bytes
-trace_output-mapped mode watched bytes =
-    ap₂ (λ (xs ys : List Piece). xs ++ ys) (lines_output-mapped mode bytes) (ap (closing watched) (after_trace-mapped mode bytes) ∙ closing-mapped watched (after_trace keeper mode bytes))
+pub trace_output-mapped : (makes : Call → Bool) (mode : Mode) (watched bytes : List ℕ) → trace_output (player makes) mode watched bytes ≡ trace_output (keeper makes) mode watched bytes
+trace_output-mapped makes mode watched bytes =
+    ap₂ (λ (xs ys : List Piece). xs ++ ys) (lines_output-mapped makes mode bytes) (ap (closing watched) (after_trace-mapped makes mode bytes) ∙ closing-mapped watched (after_trace (keeper makes) mode bytes))
 
 -- the same verdict, read from the table's
 pub was_good : (r : Result (Progress Given) BadLine) (q : Progress Played) → mapped_result r ≡ Ok q → (p : Progress Given) × (r ≡ Ok p)
@@ -63,28 +64,28 @@ ended_well p q bad true is h = (cc, is)
 ended_well p q bad false is h = absurd (cc)
 
 -- the keeper at the end, and what it puts out in all
-pub record AtEnd (q : Progress Given) (text : List Piece) : Type 0 where
+pub record AtEnd (makes : Call → Bool) (q : Progress Given) (text : List Piece) : Type 0 where
   pub given : Given
   pub is_given : q.engine ≡ Some given
-  pub good : Good given
+  pub good : Good makes given
   pub shown : text ≡ given_out given
 
-keeper-there : (config : Config) (q : Progress Given) (text : List Piece) (engine : Option Given) → q.engine ≡ engine → is_some engine ≡ true → GoodIn config engine → text ≡ partial_out engine → AtEnd q text
-keeper-there config q text None is there good shown = absurd (true≢false (sym there))
-keeper-there config q text (Some given) is there good shown = record { given = given; is_given = is; good = good.0; shown = shown }
+keeper-there : (makes : Call → Bool) (config : Config) (q : Progress Given) (text : List Piece) (engine : Option Given) → q.engine ≡ engine → is_some engine ≡ true → GoodIn makes config engine → text ≡ partial_out engine → AtEnd makes q text
+keeper-there makes config q text None is there good shown = absurd (true≢false (sym there))
+keeper-there makes config q text (Some given) is there good shown = record { given = given; is_given = is; good = good.0; shown = shown }
 
-last-kept : (p q : Progress Given) (text out : List Piece) (r : Result (Progress Given) BadLine) → Follows p out r → partial_out p.engine ≡ text → (r >>= at_end) ≡ Ok q → AtEnd q (text ++ out)
-last-kept p q text out (Err bad) f is h = absurd (cc)
-last-kept p q text out (Ok s) f is h =
+last-kept : (makes : Call → Bool) (p q : Progress Given) (text out : List Piece) (r : Result (Progress Given) BadLine) → Follows makes p out r → partial_out p.engine ≡ text → (r >>= at_end) ≡ Ok q → AtEnd makes q (text ++ out)
+last-kept makes p q text out (Err bad) f is h = absurd (cc)
+last-kept makes p q text out (Ok s) f is h =
     let (same, ended) = ended_well s q (bad_line s reasons.NoEnd) s.ended refl h in
-    subst (λ t. AtEnd t (text ++ out)) same (keeper-there s.reading.config s (text ++ out) s.engine refl (f.0.ended ended) f.0.good (sym (f.1 ∙ ap (λ (t : List Piece). t ++ out) is)))
+    subst (λ t. AtEnd makes t (text ++ out)) same (keeper-there makes s.reading.config s (text ++ out) s.engine refl (f.0.ended ended) f.0.good (sym (f.1 ∙ ap (λ (t : List Piece). t ++ out) is)))
 
-end-kept : (r : Result (Progress Given) BadLine) (q : Progress Given) (text : List Piece) → SoundIn r → Shows text r → (r >>= finished keeper) ≡ Ok q → AtEnd q (text ++ output_of (last_output keeper) r)
-end-kept (Ok p) q text s is h = last-kept p q text (last_output keeper p) (after_last keeper p) (last-line p s).follows is h
-end-kept (Err bad) q text s is h = absurd (cc)
+end-kept : (makes : Call → Bool) (r : Result (Progress Given) BadLine) (q : Progress Given) (text : List Piece) → SoundIn makes r → Shows text r → (r >>= finished (keeper makes)) ≡ Ok q → AtEnd makes q (text ++ output_of (last_output (keeper makes)) r)
+end-kept makes (Ok p) q text s is h = last-kept makes p q text (last_output (keeper makes) p) (after_last (keeper makes) p) (last-line makes p s).follows is h
+end-kept makes (Err bad) q text s is h = absurd (cc)
 
 -- a whole trace that is good: the keeper is there, and good, and its pieces are those of the lines
-pub trace-kept : (mode : Mode) (bytes : List ℕ) (q : Progress Given) → after_trace keeper mode bytes ≡ Ok q → AtEnd q (lines_output keeper mode bytes)
-trace-kept mode bytes q h =
-    end-kept (after_bytes keeper (Ok (progress_start mode)) bytes) q (bytes_output keeper (Ok (progress_start mode)) bytes) (after_bytes-sound (Ok (progress_start mode)) bytes (start-sound mode))
-    (after_bytes-shows (Ok (progress_start mode)) bytes [] (start-sound mode) refl) h
+pub trace-kept : (makes : Call → Bool) (mode : Mode) (bytes : List ℕ) (q : Progress Given) → after_trace (keeper makes) mode bytes ≡ Ok q → AtEnd makes q (lines_output (keeper makes) mode bytes)
+trace-kept makes mode bytes q h =
+    end-kept makes (after_bytes (keeper makes) (Ok (progress_start mode)) bytes) q (bytes_output (keeper makes) (Ok (progress_start mode)) bytes) (after_bytes-sound makes (Ok (progress_start mode)) bytes (start-sound makes mode))
+    (after_bytes-shows makes (Ok (progress_start mode)) bytes [] (start-sound makes mode) refl) h

@@ -1,3 +1,4 @@
+pub use Rattle.wfe_drive.proofs as drive
 pub mod ByteCounts
 pub mod Bytes
 pub mod Endings

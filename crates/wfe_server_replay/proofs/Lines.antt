@@ -1,27 +1,30 @@
 -- The lines of a trace, played on a table, are their one history of the model.
-use Rattle.std.proofs.Common.{List, [], ap, append-nil, append_assoc, arith, false, refl, subst, sym, ℕ, ◌++◌, ◌∙◌, ◌≡◌, ◌∷◌}
-use Rattle.std.specs.Prelude.{None}
+use Rattle.std.proofs.Common.{Bool, List, [], ap, ap₂, append-nil, append_assoc, arith, false, refl, subst, sym, true, ℕ, ◌++◌, ◌∙◌, ◌≡◌, ◌∷◌}
+use Rattle.std.specs.Prelude.{None, not}
 use Rattle.wfe_trace.specs.words.Config.{bad_field}
 use Rattle.wfe_trace.specs.words.declared.config.Config.{Config}
 use Rattle.wfe_trace.specs.words.declared.layout.Layout.{Layout}
 use Rattle.wfe_outside.specs.defs.Entry.{Entry}
+use Rattle.wfe_outside.specs.defs.declared.call.Call.{Call}
 use Rattle.wfe_outside.specs.defs.declared.command.Command.{Command}
 use Rattle.wfe_outside.specs.defs.declared.command.Command.TheVariants as commands
-use Rattle.wfe_core.specs.World.{is_busy}
-use Rattle.wfe_drive.specs.drive_cells.Unit.{Shows}
+use Rattle.wfe_core.proofs.Facts.{true_of_not}
+use Rattle.wfe_core.specs.Locals.{may_begin}
+use Rattle.wfe_core.specs.World.{World, is_busy, is_here}
+use Rattle.wfe_drive.specs.drive_cells.Unit.{Shows, is_gone}
 use Rattle.wfe_drive.specs.history.History.{Begins, Item, Made, first_made, made_from, made_of}
 use Rattle.wfe_server_out.specs.Pieces.{Piece, Text, heard_of}
 use Rattle.wfe_server_out.proofs.Texts.{heard_of-append}
 use Rattle.wfe_trace.specs.Body.{IsCommandWithin}
 use Rattle.wfe_trace.specs.Record.{header_line}
 use Rattle.wfe_server_replay.specs.Counts.{table_pieces}
-use Rattle.wfe_server_replay.specs.Given.{AreTaken, Given, IsTaken, all_items, all_run, given_garbage, given_made, given_out, given_record, given_world, items_of, keeper, layout_of, line_pieces, lines_out, made_pieces, no_lines, past_entries, with_line}
+use Rattle.wfe_server_replay.specs.Given.{AreTaken, Given, IsTaken, all_items, all_run, given_garbage, given_made, given_out, given_record, given_waiting, given_world, items_of, keeper, layout_of, line_pieces, lines_out, made_pieces, no_lines, past_entries, with_line}
 use Rattle.wfe_server_replay.specs.Playing.{Played, call_most, is_playing, opened, played, played_out, player, seats_out, seats_run}
-use Rattle.wfe_server_replay.specs.Trace.{is_refused}
+use Rattle.wfe_server_replay.specs.Trace.{why_refused}
 use Rattle.wfe_server_replay.proofs.Entries.{heard_of-table_pieces, made_entries}
-use Rattle.wfe_server_replay.proofs.Items.{pieces_fit}
-use Rattle.wfe_server_replay.proofs.Plays.{Agrees, Plays, begin_fit, begin_plays, opened_plays, playing_busy, seats_play, units_play}
-use Rattle.wfe_drive.proofs.inv.Finish.{made_along}
+use Rattle.wfe_server_replay.proofs.Items.{may_fits, pieces_fit}
+use Rattle.wfe_server_replay.proofs.Plays.{Agrees, MayFit, Plays, begin_fit, begin_plays, gone_left, opened_plays, playing_busy, seats_play, units_play}
+use Rattle.wfe_drive.proofs.inv.Finish.{Goes, made_along}
 
 -- the table after lines, in order
 abbrev pub played_all : List Command → Played → Played
@@ -68,10 +71,22 @@ lines_out-more given (first ∷ lines) line =
 given_out-more : (given : Given) (line : Command) → given_out (with_line line given) ≡ given_out given ++ line_pieces line given
 given_out-more given line = ap (λ (ps : List Piece). Text (header_line given.version given.config) ∷ ps) (lines_out-more (no_lines given.version given.config) given.lines line)
 
-taken-more : (given : Given) (lines : List Command) (line : Command) → AreTaken given lines → IsCommandWithin given.config line → is_refused keeper line (with_lines lines given) ≡ false → AreTaken given (lines ++ line ∷ [])
-taken-more given [] line taken within free = (within, subst (λ (g : Given). is_refused keeper line g ≡ false) (with_no_lines given) free, tt)
-taken-more given (first ∷ lines) line taken within free =
-    (taken.0, taken.1, taken-more (with_line first given) lines line taken.2 within (subst (λ (g : Given). is_refused keeper line g ≡ false) (sym (with_lines-first given first lines)) free))
+taken-more : (makes : Call → Bool) (given : Given) (lines : List Command) (line : Command) → AreTaken makes given lines → IsCommandWithin given.config line → (keeper makes).refuses line (with_lines lines given) ≡ None → AreTaken makes given (lines ++ line ∷ [])
+taken-more makes given [] line taken within free = (within, subst (λ (g : Given). (keeper makes).refuses line g ≡ None) (with_no_lines given) free, tt)
+taken-more makes given (first ∷ lines) line taken within free =
+    (taken.0, taken.1, taken-more makes (with_line first given) lines line taken.2 within (subst (λ (g : Given). (keeper makes).refuses line g ≡ None) (sym (with_lines-first given first lines)) free))
+
+-- a call that is not refused is made, and its seat is neither busy nor gone
+pub record IsFree (made busy gone : Bool) : Type 0 where
+  pub made_is : made ≡ true
+  pub free : busy ≡ false
+  pub here : gone ≡ false
+
+pub is_free : (made busy gone : Bool) → why_refused made busy gone ≡ None → IsFree made busy gone
+is_free true false false e = record { made_is = refl; free = refl; here = refl }
+is_free true false true e = absurd (cc)
+is_free true true gone e = absurd (cc)
+is_free false busy gone e = absurd (cc)
 
 -- what a line does to a table that plays the history so far
 record LineKept (given : Given) (line : Command) (s after : Played) (out : List Piece) : Type 0 where
@@ -86,32 +101,49 @@ units_kept given line s after out is a = record { plays = a.plays; out_is = a.ou
 seats_of : (given : Given) (s : Played) → Plays (layout_of given) (given_made given) s → s.table.layout.config.seats ≡ given.config.seats
 seats_of given s p = ap (λ (layout : Layout). layout.config.seats) (sym p.shows.layout ∙ p.goes.table)
 
-line_kept : (given : Given) (line : Command) (s : Played) → Plays (layout_of given) (given_made given) s → IsCommandWithin given.config line → is_refused keeper line given ≡ false → LineKept given line s (played line s) (played_out line s)
-line_kept given (commands.Call seat call) s p within free = record {
-  plays = begin_plays (layout_of given) (given_made given) s seat call p within.0 free within.1;
-  out_is = refl;
-  heard = ap (λ (ps : List Piece). heard_of (ps ++ [])) (sym (pieces_fit (given_made given) (Begins seat call) _ (begin_fit (layout_of given) (given_made given) seat call p.goes within.0 free within.1)));
+-- a call that is not refused may begin
+may_fit : (makes : Call → Bool) (given : Given) (seat : ℕ) (call : Call) → Goes (layout_of given) (given_world given) → IsCommandWithin given.config (commands.Call seat call) → (keeper makes).refuses (commands.Call seat call) given ≡ None → MayFit (given_made given) seat call
+may_fit makes given seat call goes within free =
+    let w : World = given_world given in
+    let r : IsFree (makes call) (is_busy w seat) (not (is_here w seat)) = is_free (makes call) (is_busy w seat) (not (is_here w seat)) free in
+    record {
+      free = r.free;
+      here = true_of_not (is_here w seat) r.here;
+      may = subst (λ (l : Layout). may_begin l.config call ≡ true) (sym goes.table) (may_fits given.config call within.1 within.2);
+    }
+
+line_kept : (makes : Call → Bool) (given : Given) (line : Command) (s : Played) → Plays (layout_of given) (given_made given) s → IsCommandWithin given.config line → (keeper makes).refuses line given ≡ None → LineKept given line s (played line s) (played_out line s)
+line_kept makes given (commands.Call seat call) s p within free =
+    let may : MayFit (given_made given) seat call = may_fit makes given seat call p.goes within free in
+    record {
+      plays = begin_plays (layout_of given) (given_made given) s seat call p within.0 may;
+      out_is = refl;
+      heard = ap (λ (ps : List Piece). heard_of (ps ++ [])) (sym (pieces_fit (given_made given) (Begins seat call) _ (begin_fit (layout_of given) (given_made given) seat call p.goes within.0 may)));
+    }
+line_kept makes given (commands.Step seat units) s p within free = units_kept given (commands.Step seat units) s _ _ refl (units_play units seat (layout_of given) (given_made given) s within.0 p)
+line_kept makes given (commands.Run seat) s p within free = units_kept given (commands.Run seat) s _ _ refl (units_play call_most seat (layout_of given) (given_made given) s within p)
+line_kept makes given commands.Table s p within free = record {
+  plays = p;
+  out_is = ap₂ table_pieces p.garbage p.waiting;
+  heard = heard_of-table_pieces (given_garbage given) (given_waiting given);
 }
-line_kept given (commands.Step seat units) s p within free = units_kept given (commands.Step seat units) s _ _ refl (units_play units seat (layout_of given) (given_made given) s within.0 p)
-line_kept given (commands.Run seat) s p within free = units_kept given (commands.Run seat) s _ _ refl (units_play call_most seat (layout_of given) (given_made given) s within p)
-line_kept given commands.Table s p within free = record { plays = p; out_is = ap table_pieces p.garbage; heard = heard_of-table_pieces (given_garbage given) }
-line_kept given commands.End s p within free =
+line_kept makes given commands.End s p within free =
     units_kept given commands.End s _ _ refl
     (subst (λ (n : ℕ). Agrees (layout_of given) (given_made given) (all_run given.config.seats) (seats_run n s) (seats_out n s)) (sym (seats_of given s p))
     (seats_play given.config.seats (layout_of given) (given_made given) s (omega arith) p))
 
 -- the lines so far were taken, the table plays their history, and what was put out told its record
-pub record Good (given : Given) : Type 0 where
-  pub taken : IsTaken given
+pub record Good (makes : Call → Bool) (given : Given) : Type 0 where
+  pub taken : IsTaken makes given
   pub plays : Plays (layout_of given) (given_made given) (played_of given)
   pub heard : heard_of (given_out given) ≡ past_entries (given_record given)
 
-pub good-opened : (version : ℕ) (config : Config) → bad_field config ≡ None → Good (no_lines version config)
-good-opened version config h = record { taken = record { config = h; lines = tt }; plays = opened_plays config h; heard = refl }
+pub good-opened : (makes : Call → Bool) (version : ℕ) (config : Config) → bad_field config ≡ None → Good makes (no_lines version config)
+good-opened makes version config h = record { taken = record { config = h; lines = tt }; plays = opened_plays config h; heard = refl }
 
 -- one line more is taken, and played as it is kept
-pub record Taken (line : Command) (given : Given) : Type 0 where
-  pub good : Good (with_line line given)
+pub record Taken (makes : Call → Bool) (line : Command) (given : Given) : Type 0 where
+  pub good : Good makes (with_line line given)
   pub after : played line (played_of given) ≡ played_of (with_line line given)
   pub tells : played_out line (played_of given) ≡ line_pieces line given
   pub text : given_out (with_line line given) ≡ given_out given ++ line_pieces line given
@@ -126,14 +158,14 @@ heard_more given line here before =
     ∙ sym (made_entries (items_of given.config.seats line) (given_made given))
     ∙ ap (λ (m : Made). past_entries m.past) (sym (made_more given line))
 
-pub taken : (line : Command) (given : Given) → IsCommandWithin given.config line → is_refused keeper line given ≡ false → Good given → Taken line given
-taken line given within free g =
-    let k : LineKept given line (played_of given) (played line (played_of given)) (played_out line (played_of given)) = line_kept given line (played_of given) g.plays within free in
-    let t : IsTaken given = g.taken in
+pub takes_line : (makes : Call → Bool) (line : Command) (given : Given) → IsCommandWithin given.config line → (keeper makes).refuses line given ≡ None → Good makes given → Taken makes line given
+takes_line makes line given within free g =
+    let k : LineKept given line (played_of given) (played line (played_of given)) (played_out line (played_of given)) = line_kept makes given line (played_of given) g.plays within free in
+    let t : IsTaken makes given = g.taken in
     let after : played line (played_of given) ≡ played_of (with_line line given) = sym (played_all-more given.lines line (opened given.config)) in
     record {
       good = record {
-        taken = record { config = t.config; lines = taken-more (no_lines given.version given.config) given.lines line t.lines within free };
+        taken = record { config = t.config; lines = taken-more makes (no_lines given.version given.config) given.lines line t.lines within free };
         plays = subst (λ (s : Played). Plays (layout_of given) (given_made (with_line line given)) s) after (subst (λ (m : Made). Plays (layout_of given) m (played line (played_of given))) (sym (made_more given line)) k.plays);
         heard = heard_more given line k.heard g.heard;
       };
@@ -143,37 +175,42 @@ taken line given within free g =
     }
 
 -- both refuse the same lines
-pub refused_same : (line : Command) (given : Given) → Good given → is_refused player line (played_of given) ≡ is_refused keeper line given
-refused_same (commands.Call seat call) given g = playing_busy (layout_of given) (given_made given) (played_of given) seat g.plays
-refused_same (commands.Step seat units) given g = refl
-refused_same (commands.Run seat) given g = refl
-refused_same commands.Table given g = refl
-refused_same commands.End given g = refl
+pub refused_same : (makes : Call → Bool) (line : Command) (given : Given) → Good makes given → (player makes).refuses line (played_of given) ≡ (keeper makes).refuses line given
+refused_same makes (commands.Call seat call) given g =
+    ap₂ (why_refused (makes call)) (playing_busy (layout_of given) (given_made given) (played_of given) seat g.plays) (gone_left (layout_of given) (given_made given) (played_of given) seat g.plays)
+refused_same makes (commands.Step seat units) given g = refl
+refused_same makes (commands.Run seat) given g = refl
+refused_same makes commands.Table given g = refl
+refused_same makes commands.End given g = refl
 
 -- lines that are taken, one after another
-good_along : (lines : List Command) (given : Given) → AreTaken given lines → Good given → Good (with_lines lines given)
-good_along [] given t g = subst Good (sym (with_no_lines given)) g
-good_along (line ∷ lines) given t g = let k : Taken line given = taken line given t.0 t.1 g in subst Good (with_lines-first given line lines) (good_along lines (with_line line given) t.2 k.good)
+good_along : (makes : Call → Bool) (lines : List Command) (given : Given) → AreTaken makes given lines → Good makes given → Good makes (with_lines lines given)
+good_along makes [] given t g = subst (Good makes) (sym (with_no_lines given)) g
+good_along makes (line ∷ lines) given t g = let k : Taken makes line given = takes_line makes line given t.0 t.1 g in subst (Good makes) (with_lines-first given line lines) (good_along makes lines (with_line line given) t.2 k.good)
 
-pub good_taken : (given : Given) → IsTaken given → Good given
-good_taken given t = good_along given.lines (no_lines given.version given.config) t.lines (good-opened given.version given.config t.config)
+pub good_taken : (makes : Call → Bool) (given : Given) → IsTaken makes given → Good makes given
+good_taken makes given t = good_along makes given.lines (no_lines given.version given.config) t.lines (good-opened makes given.version given.config t.config)
 
 -- what the table does with the lines is what the history does
-pub record Kept (given : Given) : Type 0 where
+pub record Kept (makes : Call → Bool) (given : Given) : Type 0 where
   pub shows : Shows (played_of given).table (given_world given)
   pub garbage : (played_of given).garbage ≡ given_garbage given
+  pub waiting : (played_of given).waiting ≡ given_waiting given
   pub busy : (seat : ℕ) → is_playing seat (played_of given) ≡ is_busy (given_world given) seat
-  pub out : (line : Command) → IsCommandWithin given.config line → is_refused keeper line given ≡ false → played_out line (played_of given) ≡ line_pieces line given
+  pub gone : (seat : ℕ) → is_gone (played_of given).table seat ≡ not (is_here (given_world given) seat)
+  pub out : (line : Command) → IsCommandWithin given.config line → (keeper makes).refuses line given ≡ None → played_out line (played_of given) ≡ line_pieces line given
   pub heard : heard_of (given_out given) ≡ past_entries (given_record given)
 
-pub good-kept : (given : Given) → Good given → Kept given
-good-kept given g = record {
+pub good-kept : (makes : Call → Bool) (given : Given) → Good makes given → Kept makes given
+good-kept makes given g = record {
   shows = g.plays.shows;
   garbage = g.plays.garbage;
+  waiting = g.plays.waiting;
   busy = λ seat. playing_busy (layout_of given) (given_made given) (played_of given) seat g.plays;
-  out = λ line within free. let k : Taken line given = taken line given within free g in k.tells;
+  gone = λ seat. gone_left (layout_of given) (given_made given) (played_of given) seat g.plays;
+  out = λ line within free. let k : Taken makes line given = takes_line makes line given within free g in k.tells;
   heard = g.heard;
 }
 
-pub kept : (given : Given) → IsTaken given → Kept given
-kept given t = good-kept given (good_taken given t)
+pub kept : (makes : Call → Bool) (given : Given) → IsTaken makes given → Kept makes given
+kept makes given t = good-kept makes given (good_taken makes given t)

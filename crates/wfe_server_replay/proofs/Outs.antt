@@ -15,6 +15,7 @@ use Rattle.wfe_server_out.specs.Pieces.{Piece, Text}
 use Rattle.wfe_server_out.specs.Some.{AppendsSome}
 use Rattle.wfe_server_out.proofs.Puts.{puts_along, puts_none, puts_some_more, puts_text, puts_text_some, puts_then_some}
 use Rattle.wfe_server_replay.specs.Sunk.{Outside, Puts, PutsPart, Took, outside}
+use Rattle.wfe_outside.specs.defs.declared.call.Call.{Call}
 
 pub puts_nil : {W : Type 0} (seen : Seen W) (a : Outside W) → Puts seen a a []
 puts_nil seen a = puts_none seen a.written a.watchers
@@ -39,10 +40,10 @@ pub part_of : {W : Type 0} (seen : Seen W) (old new : Option (List ℕ)) (before
 part_of seen old new before after xs ys e p = subst (PutsSome seen old new before after) e p
 
 -- what a line that was read puts out
-pub line_is : (p q : Progress Played) (item : Item) (r : Result Item BadLine) → r ≡ line_item player p → r ≡ Ok item → q ≡ line_read p → out_by player q item ≡ line_output player p
-line_is p q item r e f h = ap (λ (x : Progress Played). out_by player x item) h ∙ read p item ∙ ap (line_out player p) (sym f ∙ e)
+pub line_is : (makes : Call → Bool) (p q : Progress Played) (item : Item) (r : Result Item BadLine) → r ≡ line_item (player makes) p → r ≡ Ok item → q ≡ line_read p → out_by (player makes) q item ≡ line_output (player makes) p
+line_is makes p q item r e f h = ap (λ (x : Progress Played). out_by (player makes) x item) h ∙ read p item ∙ ap (line_out (player makes) p) (sym f ∙ e)
   where
-    read : (p : Progress Played) (item : Item) → out_by player (line_read p) item ≡ out_by player p item
+    read : (p : Progress Played) (item : Item) → out_by (player makes) (line_read p) item ≡ out_by (player makes) p item
     read p items.Setting = refl
     read p (items.Ready version config) = refl
     read p (items.Command c) = refl
@@ -51,28 +52,28 @@ pub puts_of : {W : Type 0} (seen : Seen W) (old new : Option (List ℕ)) (before
 puts_of seen old new before after xs ys e p = subst (PutsOut seen old new before after) e p
 
 -- the line feed ends the line under way
-feed_took : {T W : Type 0} (seen : Seen W) (r : Result T Stop) (p m now : Progress Played) (old new : Outside W) (o : Option Reason) → o ≡ byte_refused p 10 → o ≡ None → m ≡ counted p →
-    Took seen r (after_line player m) now old new (line_output player m) → Took seen r (after_byte player p 10) now old new (byte_output player p 10)
-feed_took seen r p m now old new o is none same took =
-    subst (λ x. Took seen r (after_good_byte player p 10 x) now old new (good_byte_output player p 10 x)) (sym none ∙ is)
-    (subst (λ (x : Progress Played). Took seen r (after_line player x) now old new (line_output player x)) same took)
+feed_took : (makes : Call → Bool) {T W : Type 0} (seen : Seen W) (r : Result T Stop) (p m now : Progress Played) (old new : Outside W) (o : Option Reason) → o ≡ byte_refused p 10 → o ≡ None → m ≡ counted p →
+    Took seen r (after_line (player makes) m) now old new (line_output (player makes) m) → Took seen r (after_byte (player makes) p 10) now old new (byte_output (player makes) p 10)
+feed_took makes seen r p m now old new o is none same took =
+    subst (λ x. Took seen r (after_good_byte (player makes) p 10 x) now old new (good_byte_output (player makes) p 10 x)) (sym none ∙ is)
+    (subst (λ (x : Progress Played). Took seen r (after_line (player makes) x) now old new (line_output (player makes) x)) same took)
 
-pub byte_took : {T W : Type 0} (seen : Seen W) (r : Result T Stop) (p m now : Progress Played) (old new : Outside W) (b : ℕ) (o : Option Reason) → b ≡ 10 → o ≡ byte_refused p b → o ≡ None → m ≡ counted p →
-    Took seen r (after_line player m) now old new (line_output player m) → Took seen r (after_byte player p b) now old new (byte_output player p b)
-byte_took seen r p m now old new b o ten is none same took =
-    subst (λ (x : ℕ). Took seen r (after_byte player p x) now old new (byte_output player p x)) (sym ten)
-    (feed_took seen r p m now old new o (is ∙ ap (byte_refused p) ten) none same took)
+pub byte_took : (makes : Call → Bool) {T W : Type 0} (seen : Seen W) (r : Result T Stop) (p m now : Progress Played) (old new : Outside W) (b : ℕ) (o : Option Reason) → b ≡ 10 → o ≡ byte_refused p b → o ≡ None → m ≡ counted p →
+    Took seen r (after_line (player makes) m) now old new (line_output (player makes) m) → Took seen r (after_byte (player makes) p b) now old new (byte_output (player makes) p b)
+byte_took makes seen r p m now old new b o ten is none same took =
+    subst (λ (x : ℕ). Took seen r (after_byte (player makes) p x) now old new (byte_output (player makes) p x)) (sym ten)
+    (feed_took makes seen r p m now old new o (is ∙ ap (byte_refused p) ten) none same took)
 
 -- bytes after the last line feed are a line
-pub last_took : {T W : Type 0} (seen : Seen W) (r : Result T Stop) (p now : Progress Played) (old new : Outside W) (none : Bool) → (length p.line == 0) ≡ none → none ≡ false →
-    Took seen r (after_line player p) now old new (line_output player p) → Took seen r (after_last player p) now old new (last_output player p)
-last_took seen r p now old new none is filled took =
-    subst (λ (x : Bool). Took seen r (if x then Ok p else after_line player p) now old new (if x then [] else line_output player p)) (sym (is ∙ filled)) took
+pub last_took : (makes : Call → Bool) {T W : Type 0} (seen : Seen W) (r : Result T Stop) (p now : Progress Played) (old new : Outside W) (none : Bool) → (length p.line == 0) ≡ none → none ≡ false →
+    Took seen r (after_line (player makes) p) now old new (line_output (player makes) p) → Took seen r (after_last (player makes) p) now old new (last_output (player makes) p)
+last_took makes seen r p now old new none is filled took =
+    subst (λ (x : Bool). Took seen r (if x then Ok p else after_line (player makes) p) now old new (if x then [] else line_output (player makes) p)) (sym (is ∙ filled)) took
 
 -- a line that was read is taken
-pub line_done : (p q s : Progress Played) (item : Item) (r : Result Item BadLine) → r ≡ line_item player p → r ≡ Ok item → q ≡ line_read p → s ≡ item_taken player q item → after_line player p ≡ Ok s
-line_done p q s item r e f h g =
-    let whole : Result (Progress Played) BadLine = Ok (item_taken player (line_read p) item) in
-    let read : after_line player p ≡ whole = ap (line_taken player p) (sym e ∙ f) in
-    let same : item_taken player (line_read p) item ≡ s = ap (λ (x : Progress Played). item_taken player x item) (sym h) ∙ sym g in
+pub line_done : (makes : Call → Bool) (p q s : Progress Played) (item : Item) (r : Result Item BadLine) → r ≡ line_item (player makes) p → r ≡ Ok item → q ≡ line_read p → s ≡ item_taken (player makes) q item → after_line (player makes) p ≡ Ok s
+line_done makes p q s item r e f h g =
+    let whole : Result (Progress Played) BadLine = Ok (item_taken (player makes) (line_read p) item) in
+    let read : after_line (player makes) p ≡ whole = ap (line_taken (player makes) p) (sym e ∙ f) in
+    let same : item_taken (player makes) (line_read p) item ≡ s = ap (λ (x : Progress Played). item_taken (player makes) x item) (sym h) ∙ sym g in
     read ∙ ap Ok same

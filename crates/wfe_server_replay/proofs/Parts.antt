@@ -12,6 +12,7 @@ use Rattle.wfe_server_replay.specs.Trace.{Engine, Progress, after_byte, after_by
 use Rattle.wfe_server_replay.proofs.Bytes.{after_bytes-bad, bytes_output-bad}
 use Rattle.wfe_server_replay.proofs.Steps.{Follows, GoodIn, Sound}
 use Rattle.wfe_server_replay.proofs.Streams.{last-line, one-byte, start-sound}
+use Rattle.wfe_outside.specs.defs.declared.call.Call.{Call}
 
 -- a bad line puts nothing out
 line_quiet : {S : Type 0} (E : Engine S) (p : Progress S) (bad : BadLine) (r : Result Item BadLine) → line_taken E p r ≡ Err bad → line_out E p r ≡ []
@@ -37,29 +38,29 @@ last_quiet : {S : Type 0} (E : Engine S) (p : Progress S) (bad : BadLine) → af
 last_quiet E p bad h = last_quiet_in E p bad (length p.line == 0) h
 
 -- a part of a trace, and the record of its lines
-record Part (q : Progress Given) (text : List Piece) : Type 0 where
-  sound : Sound q
+record Part (makes : Call → Bool) (q : Progress Given) (text : List Piece) : Type 0 where
+  sound : Sound makes q
   shown : partial_out q.engine ≡ text
 
 -- nothing more was put out
-part_still : (p : Progress Given) (text out : List Piece) → Sound p → partial_out p.engine ≡ text → out ≡ [] → Part p (text ++ out)
-part_still p text out s is none = record { sound = s; shown = is ∙ sym (append-nil text) ∙ ap (λ (t : List Piece). text ++ t) (sym none) }
+part_still : (makes : Call → Bool) (p : Progress Given) (text out : List Piece) → Sound makes p → partial_out p.engine ≡ text → out ≡ [] → Part makes p (text ++ out)
+part_still makes p text out s is none = record { sound = s; shown = is ∙ sym (append-nil text) ∙ ap (λ (t : List Piece). text ++ t) (sym none) }
 
 -- one byte more, or the first that is bad
-byte_part : (p : Progress Given) (b : ℕ) (bs : List ℕ) (text : List Piece) (r : Result (Progress Given) BadLine) → after_byte keeper p b ≡ r → Sound p → partial_out p.engine ≡ text → Follows p (byte_output keeper p b) r →
-    ((q : Progress Given) → Sound q → partial_out q.engine ≡ text ++ byte_output keeper p b → Part (good_bytes keeper q bs) ((text ++ byte_output keeper p b) ++ bytes_output keeper (Ok q) bs)) →
-    Part (go_on (λ q. good_bytes keeper q bs) p r) (text ++ (byte_output keeper p b ++ bytes_output keeper r bs))
-byte_part p b bs text (Ok q) e s is f next =
-    subst (Part (good_bytes keeper q bs)) (append_assoc text (byte_output keeper p b) (bytes_output keeper (Ok q) bs)) (next q f.0 (f.1 ∙ ap (λ (t : List Piece). t ++ byte_output keeper p b) is))
-byte_part p b bs text (Err bad) e s is f next =
-    part_still p text (byte_output keeper p b ++ bytes_output keeper (Err bad) bs) s is (ap (λ (t : List Piece). t ++ bytes_output keeper (Err bad) bs) (byte_quiet keeper p b bad e) ∙ bytes_output-bad keeper bad bs)
+byte_part : (makes : Call → Bool) (p : Progress Given) (b : ℕ) (bs : List ℕ) (text : List Piece) (r : Result (Progress Given) BadLine) → after_byte (keeper makes) p b ≡ r → Sound makes p → partial_out p.engine ≡ text → Follows makes p (byte_output (keeper makes) p b) r →
+    ((q : Progress Given) → Sound makes q → partial_out q.engine ≡ text ++ byte_output (keeper makes) p b → Part makes (good_bytes (keeper makes) q bs) ((text ++ byte_output (keeper makes) p b) ++ bytes_output (keeper makes) (Ok q) bs)) →
+    Part makes (go_on (λ q. good_bytes (keeper makes) q bs) p r) (text ++ (byte_output (keeper makes) p b ++ bytes_output (keeper makes) r bs))
+byte_part makes p b bs text (Ok q) e s is f next =
+    subst (Part makes (good_bytes (keeper makes) q bs)) (append_assoc text (byte_output (keeper makes) p b) (bytes_output (keeper makes) (Ok q) bs)) (next q f.0 (f.1 ∙ ap (λ (t : List Piece). t ++ byte_output (keeper makes) p b) is))
+byte_part makes p b bs text (Err bad) e s is f next =
+    part_still makes p text (byte_output (keeper makes) p b ++ bytes_output (keeper makes) (Err bad) bs) s is (ap (λ (t : List Piece). t ++ bytes_output (keeper makes) (Err bad) bs) (byte_quiet (keeper makes) p b bad e) ∙ bytes_output-bad (keeper makes) bad bs)
 
-bytes_part : (p : Progress Given) (bs : List ℕ) (text : List Piece) → Sound p → partial_out p.engine ≡ text → Part (good_bytes keeper p bs) (text ++ bytes_output keeper (Ok p) bs)
-bytes_part p [] text s is = part_still p text [] s is refl
-bytes_part p (b ∷ bs) text s is = byte_part p b bs text (after_byte keeper p b) refl s is (one-byte p b s).follows (λ q t e. bytes_part q bs (text ++ byte_output keeper p b) t e)
+bytes_part : (makes : Call → Bool) (p : Progress Given) (bs : List ℕ) (text : List Piece) → Sound makes p → partial_out p.engine ≡ text → Part makes (good_bytes (keeper makes) p bs) (text ++ bytes_output (keeper makes) (Ok p) bs)
+bytes_part makes p [] text s is = part_still makes p text [] s is refl
+bytes_part makes p (b ∷ bs) text s is = byte_part makes p b bs text (after_byte (keeper makes) p b) refl s is (one-byte makes p b s).follows (λ q t e. bytes_part makes q bs (text ++ byte_output (keeper makes) p b) t e)
 
-came_part : (taken : List ℕ) → Part (good_bytes keeper (progress_start modes.Replay) taken) (bytes_output keeper (Ok (progress_start modes.Replay)) taken)
-came_part taken = bytes_part (progress_start modes.Replay) taken [] (start-sound modes.Replay) refl
+came_part : (makes : Call → Bool) (taken : List ℕ) → Part makes (good_bytes (keeper makes) (progress_start modes.Replay) taken) (bytes_output (keeper makes) (Ok (progress_start modes.Replay)) taken)
+came_part makes taken = bytes_part makes (progress_start modes.Replay) taken [] (start-sound makes modes.Replay) refl
 
 -- where no byte is bad, all of them are the good ones
 good_from : {S : Type 0} (E : Engine S) (p q : Progress S) (bs : List ℕ) (r : Result (Progress S) BadLine) → ((m : Progress S) → after_bytes E (Ok m) bs ≡ Ok q → good_bytes E m bs ≡ q) → after_bytes E r bs ≡ Ok q → go_on (λ m. good_bytes E m bs) p r ≡ q
@@ -71,41 +72,41 @@ good_all E p q [] h = cc
 good_all E p q (b ∷ bs) h = good_from E p q bs (after_byte E p b) (λ m g. good_all E m q bs g) h
 
 -- the last line, which the end closes
-last_part_in : (p : Progress Given) (text : List Piece) (r : Result (Progress Given) BadLine) → after_last keeper p ≡ r → Sound p → partial_out p.engine ≡ text → Follows p (last_output keeper p) r → Part (go_on (λ q. q) p r) (text ++ last_output keeper p)
-last_part_in p text (Ok q) e s is f = record { sound = f.0; shown = f.1 ∙ ap (λ (t : List Piece). t ++ last_output keeper p) is }
-last_part_in p text (Err bad) e s is f = part_still p text (last_output keeper p) s is (last_quiet keeper p bad e)
+last_part_in : (makes : Call → Bool) (p : Progress Given) (text : List Piece) (r : Result (Progress Given) BadLine) → after_last (keeper makes) p ≡ r → Sound makes p → partial_out p.engine ≡ text → Follows makes p (last_output (keeper makes) p) r → Part makes (go_on (λ q. q) p r) (text ++ last_output (keeper makes) p)
+last_part_in makes p text (Ok q) e s is f = record { sound = f.0; shown = f.1 ∙ ap (λ (t : List Piece). t ++ last_output (keeper makes) p) is }
+last_part_in makes p text (Err bad) e s is f = part_still makes p text (last_output (keeper makes) p) s is (last_quiet (keeper makes) p bad e)
 
-last_part : (p : Progress Given) (text : List Piece) → Part p text → Part (go_on (λ q. q) p (after_last keeper p)) (text ++ last_output keeper p)
-last_part p text part = last_part_in p text (after_last keeper p) refl part.sound part.shown (last-line p part.sound).follows
+last_part : (makes : Call → Bool) (p : Progress Given) (text : List Piece) → Part makes p text → Part makes (go_on (λ q. q) p (after_last (keeper makes) p)) (text ++ last_output (keeper makes) p)
+last_part makes p text part = last_part_in makes p text (after_last (keeper makes) p) refl part.sound part.shown (last-line makes p part.sound).follows
 
-trace_part_in : (taken : List ℕ) (r : Result (Progress Given) BadLine) → came taken ≡ r →
-    Part (go_on (λ p. go_on (λ q. q) p (after_last keeper p)) (good_bytes keeper (progress_start modes.Replay) taken) r) (bytes_output keeper (Ok (progress_start modes.Replay)) taken ++ output_of (last_output keeper) r)
-trace_part_in taken (Ok p) e =
-    last_part p (bytes_output keeper (Ok (progress_start modes.Replay)) taken)
-    (subst (λ (q : Progress Given). Part q (bytes_output keeper (Ok (progress_start modes.Replay)) taken)) (good_all keeper (progress_start modes.Replay) p taken e) (came_part taken))
-trace_part_in taken (Err bad) e =
-    let part = came_part taken in
-    part_still (good_bytes keeper (progress_start modes.Replay) taken) (bytes_output keeper (Ok (progress_start modes.Replay)) taken) [] part.sound part.shown refl
+trace_part_in : (makes : Call → Bool) (taken : List ℕ) (r : Result (Progress Given) BadLine) → came makes taken ≡ r →
+    Part makes (go_on (λ p. go_on (λ q. q) p (after_last (keeper makes) p)) (good_bytes (keeper makes) (progress_start modes.Replay) taken) r) (bytes_output (keeper makes) (Ok (progress_start modes.Replay)) taken ++ output_of (last_output (keeper makes)) r)
+trace_part_in makes taken (Ok p) e =
+    last_part makes p (bytes_output (keeper makes) (Ok (progress_start modes.Replay)) taken)
+    (subst (λ (q : Progress Given). Part makes q (bytes_output (keeper makes) (Ok (progress_start modes.Replay)) taken)) (good_all (keeper makes) (progress_start modes.Replay) p taken e) (came_part makes taken))
+trace_part_in makes taken (Err bad) e =
+    let part = came_part makes taken in
+    part_still makes (good_bytes (keeper makes) (progress_start modes.Replay) taken) (bytes_output (keeper makes) (Ok (progress_start modes.Replay)) taken) [] part.sound part.shown refl
 
-trace_part : (taken : List ℕ) → Part (good_trace keeper modes.Replay taken) (lines_output keeper modes.Replay taken)
-trace_part taken = trace_part_in taken (came taken) refl
+trace_part : (makes : Call → Bool) (taken : List ℕ) → Part makes (good_trace (keeper makes) modes.Replay taken) (lines_output (keeper makes) modes.Replay taken)
+trace_part makes taken = trace_part_in makes taken (came makes taken) refl
 
-taken_of : (config : Config) (engine : Option Given) → GoodIn config engine → IsTakenIn engine
-taken_of config None g = tt
-taken_of config (Some given) g = g.0.taken
+taken_of : (makes : Call → Bool) (config : Config) (engine : Option Given) → GoodIn makes config engine → IsTakenIn makes engine
+taken_of makes config None g = tt
+taken_of makes config (Some given) g = g.0.taken
 
-sound_taken : (p : Progress Given) → Sound p → IsTakenIn p.engine
-sound_taken p s = taken_of p.reading.config p.engine s.good
+sound_taken : (makes : Call → Bool) (p : Progress Given) → Sound makes p → IsTakenIn makes p.engine
+sound_taken makes p s = taken_of makes p.reading.config p.engine s.good
 
-pub closed_taken : (taken : List ℕ) → IsTakenIn (closed_lines taken)
-closed_taken taken = sound_taken (good_bytes keeper (progress_start modes.Replay) taken) (came_part taken).sound
+pub closed_taken : (makes : Call → Bool) (taken : List ℕ) → IsTakenIn makes (closed_lines makes taken)
+closed_taken makes taken = sound_taken makes (good_bytes (keeper makes) (progress_start modes.Replay) taken) (came_part makes taken).sound
 
-pub all_taken : (taken : List ℕ) → IsTakenIn (all_lines taken)
-all_taken taken = sound_taken (good_trace keeper modes.Replay taken) (trace_part taken).sound
+pub all_taken : (makes : Call → Bool) (taken : List ℕ) → IsTakenIn makes (all_lines makes taken)
+all_taken makes taken = sound_taken makes (good_trace (keeper makes) modes.Replay taken) (trace_part makes taken).sound
 
 -- what was put out is the record of the lines that were closed, and of all
-pub closed_output : (taken : List ℕ) → bytes_output keeper (Ok (progress_start modes.Replay)) taken ≡ partial_out (closed_lines taken)
-closed_output taken = sym (came_part taken).shown
+pub closed_output : (makes : Call → Bool) (taken : List ℕ) → bytes_output (keeper makes) (Ok (progress_start modes.Replay)) taken ≡ partial_out (closed_lines makes taken)
+closed_output makes taken = sym (came_part makes taken).shown
 
-pub all_output : (taken : List ℕ) → lines_output keeper modes.Replay taken ≡ partial_out (all_lines taken)
-all_output taken = sym (trace_part taken).shown
+pub all_output : (makes : Call → Bool) (taken : List ℕ) → lines_output (keeper makes) modes.Replay taken ≡ partial_out (all_lines makes taken)
+all_output makes taken = sym (trace_part makes taken).shown

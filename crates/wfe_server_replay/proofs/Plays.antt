@@ -4,31 +4,33 @@ use Rattle.std.proofs.lemmas.Bool.Decides.{nat_tests}
 use Rattle.std.proofs.lemmas.List.{get_or_past, length-set}
 use Rattle.std.proofs.lemmas.List.FromFn.{get_or-map-range_with_len, length-map-range_with_len}
 use Rattle.std.specs.List.{range_with_len}
-use Rattle.std.specs.Prelude.{None, if◌then◌else◌, is_none, map, nat_lt}
+use Rattle.std.specs.Prelude.{None, if◌then◌else◌, is_none, map, nat_lt, not, ◌==◌}
 use Rattle.wfe_trace.specs.words.Config.{bad_field}
-use Rattle.wfe_trace.specs.words.Place.{is_valid, start_at, words}
+use Rattle.wfe_trace.specs.words.Place.{Place, is_valid, start_at, words}
+use Rattle.wfe_trace.specs.words.Place.Place.{PlaceOf}
 use Rattle.wfe_trace.specs.words.declared.config.Config.{Config}
 use Rattle.wfe_trace.specs.words.declared.layout.Layout.{Layout}
 use Rattle.wfe_outside.specs.defs.declared.call.Call.{Call}
 use Rattle.wfe_outside.specs.defs.declared.event.Event.{Event}
-use Rattle.wfe_core.specs.Locals.{told_by}
-use Rattle.wfe_core.specs.World.{World, is_busy, told_in}
+use Rattle.wfe_core.specs.Locals.{may_begin, told_by}
+use Rattle.wfe_core.specs.World.{World, is_busy, is_here, told_in}
 use Rattle.wfe_drive.specs.drive_cells.Bridge.{AsksWithin}
 use Rattle.wfe_drive.specs.drive_cells.Memory.{HoldsStart}
-use Rattle.wfe_drive.specs.drive_cells.Unit.{IsStep, Shows, after_start, after_unit, answer_in, begun_seat, fresh_seat, seat_after, seat_at, unit_turn}
-use Rattle.wfe_drive.proofs.drive_cells.Units.{busy-shown, first-start, start-begin, unit-step}
+use Rattle.wfe_drive.specs.drive_cells.Unit.{IsStep, Shows, after_start, after_unit, answer_in, begun_seat, fresh_seat, is_gone, seat_at, unit_turn}
+use Rattle.wfe_drive.proofs.drive_cells.Units.{after-length, busy-shown, first-start, start-begin, unit-step}
 use Rattle.wfe_drive.specs.Reached.{first_table}
 use Rattle.wfe_drive.specs.history.History.{Begins, Item, Made, Steps, did, done, first_made, fits, made_from, times}
 use Rattle.wfe_drive.specs.inv.Inv.{Inv}
 use Rattle.wfe_drive.proofs.inv.Inv.Kept.{inv_ready}
+use Rattle.wfe_drive.proofs.Lists.{lists_stay}
 use Rattle.wfe_outside.specs.declared.watcher.WatchRow.{WatchRow}
 use Rattle.wfe_server_out.specs.Pieces.{Piece, told_pieces}
-use Rattle.wfe_trace.specs.Body.{fits_indexes}
 use Rattle.wfe_watch.specs.Garbage.{garbage_rows}
-use Rattle.wfe_server_replay.specs.Counts.{counted_all}
+use Rattle.wfe_watch.specs.Lists.{waiting_in}
+use Rattle.wfe_server_replay.specs.Counts.{counted_all, listed_all}
 use Rattle.wfe_server_replay.specs.Given.{all_run, fit_pieces, made_pieces, past_entries}
 use Rattle.wfe_server_replay.specs.Playing.{Played, call_most, is_playing, opened, seats_out, seats_run, started, unit_made, unit_out, units_made, units_out}
-use Rattle.wfe_server_replay.proofs.Entries.{counted_told, rows_begun}
+use Rattle.wfe_server_replay.proofs.Entries.{counted_told, lists_begun, listed_told, rows_begun}
 use Rattle.wfe_server_replay.proofs.Items.{begin_fits, did_fit, made_pieces-append, pieces_fit, pieces_idle, step_fits, times_idle}
 use Rattle.wfe_drive.proofs.history.Along.{items_keep}
 use Rattle.wfe_drive.proofs.inv.Finish.{Goes, steady, made_along, in_table, first_goes}
@@ -39,6 +41,7 @@ pub record Plays (layout : Layout) (made : Made) (s : Played) : Type 0 where
   pub shows : Shows s.table made.world
   pub seats : length s.table.seats ≡ layout.config.seats
   pub garbage : s.garbage ≡ garbage_rows layout.config.seats (past_entries made.past)
+  pub waiting : s.waiting ≡ waiting_in layout.config.seats (past_entries made.past)
 
 -- more items, and what they put out
 pub record Agrees (layout : Layout) (made : Made) (items : List Item) (s : Played) (out : List Piece) : Type 0 where
@@ -47,6 +50,10 @@ pub record Agrees (layout : Layout) (made : Made) (items : List Item) (s : Playe
 
 pub playing_busy : (layout : Layout) (made : Made) (s : Played) (seat : ℕ) → Plays layout made s → is_playing seat s ≡ is_busy made.world seat
 playing_busy layout made s seat p = busy-shown s.table made.world seat p.shows
+
+-- a seat is gone where its place word in the World says so
+pub gone_left : (layout : Layout) (made : Made) (s : Played) (seat : ℕ) → Plays layout made s → is_gone s.table seat ≡ not (is_here made.world seat)
+gone_left layout made s seat p = ap (λ (mem : Place → ℕ). not (mem (PlaceOf seat) == 0)) (sym p.shows.mem)
 
 -- a seat's operation is on a word of the table
 asks_within : (layout : Layout) (w : World) (seat : ℕ) → Goes layout w → seat < layout.config.seats → AsksWithin w seat
@@ -58,31 +65,36 @@ asks_within layout w seat g h =
     record { layout = f.post.layout; there = m.there }
 
 -- one unit is a step
-unit_is_step : (layout : Layout) (made : Made) (s : Played) (seat : ℕ) → Plays layout made s → seat < layout.config.seats → IsStep (after_unit s.table seat) made.world seat (told_by (unit_turn s.table seat)) (answer_in (unit_turn s.table seat).outcome)
-unit_is_step layout made s seat p h =
-    let here : seat < length s.table.seats = subst (λ (n : ℕ). seat < n) (sym p.seats) h in
-    unit-step s.table (after_unit s.table seat) made.world seat (told_by (unit_turn s.table seat)) (answer_in (unit_turn s.table seat).outcome) (record { table_is = refl; told_is = refl; answer_is = refl }) p.shows here
-    (asks_within layout made.world seat p.goes h)
+unit_is_step : (layout : Layout) (made : Made) (s : Played) (seat : ℕ) → Plays layout made s → seat < layout.config.seats → is_busy made.world seat ≡ true → IsStep (after_unit s.table seat) made.world seat (told_by (unit_turn s.table seat)) (answer_in (unit_turn s.table seat).outcome)
+unit_is_step layout made s seat p h b =
+    let table : s.table.layout ≡ layout = sym p.shows.layout ∙ p.goes.table in
+    let length_is : length s.table.seats ≡ s.table.layout.config.seats = p.seats ∙ ap (λ (l : Layout). l.config.seats) (sym table) in
+    let here : seat < s.table.layout.config.seats = subst (λ (l : Layout). seat < l.config.seats) (sym table) h in
+    unit-step s.table (after_unit s.table seat) made.world seat (told_by (unit_turn s.table seat)) (answer_in (unit_turn s.table seat).outcome) (record { table_is = refl; told_is = refl; answer_is = refl }) p.shows length_is here
+    (asks_within layout made.world seat p.goes h) (lists_stay made.world seat b p.goes.known)
 
 step_done : (made : Made) (seat : ℕ) → seat < made.world.layout.config.seats → is_busy made.world seat ≡ true → did made (Steps seat) ≡ done made (Steps seat)
 step_done made seat h b = did_fit made (Steps seat) true (step_fits made.world seat h b)
 
 unit_plays : (layout : Layout) (made : Made) (s : Played) (seat : ℕ) → Plays layout made s → seat < layout.config.seats → is_busy made.world seat ≡ true → Plays layout (did made (Steps seat)) (unit_made s seat)
 unit_plays layout made s seat p h b =
-    let n : IsStep (after_unit s.table seat) made.world seat (told_by (unit_turn s.table seat)) (answer_in (unit_turn s.table seat).outcome) = unit_is_step layout made s seat p h in
+    let n : IsStep (after_unit s.table seat) made.world seat (told_by (unit_turn s.table seat)) (answer_in (unit_turn s.table seat).outcome) = unit_is_step layout made s seat p h b in
     let is : did made (Steps seat) ≡ done made (Steps seat) = step_done made seat (in_table layout seat made.world h p.goes) b in
     record {
       goes = items_keep (λ made. Goes layout made.world) (steady layout) (Steps seat ∷ []) made p.goes;
       shows = subst (λ (m : Made). Shows (after_unit s.table seat) m.world) (sym is) n.shows;
-      seats = length-set s.table.seats seat (seat_after (unit_turn s.table seat)) ∙ p.seats;
+      seats = after-length s.table seat ∙ p.seats;
       garbage = ap₂ (λ (rows : List WatchRow) (told : List Event). counted_all rows seat told) p.garbage n.told_is
           ∙ counted_told (told_in made.world seat) layout.config.seats seat made.past h
           ∙ ap (λ (m : Made). garbage_rows layout.config.seats (past_entries m.past)) (sym is);
+      waiting = ap₂ (λ (rows : List ℕ) (told : List Event). listed_all rows seat told) p.waiting n.told_is
+          ∙ listed_told (told_in made.world seat) layout.config.seats seat made.past
+          ∙ ap (λ (m : Made). waiting_in layout.config.seats (past_entries m.past)) (sym is);
     }
 
 unit_pieces : (layout : Layout) (made : Made) (s : Played) (seat : ℕ) → Plays layout made s → seat < layout.config.seats → is_busy made.world seat ≡ true → unit_out s seat ≡ fit_pieces made.world (Steps seat) (fits made.world (Steps seat))
 unit_pieces layout made s seat p h b =
-    let n : IsStep (after_unit s.table seat) made.world seat (told_by (unit_turn s.table seat)) (answer_in (unit_turn s.table seat).outcome) = unit_is_step layout made s seat p h in
+    let n : IsStep (after_unit s.table seat) made.world seat (told_by (unit_turn s.table seat)) (answer_in (unit_turn s.table seat).outcome) = unit_is_step layout made s seat p h b in
     ap (told_pieces seat) n.told_is ∙ sym (pieces_fit made (Steps seat) true (step_fits made.world seat (in_table layout seat made.world h p.goes) b))
 
 -- so many units of a seat
@@ -118,23 +130,29 @@ seats_play (suc n) layout made s h p =
     agrees_along layout made (all_run n) (times call_most n) (seats_run n s) (seats_run (suc n) s) (seats_out n s) (units_out call_most n (seats_run n s)) a
     (units_play call_most n layout (made_from made (all_run n)) (seats_run n s) here a.plays)
 
--- a call begins
-pub begin_fit : (layout : Layout) (made : Made) (seat : ℕ) (call : Call) → Goes layout made.world → seat < layout.config.seats → is_busy made.world seat ≡ false → fits_indexes layout.config.indexes call ≡ true → fits made.world (Begins seat call) ≡ true
-begin_fit layout made seat call g h b may = begin_fits made.world seat call (in_table layout seat made.world h g) b (subst (λ (l : Layout). fits_indexes l.config.indexes call ≡ true) (sym g.table) may)
+-- a call may begin
+pub record MayFit (made : Made) (seat : ℕ) (call : Call) : Type 0 where
+  pub free : is_busy made.world seat ≡ false
+  pub here : is_here made.world seat ≡ true
+  pub may : may_begin made.world.layout.config call ≡ true
 
-pub begin_plays : (layout : Layout) (made : Made) (s : Played) (seat : ℕ) (call : Call) → Plays layout made s → seat < layout.config.seats → is_busy made.world seat ≡ false → fits_indexes layout.config.indexes call ≡ true → Plays layout (did made (Begins seat call)) (started s seat call)
-begin_plays layout made s seat call p h b may =
+pub begin_fit : (layout : Layout) (made : Made) (seat : ℕ) (call : Call) → Goes layout made.world → seat < layout.config.seats → MayFit made seat call → fits made.world (Begins seat call) ≡ true
+begin_fit layout made seat call g h m = begin_fits made.world seat call (in_table layout seat made.world h g) m.free m.here m.may
+
+pub begin_plays : (layout : Layout) (made : Made) (s : Played) (seat : ℕ) (call : Call) → Plays layout made s → seat < layout.config.seats → MayFit made seat call → Plays layout (did made (Begins seat call)) (started s seat call)
+begin_plays layout made s seat call p h m =
     let here : seat < length s.table.seats = subst (λ (n : ℕ). seat < n) (sym p.seats) h in
-    let is : did made (Begins seat call) ≡ done made (Begins seat call) = did_fit made (Begins seat call) true (begin_fit layout made seat call p.goes h b may) in
+    let is : did made (Begins seat call) ≡ done made (Begins seat call) = did_fit made (Begins seat call) true (begin_fit layout made seat call p.goes h m) in
     record {
       goes = items_keep (λ made. Goes layout made.world) (steady layout) (Begins seat call ∷ []) made p.goes;
       shows = subst (λ (m : Made). Shows (after_start s.table seat call) m.world) (sym is) (start-begin s.table made.world seat call p.shows here);
       seats = length-set s.table.seats seat (begun_seat (seat_at s.table seat) call) ∙ p.seats;
       garbage = p.garbage ∙ sym (rows_begun layout.config.seats seat call made.past h) ∙ ap (λ (m : Made). garbage_rows layout.config.seats (past_entries m.past)) (sym is);
+      waiting = p.waiting ∙ sym (lists_begun layout.config.seats seat call made.past) ∙ ap (λ (m : Made). waiting_in layout.config.seats (past_entries m.past)) (sym is);
     }
 
 -- before the first item
-start_held : (layout : Layout) → HoldsStart layout (map (start_at layout) (range_with_len 0 (words layout)))
+pub start_held : (layout : Layout) → HoldsStart layout (map (start_at layout) (range_with_len 0 (words layout)))
 start_held layout = record {
   count = length-map-range_with_len (start_at layout) 0 (words layout);
   starts = λ word l. get_or-map-range_with_len (start_at layout) 0 (words layout) word word 0 l (omega arith);
@@ -158,4 +176,5 @@ opened_plays config h =
       shows = first-start (first_table layout) (start_held layout) (λ i. seats_fresh layout i (nat_lt i layout.config.seats) refl);
       seats = length-map-range_with_len (fresh_seat layout) 0 layout.config.seats;
       garbage = refl;
+      waiting = refl;
     }

@@ -1,5 +1,5 @@
 -- A trace under the table and under the keeper of its lines: a line does the same to both.
-use Rattle.std.proofs.Common.{Bool, Err, List, None, Ok, Option, Result, Some, [], ap, append-nil, false, if◌then◌else◌, is_some, refl, subst, sym, true, true≢false, ℕ, ◌++◌, ◌∙◌, ◌≡◌, ◌∷◌}
+use Rattle.std.proofs.Common.{Bool, Err, List, None, Ok, Option, Result, Some, [], ap, append-nil, false, is_some, refl, subst, sym, true, true≢false, ℕ, ◌++◌, ◌∙◌, ◌≡◌, ◌∷◌}
 use Rattle.wfe_trace.specs.words.Config.{bad_field}
 use Rattle.wfe_trace.specs.words.declared.config.Config.{Config}
 use Rattle.wfe_trace.specs.words.declared.config.Field.{Field}
@@ -12,7 +12,6 @@ use Rattle.wfe_trace.specs.declared.item.Stage.{Stage}
 use Rattle.wfe_trace.specs.declared.item.Stage.TheVariants as stages
 use Rattle.wfe_trace.specs.declared.reason.BadLine.{BadLine}
 use Rattle.wfe_trace.specs.declared.reason.Reason.{Reason}
-use Rattle.wfe_trace.specs.declared.reason.Reason.TheVariants as reasons
 use Rattle.wfe_trace.specs.Body.{IsCommandWithin}
 use Rattle.wfe_trace.specs.Good.{IsRead, is_body}
 use Rattle.wfe_trace.specs.Reading.{Reading, after_field, config_after, judged, reading_after, stage_after}
@@ -20,8 +19,9 @@ use Rattle.wfe_trace.specs.Record.{header_line}
 use Rattle.wfe_trace.proofs.Judged.{judged-read}
 use Rattle.wfe_server_replay.specs.Given.{Given, keeper, partial_out}
 use Rattle.wfe_server_replay.specs.Playing.{Played, player}
-use Rattle.wfe_server_replay.specs.Trace.{Progress, bad_line, is_end, is_refused, judged_item, line_item, line_out, line_taken}
-use Rattle.wfe_server_replay.proofs.Lines.{Good, Taken, good-opened, played_of, refused_same, taken}
+use Rattle.wfe_server_replay.specs.Trace.{Progress, bad_line, is_end, judged_item, line_item, line_out, line_taken, unless_refused}
+use Rattle.wfe_server_replay.proofs.Lines.{Good, Taken, good-opened, played_of, refused_same, takes_line}
+use Rattle.wfe_outside.specs.defs.declared.call.Call.{Call}
 
 -- the table in place of the keeper
 abbrev pub mapped_engine : Option Given → Option Played
@@ -36,30 +36,30 @@ mapped_result (Ok p) = Ok (mapped p)
 mapped_result (Err bad) = Err bad
 
 -- the keeper is good, and has this setting
-abbrev pub GoodIn : Config → Option Given → Type 0
-GoodIn config None = Unit {0}
-GoodIn config (Some given) = Good given × (given.config ≡ config)
+abbrev pub GoodIn : (makes : Call → Bool) → Config → Option Given → Type 0
+GoodIn makes config None = Unit {0}
+GoodIn makes config (Some given) = Good makes given × (given.config ≡ config)
 
 -- the setting is in its ranges, and the keeper is there from the line `begin` on, and good
-pub record Sound (p : Progress Given) : Type 0 where
+pub record Sound (makes : Call → Bool) (p : Progress Given) : Type 0 where
   pub held : bad_field p.reading.config ≡ None
   pub opened : is_some p.engine ≡ is_body p.reading.stage
   pub ended : p.ended ≡ true → is_some p.engine ≡ true
-  pub good : GoodIn p.reading.config p.engine
+  pub good : GoodIn makes p.reading.config p.engine
 
 -- after a line that is not bad the keeper is good still, and its text has what the line put out
-abbrev pub Follows : Progress Given → List Piece → Result (Progress Given) BadLine → Type 0
-Follows p out (Err bad) = Unit {0}
-Follows p out (Ok q) = Sound q × (partial_out q.engine ≡ partial_out p.engine ++ out)
+abbrev pub Follows : (makes : Call → Bool) → Progress Given → List Piece → Result (Progress Given) BadLine → Type 0
+Follows makes p out (Err bad) = Unit {0}
+Follows makes p out (Ok q) = Sound makes q × (partial_out q.engine ≡ partial_out p.engine ++ out)
 
 -- what a line says to each, and that both do the same
-pub record OneLine (p : Progress Given) (to_table to_keeper : Result Item BadLine) : Type 0 where
-  pub after : line_taken player (mapped p) to_table ≡ mapped_result (line_taken keeper p to_keeper)
-  pub output : line_out player (mapped p) to_table ≡ line_out keeper p to_keeper
-  pub follows : Follows p (line_out keeper p to_keeper) (line_taken keeper p to_keeper)
+pub record OneLine (makes : Call → Bool) (p : Progress Given) (to_table to_keeper : Result Item BadLine) : Type 0 where
+  pub after : line_taken (player makes) (mapped p) to_table ≡ mapped_result (line_taken (keeper makes) p to_keeper)
+  pub output : line_out (player makes) (mapped p) to_table ≡ line_out (keeper makes) p to_keeper
+  pub follows : Follows makes p (line_out (keeper makes) p to_keeper) (line_taken (keeper makes) p to_keeper)
 
-bad-line : (p : Progress Given) (bad : BadLine) → OneLine p (Err bad) (Err bad)
-bad-line p bad = record { after = refl; output = refl; follows = tt }
+bad-line : (makes : Call → Bool) (p : Progress Given) (bad : BadLine) → OneLine makes p (Err bad) (Err bad)
+bad-line makes p bad = record { after = refl; output = refl; follows = tt }
 
 -- only the lines before `begin` change the setting
 field-not_begin : (field : Field) → is_body (after_field field) ≡ true → ⊥
@@ -81,12 +81,12 @@ config-body stages.Begin config bytes h = refl
 config-body stages.Body config bytes h = refl
 
 -- a line of the setting
-none_good : (before after : Config) (engine : Option Given) → is_some engine ≡ false → GoodIn before engine → GoodIn after engine
-none_good before after None none g = tt
-none_good before after (Some given) none g = absurd (true≢false none)
+none_good : (makes : Call → Bool) (before after : Config) (engine : Option Given) → is_some engine ≡ false → GoodIn makes before engine → GoodIn makes after engine
+none_good makes before after None none g = tt
+none_good makes before after (Some given) none g = absurd (true≢false none)
 
-setting-line : (p : Progress Given) → Sound p → IsRead p.reading p.reading.stage p.line items.Setting → OneLine p (Ok items.Setting) (Ok items.Setting)
-setting-line p s r = record {
+setting-line : (makes : Call → Bool) (p : Progress Given) → Sound makes p → IsRead p.reading p.reading.stage p.line items.Setting → OneLine makes p (Ok items.Setting) (Ok items.Setting)
+setting-line makes p s r = record {
   after = refl;
   output = refl;
   follows = (
@@ -94,7 +94,7 @@ setting-line p s r = record {
       held = r.within s.held;
       opened = s.opened ∙ r.placed.0 ∙ sym r.placed.1;
       ended = s.ended;
-      good = none_good p.reading.config (config_after p.reading.stage p.reading.config p.line) p.engine (s.opened ∙ r.placed.0) s.good;
+      good = none_good makes p.reading.config (config_after p.reading.stage p.reading.config p.line) p.engine (s.opened ∙ r.placed.0) s.good;
     },
     sym (append-nil (partial_out p.engine)),
   );
@@ -105,9 +105,9 @@ opened_out : (header : List ℕ) (engine : Option Given) → is_some engine ≡ 
 opened_out header None none = refl
 opened_out header (Some given) none = absurd (true≢false none)
 
-ready-line : (p : Progress Given) (version : ℕ) (config : Config) → Sound p → IsRead p.reading p.reading.stage p.line (items.Ready version config) →
-    OneLine p (Ok (items.Ready version config)) (Ok (items.Ready version config))
-ready-line p version config s r =
+ready-line : (makes : Call → Bool) (p : Progress Given) (version : ℕ) (config : Config) → Sound makes p → IsRead p.reading p.reading.stage p.line (items.Ready version config) →
+    OneLine makes p (Ok (items.Ready version config)) (Ok (items.Ready version config))
+ready-line makes p version config s r =
     let held : bad_field config ≡ None = subst (λ (c : Config). bad_field c ≡ None) (sym r.placed.2) s.held in
     record {
       after = refl;
@@ -117,16 +117,16 @@ ready-line p version config s r =
           held = r.within s.held;
           opened = sym r.placed.1;
           ended = λ ended. refl;
-          good = (good-opened version config held, r.placed.2 ∙ config-body p.reading.stage p.reading.config p.line r.placed.1);
+          good = (good-opened makes version config held, r.placed.2 ∙ config-body p.reading.stage p.reading.config p.line r.placed.1);
         },
         opened_out (header_line version config) p.engine (s.opened ∙ r.placed.0),
       );
     }
 
 -- a line of the body
-command_done : (r : Reading) (line : List ℕ) (n : ℕ) (ended : Bool) (given : Given) (c : Command) → IsRead r r.stage line (items.Command c) → bad_field r.config ≡ None → given.config ≡ r.config → Taken c given →
-    OneLine (record { reading = r; line = line; count = n; ended = ended; engine = Some given }) (Ok (items.Command c)) (Ok (items.Command c))
-command_done r line n ended given c read held same t = record {
+command_done : (makes : Call → Bool) (r : Reading) (line : List ℕ) (n : ℕ) (ended : Bool) (given : Given) (c : Command) → IsRead r r.stage line (items.Command c) → bad_field r.config ≡ None → given.config ≡ r.config → Taken makes c given →
+    OneLine makes (record { reading = r; line = line; count = n; ended = ended; engine = Some given }) (Ok (items.Command c)) (Ok (items.Command c))
+command_done makes r line n ended given c read held same t = record {
   after = ap (λ (s : Played). let q : Progress Played = record { reading = reading_after r line; line = []; count = n; ended = is_end c; engine = Some s } in
       let good : Result (Progress Played) BadLine = Ok q in good) t.after;
   output = t.tells;
@@ -137,36 +137,33 @@ command_done r line n ended given c read held same t = record {
 }
 
 -- both refuse a line, or neither does
-refused-line : (p : Progress Given) (bad : BadLine) (item : Item) (by_table by_keeper : Bool) → by_table ≡ by_keeper → (by_keeper ≡ false → OneLine p (Ok item) (Ok item)) →
-    OneLine p (if by_table then Err bad else Ok item) (if by_keeper then Err bad else Ok item)
-refused-line p bad item true true same good = bad-line p bad
-refused-line p bad item false false same good = good refl
-refused-line p bad item true false same good = absurd (true≢false same)
-refused-line p bad item false true same good = absurd (true≢false (sym same))
+refused-line : (makes : Call → Bool) (p : Progress Given) (item : Item) (why : Option Reason) → (why ≡ None → OneLine makes p (Ok item) (Ok item)) → OneLine makes p (unless_refused (mapped p) item why) (unless_refused p item why)
+refused-line makes p item (Some reason) good = bad-line makes p (bad_line p reason)
+refused-line makes p item None good = good refl
 
 -- a trace at a line, with this keeper
 abbrev at_line : Reading → List ℕ → ℕ → Bool → Option Given → Progress Given
 at_line r line n ended engine = record { reading = r; line = line; count = n; ended = ended; engine = engine }
 
-command-line : (r : Reading) (line : List ℕ) (n : ℕ) (ended : Bool) (engine : Option Given) (c : Command) → IsRead r r.stage line (items.Command c) → Sound (at_line r line n ended engine) →
-    OneLine (at_line r line n ended engine) (judged_item player (mapped (at_line r line n ended engine)) (Ok (items.Command c))) (judged_item keeper (at_line r line n ended engine) (Ok (items.Command c)))
-command-line r line n ended None c read sound = absurd (true≢false (sym (sound.opened ∙ read.placed.0)))
-command-line r line n ended (Some given) c read sound =
+command-line : (makes : Call → Bool) (r : Reading) (line : List ℕ) (n : ℕ) (ended : Bool) (engine : Option Given) (c : Command) → IsRead r r.stage line (items.Command c) → Sound makes (at_line r line n ended engine) →
+    OneLine makes (at_line r line n ended engine) (judged_item (player makes) (mapped (at_line r line n ended engine)) (Ok (items.Command c))) (judged_item (keeper makes) (at_line r line n ended engine) (Ok (items.Command c)))
+command-line makes r line n ended None c read sound = absurd (true≢false (sym (sound.opened ∙ read.placed.0)))
+command-line makes r line n ended (Some given) c read sound =
     let same : given.config ≡ r.config = sound.good.1 in
     let within : IsCommandWithin given.config c = subst (λ (config : Config). IsCommandWithin config c) (sym same) read.placed.2 in
-    refused-line (at_line r line n ended (Some given)) (bad_line (at_line r line n ended (Some given)) reasons.Busy) (items.Command c) (is_refused player c (played_of given)) (is_refused keeper c given)
-    (refused_same c given sound.good.0)
-    (λ free. command_done r line n ended given c read sound.held same (taken c given within free sound.good.0))
+    subst (λ (why : Option Reason). OneLine makes (at_line r line n ended (Some given)) (unless_refused (mapped (at_line r line n ended (Some given))) (items.Command c) why) (unless_refused (at_line r line n ended (Some given)) (items.Command c) ((keeper makes).refuses c given))) (sym (refused_same makes c given sound.good.0))
+    (refused-line makes (at_line r line n ended (Some given)) (items.Command c) ((keeper makes).refuses c given)
+    (λ free. command_done makes r line n ended given c read sound.held same (takes_line makes c given within free sound.good.0)))
 
 -- the line under way
-found-line : (p : Progress Given) (item : Item) → Sound p → IsRead p.reading p.reading.stage p.line item → OneLine p (judged_item player (mapped p) (Ok item)) (judged_item keeper p (Ok item))
-found-line p items.Setting s read = setting-line p s read
-found-line p (items.Ready version config) s read = ready-line p version config s read
-found-line p (items.Command c) s read = command-line p.reading p.line p.count p.ended p.engine c read s
+found-line : (makes : Call → Bool) (p : Progress Given) (item : Item) → Sound makes p → IsRead p.reading p.reading.stage p.line item → OneLine makes p (judged_item (player makes) (mapped p) (Ok item)) (judged_item (keeper makes) p (Ok item))
+found-line makes p items.Setting s read = setting-line makes p s read
+found-line makes p (items.Ready version config) s read = ready-line makes p version config s read
+found-line makes p (items.Command c) s read = command-line makes p.reading p.line p.count p.ended p.engine c read s
 
-judged-line : (p : Progress Given) (found : Result Item Reason) → judged p.reading p.line ≡ found → Sound p → OneLine p (judged_item player (mapped p) found) (judged_item keeper p found)
-judged-line p (Ok item) is s = found-line p item s (judged-read p.reading p.line item is)
-judged-line p (Err reason) is s = bad-line p (bad_line p reason)
+judged-line : (makes : Call → Bool) (p : Progress Given) (found : Result Item Reason) → judged p.reading p.line ≡ found → Sound makes p → OneLine makes p (judged_item (player makes) (mapped p) found) (judged_item (keeper makes) p found)
+judged-line makes p (Ok item) is s = found-line makes p item s (judged-read p.reading p.line item is)
+judged-line makes p (Err reason) is s = bad-line makes p (bad_line p reason)
 
-pub one-line : (p : Progress Given) → Sound p → OneLine p (line_item player (mapped p)) (line_item keeper p)
-one-line p s = judged-line p (judged p.reading p.line) refl s
+pub one-line : (makes : Call → Bool) (p : Progress Given) → Sound makes p → OneLine makes p (line_item (player makes) (mapped p)) (line_item (keeper makes) p)
+one-line makes p s = judged-line makes p (judged p.reading p.line) refl s

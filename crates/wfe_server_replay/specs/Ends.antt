@@ -1,6 +1,6 @@
 -- How a run over a source goes and ends.
 use Rattle.wfe_server_out.specs.Heard.{Seen}
-use Rattle.std.specs.Prelude.{List, None, Ok, Option, Some, ℕ, ◌<◌, ◌≡◌, ◌⊎◌, [], ◌∷◌}
+use Rattle.std.specs.Prelude.{Bool, List, None, Ok, Option, Some, ℕ, ◌<◌, ◌≡◌, ◌⊎◌, [], ◌∷◌}
 use Rattle.std.specs.Io.KnownBytes.{Consumes, IsAtEnd}
 use Rattle.wfe_server_out.specs.Pieces.{Piece, Text}
 use Rattle.wfe_server_out.specs.declared.fault.Fault.TheVariants as faults
@@ -14,30 +14,31 @@ use Rattle.wfe_server_replay.specs.declared.stop.Stop.TheVariants as stops
 use Rattle.wfe_server_replay.specs.Playing.{Played, player}
 use Rattle.wfe_server_replay.specs.Sunk.{Outside, Puts, PutsPart, StopsAt}
 use Rattle.wfe_server_replay.specs.Trace.{Progress, after_bytes, bytes_output}
+use Rattle.wfe_outside.specs.defs.declared.call.Call.{Call}
 
 -- good bytes were taken, and what they give was put out
-pub record Goes {W : Type 0} (seen : Seen W) (before left : Option (List ℕ)) (old new : Outside W) (p q : Progress Played) : Type 0 where
+pub record Goes (makes : Call → Bool) {W : Type 0} (seen : Seen W) (before left : Option (List ℕ)) (old new : Outside W) (p q : Progress Played) : Type 0 where
   pub taken : List ℕ
   pub consumed : Consumes before left taken
-  pub good : after_bytes player (Ok p) taken ≡ Ok q
-  pub put : Puts seen old new (bytes_output player (Ok p) taken)
+  pub good : after_bytes (player makes) (Ok p) taken ≡ Ok q
+  pub put : Puts seen old new (bytes_output (player makes) (Ok p) taken)
 
 -- bytes were taken up to a stop
-pub record Stops {W : Type 0} (seen : Seen W) (before left : Option (List ℕ)) (old new : Outside W) (p : Progress Played) (stop : Stop) : Type 0 where
+pub record Stops (makes : Call → Bool) {W : Type 0} (seen : Seen W) (before left : Option (List ℕ)) (old new : Outside W) (p : Progress Played) (stop : Stop) : Type 0 where
   pub taken : List ℕ
   pub consumed : Consumes before left taken
-  pub stops : StopsAt seen stop (after_bytes player (Ok p) taken) old new (bytes_output player (Ok p) taken)
+  pub stops : StopsAt seen stop (after_bytes (player makes) (Ok p) taken) old new (bytes_output (player makes) (Ok p) taken)
 
 -- how a run over the source ends
-abbrev pub Ends : {W : Type 0} → Seen W → Ending → Option (List ℕ) → Option (List ℕ) → Outside W → Outside W → Progress Played → Progress Played → Type 0
-Ends seen endings.AtEnd before left old new p q = Goes seen before left old new p q × IsAtEnd left
-Ends seen endings.NoRead before left old new p q = Goes seen before left old new p q
-Ends seen (endings.Stopped stop) before left old new p q = Stops seen before left old new p stop
+abbrev pub Ends : (makes : Call → Bool) → {W : Type 0} → Seen W → Ending → Option (List ℕ) → Option (List ℕ) → Outside W → Outside W → Progress Played → Progress Played → Type 0
+Ends makes seen endings.AtEnd before left old new p q = Goes makes seen before left old new p q × IsAtEnd left
+Ends makes seen endings.NoRead before left old new p q = Goes makes seen before left old new p q
+Ends makes seen (endings.Stopped stop) before left old new p q = Stops makes seen before left old new p stop
 
 -- one read, and what came of it
-abbrev pub Turns : {W : Type 0} → Seen W → Option Ending → Option (List ℕ) → Option (List ℕ) → Outside W → Outside W → Progress Played → Progress Played → Type 0
-Turns seen None before left old new p q = Goes seen before left old new p q × (p.count < q.count)
-Turns seen (Some ending) before left old new p q = Ends seen ending before left old new p q
+abbrev pub Turns : (makes : Call → Bool) → {W : Type 0} → Seen W → Option Ending → Option (List ℕ) → Option (List ℕ) → Outside W → Outside W → Progress Played → Progress Played → Type 0
+Turns makes seen None before left old new p q = Goes makes seen before left old new p q × (p.count < q.count)
+Turns makes seen (Some ending) before left old new p q = Ends makes seen ending before left old new p q
 
 -- Last lines were written, and the status is this one; or a part of them, and the sink failed.
 abbrev pub Closes : {W : Type 0} → Seen W → Status → Status → Outside W → Outside W → List Piece → Type 0

@@ -1,24 +1,26 @@
 -- What the lines of a trace give: a setting, commands, and the one history of the model that they make.
-use Rattle.std.specs.Prelude.{Bool, List, None, Some, Option, [], false, suc, true, zero, ℕ, ◌++◌, ◌<◌, ◌≡◌, ◌∷◌}
+use Rattle.std.specs.Prelude.{Bool, List, None, Some, Option, [], false, not, suc, true, zero, ℕ, ◌++◌, ◌<◌, ◌≡◌, ◌∷◌}
 use Rattle.wfe_trace.specs.words.Config.{bad_field}
 use Rattle.wfe_trace.specs.words.Place.{is_valid}
 use Rattle.wfe_trace.specs.words.declared.config.Config.{Config}
 use Rattle.wfe_trace.specs.words.declared.layout.Layout.{Layout}
+use Rattle.wfe_outside.specs.defs.declared.call.Call.{Call}
 use Rattle.wfe_outside.specs.defs.declared.command.Command.{Command}
 use Rattle.wfe_outside.specs.defs.declared.command.Command.TheVariants as commands
 use Rattle.wfe_outside.specs.defs.declared.event.Event.TheVariants as events
 use Rattle.wfe_outside.specs.defs.Entry.{Entry, entry}
 use Rattle.wfe_drive.specs.history.Record.{Past}
-use Rattle.wfe_core.specs.World.{World, is_busy, told_in}
+use Rattle.wfe_core.specs.World.{World, is_busy, is_here, told_in}
 use Rattle.wfe_drive.specs.history.History.{Begins, Item, Made, Steps, did, fits, made_of, record_of, times, world_of}
 use Rattle.wfe_outside.specs.declared.watcher.WatchRow.{WatchRow}
 use Rattle.wfe_server_out.specs.Pieces.{Piece, Text, Told, told_pieces}
 use Rattle.wfe_trace.specs.Body.{IsCommandWithin}
 use Rattle.wfe_trace.specs.Record.{header_line}
 use Rattle.wfe_watch.specs.Garbage.{garbage_rows}
+use Rattle.wfe_watch.specs.Lists.{waiting_in}
 use Rattle.wfe_server_replay.specs.Counts.{table_pieces}
 use Rattle.wfe_server_replay.specs.Playing.{call_most}
-use Rattle.wfe_server_replay.specs.Trace.{Engine, is_refused}
+use Rattle.wfe_server_replay.specs.Trace.{Engine, line_refused}
 
 pub record Given : Type 0 where
   pub version : ℕ
@@ -68,6 +70,10 @@ past_entries (Past.Then past seat event) = past_entries past ++ entry seat event
 abbrev pub given_garbage : Given → List WatchRow
 given_garbage given = garbage_rows given.config.seats (past_entries (given_record given))
 
+-- the rows that wait in each seat's list
+abbrev pub given_waiting : Given → List ℕ
+given_waiting given = waiting_in given.config.seats (past_entries (given_record given))
+
 -- what an item that fits tells
 abbrev pub item_pieces : World → Item → List Piece
 item_pieces w (Begins seat call) = Told (entry seat (events.Begin call)) ∷ []
@@ -88,7 +94,7 @@ abbrev pub line_pieces : Command → Given → List Piece
 line_pieces (commands.Call seat call) given = Told (entry seat (events.Begin call)) ∷ []
 line_pieces (commands.Step seat units) given = made_pieces (given_made given) (items_of given.config.seats (commands.Step seat units))
 line_pieces (commands.Run seat) given = made_pieces (given_made given) (items_of given.config.seats (commands.Run seat))
-line_pieces commands.Table given = table_pieces (given_garbage given)
+line_pieces commands.Table given = table_pieces (given_garbage given) (given_waiting given)
 line_pieces commands.End given = made_pieces (given_made given) (items_of given.config.seats commands.End)
 
 -- one line more
@@ -99,9 +105,14 @@ with_line line given = record { version = given.version; config = given.config; 
 abbrev pub no_lines : ℕ → Config → Given
 no_lines version config = record { version = version; config = config; lines = [] }
 
--- the engine that only keeps the lines
-abbrev pub keeper : Engine Given
-keeper = record { opened = no_lines; is_busy = λ seat given. is_busy (given_world given) seat; after = with_line; out = line_pieces }
+-- the engine that only keeps the lines, where these calls are made
+abbrev pub keeper : (makes : Call → Bool) → Engine Given
+keeper makes = record {
+  opened = no_lines;
+  refuses = λ line given. line_refused makes (λ seat. is_busy (given_world given) seat) (λ seat. not (is_here (given_world given) seat)) line;
+  after = with_line;
+  out = line_pieces;
+}
 
 -- what lines put out one after another
 abbrev pub lines_out : Given → List Command → List Piece
@@ -117,20 +128,20 @@ abbrev pub partial_out : Option Given → List Piece
 partial_out None = []
 partial_out (Some given) = given_out given
 
--- lines that name seats of the setting and indexes in their ranges, and give no call to a seat whose call has not ended
-abbrev pub AreTaken : Given → List Command → Type 0
-AreTaken given [] = Unit {0}
-AreTaken given (line ∷ lines) = IsCommandWithin given.config line × (is_refused keeper line given ≡ false) × AreTaken (with_line line given) lines
+-- lines that name seats of the setting and indexes in their ranges, begin only calls that are made, and give no call to a seat whose call has not ended or that has left
+abbrev pub AreTaken : (makes : Call → Bool) → Given → List Command → Type 0
+AreTaken makes given [] = Unit {0}
+AreTaken makes given (line ∷ lines) = IsCommandWithin given.config line × ((keeper makes).refuses line given ≡ None) × AreTaken makes (with_line line given) lines
 
 -- the setting is in its ranges, and its lines are such
-pub record IsTaken (given : Given) : Type 0 where
+pub record IsTaken (makes : Call → Bool) (given : Given) : Type 0 where
   pub config : bad_field given.config ≡ None
-  pub lines : AreTaken (no_lines given.version given.config) given.lines
+  pub lines : AreTaken makes (no_lines given.version given.config) given.lines
 
 -- the same of the lines before a bad one, or of those that came so far
-abbrev pub IsTakenIn : Option Given → Type 0
-IsTakenIn None = Unit {0}
-IsTakenIn (Some given) = IsTaken given
+abbrev pub IsTakenIn : (makes : Call → Bool) → Option Given → Type 0
+IsTakenIn makes None = Unit {0}
+IsTakenIn makes (Some given) = IsTaken makes given
 
 -- a seat that is run has no call under way in the end
 abbrev pub RunsEnd : Type 0

@@ -1,6 +1,7 @@
 -- A trace as its bytes come, judged byte by byte, over any engine that takes its lines.
 use Rattle.std.specs.Prelude.{ℕ, ◌+◌, ◌==◌, ◌++◌, nat_le, if◌then◌else◌, Bool, true, false, List, [], ◌∷◌, length, Option, Some, None, Result, Ok, Err, codes}
 use Rattle.wfe_trace.specs.words.declared.config.Config.{Config}
+use Rattle.wfe_outside.specs.defs.declared.call.Call.{Call}
 use Rattle.wfe_outside.specs.defs.declared.command.Command.{Command}
 use Rattle.wfe_outside.specs.defs.declared.command.Command.TheVariants as commands
 use Rattle.wfe_trace.specs.declared.item.Item.{Item}
@@ -13,10 +14,10 @@ use Rattle.wfe_trace.specs.Reading.{Reading, reading_start, reading_after, judge
 use Rattle.wfe_trace.specs.Record.{header_line, bad_line as bad_text}
 use Rattle.wfe_server_out.specs.Pieces.{Piece, Text}
 
--- What takes the lines of a trace's body: how it begins, whether a seat is busy, what it is after a line, and what the line puts out.
+-- What takes the lines of a trace's body: how it begins, why it does not take a line, what it is after a line, and what the line puts out.
 pub record Engine (S : Type 0) : Type 0 where
   pub opened : ℕ → Config → S
-  pub is_busy : ℕ → S → Bool
+  pub refuses : Command → S → Option Reason
   pub after : Command → S → S
   pub out : Command → S → List Piece
 
@@ -47,18 +48,22 @@ is_end (commands.Run seat) = false
 is_end commands.Table = false
 is_end commands.End = true
 
--- the line gives a call to a seat whose call has not ended
-abbrev pub is_refused : {S : Type 0} → Engine S → Command → S → Bool
-is_refused E (commands.Call seat call) s = E.is_busy seat s
-is_refused E (commands.Step seat units) s = false
-is_refused E (commands.Run seat) s = false
-is_refused E commands.Table s = false
-is_refused E commands.End s = false
+-- why a call does not begin: it is none of those that are made, or the seat's call has not ended, or the seat has left
+abbrev pub why_refused : (made busy gone : Bool) → Option Reason
+why_refused made busy gone = if made then (if busy then Some reasons.Busy else if gone then Some reasons.Gone else None) else Some reasons.NotYet
 
--- the line would give a call to a seat whose call has not ended
-abbrev pub is_refused_in : {S : Type 0} → Engine S → Command → Option S → Bool
-is_refused_in E c None = false
-is_refused_in E c (Some s) = is_refused E c s
+-- why a line is refused, where these calls are made, and these seats are busy and have left: only the line of a call is
+abbrev pub line_refused : (makes : Call → Bool) → (busy gone : ℕ → Bool) → Command → Option Reason
+line_refused makes busy gone (commands.Call seat call) = why_refused (makes call) (busy seat) (gone seat)
+line_refused makes busy gone (commands.Step seat units) = None
+line_refused makes busy gone (commands.Run seat) = None
+line_refused makes busy gone commands.Table = None
+line_refused makes busy gone commands.End = None
+
+-- why the line would be refused
+abbrev pub refused_in : {S : Type 0} → Engine S → Command → Option S → Option Reason
+refused_in E c None = None
+refused_in E c (Some s) = E.refuses c s
 
 -- the engine takes a body line
 abbrev pub command_taken : {S : Type 0} → Engine S → Progress S → Command → Option S → Progress S
@@ -82,16 +87,20 @@ out_by E p items.Setting = []
 out_by E p (items.Ready version config) = Text (header_line version config) ∷ []
 out_by E p (items.Command c) = out_in E c p.engine
 
--- the line would give a call to a busy seat
-abbrev pub refuses : {S : Type 0} → Engine S → Progress S → Item → Bool
-refuses E p items.Setting = false
-refuses E p (items.Ready version config) = false
-refuses E p (items.Command c) = is_refused_in E c p.engine
+-- why the engine does not take what a line says
+abbrev pub refused_by : {S : Type 0} → Engine S → Progress S → Item → Option Reason
+refused_by E p items.Setting = None
+refused_by E p (items.Ready version config) = None
+refused_by E p (items.Command c) = refused_in E c p.engine
+
+abbrev pub unless_refused : {S : Type 0} → Progress S → Item → Option Reason → Result Item BadLine
+unless_refused p item (Some reason) = Err (bad_line p reason)
+unless_refused p item None = Ok item
 
 -- what the line under way says, or that it is bad
 abbrev pub judged_item : {S : Type 0} → Engine S → Progress S → Result Item Reason → Result Item BadLine
 judged_item E p (Err reason) = Err (bad_line p reason)
-judged_item E p (Ok item) = if refuses E p item then Err (bad_line p reasons.Busy) else Ok item
+judged_item E p (Ok item) = unless_refused p item (refused_by E p item)
 
 abbrev pub line_item : {S : Type 0} → Engine S → Progress S → Result Item BadLine
 line_item E p = judged_item E p (judged p.reading p.line)

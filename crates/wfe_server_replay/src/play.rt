@@ -3,13 +3,14 @@ ghost use Rattle.wfe_server_out.specs.Emits.{Emits, Writes};
 ghost use Rattle.wfe_server_out.specs.Heard.{boxed};
 ghost use Rattle.std.specs.Prelude.{◌≡◌, ◌<◌, IfErr, IfOk, None, OnOk, [], ◌∷◌, false, length, true};
 ghost use Rattle.wfe_drive.specs.Reached.{units_left};
+ghost use Rattle.wfe_drive.specs.drive_cells.Unit.{is_gone};
 ghost use Rattle.wfe_outside.specs.defs.Entry.{entry};
-ghost use Rattle.wfe_server_replay.specs.Counts.{back_in_all, counted_all, retired_in_all, seat_line, seat_lines, table_pieces, total_line};
+ghost use Rattle.wfe_server_replay.specs.Counts.{back_in_all, counted_all, listed_all, retired_in_all, seat_line, seat_lines, table_pieces, total_line};
 ghost use Rattle.wfe_server_replay.specs.Playing.{Played, call_most, is_playing, opened, played, played_out, player, seats_out, seats_run, started, unit_made, unit_out, units_made, units_out};
 ghost use Rattle.wfe_server_out.specs.Pieces.{text_of};
 ghost use Rattle.wfe_server_out.specs.Pieces.{Told as told_piece};
-ghost use Rattle.wfe_server_replay.specs.Trace.{is_refused};
-ghost use Rattle.wfe_trace.specs.Body.{IsCommandWithin, fits_indexes};
+ghost use Rattle.wfe_server_replay.specs.Trace.{why_refused};
+ghost use Rattle.wfe_trace.specs.Body.{IsCommandWithin, fits_indexes, fits_seats};
 ghost use Rattle.wfe_trace.specs.words.Config.{bad_field};
 
 use std::alloc::Global;
@@ -18,14 +19,15 @@ use wfe_core::Told;
 use wfe_drive::Engine;
 use wfe_outside::{Call, Command, Event, Failed, NoMemory, Sink, WatchRow, Watcher};
 use wfe_server_out::{Fault, put_line, tell, tell_all};
-use wfe_trace::{Config, Layout, Line, print_table};
-use wfe_watch::GarbageCounter;
+use wfe_trace::{Config, Layout, Line, Reason, print_table};
+use wfe_watch::{GarbageCounter, ListCounter};
 
-/// A table that takes the lines of a trace, and the counts of its garbage.
+/// A table that takes the lines of a trace, and the counts of its garbage and of its retire lists.
 #[derive(Drop)]
 pub struct Play<E: Engine> {
     engine: E,
     garbage: GarbageCounter,
+    lists: ListCounter,
     seats: u32,
 }
 
@@ -35,7 +37,7 @@ impl<E: Engine> Model for Play<E> {
 
     ghost Value = { Played };
 
-    ghost view = { λ p. record { table = E.table p.engine; garbage = p.garbage } };
+    ghost view = { λ p. record { table = E.table p.engine; garbage = p.garbage; waiting = p.lists } };
 
     ghost invariant = { λ p. (p.seats ≡ (E.table p.engine).layout.config.seats) × (length p.garbage ≡ p.seats) };
 }
@@ -52,6 +54,7 @@ impl<E: Engine> Play<E> {
         Ok(Play {
             engine: E::make(alloc, layout)?,
             garbage: GarbageCounter::new(alloc, config.seats)?,
+            lists: ListCounter::new(alloc, config.seats)?,
             seats: config.seats,
         })
     }
@@ -64,11 +67,29 @@ impl<E: Engine> Play<E> {
         self.engine.busy(seat)
     }
 
+    /// Why a call of the seat does not begin, if it does not: the engine does not make such calls, or
+    /// one of the seat is under way, or the seat has left.
+    pub fn refuses(&self, seat: u32, call: &Call) -> Option<Reason>
+        requires { seat < self.now.table.layout.config.seats }
+        ensures { result ≡ why_refused (E.taken call.now) (is_playing seat self.now) (is_gone self.now.table seat) }
+    {
+        if !self.engine.takes(call) {
+            Some(Reason::NotYet)
+        } else if self.engine.busy(seat) {
+            Some(Reason::Busy)
+        } else if self.engine.gone(seat) {
+            Some(Reason::Gone)
+        } else {
+            None
+        }
+    }
+
     // Counts what a unit of the seat has told.
     fn count(&mut self, seat: u32, told: &Told)
-        ensures { self.new ≡ record self.old { garbage = counted_all self.old.garbage seat told.now } }
+        ensures { self.new ≡ record self.old { garbage = counted_all self.old.garbage seat told.now; waiting = listed_all self.old.waiting seat told.now } }
     {
         count_all(&mut self.garbage, seat, told);
+        list_all(&mut self.lists, seat, told);
     }
 
     // Makes one unit of a busy seat, and puts out what it tells.
@@ -153,11 +174,11 @@ impl<E: Engine> Play<E> {
 
     // Writes the table of counts.
     fn put_table<K: Sink>(&self, sink: &mut K) -> Result<(), Fault>
-        ensures writes { Writes K.written K.faults K.may_stand result sink.old sink.new (text_of (table_pieces self.now.garbage)) }
+        ensures writes { Writes K.written K.faults K.may_stand result sink.old sink.new (text_of (table_pieces self.now.garbage self.now.waiting)) }
         ensures fault { IfErr result (λ fault. fault ≡ Fault.Write) }
     {
-        put_seats(&self.garbage, self.seats, sink)?;
-        put_total(&self.garbage, sink)?;
+        put_seats(&self.garbage, &self.lists, self.seats, sink)?;
+        put_total(&self.garbage, &self.lists, sink)?;
         Ok(())
     }
 
@@ -171,7 +192,10 @@ impl<E: Engine> Play<E> {
     ) -> Result<(), Fault>
         requires seat { seat < self.old.table.layout.config.seats }
         requires free { is_playing seat self.old ≡ false }
-        requires may { fits_indexes self.old.table.layout.config.indexes call ≡ true }
+        requires here { is_gone self.old.table seat ≡ false }
+        requires takes { E.taken call ≡ true }
+        requires indexes { fits_indexes self.old.table.layout.config.indexes call ≡ true }
+        requires place { fits_seats self.old.table.layout.config.seats call ≡ true }
         ensures after { OnOk result (self.new ≡ started self.old seat call) }
         ensures table { self.new.table.layout ≡ self.old.table.layout }
         ensures emits { Emits (boxed stands) K.written K.faults K.may_stand result sink.old sink.new watchers.old watchers.new
@@ -181,7 +205,7 @@ impl<E: Engine> Play<E> {
         tell(sink, watchers, seat, &Event::Begin { call })
     }
 
-    /// Takes a line of the body: a call for a seat that is not busy, units, or a table of counts.
+    /// Takes a line of the body: a call that may begin, units, or a table of counts.
     pub fn perform<K: Sink>(
         &mut self,
         command: Command,
@@ -189,7 +213,7 @@ impl<E: Engine> Play<E> {
         watchers: &mut [Box<dyn Watcher>],
     ) -> Result<(), Fault>
         requires within { IsCommandWithin self.old.table.layout.config command }
-        requires free { is_refused player command self.old ≡ false }
+        requires free { (player E.taken).refuses command self.old ≡ None }
         ensures after { OnOk result (self.new ≡ played command self.old) }
         ensures table { self.new.table.layout ≡ self.old.table.layout }
         ensures emits { Emits (boxed stands) K.written K.faults K.may_stand result sink.old sink.new watchers.old watchers.new (played_out command self.old) }
@@ -213,23 +237,36 @@ fn count_all(garbage: &mut GarbageCounter, seat: u32, told: &Told)
     }
 }
 
-// Writes the line of a seat.
-fn put_seat<K: Sink>(seat: u32, row: WatchRow, sink: &mut K) -> Result<(), Failed>
-    ensures { Writes K.written K.faults K.may_stand result sink.old sink.new (seat_line seat row) }
+// Counts the rows that events of a seat add to lists and take out of them, in order.
+fn list_all(lists: &mut ListCounter, seat: u32, told: &Told)
+    ensures { lists.new ≡ listed_all lists.old seat told.now }
+{
+    for place in 0..told.len() {
+        lists.count(seat, told.get(place));
+    }
+}
+
+// Writes the line of a seat with so many rows in its list.
+fn put_seat<K: Sink>(seat: u32, row: WatchRow, waiting: u64, sink: &mut K) -> Result<(), Failed>
+    ensures { Writes K.written K.faults K.may_stand result sink.old sink.new (seat_line seat row waiting) }
 {
     let mut line = Line::new();
-    let waiting = row.b.saturating_sub(row.c);
     print_table(Some(seat), row.b, row.c, waiting, &mut line);
     put_line(sink, &line)
 }
 
 // Writes the lines of the seats.
-fn put_seats<K: Sink>(garbage: &GarbageCounter, seats: u32, sink: &mut K) -> Result<(), Failed>
+fn put_seats<K: Sink>(
+    garbage: &GarbageCounter,
+    lists: &ListCounter,
+    seats: u32,
+    sink: &mut K,
+) -> Result<(), Failed>
     requires { length garbage.now ≡ seats }
-    ensures { Writes K.written K.faults K.may_stand result sink.old sink.new (text_of (seat_lines 0 garbage.now)) }
+    ensures { Writes K.written K.faults K.may_stand result sink.old sink.new (text_of (seat_lines 0 garbage.now lists.now)) }
 {
     for seat in 0..seats {
-        put_seat(seat, garbage.row(seat as u64), sink)?;
+        put_seat(seat, garbage.row(seat as u64), lists.waiting(seat), sink)?;
     }
     Ok(())
 }
@@ -249,11 +286,15 @@ fn totals(garbage: &GarbageCounter) -> (u64, u64)
 }
 
 // Writes the line of all seats together.
-fn put_total<K: Sink>(garbage: &GarbageCounter, sink: &mut K) -> Result<(), Failed>
-    ensures { Writes K.written K.faults K.may_stand result sink.old sink.new (total_line garbage.now) }
+fn put_total<K: Sink>(
+    garbage: &GarbageCounter,
+    lists: &ListCounter,
+    sink: &mut K,
+) -> Result<(), Failed>
+    ensures { Writes K.written K.faults K.may_stand result sink.old sink.new (total_line garbage.now lists.now) }
 {
     let (retired, back) = totals(garbage);
     let mut line = Line::new();
-    print_table(None, retired, back, retired.saturating_sub(back), &mut line);
+    print_table(None, retired, back, lists.total(), &mut line);
     put_line(sink, &line)
 }

@@ -5,7 +5,7 @@ ghost use Rattle.std.specs.Prelude.{◌≡◌, ◌<◌, length, OnOk, IfOk, Matc
 ghost use Rattle.wfe_server_replay.specs.Opening.{FitsTable, ItemFits, MayPlay, MayTake};
 ghost use Rattle.wfe_server_replay.specs.Playing.{player};
 ghost use Rattle.wfe_server_replay.specs.Sunk.{Takes};
-ghost use Rattle.wfe_server_replay.specs.Trace.{Progress, progress_start, bad_line, is_refused_in, command_taken, out_in, item_taken, out_by, refuses as does_refuse, line_item, line_read, after_line, line_output, byte_refused, counted, after_byte, byte_output, after_bytes, bytes_output, after_last, last_output, at_end, finished};
+ghost use Rattle.wfe_server_replay.specs.Trace.{Progress, progress_start, bad_line, refused_in, command_taken, out_in, item_taken, out_by, refused_by, line_item, line_read, after_line, line_output, byte_refused, counted, after_byte, byte_output, after_bytes, bytes_output, after_last, last_output, at_end, finished};
 ghost use Rattle.wfe_server_out.specs.Pieces.{Text};
 ghost use Rattle.wfe_trace.specs.Good.{is_body};
 ghost use Rattle.wfe_trace.specs.Record.{header_line};
@@ -98,7 +98,7 @@ impl<E: Engine> Work<E> {
         requires config { bad_field config ≡ None }
         requires body { is_body self.old.reading.stage ≡ true }
         requires setting { config ≡ self.old.reading.config }
-        ensures after { OnOk result (self.new ≡ record self.old { engine = Some (player.opened version config) }) }
+        ensures after { OnOk result (self.new ≡ record self.old { engine = Some ((player E.taken).opened version config) }) }
         ensures emits { Emits (boxed stands) K.written K.faults K.may_stand result sink.old sink.new watchers.old watchers.new
             (Text (header_line version config) ∷ []) }
     {
@@ -110,14 +110,14 @@ impl<E: Engine> Work<E> {
         Ok(())
     }
 
-    // Whether the line gives a call to a seat whose call has not ended.
-    fn is_refused(&self, command: &Command) -> bool
+    // Why the table does not take the line, if it does not.
+    fn why_not(&self, command: &Command) -> Option<Reason>
         requires { FitsTable command.now self.now.engine }
-        ensures { result ≡ is_refused_in player command.now self.now.engine }
+        ensures { result ≡ refused_in (player E.taken) command.now self.now.engine }
     {
         match (command, &self.play) {
-            (Command::Call { seat, .. }, Some(play)) => play.busy(*seat),
-            _ => false,
+            (Command::Call { seat, call }, Some(play)) => play.refuses(*seat, call),
+            _ => None,
         }
     }
 
@@ -128,10 +128,10 @@ impl<E: Engine> Work<E> {
         sink: &mut K,
         watchers: &mut [Box<dyn Watcher>],
     ) -> Result<(), Fault>
-        requires { MayPlay command self.old.engine }
-        ensures after { OnOk result (self.new ≡ command_taken player self.old command self.old.engine) }
+        requires { MayPlay E.taken command self.old.engine }
+        ensures after { OnOk result (self.new ≡ command_taken (player E.taken) self.old command self.old.engine) }
         ensures emits { Emits (boxed stands) K.written K.faults K.may_stand result sink.old sink.new watchers.old watchers.new
-            (out_in player command self.old.engine) }
+            (out_in (player E.taken) command self.old.engine) }
     {
         self.ended = matches!(command, Command::End);
         if let Some(play) = &mut self.play {
@@ -148,9 +148,9 @@ impl<E: Engine> Work<E> {
         sink: &mut K,
         watchers: &mut [Box<dyn Watcher>],
     ) -> Result<(), Fault>
-        requires { MayTake self.old item }
-        ensures after { OnOk result (self.new ≡ item_taken player self.old item) }
-        ensures emits { Emits (boxed stands) K.written K.faults K.may_stand result sink.old sink.new watchers.old watchers.new (out_by player self.old item) }
+        requires { MayTake E.taken self.old item }
+        ensures after { OnOk result (self.new ≡ item_taken (player E.taken) self.old item) }
+        ensures emits { Emits (boxed stands) K.written K.faults K.may_stand result sink.old sink.new watchers.old watchers.new (out_by (player E.taken) self.old item) }
     {
         match item {
             Item::Setting => Ok(()),
@@ -159,27 +159,27 @@ impl<E: Engine> Work<E> {
         }
     }
 
-    // Whether the line would give a call to a busy seat.
-    fn refuses(&self, item: &Item) -> bool
+    // Why the table does not take what a line says, if it does not.
+    fn refuses(&self, item: &Item) -> Option<Reason>
         requires { ItemFits item.now self.now.engine }
-        ensures { result ≡ does_refuse player self.now item.now }
+        ensures { result ≡ refused_by (player E.taken) self.now item.now }
     {
         match item {
-            Item::Command { command } => self.is_refused(command),
-            _ => false,
+            Item::Command { command } => self.why_not(command),
+            _ => None,
         }
     }
 
     // Reads the line under way, which is whole.
     fn read(&mut self) -> Result<Item, BadLine>
-        ensures item { result ≡ line_item player self.old }
+        ensures item { result ≡ line_item (player E.taken) self.old }
         ensures after { OnOk result (self.new ≡ line_read self.old) }
-        ensures may { IfOk result (MayTake self.new) }
+        ensures may { IfOk result (MayTake E.taken self.new) }
     {
-        let busy = self.bad(Reason::Busy);
+        let line = self.state.lines().saturating_add(1);
         let item = read_line(&mut self.state, self.line.as_slice())?;
-        if self.refuses(&item) {
-            return Err(busy);
+        if let Some(reason) = self.refuses(&item) {
+            return Err(BadLine { line, reason });
         }
         self.line.clear();
         Ok(item)
@@ -193,7 +193,7 @@ impl<E: Engine> Work<E> {
         watchers: &mut [Box<dyn Watcher>],
     ) -> Result<(), Stop>
         ensures { Takes (boxed stands) K.written K.faults K.may_stand result sink.old sink.new watchers.old watchers.new
-            (after_line player self.old) self.new (line_output player self.old) }
+            (after_line (player E.taken) self.old) self.new (line_output (player E.taken) self.old) }
     {
         let item = match self.read() {
             Ok(item) => item,
@@ -222,7 +222,7 @@ impl<E: Engine> Work<E> {
         watchers: &mut [Box<dyn Watcher>],
     ) -> Result<(), Stop>
         ensures { Takes (boxed stands) K.written K.faults K.may_stand result sink.old sink.new watchers.old watchers.new
-            (after_byte player self.old byte) self.new (byte_output player self.old byte) }
+            (after_byte (player E.taken) self.old byte) self.new (byte_output (player E.taken) self.old byte) }
     {
         if let Some(reason) = self.refused(byte) {
             return Err(Stop::Bad {
@@ -246,7 +246,7 @@ impl<E: Engine> Work<E> {
         watchers: &mut [Box<dyn Watcher>],
     ) -> Result<(), Stop>
         ensures { Takes (boxed stands) K.written K.faults K.may_stand result sink.old sink.new watchers.old watchers.new
-            (after_bytes player (Ok self.old) bytes.now) self.new (bytes_output player (Ok self.old) bytes.now) }
+            (after_bytes (player E.taken) (Ok self.old) bytes.now) self.new (bytes_output (player E.taken) (Ok self.old) bytes.now) }
     {
         for byte in bytes {
             match self.take_byte(alloc, *byte, sink, watchers) {
@@ -265,7 +265,7 @@ impl<E: Engine> Work<E> {
         watchers: &mut [Box<dyn Watcher>],
     ) -> Result<(), Stop>
         ensures { Takes (boxed stands) K.written K.faults K.may_stand result sink.old sink.new watchers.old watchers.new
-            (after_last player self.old) self.new (last_output player self.old) }
+            (after_last (player E.taken) self.old) self.new (last_output (player E.taken) self.old) }
     {
         if self.line.is_empty() {
             return Ok(());
@@ -292,7 +292,7 @@ impl<E: Engine> Work<E> {
         watchers: &mut [Box<dyn Watcher>],
     ) -> Result<(), Stop>
         ensures { Takes (boxed stands) K.written K.faults K.may_stand result sink.old sink.new watchers.old watchers.new
-            (finished player self.old) self.new (last_output player self.old) }
+            (finished (player E.taken) self.old) self.new (last_output (player E.taken) self.old) }
     {
         match self.take_last(alloc, sink, watchers) {
             Ok(()) => {}

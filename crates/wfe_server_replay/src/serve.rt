@@ -37,7 +37,7 @@ fn turn<E: Engine, S: Source, K: Sink>(
     work: &mut Work<E>,
 ) -> Option<Ending>
     requires { 0 < length piece.old }
-    ensures turned { Turns (boxed stands) result (S.left source.old) (S.left source.new) (outside (K.written sink.old) watchers.old) (outside (K.written sink.new) watchers.new) work.old work.new }
+    ensures turned { Turns E.taken (boxed stands) result (S.left source.old) (S.left source.new) (outside (K.written sink.old) watchers.old) (outside (K.written sink.new) watchers.new) work.old work.new }
     ensures source { S.faults source.old ≤ S.faults source.new }
     ensures sink { K.faults sink.old ≤ K.faults sink.new }
     ensures read { result ≡ Some Ending.NoRead → Rose S.may_stand (S.faults source.old) (S.faults source.new) }
@@ -121,8 +121,8 @@ fn conclude<E: Engine, K: Sink>(
     sink: &mut K,
     watchers: &mut [Box<dyn Watcher>],
 ) -> Status
-    ensures said { (before left written : Option (List ℕ)) (ws : List _) → Ends (boxed stands) ending before left (outside written ws) (outside (K.written sink.old) watchers.old) (progress_start Mode.Replay) work.old
-        → PlayerReplays (boxed stands) result (watch_text shown shows watchers.new) before left (outside written ws) (outside (K.written sink.new) watchers.new) }
+    ensures said { (before left written : Option (List ℕ)) (ws : List _) → Ends E.taken (boxed stands) ending before left (outside written ws) (outside (K.written sink.old) watchers.old) (progress_start Mode.Replay) work.old
+        → PlayerReplays E.taken (boxed stands) result (watch_text shown shows watchers.new) before left (outside written ws) (outside (K.written sink.new) watchers.new) }
     ensures later { K.faults sink.old ≤ K.faults sink.new }
     ensures read { result ≡ Status.ReadFault → ending ≡ Ending.NoRead }
     ensures write { result ≡ Status.WriteFault → (ending ≡ Ending.Stopped (Stop.Fault Fault.Write)) ⊎ Rose K.may_stand (K.faults sink.old) (K.faults sink.new) }
@@ -148,7 +148,7 @@ fn read_all<E: Engine, S: Source, K: Sink>(
 ) -> Ending
     requires some { 0 < length piece.old }
     requires fresh { work.old ≡ progress_start Mode.Replay }
-    ensures ended { Ends (boxed stands) result (S.left source.old) (S.left source.new) (outside (K.written sink.old) watchers.old) (outside (K.written sink.new) watchers.new) (progress_start Mode.Replay) work.new }
+    ensures ended { Ends E.taken (boxed stands) result (S.left source.old) (S.left source.new) (outside (K.written sink.old) watchers.old) (outside (K.written sink.new) watchers.new) (progress_start Mode.Replay) work.new }
     ensures source { S.faults source.old ≤ S.faults source.new }
     ensures sink { K.faults sink.old ≤ K.faults sink.new }
     ensures read { result ≡ Ending.NoRead → Rose S.may_stand (S.faults source.old) (S.faults source.new) }
@@ -172,7 +172,7 @@ fn replay_in<E: Engine, S: Source, K: Sink>(
     piece: &mut [u8],
 ) -> Status
     requires { 0 < length piece.old }
-    ensures said { PlayerReplays (boxed stands) result (watch_text shown shows watchers.new) (S.left source.old) (S.left source.new) (outside (K.written sink.old) watchers.old) (outside (K.written sink.new) watchers.new) }
+    ensures said { PlayerReplays E.taken (boxed stands) result (watch_text shown shows watchers.new) (S.left source.old) (S.left source.new) (outside (K.written sink.old) watchers.old) (outside (K.written sink.new) watchers.new) }
     ensures source { S.faults source.old ≤ S.faults source.new }
     ensures sink { K.faults sink.old ≤ K.faults sink.new }
     ensures read { result ≡ Status.ReadFault → Rose S.may_stand (S.faults source.old) (S.faults source.new) }
@@ -192,7 +192,7 @@ pub fn replay<E: Engine, S: Source, K: Sink>(
     sink: &mut K,
     watchers: &mut Vec<Box<dyn Watcher>>,
 ) -> Status
-    ensures said { Replays (boxed stands) result (watch_text shown shows watchers.new.items) (S.left source.old) (S.left source.new) (outside (K.written sink.old) watchers.old.items) (outside (K.written sink.new) watchers.new.items) }
+    ensures said { Replays E.taken (boxed stands) result (watch_text shown shows watchers.new.items) (S.left source.old) (S.left source.new) (outside (K.written sink.old) watchers.old.items) (outside (K.written sink.new) watchers.new.items) }
     ensures source { S.faults source.old ≤ S.faults source.new }
     ensures sink { K.faults sink.old ≤ K.faults sink.new }
     ensures read { result ≡ Status.ReadFault → Rose S.may_stand (S.faults source.old) (S.faults source.new) }

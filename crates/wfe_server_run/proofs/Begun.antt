@@ -3,7 +3,7 @@ use Rattle.std.proofs.Common.{Bool, Err, List, None, Ok, Option, Result, Some, [
 use Rattle.std.specs.Prelude.{if◌then◌else◌, is_some}
 use Rattle.wfe_outside.specs.defs.declared.command.Command.{Command}
 use Rattle.wfe_server_replay.proofs.Bytes.{after_bytes-bad}
-use Rattle.wfe_server_replay.specs.Trace.{Progress, after_byte, after_bytes, after_good_byte, after_last, after_line, at_end, byte_refused, command_taken, counted, finished, item_taken, judged_item, line_read, line_taken, progress_start, refuses, ◌>>=◌}
+use Rattle.wfe_server_replay.specs.Trace.{Progress, after_byte, after_bytes, after_good_byte, after_last, after_line, at_end, byte_refused, command_taken, counted, finished, item_taken, judged_item, line_read, line_taken, progress_start, refused_by, unless_refused, ◌>>=◌}
 use Rattle.wfe_server_run.specs.Reads.{came}
 use Rattle.wfe_server_run.specs.Scripted.{Scripted, scripter}
 use Rattle.wfe_trace.proofs.Judged.{judged-read}
@@ -32,13 +32,13 @@ begun_item p items.Setting placed b = record { body = λ e. let never : false �
 begun_item p (items.Ready version config) placed b = record { body = λ e. refl; ended = λ e. refl }
 begun_item p (items.Command c) placed b = begun_command (line_read p) c p.engine (b.body placed.0)
 
-begun_unless : (p q : Progress Scripted) (item : Item) (bad : BadLine) (refused : Bool) → Placed p.reading p.reading.stage item → line_taken scripter p (if refused then Err bad else Ok item) ≡ Ok q → Begun p → Begun q
-begun_unless p q item bad true placed h b = absurd (cc)
-begun_unless p q item bad false placed h b = let same : item_taken scripter (line_read p) item ≡ q = cc in subst Begun same (begun_item p item placed b)
+begun_unless : (p q : Progress Scripted) (item : Item) (why : Option Reason) → Placed p.reading p.reading.stage item → line_taken scripter p (unless_refused p item why) ≡ Ok q → Begun p → Begun q
+begun_unless p q item (Some reason) placed h b = absurd (cc)
+begun_unless p q item None placed h b = let same : item_taken scripter (line_read p) item ≡ q = cc in subst Begun same (begun_item p item placed b)
 
 begun_judged : (p q : Progress Scripted) (r : Result Item Reason) → judged p.reading p.line ≡ r → line_taken scripter p (judged_item scripter p r) ≡ Ok q → Begun p → Begun q
 begun_judged p q (Err reason) e h b = absurd (cc)
-begun_judged p q (Ok item) e h b = begun_unless p q item _ (refuses scripter p item) (judged-read p.reading p.line item e).placed h b
+begun_judged p q (Ok item) e h b = begun_unless p q item (refused_by scripter p item) (judged-read p.reading p.line item e).placed h b
 
 begun_line : (p q : Progress Scripted) → after_line scripter p ≡ Ok q → Begun p → Begun q
 begun_line p q h b = begun_judged p q (judged p.reading p.line) refl h b

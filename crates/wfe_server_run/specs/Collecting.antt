@@ -1,12 +1,13 @@
 -- What joins a trace that is read and the scripts that it gives; and how bytes of it are taken.
 use Rattle.std.specs.Prelude.{Err, None, Ok, Option, Result, Some, true, ◌≡◌}
 use Rattle.wfe_outside.specs.defs.declared.command.Command.{Command}
+use Rattle.wfe_outside.specs.defs.declared.command.Command.TheVariants as commands
 use Rattle.wfe_server_replay.specs.Trace.{Progress}
 use Rattle.wfe_server_run.specs.Scripted.{Scripted}
 use Rattle.wfe_server_run.specs.declared.reader.Stop.{Stop}
 use Rattle.wfe_server_run.specs.declared.reader.Stop.TheVariants as stops
 use Rattle.wfe_trace.specs.Body.{IsCommandWithin}
-use Rattle.wfe_trace.specs.Good.{is_body}
+use Rattle.wfe_trace.specs.Good.{is_body, is_for_workers}
 use Rattle.wfe_trace.specs.Reading.{Reading}
 use Rattle.wfe_trace.specs.declared.item.Item.{Item}
 use Rattle.wfe_trace.specs.declared.item.Item.TheVariants as items
@@ -17,6 +18,16 @@ use Rattle.wfe_trace.specs.words.Config.{bad_field}
 abbrev pub CollectsIn : Reading → Option Scripted → Type 0
 CollectsIn r None = Unit {0}
 CollectsIn r (Some s) = (is_body r.stage ≡ true) × (s.config ≡ r.config)
+
+-- the call of the line is one that workers make
+abbrev pub IsForWorkers : Command → Type 0
+IsForWorkers (commands.Call seat call) = is_for_workers call ≡ true
+IsForWorkers c = Unit {0}
+
+abbrev pub IsItemForWorkers : Item → Type 0
+IsItemForWorkers items.Setting = Unit {0}
+IsItemForWorkers (items.Ready version config) = Unit {0}
+IsItemForWorkers (items.Command c) = IsForWorkers c
 
 -- the seat of the line has a script, and the indexes of its call are in their ranges
 abbrev pub MayAdd : Command → Option Scripted → Type 0

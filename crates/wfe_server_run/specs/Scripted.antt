@@ -1,5 +1,5 @@
 -- The scripts that the lines of a trace give: the calls of each seat, in the order of its lines.
-use Rattle.std.specs.Prelude.{List, [], replicate, slice_index_or, slice_set, ℕ, ◌++◌, ◌∷◌, false}
+use Rattle.std.specs.Prelude.{List, None, [], replicate, slice_index_or, slice_set, ℕ, ◌++◌, ◌∷◌}
 use Rattle.wfe_outside.specs.defs.declared.call.Call.{Call}
 use Rattle.wfe_outside.specs.defs.declared.command.Command.{Command}
 use Rattle.wfe_outside.specs.defs.declared.command.Command.TheVariants as commands
@@ -27,6 +27,6 @@ called (commands.Run seat) s = s
 called commands.Table s = s
 called commands.End s = s
 
--- what takes the lines only to collect their calls: no seat is ever busy, and nothing is put out
+-- what takes the lines only to collect their calls: it refuses none, and puts nothing out
 abbrev pub scripter : Engine Scripted
-scripter = record { opened = no_calls; is_busy = λ seat s. false; after = called; out = λ line s. [] }
+scripter = record { opened = no_calls; refuses = λ line s. None; after = called; out = λ line s. [] }

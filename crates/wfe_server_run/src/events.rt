@@ -77,7 +77,7 @@ fn bucket_of(buckets: u32, key: u64) -> u32
     (key % u64::from(buckets)) as u32
 }
 
-// What the call did of the map or of the queue. That a copy was made stands in its answer.
+// What the call did of the map, of the queue or of retire lists. That a copy was made stands in its answer.
 fn change_told(buckets: u32, call: Call, answer: Answer) -> Option<Event>
     requires { 0 < buckets }
     ensures { result ≡ change_told buckets call answer }
@@ -111,6 +111,10 @@ fn change_told(buckets: u32, call: Call, answer: Answer) -> Option<Event>
         }
         (Call::Dequeue, Answer::Taken { number, value, .. }) => {
             Some(Event::Taken { number, value })
+        }
+        (Call::Leave, Answer::Left { count }) => Some(Event::Left { count }),
+        (Call::Adopt { place }, Answer::Adopted { count }) => {
+            Some(Event::Adopted { place, count })
         }
         _ => None,
     }

@@ -1,7 +1,7 @@
 // A trace as its bytes come, and the scripts that its lines give.
 ghost use Rattle.std.specs.Prelude.{◌≡◌, ◌<◌, length, OnOk, IfOk, MatchResult, None, Ok, Err, Some, true};
 ghost use Rattle.wfe_server_replay.specs.Trace.{Progress, after_byte, after_bytes, after_last, after_line, at_end, bad_line, byte_refused, command_taken, counted, finished, item_taken, line_item, line_read, progress_start};
-ghost use Rattle.wfe_server_run.specs.Collecting.{MayAdd, MayCollect, Takes};
+ghost use Rattle.wfe_server_run.specs.Collecting.{IsForWorkers, IsItemForWorkers, MayAdd, MayCollect, Takes};
 ghost use Rattle.wfe_server_run.specs.Scripted.{no_calls, scripter};
 ghost use Rattle.wfe_trace.specs.Good.{is_body};
 ghost use Rattle.wfe_trace.specs.declared.item.Mode.TheVariants.{Run};
@@ -32,7 +32,8 @@ pub(crate) struct Reader {
 }
 
 impl Model for Reader {
-    ghost use Rattle.std.specs.Prelude.{◌≤◌};
+    ghost use Rattle.std.specs.Prelude.{◌≡◌, ◌≤◌};
+    ghost use Rattle.wfe_trace.specs.declared.item.Mode.TheVariants.{Run};
     ghost use Rattle.wfe_server_replay.specs.Trace.{Progress};
     ghost use Rattle.wfe_server_run.specs.Collecting.{CollectsIn};
     ghost use Rattle.wfe_server_run.specs.Scripted.{Scripted};
@@ -41,7 +42,7 @@ impl Model for Reader {
 
     ghost view = { λ r. record { reading = r.state; line = r.line.items; count = r.count; ended = r.ended; engine = r.scripts } };
 
-    ghost invariant = { λ r. (r.count ≤ 16777216) × CollectsIn r.state r.scripts };
+    ghost invariant = { λ r. (r.count ≤ 16777216) × (r.state.mode ≡ Run) × CollectsIn r.state r.scripts };
 }
 
 impl Reader {
@@ -98,7 +99,8 @@ impl Reader {
 
     // Takes a line of the body: only its call, if it gives one.
     fn take_command(&mut self, command: Command) -> Result<(), NoMemory>
-        requires { MayAdd command self.old.engine }
+        requires may { MayAdd command self.old.engine }
+        requires workers { IsForWorkers command }
         ensures { OnOk result (self.new ≡ command_taken scripter self.old command self.old.engine) }
     {
         self.ended = matches!(command, Command::End);
@@ -112,7 +114,8 @@ impl Reader {
 
     // Takes what a line says, which was read.
     fn take_item(&mut self, alloc: Global, item: Item) -> Result<(), NoMemory>
-        requires { MayCollect self.old item }
+        requires may { MayCollect self.old item }
+        requires workers { IsItemForWorkers item }
         ensures { OnOk result (self.new ≡ item_taken scripter self.old item) }
     {
         match item {
@@ -127,6 +130,7 @@ impl Reader {
         ensures item { result ≡ line_item scripter self.old }
         ensures after { OnOk result (self.new ≡ line_read self.old) }
         ensures may { IfOk result (MayCollect self.new) }
+        ensures workers { IfOk result IsItemForWorkers }
     {
         let item = read_line(&mut self.state, self.line.as_slice())?;
         self.line.clear();

@@ -5,6 +5,7 @@ ghost use Rattle.wfe_server_run.specs.Comes.{lists_in};
 ghost use Rattle.wfe_server_run.specs.Fitting.{AllBegin};
 ghost use Rattle.wfe_server_run.specs.Scripted.{called, no_calls};
 ghost use Rattle.wfe_trace.specs.Body.{fits_indexes};
+ghost use Rattle.wfe_trace.specs.Good.{is_for_workers};
 ghost use Rattle.wfe_trace.specs.words.Config.{bad_field};
 
 use std::alloc::Global;
@@ -53,10 +54,11 @@ impl Scripts {
         })
     }
 
-    /// One call more of a seat, whose indexes are in their ranges.
+    /// One call more of a seat, which workers make, and whose indexes are in their ranges.
     pub(crate) fn add(&mut self, seat: u32, call: Call) -> Result<(), NoMemory>
         requires seat { seat < self.old.config.seats }
         requires fits { fits_indexes self.old.config.indexes call ≡ true }
+        requires workers { is_for_workers call ≡ true }
         ensures added { OnOk result (self.new ≡ called (commands.Call seat call) self.old) }
         ensures config { self.new.config ≡ self.old.config }
     {

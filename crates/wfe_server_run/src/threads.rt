@@ -76,8 +76,9 @@ fn parted(
 }
 
 /// Makes the calls of each script with a seat of its own, on one table of this setting, each seat's
-/// by a worker. The calls must be some that may begin: the indexes that they name are from 2 on and the
-/// table has them, and a copy goes upwards. Each call is told to the gate before it and after it.
+/// by a worker. The calls must be some that may begin: by none of them does a seat leave, or take over
+/// what another has left, the indexes that they name are from 2 on and the table has them, and a copy
+/// goes upwards. Each call is told to the gate before it and after it.
 pub fn run_threads<R: Threads + Sync, G: Gate>(
     rt: &R,
     alloc: Global,

@@ -1,5 +1,6 @@
 // A worker: one seat with its script.
 ghost use Rattle.std.specs.Prelude.{◌≡◌, ◌<◌, IfOk, OnOk, length, slice_index_or, true};
+ghost use Rattle.wfe_call_any.specs.Stays.{stays};
 ghost use Rattle.wfe_core.specs.Locals.{may_begin};
 ghost use Rattle.wfe_drive_shared.specs.Public.{IsOf};
 ghost use Rattle.wfe_server_run.specs.Fitting.{MayBegin};
@@ -29,6 +30,7 @@ fn make_call<G: Gate>(
 ) -> Result<(), NoMemory>
     requires of { IsOf seat.old shared.now }
     requires may { may_begin shared.now.layout.config call ≡ true }
+    requires stays { stays call ≡ true }
     ensures of { IsOf seat.new shared.now }
     ensures called { OnOk result (IsCalled shared.now.layout.config.buckets seat.old.track call seat.new.track events.old.items events.new.items) }
 {

@@ -1,5 +1,5 @@
 // Whole replays of traces by their versions: copies and looks from version 2 on, conditional puts and rows of
-// fourteen pairs from version 3 on.
+// fourteen pairs from version 3 on, seats that leave from version 4 on.
 use std::process::Abort;
 use std::test::Fail;
 use wfe_outside::{MemSink, MemSource};
@@ -158,6 +158,37 @@ fn a_row_has_room_for_the_pairs_of_its_version(rt: HostRuntime) -> Result<(), Fa
             "0 end 19 bucket-full 6"
         );
     }
-    assert_eq!(rt; last_end(&rt, 3, 15)?.as_str(), "0 end 35 bucket-full 14");
+    for version in [3, 4] {
+        assert_eq!(rt;
+            last_end(&rt, version, 15)?.as_str(),
+            "0 end 35 bucket-full 14"
+        );
+    }
+    Ok(())
+}
+
+#[test]
+fn a_seat_leaves_from_version_four_on(rt: HostRuntime) -> Result<(), Fail> {
+    for line in ["0 leave\n", "1 adopt 0\n"] {
+        for version in [1, 2, 3] {
+            expect_bad(&rt, version, line, Reason::Form, "form")?;
+        }
+    }
+    for line in ["2 leave\n", "0 adopt 2\n", "2 adopt 0\n"] {
+        expect_bad(&rt, 4, line, Reason::Seat, "seat")?;
+    }
+    Ok(())
+}
+
+#[test]
+fn a_table_whose_seats_stay_makes_no_call_by_which_one_leaves(rt: HostRuntime) -> Result<(), Fail> {
+    for line in ["0 leave\n", "1 adopt 0\n"] {
+        expect_bad(&rt, 4, line, Reason::NotYet, "not-yet")?;
+    }
+    let (status, sink) = replayed(&rt, 4, (2, 4), "0 put 7 70\n0 leave\n")?;
+    let reason = Reason::NotYet;
+    assert_eq!(rt; status, Status::BadTrace { line: 13, reason });
+    let want = b"record 4 he 2 4 8 1 2 1 100 100\n0 begin put 7 70\nbad 13 not-yet\n";
+    assert_eq!(rt; sink.bytes(), want.as_slice());
     Ok(())
 }

@@ -112,7 +112,9 @@ call_from (w ∷ ws) =
     if bytes_eq w (codes "copy") then two calls.Copy ws else
     if bytes_eq w (codes "drop") then one calls.DropIndex ws else
     if bytes_eq w (codes "look") then two calls.Look ws else
-    if bytes_eq w (codes "put_if") then three calls.PutIf ws else None
+    if bytes_eq w (codes "put_if") then three calls.PutIf ws else
+    if bytes_eq w (codes "leave") then done calls.Leave ws else
+    if bytes_eq w (codes "adopt") then one calls.Adopt ws else None
 
 abbrev pub answer_from : Read Answer
 answer_from [] = None
@@ -134,6 +136,10 @@ answer_from (w ∷ ws) =
     if bytes_eq w (codes "dropped") then done answers.Dropped ws else
     if bytes_eq w (codes "looked") then number (λ slot. number (λ version. within (λ value. answers.Looked slot version value) value_from)) ws else
     if bytes_eq w (codes "stale") then one answers.Stale ws else
+    if bytes_eq w (codes "left") then one answers.Left ws else
+    if bytes_eq w (codes "adopted") then one answers.Adopted ws else
+    if bytes_eq w (codes "not-left") then done answers.NotLeft ws else
+    if bytes_eq w (codes "adopted-before") then done answers.AdoptedBefore ws else
     within answers.Clock clock_from (w ∷ ws)
 
 -- a guard, and what it published
@@ -167,4 +173,6 @@ event_from (w ∷ ws) =
     if bytes_eq w (codes "removed") then three events.Removed ws else
     if bytes_eq w (codes "got") then number (λ bucket. number (λ version. number (λ key. within (λ value. events.Got bucket version key value) value_from))) ws else
     if bytes_eq w (codes "queued") then two events.Queued ws else
-    if bytes_eq w (codes "taken") then two events.Taken ws else None
+    if bytes_eq w (codes "taken") then two events.Taken ws else
+    if bytes_eq w (codes "left") then one events.Left ws else
+    if bytes_eq w (codes "adopted") then two events.Adopted ws else None

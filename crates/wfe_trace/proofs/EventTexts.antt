@@ -69,6 +69,8 @@ call-read (calls.Copy from index) fits = rw (read from fits.0, read index fits.1
 call-read (calls.DropIndex index) fits = rw (read index fits) refl
 call-read (calls.Look index key) fits = rw (read index fits.0, read key fits.1) refl
 call-read (calls.PutIf key value version) fits = rw (read key fits.0, read value fits.1, read version fits.2) refl
+call-read calls.Leave fits = refl
+call-read (calls.Adopt place) fits = rw (read place fits) refl
 
 moved-read : (clock : ClockMove) → ClockFits clock → answer_from (clock_words clock) ≡ Some (answers.Clock clock)
 moved-read clocks.Still fits = refl
@@ -95,6 +97,10 @@ answer-read (answers.Copied slot) fits = rw (read slot fits) refl
 answer-read answers.Dropped fits = refl
 answer-read (answers.Looked slot version value) fits = rw (read slot fits.0, read version fits.1, value-read value fits.2) refl
 answer-read (answers.Stale version) fits = rw (read version fits) refl
+answer-read (answers.Left count) fits = rw (read count fits) refl
+answer-read (answers.Adopted count) fits = rw (read count fits) refl
+answer-read answers.NotLeft fits = refl
+answer-read answers.AdoptedBefore fits = refl
 
 pub event-read : (event : Event) → EventFits event → event_from (event_words event) ≡ Some event
 event-read (events.Begin call) fits = rw (call-read call fits) refl
@@ -117,3 +123,5 @@ event-read (events.Removed bucket version key) fits = rw (read bucket fits.0, re
 event-read (events.Got bucket version key value) fits = rw (read bucket fits.0, read version fits.1, read key fits.2, value-read value fits.3) refl
 event-read (events.Queued number value) fits = rw (read number fits.0, read value fits.1) refl
 event-read (events.Taken number value) fits = rw (read number fits.0, read value fits.1) refl
+event-read (events.Left count) fits = rw (read count fits) refl
+event-read (events.Adopted place count) fits = rw (read place fits.0, read count fits.1) refl

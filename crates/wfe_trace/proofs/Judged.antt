@@ -19,9 +19,11 @@ use Rattle.wfe_trace.specs.declared.item.Stage.{Stage}
 use Rattle.wfe_trace.specs.declared.item.Stage.TheVariants as stages
 use Rattle.wfe_trace.specs.declared.reason.Reason.{Reason}
 use Rattle.wfe_trace.specs.declared.reason.Reason.TheVariants as reasons
+use Rattle.wfe_trace.specs.declared.verb.CallVerb.{CallVerb}
+use Rattle.wfe_trace.specs.declared.verb.CallVerb.TheVariants as call_verbs
 use Rattle.wfe_trace.specs.declared.verb.Verb.{Verb}
 use Rattle.wfe_trace.specs.declared.verb.Verb.TheVariants as verbs
-use Rattle.wfe_trace.specs.Body.{verb_in, in_form, numbers_in, is_for, seat_of, fits_indexes, call_within, call_of, command_of, judged_line, places_in, command_at, command_in, IsCommandWithin}
+use Rattle.wfe_trace.specs.Body.{verb_in, in_form, numbers_in, is_for, is_placed, seat_of, fits_indexes, fits_seats, call_within, call_of, command_of, judged_line, places_in, command_at, command_in, IsCommandWithin}
 use Rattle.wfe_trace.specs.Good.{is_body, IsRead}
 use Rattle.wfe_trace.specs.Reading.{Reading, judged_at, judged, stage_after, version_after, config_after, gives_pairs, IsVersioned}
 use Rattle.wfe_trace.specs.Setting.{version_line, pairs_in, word_after, field_name, scheme_line, number_line, with_number}
@@ -64,16 +66,40 @@ same_command config a c r is_a is_c = let same : a ≡ c = cc in subst (IsComman
 in_range : (seats seat units : ℕ) → seat < seats → nat_le 1 units && nat_le units 100000 ≡ true → (seat < seats) × (1 ≤ units) × (units ≤ 100000)
 in_range seats seat units seated fits = (seated, grind (arith, nat_tests), grind (arith, nat_tests))
 
-command-of : (verb : Verb) (config : Config) (seat : ℕ) (n : Numbers) (c : Command) → seat_of config.seats verb n.seat ≡ Ok seat → command_of config.indexes verb seat n ≡ Ok c → IsCommandWithin config c
-command-of (verbs.Call name) config seat n c named h =
+-- and its place is a seat
+placed-call : (seats : ℕ) (name : CallVerb) (n : Numbers) → is_placed seats (verbs.Call name) n.first ≡ true → fits_seats seats (call_of name n) ≡ true
+placed-call seats call_verbs.Adopt n h = h
+placed-call seats call_verbs.Get n h = refl
+placed-call seats call_verbs.Put n h = refl
+placed-call seats call_verbs.Remove n h = refl
+placed-call seats call_verbs.Enqueue n h = refl
+placed-call seats call_verbs.Dequeue n h = refl
+placed-call seats call_verbs.Hold n h = refl
+placed-call seats call_verbs.Release n h = refl
+placed-call seats call_verbs.Advance n h = refl
+placed-call seats call_verbs.Scan n h = refl
+placed-call seats call_verbs.Copy n h = refl
+placed-call seats call_verbs.DropIndex n h = refl
+placed-call seats call_verbs.Look n h = refl
+placed-call seats call_verbs.PutIf n h = refl
+placed-call seats call_verbs.Leave n h = refl
+
+seats-within : (indexes seats : ℕ) (call found : Call) → call_within indexes call ≡ Ok found → fits_seats seats call ≡ true → fits_seats seats found ≡ true
+seats-within indexes seats call found h fits =
+    let (u, fit, h1) = both_good (need (fits_indexes indexes call) reasons.Range) _ found h in
+    let same : call ≡ found = cc in
+    subst (λ c. fits_seats seats c ≡ true) same fits
+
+command-of : (verb : Verb) (config : Config) (seat : ℕ) (n : Numbers) (c : Command) → seat_of config.seats verb n.seat ≡ Ok seat → is_placed config.seats verb n.first ≡ true → command_of config.indexes verb seat n ≡ Ok c → IsCommandWithin config c
+command-of (verbs.Call name) config seat n c named placed h =
     let (call, found, h1) = both_good (call_within config.indexes (call_of name n)) _ c h in
-    same_command config _ c _ refl h1 (seat-of config.seats n.seat (nat_lt n.seat config.seats) seat refl named, call-within config.indexes (call_of name n) call found)
-command-of verbs.Step config seat n c named h =
+    same_command config _ c _ refl h1 (seat-of config.seats n.seat (nat_lt n.seat config.seats) seat refl named, call-within config.indexes (call_of name n) call found, seats-within config.indexes config.seats (call_of name n) call found (placed-call config.seats name n placed))
+command-of verbs.Step config seat n c named placed h =
     let (u, fit, h1) = both_good (need (nat_le 1 n.first && nat_le n.first 100000) reasons.Range) _ c h in
     same_command config _ c _ refl h1 (in_range config.seats seat n.first (seat-of config.seats n.seat (nat_lt n.seat config.seats) seat refl named) (needed _ reasons.Range u fit))
-command-of verbs.Run config seat n c named h = same_command config _ c _ refl h (seat-of config.seats n.seat (nat_lt n.seat config.seats) seat refl named)
-command-of verbs.Table config seat n c named h = same_command config _ c _ refl h tt
-command-of verbs.End config seat n c named h = same_command config _ c _ refl h tt
+command-of verbs.Run config seat n c named placed h = same_command config _ c _ refl h (seat-of config.seats n.seat (nat_lt n.seat config.seats) seat refl named)
+command-of verbs.Table config seat n c named placed h = same_command config _ c _ refl h tt
+command-of verbs.End config seat n c named placed h = same_command config _ c _ refl h tt
 
 judged-line : (mode : Mode) (config : Config) (named : Option Verb) (line : Places) (c : Command) → judged_line mode config named line ≡ Ok c → IsCommandWithin config c
 judged-line mode config named line c h =
@@ -81,7 +107,8 @@ judged-line mode config named line c h =
     let (numbers, _, h2) = both_good (numbers_in line) _ c h1 in
     let (u, _, h3) = both_good (need (is_for mode verb) reasons.RunLine) _ c h2 in
     let (seat, seated, h4) = both_good (seat_of config.seats verb numbers.seat) _ c h3 in
-    command-of verb config seat numbers c seated h4
+    let (v, placed, h5) = both_good (need (is_placed config.seats verb numbers.first) reasons.Seat) _ c h4 in
+    command-of verb config seat numbers c seated (needed _ reasons.Seat v placed) h5
 
 -- a line that is good asks for what keeps to the setting
 pub line_within : (mode : Mode) (config : Config) (named : Option Verb) (line : Places) (r : Result Command Reason) → r ≡ judged_line mode config named line → IfOk r (IsCommandWithin config)

@@ -16,7 +16,7 @@ use Rattle.wfe_trace.specs.declared.reason.Reason.{Reason}
 use Rattle.wfe_trace.specs.declared.reason.Reason.TheVariants as reasons
 use Rattle.wfe_trace.specs.declared.verb.Verb.{Verb}
 use Rattle.wfe_trace.specs.declared.verb.Verb.TheVariants as verbs
-use Rattle.wfe_trace.specs.Body.{verb_in, count_of, count_in, in_form, numbers_in, is_for, names_seat, seat_of, fits_indexes, call_within, call_of, command_of, judged_line, places_in, command_at, command_in}
+use Rattle.wfe_trace.specs.Body.{verb_in, count_of, count_in, in_form, numbers_in, is_for, is_placed, names_seat, seat_of, fits_indexes, call_within, call_of, command_of, judged_line, places_in, command_at, command_in}
 use Rattle.wfe_trace.specs.Good.{is_of_line}
 use Rattle.wfe_trace.specs.Reading.{Reading, judged_at, judged}
 use Rattle.wfe_trace.specs.Setting.{version_line, word_after, field_name, scheme_in, scheme_line, number_line}
@@ -43,7 +43,7 @@ number None = refl
 number (Some n) = refl
 
 version-line : (bytes : List ℕ) → is_line_result (version_line bytes) ≡ true
-version-line bytes = choice (bytes_eq bytes (codes "wfe 1")) _ _ refl (choice (bytes_eq bytes (codes "wfe 2")) _ _ refl (choice (bytes_eq bytes (codes "wfe 3")) _ _ refl refl))
+version-line bytes = choice (bytes_eq bytes (codes "wfe 1")) _ _ refl (choice (bytes_eq bytes (codes "wfe 2")) _ _ refl (choice (bytes_eq bytes (codes "wfe 3")) _ _ refl (choice (bytes_eq bytes (codes "wfe 4")) _ _ refl refl)))
 
 word-after : (name : List ℕ) (ws : List (List ℕ)) → is_line_result (word_after name ws) ≡ true
 word-after name [] = refl
@@ -94,7 +94,8 @@ judged-line mode config named line =
     both (in_form named line) _ (in-form named line) (λ verb.
     both (numbers_in line) _ (numbers-in line) (λ numbers.
     both (need (is_for mode verb) reasons.RunLine) _ (needed (is_for mode verb) reasons.RunLine refl) (λ u.
-    both (seat_of config.seats verb numbers.seat) _ (seat-of config.seats verb numbers.seat) (λ seat. command-of config.indexes verb seat numbers))))
+    both (seat_of config.seats verb numbers.seat) _ (seat-of config.seats verb numbers.seat) (λ seat.
+    both (need (is_placed config.seats verb numbers.first) reasons.Seat) _ (needed _ reasons.Seat refl) (λ v. command-of config.indexes verb seat numbers)))))
 
 command-at : (mode : Mode) (version : ℕ) (config : Config) (placed : Option (List ℕ × Places)) → is_line_result (command_at mode version config placed) ≡ true
 command-at mode version config None = refl

@@ -37,16 +37,17 @@ versioned-with_number version config fields.LastEra n other v = v
 versioned-with_number version config fields.LastVersion n other v = v
 versioned-with_number version config fields.Pairs n other v = absurd (cc)
 
-choice : (test : Bool) (n version : ℕ) (later : Result ℕ Reason) → 1 ≤ n → n ≤ 3 → (later ≡ Ok version → (1 ≤ version) × (version ≤ 3)) → (if test then Ok n else later) ≡ Ok version → (1 ≤ version) × (version ≤ 3)
+choice : (test : Bool) (n version : ℕ) (later : Result ℕ Reason) → 1 ≤ n → n ≤ 4 → (later ≡ Ok version → (1 ≤ version) × (version ≤ 4)) → (if test then Ok n else later) ≡ Ok version → (1 ≤ version) × (version ≤ 4)
 choice true n version later least most others h = let same : n ≡ version = cc in (omega (arith, same, least), omega (arith, same, most))
 choice false n version later least most others h = others h
 
--- the first line names a version from 1 to 3
-pub version_within : (bytes : List ℕ) (version : ℕ) → version_line bytes ≡ Ok version → (1 ≤ version) × (version ≤ 3)
+-- the first line names a version from 1 to 4
+pub version_within : (bytes : List ℕ) (version : ℕ) → version_line bytes ≡ Ok version → (1 ≤ version) × (version ≤ 4)
 version_within bytes version h =
     choice (bytes_eq bytes (codes "wfe 1")) 1 version _ (omega arith) (omega arith)
     (choice (bytes_eq bytes (codes "wfe 2")) 2 version _ (omega arith) (omega arith)
-    (choice (bytes_eq bytes (codes "wfe 3")) 3 version (Err reasons.First) (omega arith) (omega arith) (λ g. absurd (cc)))) h
+    (choice (bytes_eq bytes (codes "wfe 3")) 3 version _ (omega arith) (omega arith)
+    (choice (bytes_eq bytes (codes "wfe 4")) 4 version (Err reasons.First) (omega arith) (omega arith) (λ g. absurd (cc))))) h
 
 -- so the setting has its pairs
 pub versioned_first : (bytes : List ℕ) (config : Config) (version : ℕ) → version_line bytes ≡ Ok version → IsVersioned version (with_number config fields.Pairs (pairs_in version))

@@ -1,6 +1,6 @@
 -- Which calls the traces of a version have, and that later versions have the lines of the earlier ones.
 use Rattle.std.proofs.Common.{ℕ, ◌≡◌, ◌≤◌, ◌==◌, ◌&&◌, ◌∙◌, if◌then◌else◌, nat_le, Bool, true, false, List, Option, Some, None, Result, Ok, Err, refl, sym, ap, subst, arith}
-use Rattle.std.specs.Prelude.{codes}
+use Rattle.std.specs.Prelude.{codes, length}
 use Rattle.std.specs.Str.{bytes_eq}
 use Rattle.std.proofs.lemmas.Bool.Decides.{nat_tests}
 use Rattle.wfe_words.specs.declared.config.Config.{Config}
@@ -9,16 +9,22 @@ use Rattle.wfe_defs.specs.declared.command.Command.{Command}
 use Rattle.wfe_defs.specs.declared.command.Command.TheVariants as commands
 use Rattle.wfe_trace.specs.declared.body.Numbers.{Numbers}
 use Rattle.wfe_trace.specs.declared.body.Places.{Places}
+use Rattle.wfe_trace.specs.declared.item.Item.TheVariants as items
 use Rattle.wfe_trace.specs.declared.item.Mode.{Mode}
+use Rattle.wfe_trace.specs.declared.item.Mode.TheVariants as modes
+use Rattle.wfe_trace.specs.declared.item.Stage.{Stage}
+use Rattle.wfe_trace.specs.declared.item.Stage.TheVariants as stages
 use Rattle.wfe_trace.specs.declared.reason.Reason.{Reason}
 use Rattle.wfe_trace.specs.declared.reason.Reason.TheVariants as reasons
 use Rattle.wfe_trace.specs.declared.verb.CallVerb.{CallVerb}
 use Rattle.wfe_trace.specs.declared.verb.CallVerb.TheVariants as call_verbs
 use Rattle.wfe_trace.specs.declared.verb.Verb.{Verb}
 use Rattle.wfe_trace.specs.declared.verb.Verb.TheVariants as verbs
-use Rattle.wfe_trace.specs.Body.{call_verb_in, first_version, known_in, verb_in, count_of, count_in, in_form, numbers_in, is_for, seat_of, fits_indexes, call_within, call_of, command_of, judged_line, places_in, command_at, command_in}
-use Rattle.wfe_trace.specs.Good.{version_of}
-use Rattle.wfe_trace.specs.Words.{need}
+use Rattle.wfe_trace.specs.Body.{call_verb_in, first_version, known_in, verb_in, count_of, count_in, in_form, numbers_in, is_for, is_placed, seat_of, fits_indexes, call_within, call_of, command_of, judged_line, places_in, command_at, command_in}
+use Rattle.wfe_trace.specs.Good.{is_for_workers, version_of}
+use Rattle.wfe_trace.specs.Reading.{Reading, judged, judged_at}
+use Rattle.wfe_trace.specs.Setting.{number_line, scheme_line, version_line}
+use Rattle.wfe_trace.specs.Words.{need, words}
 use Rattle.wfe_trace.proofs.Judged.{both_good}
 
 -- a call that is named is one of the version
@@ -64,6 +70,8 @@ version-call call_verbs.Copy n = refl
 version-call call_verbs.DropIndex n = refl
 version-call call_verbs.Look n = refl
 version-call call_verbs.PutIf n = refl
+version-call call_verbs.Leave n = refl
+version-call call_verbs.Adopt n = refl
 
 form-by : (v verb : Verb) (fits : Bool) → (if fits then Ok v else Err reasons.Form) ≡ Ok verb → Some v ≡ Some verb
 form-by v verb true h = cc
@@ -103,7 +111,8 @@ line-call mode version config named line seat call f h =
     let (n, _, h2) = both_good (numbers_in line) _ _ h1 in
     let (u, _, h3) = both_good (need (is_for mode verb) reasons.RunLine) _ _ h2 in
     let (s, _, h4) = both_good (seat_of config.seats verb n.seat) _ _ h3 in
-    let (name, is, same) = asked verb config.indexes s n seat call h4 in
+    let (w, _, h5) = both_good (need (is_placed config.seats verb n.first) reasons.Seat) _ _ h4 in
+    let (name, is, same) = asked verb config.indexes s n seat call h5 in
     version_as call (call_of name n) (first_version name) version same (version-call name n) (f name (called_as named verb (verbs.Call name) (in-form named line verb form) is))
 
 at-call : (mode : Mode) (version : ℕ) (config : Config) (placed : Option (List ℕ × Places)) (seat : ℕ) (call : Call) → command_at mode version config placed ≡ Ok (commands.Call seat call) → version_of call ≤ version
@@ -113,6 +122,61 @@ at-call mode version config (Some placed) seat call h = line-call mode version c
 -- the traces of a version begin calls of that version and of earlier ones alone
 pub begins-version : (mode : Mode) (version : ℕ) (config : Config) (ws : List (List ℕ)) (seat : ℕ) (call : Call) → command_in mode version config ws ≡ Ok (commands.Call seat call) → version_of call ≤ version
 begins-version mode version config ws seat call h = at-call mode version config (places_in ws) seat call h
+
+-- a line that begins a call for workers names one of theirs
+workers-call : (name : CallVerb) (n : Numbers) → is_for modes.Run (verbs.Call name) ≡ true → is_for_workers (call_of name n) ≡ true
+workers-call call_verbs.Leave n h = absurd (cc)
+workers-call call_verbs.Adopt n h = absurd (cc)
+workers-call call_verbs.Get n h = refl
+workers-call call_verbs.Put n h = refl
+workers-call call_verbs.Remove n h = refl
+workers-call call_verbs.Enqueue n h = refl
+workers-call call_verbs.Dequeue n h = refl
+workers-call call_verbs.Hold n h = refl
+workers-call call_verbs.Release n h = refl
+workers-call call_verbs.Advance n h = refl
+workers-call call_verbs.Scan n h = refl
+workers-call call_verbs.Copy n h = refl
+workers-call call_verbs.DropIndex n h = refl
+workers-call call_verbs.Look n h = refl
+workers-call call_verbs.PutIf n h = refl
+
+needed : (fits : Bool) (reason : Reason) (u : Unit {0}) → need fits reason ≡ Ok u → fits ≡ true
+needed true reason u h = refl
+needed false reason u h = absurd (cc)
+
+workers-line : (config : Config) (named : Option Verb) (line : Places) (seat : ℕ) (call : Call) → judged_line modes.Run config named line ≡ Ok (commands.Call seat call) → is_for_workers call ≡ true
+workers-line config named line seat call h =
+    let (verb, form, h1) = both_good (in_form named line) _ _ h in
+    let (n, _, h2) = both_good (numbers_in line) _ _ h1 in
+    let (u, fit, h3) = both_good (need (is_for modes.Run verb) reasons.RunLine) _ _ h2 in
+    let (s, _, h4) = both_good (seat_of config.seats verb n.seat) _ _ h3 in
+    let (w, _, h5) = both_good (need (is_placed config.seats verb n.first) reasons.Seat) _ _ h4 in
+    let (name, is, same) = asked verb config.indexes s n seat call h5 in
+    sym (ap is_for_workers same) ∙ workers-call name n (ap (is_for modes.Run) (sym is) ∙ needed (is_for modes.Run verb) reasons.RunLine u fit)
+
+workers-at : (version : ℕ) (config : Config) (placed : Option (List ℕ × Places)) (seat : ℕ) (call : Call) → command_at modes.Run version config placed ≡ Ok (commands.Call seat call) → is_for_workers call ≡ true
+workers-at version config None seat call h = absurd (cc)
+workers-at version config (Some placed) seat call h = workers-line config (verb_in version placed.0) placed.1 seat call h
+
+pub begins-workers : (version : ℕ) (config : Config) (ws : List (List ℕ)) (seat : ℕ) (call : Call) → command_in modes.Run version config ws ≡ Ok (commands.Call seat call) → is_for_workers call ≡ true
+begins-workers version config ws seat call h = workers-at version config (places_in ws) seat call h
+
+-- so does a trace for workers
+at-stage : (stage : Stage) (r : Reading) (bytes : List ℕ) (seat : ℕ) (call : Call) → r.mode ≡ modes.Run → judged_at stage r bytes ≡ Ok (items.Command (commands.Call seat call)) → is_for_workers call ≡ true
+at-stage stages.First r bytes seat call m h = let (version, _, h1) = both_good (version_line bytes) _ _ h in absurd (cc)
+at-stage stages.Scheme r bytes seat call m h = let (scheme, _, h1) = both_good (scheme_line (words bytes)) _ _ h in absurd (cc)
+at-stage (stages.Number field) r bytes seat call m h = let (number, _, h1) = both_good (number_line field (words bytes)) _ _ h in absurd (cc)
+at-stage stages.Begin r bytes seat call m h = let (u, _, h1) = both_good (need (bytes_eq bytes (codes "begin")) reasons.Config) _ _ h in absurd (cc)
+at-stage stages.Body r bytes seat call m h =
+    let (command, good, h1) = both_good (command_in r.mode r.version r.config (words bytes)) _ _ h in
+    let same : command ≡ commands.Call seat call = cc in
+    begins-workers r.version r.config (words bytes) seat call (subst (λ (mode : Mode). command_in mode r.version r.config (words bytes) ≡ Ok (commands.Call seat call)) m (good ∙ ap Ok same))
+
+pub judged-workers : (r : Reading) (bytes : List ℕ) (seat : ℕ) (call : Call) → r.mode ≡ modes.Run → judged r bytes ≡ Ok (items.Command (commands.Call seat call)) → is_for_workers call ≡ true
+judged-workers r bytes seat call m h =
+    let (u, _, h1) = both_good (need (nat_le (length bytes) 200) reasons.LongLine) _ _ h in
+    at-stage r.stage r bytes seat call m h1
 
 later-known-by : (v w : ℕ) (call : CallVerb) (verb : Verb) (fits : Bool) → v ≤ w → nat_le (first_version call) v ≡ fits → (if fits then Some (verbs.Call call) else None) ≡ Some verb → known_in w (Some call) ≡ Some verb
 later-known-by v w call verb true l e h = let fits : nat_le (first_version call) w ≡ true = grind (arith, nat_tests) in rw fits h

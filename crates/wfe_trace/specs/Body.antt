@@ -25,7 +25,9 @@ later_call_in w =
     if bytes_eq w (codes "copy") then Some call_verbs.Copy else
     if bytes_eq w (codes "drop") then Some call_verbs.DropIndex else
     if bytes_eq w (codes "look") then Some call_verbs.Look else
-    if bytes_eq w (codes "put_if") then Some call_verbs.PutIf else None
+    if bytes_eq w (codes "put_if") then Some call_verbs.PutIf else
+    if bytes_eq w (codes "leave") then Some call_verbs.Leave else
+    if bytes_eq w (codes "adopt") then Some call_verbs.Adopt else None
 
 -- the call that a word names, in the traces that have it
 abbrev pub call_verb_in : List ℕ → Option CallVerb
@@ -46,6 +48,8 @@ first_version call_verbs.Copy = 2
 first_version call_verbs.DropIndex = 2
 first_version call_verbs.Look = 2
 first_version call_verbs.PutIf = 3
+first_version call_verbs.Leave = 4
+first_version call_verbs.Adopt = 4
 first_version call = 1
 
 -- the call, where traces of the version have it
@@ -76,6 +80,8 @@ call_count call_verbs.Put = 3
 call_count call_verbs.Copy = 3
 call_count call_verbs.Look = 3
 call_count call_verbs.PutIf = 4
+call_count call_verbs.Leave = 1
+call_count call_verbs.Adopt = 2
 
 -- how many numbers a verb's line has, the seat's among them
 abbrev pub count_of : Verb → ℕ
@@ -120,11 +126,13 @@ numbers_in (places.SeatThree s a b c) = do
   third ← or_number c
   Ok (record { seat = seat; first = first; second = second; third = third })
 
--- workers know no single steps, and no table of counts on the way
+-- workers know no single steps, no table of counts on the way, and no seats that leave
 abbrev pub is_for : Mode → Verb → Bool
 is_for modes.Replay verb = true
 is_for modes.Run verbs.Step = false
 is_for modes.Run verbs.Table = false
+is_for modes.Run (verbs.Call call_verbs.Leave) = false
+is_for modes.Run (verbs.Call call_verbs.Adopt) = false
 is_for modes.Run _ = true
 
 -- a line with the verb names a seat
@@ -138,6 +146,16 @@ names_seat verbs.End = false
 -- the seat that a line names is one of the trace; a line without a seat counts as seat 0
 abbrev pub seat_of : ℕ → Verb → ℕ → Result ℕ Reason
 seat_of seats verb seat = if names_seat verb then (if nat_lt seat seats then Ok seat else Err reasons.Seat) else Ok 0
+
+-- the place that a line names, its first number, is one of so many seats
+abbrev pub is_placed : (seats : ℕ) → Verb → (first : ℕ) → Bool
+is_placed seats (verbs.Call call_verbs.Adopt) first = nat_lt first seats
+is_placed seats verb first = true
+
+-- the place that a call names is one of so many seats
+abbrev pub fits_seats : ℕ → Call → Bool
+fits_seats seats (calls.Adopt place) = nat_lt place seats
+fits_seats seats call = true
 
 -- the indexes that a call names are some at which a row may stand between calls, and a copy goes upwards
 abbrev pub fits_indexes : ℕ → Call → Bool
@@ -167,6 +185,8 @@ call_of call_verbs.Copy n = calls.Copy n.first n.second
 call_of call_verbs.DropIndex n = calls.DropIndex n.first
 call_of call_verbs.Look n = calls.Look n.first n.second
 call_of call_verbs.PutIf n = calls.PutIf n.first n.second n.third
+call_of call_verbs.Leave n = calls.Leave
+call_of call_verbs.Adopt n = calls.Adopt n.first
 
 -- what the line asks for; the indexes of a call and the units of a step can be out of range
 abbrev pub command_of : ℕ → Verb → ℕ → Numbers → Result Command Reason
@@ -187,6 +207,7 @@ judged_line mode config named line = do
   numbers ← numbers_in line
   fit ← need (is_for mode verb) reasons.RunLine
   seat ← seat_of config.seats verb numbers.seat
+  placed ← need (is_placed config.seats verb numbers.first) reasons.Seat
   command_of config.indexes verb seat numbers
 
 -- the word in the verb's place, which is the second where the line names a seat, and the words in the places of numbers
@@ -206,9 +227,10 @@ command_at mode version config (Some placed) = judged_line mode config (verb_in 
 abbrev pub command_in : Mode → ℕ → Config → List (List ℕ) → Result Command Reason
 command_in mode version config ws = command_at mode version config (places_in ws)
 
--- the seat is one of the trace, the indexes of a call are in their ranges, and the units of a step are 1 to 100,000
+-- the seat is one of the trace, the indexes of a call are in their ranges and its place is a seat of the trace, and the units of a step are
+-- 1 to 100,000
 abbrev pub IsCommandWithin : Config → Command → Type 0
-IsCommandWithin config (commands.Call seat call) = (seat < config.seats) × (fits_indexes config.indexes call ≡ true)
+IsCommandWithin config (commands.Call seat call) = (seat < config.seats) × (fits_indexes config.indexes call ≡ true) × (fits_seats config.seats call ≡ true)
 IsCommandWithin config (commands.Step seat units) = (seat < config.seats) × (1 ≤ units) × (units ≤ 100000)
 IsCommandWithin config (commands.Run seat) = seat < config.seats
 IsCommandWithin config commands.Table = Unit {0}

@@ -57,6 +57,8 @@ CallFits (calls.Copy from index) = NumberFits from × NumberFits index
 CallFits (calls.DropIndex index) = NumberFits index
 CallFits (calls.Look index key) = NumberFits index × NumberFits key
 CallFits (calls.PutIf key value version) = NumberFits key × NumberFits value × NumberFits version
+CallFits calls.Leave = Unit {0}
+CallFits (calls.Adopt place) = NumberFits place
 
 abbrev pub AnswerFits : Answer → Type 0
 AnswerFits (answers.Got version value) = NumberFits version × ValueFits value
@@ -77,6 +79,10 @@ AnswerFits (answers.Copied slot) = NumberFits slot
 AnswerFits answers.Dropped = Unit {0}
 AnswerFits (answers.Looked slot version value) = NumberFits slot × NumberFits version × ValueFits value
 AnswerFits (answers.Stale version) = NumberFits version
+AnswerFits (answers.Left count) = NumberFits count
+AnswerFits (answers.Adopted count) = NumberFits count
+AnswerFits answers.NotLeft = Unit {0}
+AnswerFits answers.AdoptedBefore = Unit {0}
 
 -- each number of the event has at most 64 bits
 abbrev pub EventFits : Event → Type 0
@@ -100,6 +106,8 @@ EventFits (events.Removed bucket version key) = NumberFits bucket × NumberFits 
 EventFits (events.Got bucket version key value) = NumberFits bucket × NumberFits version × NumberFits key × ValueFits value
 EventFits (events.Queued number value) = NumberFits number × NumberFits value
 EventFits (events.Taken number value) = NumberFits number × NumberFits value
+EventFits (events.Left count) = NumberFits count
+EventFits (events.Adopted place count) = NumberFits place × NumberFits count
 
 -- each number that a header tells of the setting has at most 64 bits
 pub record ConfigFits (config : Config) : Type 0 where

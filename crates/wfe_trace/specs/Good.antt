@@ -33,7 +33,8 @@ pub record IsRead (r : Reading) (stage : Stage) (bytes : List ℕ) (item : Item)
   pub versioned : gives_pairs stage ≡ false → IsVersioned r.version r.config → IsVersioned (version_after stage r.version bytes) (config_after stage r.config bytes)
   pub next : gives_pairs (stage_after stage) ≡ false
 
--- a reason that a line can give by itself: the others are of calls that have not ended, of the whole trace, or of what is not built
+-- a reason that a line can give by itself: the others are of calls that have not ended, of seats that have left, of the whole trace, or of
+-- what is not built
 abbrev pub is_of_line : Reason → Bool
 is_of_line reasons.First = true
 is_of_line reasons.Config = true
@@ -48,6 +49,7 @@ is_of_line reasons.LongTrace = false
 is_of_line reasons.NoEnd = false
 is_of_line reasons.AfterEnd = false
 is_of_line reasons.NotYet = false
+is_of_line reasons.Gone = false
 
 -- the first version whose traces have the call
 abbrev pub version_of : Call → ℕ
@@ -55,4 +57,12 @@ version_of (calls.Copy from index) = 2
 version_of (calls.DropIndex index) = 2
 version_of (calls.Look index key) = 2
 version_of (calls.PutIf key value version) = 3
+version_of calls.Leave = 4
+version_of (calls.Adopt place) = 4
 version_of call = 1
+
+-- the seat neither leaves by the call nor takes over what another has left: workers make such calls alone
+abbrev pub is_for_workers : Call → Bool
+is_for_workers calls.Leave = false
+is_for_workers (calls.Adopt place) = false
+is_for_workers call = true

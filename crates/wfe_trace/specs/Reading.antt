@@ -111,7 +111,7 @@ gives_pairs _ = false
 
 -- the version is one that is read, and the setting has its pairs
 abbrev pub IsVersioned : (version : ℕ) → Config → Type 0
-IsVersioned version config = (1 ≤ version) × (version ≤ 3) × (config.pairs ≡ pairs_in version)
+IsVersioned version config = (1 ≤ version) × (version ≤ 4) × (config.pairs ≡ pairs_in version)
 
 -- so the setting that is whole has the pairs of its version
 abbrev pub IsItemVersioned : Item → Type 0

@@ -76,6 +76,8 @@ call_words (calls.Copy from index) = codes "copy" ∷ decimal from ∷ decimal i
 call_words (calls.DropIndex index) = codes "drop" ∷ decimal index ∷ []
 call_words (calls.Look index key) = codes "look" ∷ decimal index ∷ decimal key ∷ []
 call_words (calls.PutIf key value version) = codes "put_if" ∷ decimal key ∷ decimal value ∷ decimal version ∷ []
+call_words calls.Leave = codes "leave" ∷ []
+call_words (calls.Adopt place) = codes "adopt" ∷ decimal place ∷ []
 
 abbrev pub answer_words : Answer → List (List ℕ)
 answer_words (answers.Got version value) = codes "got" ∷ decimal version ∷ value_words value
@@ -96,6 +98,10 @@ answer_words (answers.Copied slot) = codes "copied" ∷ decimal slot ∷ []
 answer_words answers.Dropped = codes "dropped" ∷ []
 answer_words (answers.Looked slot version value) = codes "looked" ∷ decimal slot ∷ decimal version ∷ value_words value
 answer_words (answers.Stale version) = codes "stale" ∷ decimal version ∷ []
+answer_words (answers.Left count) = codes "left" ∷ decimal count ∷ []
+answer_words (answers.Adopted count) = codes "adopted" ∷ decimal count ∷ []
+answer_words answers.NotLeft = codes "not-left" ∷ []
+answer_words answers.AdoptedBefore = codes "adopted-before" ∷ []
 
 -- an answer with what the call found or did: a key's value, or a move of the clock
 abbrev pub tells_outcome : Answer → Bool
@@ -127,6 +133,8 @@ event_words (events.Removed bucket version key) = codes "removed" ∷ decimal bu
 event_words (events.Got bucket version key value) = codes "got" ∷ decimal bucket ∷ decimal version ∷ decimal key ∷ value_words value
 event_words (events.Queued number value) = codes "queued" ∷ decimal number ∷ decimal value ∷ []
 event_words (events.Taken number value) = codes "taken" ∷ decimal number ∷ decimal value ∷ []
+event_words (events.Left count) = codes "left" ∷ decimal count ∷ []
+event_words (events.Adopted place count) = codes "adopted" ∷ decimal place ∷ decimal count ∷ []
 
 -- an event of keys and values
 abbrev pub tells_contents : Event → Bool
@@ -196,6 +204,7 @@ reason_word reasons.LongTrace = codes "long-trace"
 reason_word reasons.NoEnd = codes "no-end"
 reason_word reasons.AfterEnd = codes "after-end"
 reason_word reasons.NotYet = codes "not-yet"
+reason_word reasons.Gone = codes "gone"
 
 -- the line that names the first bad line of a trace
 abbrev pub bad_line : ℕ → Reason → List ℕ

@@ -16,7 +16,8 @@ abbrev pub version_line : List ℕ → Result ℕ Reason
 version_line bytes =
     if bytes_eq bytes (codes "wfe 1") then Ok 1 else
     if bytes_eq bytes (codes "wfe 2") then Ok 2 else
-    if bytes_eq bytes (codes "wfe 3") then Ok 3 else Err reasons.First
+    if bytes_eq bytes (codes "wfe 3") then Ok 3 else
+    if bytes_eq bytes (codes "wfe 4") then Ok 4 else Err reasons.First
 
 -- for how many pairs a row has room, in traces of the version
 abbrev pub pairs_in : ℕ → ℕ

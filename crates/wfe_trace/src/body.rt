@@ -1,9 +1,9 @@
 // The body lines of a trace, in each version that is read.
-ghost use Rattle.std.specs.Prelude.{◌≡◌, IfOk, option_map};
-ghost use Rattle.wfe_trace.specs.Body.{count_in, in_form as form, numbers_in, seat_of as named_seat, call_within, call_of as call_with, command_of as command, judged_line, places_in, command_in, IsCommandWithin};
+ghost use Rattle.std.specs.Prelude.{◌≡◌, true, IfOk, option_map};
+ghost use Rattle.wfe_trace.specs.Body.{is_placed, count_in, in_form as form, numbers_in, seat_of as named_seat, call_within, call_of as call_with, command_of as command, judged_line, places_in, command_in, IsCommandWithin};
 ghost use Rattle.wfe_trace.specs.Words.{words};
 
-use crate::verb::{CallVerb, Verb, count_of, is_for, names_seat, verb_of};
+use crate::verb::{CallVerb, Verb, count_of, is_for, is_placed, names_seat, verb_of};
 use crate::words::{Words, need, number_of, or_number, words_of};
 use crate::{Mode, Reason};
 use wfe_defs::{Call, Command};
@@ -111,7 +111,8 @@ fn look_of(indexes: u32, index: u64, key: u64) -> Result<Call, Reason>
     Ok(Call::Look { index, key })
 }
 
-fn call_of(indexes: u32, verb: CallVerb, numbers: Numbers) -> Result<Call, Reason>
+fn call_of(seats: u32, indexes: u32, verb: CallVerb, numbers: Numbers) -> Result<Call, Reason>
+    requires { is_placed seats (Verb.Call verb) numbers.first ≡ true }
     ensures { result ≡ call_within indexes (call_with verb numbers) }
 {
     let call = match verb {
@@ -137,16 +138,21 @@ fn call_of(indexes: u32, verb: CallVerb, numbers: Numbers) -> Result<Call, Reaso
             value: numbers.second,
             version: numbers.third,
         },
+        CallVerb::Leave => Call::Leave,
+        CallVerb::Adopt => Call::Adopt {
+            place: numbers.first as u32,
+        },
     };
     Ok(call)
 }
 
-fn command_of(indexes: u32, verb: Verb, seat: u32, numbers: Numbers) -> Result<Command, Reason>
-    ensures { result ≡ command indexes verb seat numbers }
+fn command_of(config: &Config, verb: Verb, seat: u32, numbers: Numbers) -> Result<Command, Reason>
+    requires { is_placed config.now.seats verb numbers.first ≡ true }
+    ensures { result ≡ command config.now.indexes verb seat numbers }
 {
     match verb {
         Verb::Call(named) => {
-            let call = call_of(indexes, named, numbers)?;
+            let call = call_of(config.seats, config.indexes, named, numbers)?;
             Ok(Command::Call { seat, call })
         }
         Verb::Step => {
@@ -170,7 +176,8 @@ fn judge(mode: Mode, config: &Config, named: Option<Verb>, line: Places) -> Resu
     let numbers = line.numbers()?;
     need(is_for(mode, verb), Reason::RunLine)?;
     let seat = seat_of(config.seats, verb, numbers.seat)?;
-    command_of(config.indexes, verb, seat, numbers)
+    need(is_placed(config.seats, verb, numbers.first), Reason::Seat)?;
+    command_of(config, verb, seat, numbers)
 }
 
 // The word in the verb's place, and the words in the places of numbers.

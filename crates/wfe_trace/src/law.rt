@@ -1,5 +1,5 @@
 // What holds of the lines of each trace, and of the text of each record.
-ghost use Rattle.std.specs.Prelude.{◌≡◌, ◌≤◌, ℕ, List, length, Option, None, Ok, Err, IsTrue};
+ghost use Rattle.std.specs.Prelude.{◌≡◌, ◌≤◌, ℕ, List, length, Option, None, Ok, Err, IsTrue, true};
 ghost use Rattle.wfe_words.specs.declared.config.Config.{Config};
 ghost use Rattle.wfe_words.specs.Config.{bad_field};
 ghost use Rattle.wfe_defs.specs.declared.call.Call.{Call};
@@ -8,10 +8,11 @@ ghost use Rattle.wfe_defs.specs.declared.command.Command.TheVariants as commands
 ghost use Rattle.wfe_defs.specs.declared.event.Event.{Event};
 ghost use Rattle.wfe_trace.specs.declared.item.Item.{Item};
 ghost use Rattle.wfe_trace.specs.declared.item.Mode.{Mode};
+ghost use Rattle.wfe_trace.specs.declared.item.Mode.TheVariants as modes;
 ghost use Rattle.wfe_trace.specs.declared.reason.Reason.{Reason};
 ghost use Rattle.wfe_trace.specs.Body.{command_in};
 ghost use Rattle.wfe_trace.specs.Fits.{NumberFits, ValueFits, EventFits, ConfigFits};
-ghost use Rattle.wfe_trace.specs.Good.{IsRead, is_of_line, version_of};
+ghost use Rattle.wfe_trace.specs.Good.{IsRead, is_for_workers, is_of_line, version_of};
 ghost use Rattle.wfe_trace.specs.Reading.{Reading, judged};
 ghost use Rattle.wfe_trace.specs.Record.{event_line, table_line, watch_line, count_line, header_line, bad_line};
 
@@ -56,10 +57,13 @@ pub fn lines_are_judged()
 {}
 
 /// A law: a trace of a version begins calls of that version and of earlier ones alone, and a line of
-/// the body that is good in a version is good in later ones, where it asks for the same.
+/// the body that is good in a version is good in later ones, where it asks for the same. A trace for
+/// workers begins only calls of seats that stay.
 pub fn versions_have_their_lines()
     ensures calls { (mode : Mode) (version : ℕ) (config : Config) (line : List (List ℕ)) (seat : ℕ) (call : Call)
         → command_in mode version config line ≡ Ok (commands.Call seat call) → version_of call ≤ version }
     ensures later { (mode : Mode) (version other : ℕ) (config : Config) (line : List (List ℕ)) (command : Command)
         → version ≤ other → command_in mode version config line ≡ Ok command → command_in mode other config line ≡ Ok command }
+    ensures workers { (version : ℕ) (config : Config) (line : List (List ℕ)) (seat : ℕ) (call : Call)
+        → command_in modes.Run version config line ≡ Ok (commands.Call seat call) → is_for_workers call ≡ true }
 {}

@@ -1,4 +1,4 @@
-//! Reads the lines of a trace of the versions 1 to 3, and prints the lines of a record. No call here
+//! Reads the lines of a trace of the versions 1 to 4, and prints the lines of a record. No call here
 //! takes memory.
 #![tactic(auto)]
 

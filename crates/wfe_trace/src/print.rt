@@ -163,6 +163,8 @@ fn print_call(line: &mut Line, call: Call)
             value,
             version,
         } => phrase(line, b"put_if", &[key, value, version]),
+        Call::Leave => word(line, b"leave"),
+        Call::Adopt { place } => phrase(line, b"adopt", &[place as u64]),
     }
 }
 
@@ -222,6 +224,10 @@ fn print_answer(line: &mut Line, answer: Answer)
         Answer::Scanned { kept, back } => phrase(line, b"scanned", &[kept as u64, back as u64]),
         Answer::Copied { slot } => phrase(line, b"copied", &[slot as u64]),
         Answer::Dropped => word(line, b"dropped"),
+        Answer::Left { count } => phrase(line, b"left", &[count as u64]),
+        Answer::Adopted { count } => phrase(line, b"adopted", &[count as u64]),
+        Answer::NotLeft => word(line, b"not-left"),
+        Answer::AdoptedBefore => word(line, b"adopted-before"),
         Answer::Got { .. }
         | Answer::Done { .. }
         | Answer::Taken { .. }
@@ -256,6 +262,8 @@ fn event_name(event: Event) -> &'static [u8]
         Event::Got { .. } => b"got",
         Event::Queued { .. } => b"queued",
         Event::Taken { .. } => b"taken",
+        Event::Left { .. } => b"left",
+        Event::Adopted { .. } => b"adopted",
     }
 }
 
@@ -343,6 +351,8 @@ fn print_rest(line: &mut Line, event: Event)
             retire,
         } => numbers(line, &[slot as u64, birth as u64, retire as u64]),
         Event::Back { slot } => number(line, slot as u64),
+        Event::Left { count } => number(line, count as u64),
+        Event::Adopted { place, count } => numbers(line, &[place as u64, count as u64]),
         Event::Held { .. } | Event::Null { .. } | Event::Clear { .. } | Event::Copied { .. } => {
             print_standing(line, event)
         }
@@ -469,6 +479,7 @@ fn reason_name(reason: Reason) -> &'static [u8]
         Reason::NoEnd => b"no-end",
         Reason::AfterEnd => b"after-end",
         Reason::NotYet => b"not-yet",
+        Reason::Gone => b"gone",
     }
 }
 

@@ -27,8 +27,10 @@ pub enum Reason {
     NoEnd,
     /// Bytes follow the line `end`.
     AfterEnd,
-    /// The text has a meaning that is not built. No line is bad by it.
+    /// The line begins a call that is not built here.
     NotYet,
+    /// The seat has left.
+    Gone,
 }
 
 /// The first bad line of a trace. Lines are counted from 1.

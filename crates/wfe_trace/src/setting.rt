@@ -8,7 +8,7 @@ use crate::Reason;
 use crate::words::{Words, need, number_of, or_number, words_of};
 use wfe_words::{Config, Field, SchemeKind};
 
-/// The version that the first line names, 1 to 3.
+/// The version that the first line names, 1 to 4.
 pub fn read_version(bytes: &[u8]) -> Result<u32, Reason>
     ensures { result ≡ version_line bytes.now }
 {
@@ -18,6 +18,8 @@ pub fn read_version(bytes: &[u8]) -> Result<u32, Reason>
         Ok(2)
     } else if bytes == b"wfe 3".as_slice() {
         Ok(3)
+    } else if bytes == b"wfe 4".as_slice() {
+        Ok(4)
     } else {
         Err(Reason::First)
     }

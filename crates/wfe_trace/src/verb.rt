@@ -1,6 +1,6 @@
 // The verbs of body lines, by the version of the trace.
 ghost use Rattle.std.specs.Prelude.{◌≡◌};
-ghost use Rattle.wfe_trace.specs.Body.{later_call_in, call_verb_in, first_version as version_of, known_in as known, verb_in, call_count as count_of_call, count_of as count, is_for as fits, names_seat as has_seat};
+ghost use Rattle.wfe_trace.specs.Body.{later_call_in, call_verb_in, first_version as version_of, known_in as known, verb_in, call_count as count_of_call, count_of as count, is_for as fits, is_placed as placed_in, names_seat as has_seat};
 
 use crate::Mode;
 
@@ -20,6 +20,8 @@ pub enum CallVerb {
     DropIndex,
     Look,
     PutIf,
+    Leave,
+    Adopt,
 }
 
 /// The word that names what a line asks for.
@@ -44,6 +46,10 @@ fn later_call_of(word: &[u8]) -> Option<CallVerb>
         Some(CallVerb::Look)
     } else if word == b"put_if".as_slice() {
         Some(CallVerb::PutIf)
+    } else if word == b"leave".as_slice() {
+        Some(CallVerb::Leave)
+    } else if word == b"adopt".as_slice() {
+        Some(CallVerb::Adopt)
     } else {
         None
     }
@@ -81,6 +87,7 @@ fn first_version(call: CallVerb) -> u32
     match call {
         CallVerb::Copy | CallVerb::DropIndex | CallVerb::Look => 2,
         CallVerb::PutIf => 3,
+        CallVerb::Leave | CallVerb::Adopt => 4,
         _ => 1,
     }
 }
@@ -117,8 +124,9 @@ fn call_count(call: CallVerb) -> usize
 {
     match call {
         CallVerb::Dequeue | CallVerb::Release | CallVerb::Advance | CallVerb::Scan => 1,
+        CallVerb::Leave => 1,
         CallVerb::Get | CallVerb::Remove | CallVerb::Enqueue | CallVerb::Hold => 2,
-        CallVerb::DropIndex => 2,
+        CallVerb::DropIndex | CallVerb::Adopt => 2,
         CallVerb::Put | CallVerb::Copy | CallVerb::Look => 3,
         CallVerb::PutIf => 4,
     }
@@ -140,7 +148,22 @@ pub fn count_of(verb: Verb) -> usize
 pub fn is_for(mode: Mode, verb: Verb) -> bool
     ensures { result ≡ fits mode verb }
 {
-    !matches!((mode, verb), (Mode::Run, Verb::Step | Verb::Table))
+    let alone = matches!(
+        verb,
+        Verb::Step | Verb::Table | Verb::Call(CallVerb::Leave | CallVerb::Adopt)
+    );
+    !(matches!(mode, Mode::Run) && alone)
+}
+
+/// Whether the first number of a line with the verb, where it names a place, is one of so many
+/// seats.
+pub fn is_placed(seats: u32, verb: Verb, first: u64) -> bool
+    ensures { result ≡ placed_in seats verb first }
+{
+    match verb {
+        Verb::Call(CallVerb::Adopt) => first < seats as u64,
+        _ => true,
+    }
 }
 
 /// Whether a line with the verb names a seat.

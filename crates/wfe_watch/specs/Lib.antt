@@ -2,3 +2,4 @@ pub mod Changes
 pub mod Counts
 pub mod Garbage
 pub mod Keys
+pub mod Lists

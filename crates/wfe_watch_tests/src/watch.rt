@@ -3,7 +3,7 @@ use std::alloc::{AllocError, Global};
 use std::test::Fail;
 use wfe_defs::Event;
 use wfe_outside::{WatchRow, Watcher};
-use wfe_watch::{GarbageCounter, KeyCounter};
+use wfe_watch::{GarbageCounter, KeyCounter, ListCounter};
 
 fn put(key: u64) -> Event {
     Event::Put {
@@ -104,5 +104,33 @@ fn watchers_of_both_kinds_are_told_alike(rt: HostRuntime) -> Result<(), Fail> {
         let WatchRow { a, b, c } = watcher.row(0);
         assert_eq!(rt; [a, b, c], want);
     }
+    Ok(())
+}
+
+#[test]
+fn rows_are_counted_where_their_list_is(rt: HostRuntime) -> Result<(), Fail> {
+    let mut lists = ListCounter::new(rt.alloc(), 2)?;
+    let adopted = Event::Adopted { place: 0, count: 2 };
+    let told = [
+        (0, retire(5)),
+        (1, retire(6)),
+        (0, retire(7)),
+        (0, Event::Left { count: 2 }),
+        (1, adopted),
+        (1, Event::Back { slot: 7 }),
+        (3, retire(8)),
+    ];
+    let want = [[1, 0], [1, 1], [2, 1], [2, 1], [0, 3], [0, 2], [0, 2]];
+    for place in 0..told.len() {
+        let (seat, event) = told[place];
+        lists.count(seat, &event);
+        assert_eq!(rt;
+            [lists.waiting(0), lists.waiting(1)],
+            want[place],
+            "{place}"
+        );
+    }
+    assert_eq!(rt; lists.total(), 2);
+    assert_eq!(rt; lists.waiting(2), 0);
     Ok(())
 }

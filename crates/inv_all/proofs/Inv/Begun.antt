@@ -4,12 +4,14 @@ use Rattle.inv_ends.specs.model.words.Place.{is_valid}
 use Rattle.inv_ends.specs.model.words.declared.layout.Layout.{Layout}
 use Rattle.inv_ends.specs.model.defs.declared.call.Call.{Call}
 use Rattle.inv_ends.specs.model.Locals.{may_begin}
-use Rattle.inv_ends.specs.model.World.{World, start, begin, is_busy}
+use Rattle.inv_ends.proofs.model.Facts.{first_of, rest_of}
+use Rattle.inv_ends.specs.model.World.{World, start, begin, is_busy, is_here, may_start}
 use Rattle.inv_ends.specs.requests.Standing.{Requests}
 use Rattle.inv_ends.specs.requests.Views.{Deal, View as Asked}
 use Rattle.inv_ends.specs.requests.Views.Deal.{Quiet}
 use Rattle.inv_steps_left.specs.rows.Queue.{Line}
 use Rattle.inv_steps_left.specs.rows.Rows.{View}
+use Rattle.inv_ends.specs.covers.Rests.{SpanRests}
 use Rattle.inv_ends.specs.handover.Helped.{Helped}
 use Rattle.inv_ends.proofs.shapes.Decode.{eras_start, eras_begin}
 use Rattle.inv_ends.proofs.shapes.Kept.{seats_start, seats_begin}
@@ -23,7 +25,7 @@ use Rattle.inv_steps_left.specs.rows.Chain.{first_line}
 use Rattle.inv_steps_left.proofs.rows.Whole.{whole_start, whole_begin}
 use Rattle.inv_ends.proofs.covers.Begun.{held_start, held_begin}
 use Rattle.inv_ends.proofs.covers.Kept.{scans_start, scans_begin}
-use Rattle.inv_ends.proofs.covers.Resting.{rests_start, rests_begin}
+use Rattle.inv_ends.proofs.covers.Resting.{rests_start, rests_begin, spans_rest}
 use Rattle.inv_steps_left.proofs.contents.Contents.Begun.{contents_start, contents_begin}
 use Rattle.inv_steps_left.proofs.contents.Stands.Kept.{stands_start, stands_begin}
 use Rattle.inv_steps_left.proofs.contents.Items.Begun.{items_start, items_begin}
@@ -34,7 +36,8 @@ use Rattle.inv_steps_left.proofs.Rest.Lasting.{losses_start, losses_begin}
 use Rattle.inv_steps_left.proofs.Rounds.Ending.{rounds_start, rounds_begin}
 use Rattle.inv_all.specs.Known.{Known}
 use Rattle.inv_all.specs.Inv.{InvStart, InvBegin}
-use Rattle.inv_all.proofs.Inv.Ready.{listed_few}
+use Rattle.inv_all.proofs.Inv.Ready.{here_few}
+use Rattle.inv_all.proofs.Inv.Shown.{shown_span}
 
 pub known_start : (layout : Layout) (z : Asked) → is_valid layout ≡ true → Requests (start layout) z → z.deal ≡ (λ k. Quiet) → Known (start layout) (first_rows layout) (first_line layout) z
 known_start layout z d q e = record {
@@ -65,19 +68,23 @@ inv_start layout d =
     let q = requests_start layout d in
     record { rows = first_rows layout; line = first_line layout; asked = q.0; known = known_start layout q.0 d q.1.facts q.1.deal }
 
-pub known_begin : (w : World) (i : ℕ) (call : Call) (v : View) (l : Line) (z next : Asked) → is_busy w i ≡ false → may_begin w.layout.config call ≡ true → Known w v l z → Requests (begin w i call) next → next.deal ≡ z.deal → Known (begin w i call) v l next
-known_begin w i call v l z next b m k q e = record {
+-- under 2GE nothing stands where no interval does
+spans_of : (w : World) (i : ℕ) (v : View) (l : Line) (z : Asked) → Known w v l z → SpanRests (w.seat i).post
+spans_of w i v l z k = spans_rest w v i (k.seats.fits i).post.layout (λ h. shown_span w i k.valid k.eras) (λ h. k.held)
+
+begun_known : (w : World) (i : ℕ) (call : Call) (v : View) (l : Line) (z next : Asked) → is_busy w i ≡ false → is_here w i ≡ true → may_begin w.layout.config call ≡ true → Known w v l z → Requests (begin w i call) next → next.deal ≡ z.deal → Known (begin w i call) v l next
+begun_known w i call v l z next b h m k q e = record {
   valid = k.valid;
   seats = seats_begin w i call k.valid k.seats;
   eras = eras_begin w i call k.valid k.eras;
   slots = slots_begin w i call k.valid m k.slots;
-  noted = noted_begin w i call (listed_few w i v k.whole.both.rows) k.noted;
+  noted = noted_begin w i call (here_few w i v k.whole.both.rows h) k.noted;
   paces = paces_begin w i call k.valid k.seats k.paces;
   parents = parents_begin w i call k.parents;
   requests = q;
-  whole = whole_begin w i call v l b k.whole;
+  whole = whole_begin w i call v l b h k.whole;
   scans = scans_begin w i call k.scans;
-  rests = rests_begin w i call b k.rests;
+  rests = rests_begin w i call b (spans_of w i v l z k) k.rests;
   held = held_begin w i call v k.held;
   helped = λ f. subst (λ (deal : ℕ → Deal). Helped (begin w i call) v deal) (sym e) (handover_begin w i call v z.deal (k.helped f));
   links = links_begin w i call v l z next b k.requests e k.links;
@@ -88,6 +95,9 @@ known_begin w i call v l z next b m k q e = record {
   losses = losses_begin w i call k.losses;
   rounds = rounds_begin w i call l z next b k.requests e k.rounds;
 }
+
+pub known_begin : (w : World) (i : ℕ) (call : Call) (v : View) (l : Line) (z next : Asked) → is_busy w i ≡ false → may_start w i call ≡ true → Known w v l z → Requests (begin w i call) next → next.deal ≡ z.deal → Known (begin w i call) v l next
+known_begin w i call v l z next b f k q e = begun_known w i call v l z next b (first_of (is_here w i) (may_begin w.layout.config call) f) (rest_of (is_here w i) (may_begin w.layout.config call) f) k q e
 
 pub inv_begin : InvBegin
 inv_begin w i call b m a =

@@ -14,7 +14,7 @@ use Rattle.inv_ends.specs.model.Phases.ProtectAt.{LoadLink}
 use Rattle.inv_ends.specs.model.Phases.Base.{Protect}
 use Rattle.inv_ends.specs.model.Calls.{Why, FollowsHead, DequeueAt, LoadTail, LoadHeld, StoreHeld, Getting, Changing, Enqueuing, Dequeuing, Keeping, Phase, Idle, Runs, Scans, Works}
 use Rattle.inv_ends.proofs.model.Ranges.{bounds_of}
-use Rattle.inv_ends.specs.model.World.{World, step}
+use Rattle.inv_ends.specs.model.World.{World, list_in, step}
 use Rattle.inv_ends.specs.shapes.Eras.{Eras}
 use Rattle.inv_ends.specs.shapes.Seats.{Seats}
 use Rattle.inv_ends.specs.shapes.Slots.{CopyIn, Slots}
@@ -99,7 +99,7 @@ parents_of w i k why base p s a e f =
 
 -- nothing stands where the seat that steps takes from what a guard publishes
 right_of : (w : World) (i : ℕ) (v : View) (why : Why) (base : Base) → Agree w v → (w.seat i).phase ≡ Runs why base → runs_right why base ≡ true
-right_of w i v why base a e = subst (λ (y : Phase). is_right y (w.seat i).desk.list ≡ true) e (a.plays i).right
+right_of w i v why base a e = subst (λ (y : Phase). is_right y (list_in w i) ≡ true) e (a.plays i).right
 
 pub rests_need : (w : World) (i : ℕ) (v : View) → Seats w → Slots w → Agree w v → RestsNeeds w i
 rests_need w i v s l a = record { shape = λ why base e. run_of w i why base s e; right = λ why base e. right_of w i v why base a e; kept = λ at e. keep_in w i at l e }

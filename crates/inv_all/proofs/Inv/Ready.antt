@@ -1,7 +1,11 @@
 -- What the code of a step, links, and eras take of other parts.
-use Rattle.std.proofs.Common.{ℕ, ◌≡◌, ◌≤◌, ◌<◌, ◌+◌, true, refl, ap}
-use Rattle.std.specs.Prelude.{length}
+use Rattle.std.proofs.Common.{ℕ, ◌≡◌, ◌≤◌, ◌<◌, ◌+◌, true, refl, ap, subst, arith}
+use Rattle.std.specs.Prelude.{List, ◌++◌, length}
+use Rattle.std.proofs.lemmas.List.{length-append}
 use Rattle.inv_ends.specs.model.words.Place.{is_valid}
+use Rattle.inv_ends.specs.model.words.Place.Place.{PlaceOf}
+use Rattle.inv_ends.specs.model.defs.declared.lifetime.Lifetime.{Lifetime}
+use Rattle.inv_ends.proofs.model.Facts.{number_is}
 use Rattle.inv_ends.specs.model.defs.declared.event.Root.{Root}
 use Rattle.inv_ends.specs.model.declared.post.Post.{Post}
 use Rattle.inv_ends.specs.model.Posts.{tag_of}
@@ -9,7 +13,7 @@ use Rattle.inv_ends.specs.model.Phases.{Aim, ProtectAt, Base}
 use Rattle.inv_ends.specs.model.Phases.ProtectAt.{TakeAnswer}
 use Rattle.inv_ends.specs.model.Phases.Base.{Protect}
 use Rattle.inv_ends.specs.model.Calls.{Why, Work, Phase, Runs, Works}
-use Rattle.inv_ends.specs.model.World.{World, finds}
+use Rattle.inv_ends.specs.model.World.{World, finds, is_busy, is_here, list_in, offered}
 use Rattle.inv_ends.specs.shapes.Code.{protect_rises, base_rises, phase_rises, CodeNeeds}
 use Rattle.inv_ends.specs.shapes.Eras.{ErasNeeds}
 use Rattle.inv_ends.specs.shapes.Seats.{Seats}
@@ -22,12 +26,24 @@ use Rattle.inv_steps_left.specs.rows.Agree.{Agree}
 use Rattle.inv_steps_left.specs.rows.Rows.{View}
 use Rattle.inv_steps_left.proofs.rows.Facts.{rows_show}
 
--- the list of a seat is no longer than the rows
-pub listed_few : (w : World) (k : ℕ) (v : View) → Agree w v → length (w.seat k).desk.list ≤ w.layout.config.slots + 1
-listed_few w k v a = let s = rows_show w v k a in few_listed (w.seat k).desk.list w.layout.config.slots s.apart s.below
+-- the list of a seat that is busy, or has not left, is no longer than the rows
+pub listed_few : (w : World) (k : ℕ) (v : View) → Agree w v → is_busy w k ≡ true → length (w.seat k).desk.list ≤ w.layout.config.slots + 1
+listed_few w k v a b = ((rows_show w v k a).kept b).short
+
+here_list : (w : World) (k : ℕ) → w.mem (PlaceOf k) ≡ 0 → list_in w k ≡ (w.seat k).desk.list
+here_list w k e = rw e refl
+
+pub here_few : (w : World) (k : ℕ) (v : View) → Agree w v → is_here w k ≡ true → length (w.seat k).desk.list ≤ w.layout.config.slots + 1
+here_few w k v a h =
+    let s = rows_show w v k a in
+    subst (λ (list : List Lifetime). length list ≤ w.layout.config.slots + 1) (here_list w k (number_is (w.mem (PlaceOf k)) 0 h)) (few_listed (list_in w k) w.layout.config.slots s.apart s.below)
+
+-- so is its list together with one that it takes over
+gained_few : (list gift : List Lifetime) (most : ℕ) → length (list ++ gift) ≤ most → length list + length gift ≤ most
+gained_few list gift most h = let e = length-append list gift in omega (arith, e, h)
 
 pub slots_need : (w : World) (i : ℕ) (v : View) → Agree w v → ((work : Work) → (w.seat i).phase ≡ Works work → work_finds w.layout.config work (finds w i)) → SlotsNeeds w i
-slots_need w i v a f = takes_reads w.layout.config (w.seat i).desk (w.seat i).phase (finds w i) (listed_few w i v a) (rows_show w v i a).backs f
+slots_need w i v a f = takes_reads w.layout.config (offered w i).desk (w.seat i).phase (finds w i) (λ b. listed_few w i v a b) (rows_show w v i a).backs f (λ place e o. gained_few (w.seat i).desk.list (offered w i).desk.gift (w.layout.config.slots + 1) ((rows_show w v i a).gains place e o).short)
 
 pub eras_need : (w : World) (i : ℕ) (v : View) (z : Asked) → is_valid w.layout ≡ true → Seats w → Agree w v → Requests w z → ErasNeeds w i
 eras_need w i v z d s a q = record { tags = (known w z i d s q).tags; life = takes_life w.mem (w.seat i).phase (rows_show w v i a).lives }

@@ -3,8 +3,7 @@ use Rattle.std.proofs.Common.{ℕ, ◌≡◌, ◌<◌, Bool, true, false, refl, 
 use Rattle.inv_ends.specs.model.words.Place.{is_valid}
 use Rattle.inv_ends.specs.model.words.declared.layout.Layout.{Layout}
 use Rattle.inv_ends.specs.model.defs.declared.call.Call.{Call}
-use Rattle.inv_ends.specs.model.Locals.{may_begin}
-use Rattle.inv_ends.specs.model.World.{begin, is_busy, step}
+use Rattle.inv_ends.specs.model.World.{begin, is_busy, may_start, step}
 use Rattle.inv_ends.specs.requests.Views.{Deal, View as Asked}
 use Rattle.inv_ends.proofs.requests.Falling.{needs_of}
 use Rattle.inv_ends.proofs.requests.Kept.{requests_start, requests_begin}
@@ -42,7 +41,7 @@ meeting_need made i v l z b k = record { valid = k.valid; below = b; seats = k.s
 pub given_need : (made : Made) (i : ℕ) (v : View) (l : Line) (z : Asked) → Known made.world v l z → GivenNeeds made.world i v
 given_need made i v l z k = record { valid = k.valid; seats = k.seats; needs = rows_need made.world i v l k.seats k.eras k.whole.both; rows = k.whole.both.rows }
 
-begin_goes : (layout : Layout) (made : Made) (i : ℕ) (call : Call) (s : Sights) → is_busy made.world i ≡ false → may_begin made.world.layout.config call ≡ true → Goes layout made s → Goes layout (done made (Begins i call)) s
+begin_goes : (layout : Layout) (made : Made) (i : ℕ) (call : Call) (s : Sights) → is_busy made.world i ≡ false → may_start made.world i call ≡ true → Goes layout made s → Goes layout (done made (Begins i call)) s
 begin_goes layout made i call s f m g =
     let k = g.known in
     let q = requests_begin made.world i call g.asked k.valid f k.seats k.requests in
@@ -76,7 +75,7 @@ item_goes : (layout : Layout) (made : Made) (item : Item) (s : Sights) (fit : Bo
 item_goes layout made item s false f g = g
 item_goes layout made (Begins i call) s true f g =
     let seats : ℕ = made.world.layout.config.seats in
-    let may : Bool = may_begin made.world.layout.config call in
+    let may : Bool = may_start made.world i call in
     begin_goes layout made i call s (begins_right i seats (is_busy made.world i) may f) (begins_within i seats (is_busy made.world i) may f) g
 item_goes layout made (Steps i) s true f g = step_goes layout made i s (low_seat i made.world.layout.config.seats (is_busy made.world i) f) g
 

@@ -19,7 +19,7 @@ use Rattle.inv_covers.specs.model.Memory.{place_in, found, written}
 use Rattle.inv_covers.specs.model.Posts.{counted}
 use Rattle.inv_covers.specs.model.Steps.{phase_move, phase_turn}
 use Rattle.inv_covers.specs.model.Locals.{Local, turn, settled, told_by, told_end, rounds_told}
-use Rattle.inv_covers.specs.model.World.{World, step, finds, told_in}
+use Rattle.inv_covers.specs.model.World.{World, step, finds, told_in, offered, list_in}
 use Rattle.inv_covers.specs.model.Calls.{ChangeKept, EnqueueKept, Changes, ChangeAt, LoadVersion, LoadCount, LoadKey, LoadValue, ExchangeRoot, EnqueueAt, LoadNumber, LoadNext, PassTail, ExchangeNext, ExchangeTail, Getting, Changing, Enqueuing, Dequeuing, Phase, Idle, Runs, Scans, Works, CallTurn, CallOutcome, GoesOn, Answers, Looks, Keeping, GetAt, FindVersion, FindCount, FindKey, FindValue}
 use Rattle.inv_covers.proofs.model.Facts.{number_is, same_number}
 use Rattle.inv_covers.proofs.model.Ranges.{bounds_of}
@@ -189,12 +189,12 @@ linking_did n slots a v mem after i (Works (Enqueuing kept at)) post desk list y
 linking_did n slots a v mem after i (Works (Dequeuing at)) post desk list y u last e g x p w h c = absurd (cc)
 linking_did n slots a v mem after i (Works (Keeping at)) post desk list y u last e g x p w h c = absurd (cc)
 
-phase_did : (n slots : ℕ) (a : Book) (v : View) (mem : Place → ℕ) (i : ℕ) (phase : Phase) (post : Post) (desk : Desk) (links : Bool) → links_in phase (found (phase_move phase post) (mem (place_in (phase_move phase post)))) ≡ links → ((k : EnqueueKept) (slot : ℕ) → phase ≡ Works (Enqueuing k (ExchangeNext slot)) → mem (Row k.tail 0) ≡ 0 → k.number ≡ length a.queued) → Needs slots mem v phase → Good slots v → Words slots mem v → Plays i phase desk.list v
+phase_did : (n slots : ℕ) (a : Book) (v : View) (mem : Place → ℕ) (i : ℕ) (phase : Phase) (post : Post) (desk : Desk) (list : List Lifetime) (links : Bool) → links_in phase (found (phase_move phase post) (mem (place_in (phase_move phase post)))) ≡ links → ((k : EnqueueKept) (slot : ℕ) → phase ≡ Works (Enqueuing k (ExchangeNext slot)) → mem (Row k.tail 0) ≡ 0 → k.number ≡ length a.queued) → Needs slots mem v phase → Good slots v → Words slots mem v → Plays i phase list v
     → RootsHeld n (shelf_of a) phase (λ b. (machine.after b (counted post) (found (phase_move phase post) (mem (place_in (phase_move phase post))))).outcome) → GetOwes n (shelf_of a) (counted post) (reads_in phase) → Shown (reads_in phase) (shelf_of a) mem → Knows (on n (shelf_of a) mem) phase → Shelved (on n (shelf_of a) mem) a v
     → Did n a (booked_all a (told_by (phase_turn phase (counted post) desk (found (phase_move phase post) (mem (place_in (phase_move phase post))))))) v (made i v (row_move phase post (found (phase_move phase post) (mem (place_in (phase_move phase post)))))) (written mem (phase_move phase post)) (phase_left (phase_turn phase (counted post) desk (found (phase_move phase post) (mem (place_in (phase_move phase post))))).outcome) (told_by (phase_turn phase (counted post) desk (found (phase_move phase post) (mem (place_in (phase_move phase post))))))
-phase_did n slots a v mem i phase post desk true y last needs g x p r o shown h c =
-    linking_did n slots a v mem (written mem (phase_move phase post)) i phase post desk desk.list y o.buckets last refl g x p (λ s q z low. rows_stay mem phase post s q (settled_stays slots v i phase desk.list s g p z) low) h c
-phase_did n slots a v mem i phase post desk false y last needs g x p r o shown h c =
+phase_did n slots a v mem i phase post desk list true y last needs g x p r o shown h c =
+    linking_did n slots a v mem (written mem (phase_move phase post)) i phase post desk list y o.buckets last refl g x p (λ s q z low. rows_stay mem phase post s q (settled_stays slots v i phase list s g p z) low) h c
+phase_did n slots a v mem i phase post desk list false y last needs g x p r o shown h c =
     let word : ℕ = found (phase_move phase post) (mem (place_in (phase_move phase post))) in
     calm_did
     n
@@ -204,9 +204,9 @@ phase_did n slots a v mem i phase post desk false y last needs g x p r o shown h
     mem
     (written mem (phase_move phase post))
     (phase_turn phase (counted post) desk word)
-    (phase_turns n (shelf_of a) mem phase post (counted post) desk desk.list p.right y r o shown h)
-    (keeps_made i v (row_move phase post word) (phase_fits slots i mem v phase post desk.list needs g x p) (unlinks phase post word y))
-    (λ s q z low. rows_stay mem phase post s q (settled_stays slots v i phase desk.list s g p z) low)
+    (phase_turns n (shelf_of a) mem phase post (counted post) desk list p.right y r o shown h)
+    (keeps_made i v (row_move phase post word) (phase_fits slots i mem v phase post list needs g x p) (unlinks phase post word y))
+    (λ s q z low. rows_stay mem phase post s q (settled_stays slots v i phase list s g p z) low)
     c
 
 -- the seat that steps, and the others
@@ -220,9 +220,9 @@ roots_held w i v owed = record { gets = λ key base e slot era o. owed.gets key 
 get_owes : (w : World) (i : ℕ) (v : View) → ContentsNeeds w i v → Contents w v → GetOwes w.layout.config.buckets (shelf_of w.book) (counted (w.seat i).post) (reads_in (w.seat i).phase)
 get_owes w i v owed c = record { buckets = ap (λ (layout : Layout). layout.config.buckets) (owed.shapes.fits i).post.layout; lows = λ s b y r. c.rows.within s b (owed.held i s y) r }
 
-pub step_did : (w : World) (i : ℕ) (v : View) → RowsNeeds w i v → ContentsNeeds w i v → Agree w v → Contents w v → Did w.layout.config.buckets w.book (step w i).book v (rows_after w i v) (step w i).mem (phase_left (turn (w.seat i) (finds w i)).outcome) (told_in w i)
+pub step_did : (w : World) (i : ℕ) (v : View) → RowsNeeds w i v → ContentsNeeds w i v → Agree w v → Contents w v → Did w.layout.config.buckets w.book (step w i).book v (rows_after w i v) (step w i).mem (phase_left (turn (offered w i) (finds w i)).outcome) (told_in w i)
 step_did w i v needs owed agree c =
-    let l : Local = w.seat i in
+    let l : Local = offered w i in
     phase_did
     w.layout.config.buckets
     w.layout.config.slots
@@ -233,6 +233,7 @@ step_did w i v needs owed agree c =
     l.phase
     l.post
     l.desk
+    (list_in w i)
     (links_in l.phase (finds w i))
     refl
     owed.last
@@ -258,9 +259,9 @@ phase_counted layout (Works work) post f = work_counted work post f
 -- a step of a machine tells nothing of rows of the map
 machine_same : (w : World) (i : ℕ) (v : View) → links_in (w.seat i).phase (finds w i) ≡ false → ContentsNeeds w i v → Agree w v → Contents w v → SameBook w.book (step w i).book
 machine_same w i v y owed agree c =
-    let l : Local = w.seat i in
+    let l : Local = offered w i in
     turns_same w.layout.config.buckets w.book (step w i).mem (turn l (finds w i))
-    (phase_turns w.layout.config.buckets (shelf_of w.book) w.mem l.phase l.post (counted l.post) l.desk l.desk.list (agree.plays i).right y (roots_held w i v owed) (get_owes w i v owed c) (λ s b x r. c.rows.shows s b (owed.held i s x) r) (c.seats i))
+    (phase_turns w.layout.config.buckets (shelf_of w.book) w.mem l.phase l.post (counted l.post) l.desk (list_in w i) (agree.plays i).right y (roots_held w i v owed) (get_owes w i v owed c) (λ s b x r. c.rows.shows s b (owed.held i s x) r) (c.seats i))
 
 -- rows that stood at indexes from 2 on are rows of buckets still
 kept_before : (w : World) (i : ℕ) (v : View) (k : ℕ) → RowsNeeds w i v → ContentsNeeds w i v → Agree w v → Contents w v → KeptRows (shelf_of (step w i).book) (w.seat k).post
@@ -273,16 +274,16 @@ takes_rows w i v owed agree c = λ key aim index root steps at s e u.
     let same = machine_same w i v (ap (λ (phase : Phase). links_in phase (finds w i)) e) owed agree c in
     record { bucket = key % w.layout.config.buckets; root = same.roots s ∙ owed.holds key aim index root steps at s e (sym (rises_counted (w.seat i).post at (finds w i) s) ∙ u) }
 
-kept_own : (w : World) (i : ℕ) (v : View) → RowsNeeds w i v → ContentsNeeds w i v → Agree w v → Contents w v → KeptRows (shelf_of (step w i).book) (settled (w.seat i) (turn (w.seat i) (finds w i))).post
+kept_own : (w : World) (i : ℕ) (v : View) → RowsNeeds w i v → ContentsNeeds w i v → Agree w v → Contents w v → KeptRows (shelf_of (step w i).book) (settled (offered w i) (turn (offered w i) (finds w i))).post
 kept_own w i v needs owed agree c =
-    let l : Local = w.seat i in
+    let l : Local = offered w i in
     let q = owed.shapes.fits i in
     let a : Shelf = shelf_of (step w i).book in
     let Q : Post → Type 0 = KeptRows a in
     let P : Post → Phase → Type 0 = λ post phase. Unit {0} in
     (settled_seated {Q = Q} {P = P} l (turn l (finds w i))
     (record {
-      post = turn_kept a w.layout i l.phase (counted l.post) l.desk l.desk (finds w i) ((bounds_of w.layout owed.valid).indexes.1) (counted_fits w.layout i l.post q.post) (phase_counted w.layout l.phase l.post q.phase) (owed.slots.seats i).phase (takes_rows w i v owed agree c) (kept_before w i v i needs owed agree c);
+      post = turn_kept a w.layout i l.phase (counted l.post) l.desk (w.seat i).desk (finds w i) ((bounds_of w.layout owed.valid).indexes.1) (counted_fits w.layout i l.post q.post) (phase_counted w.layout l.phase l.post q.phase) (owed.slots.seats i).phase (takes_rows w i v owed agree c) (kept_before w i v i needs owed agree c);
       phase = tt;
     })).post
 
@@ -292,7 +293,7 @@ kept_at a old new false p q = p
 
 pub contents_kept : ContentsKept
 contents_kept w i v needs owed agree c =
-    let l : Local = w.seat i in
+    let l : Local = offered w i in
     let n : ℕ = w.layout.config.buckets in
     let slots : ℕ = w.layout.config.slots in
     let t : CallTurn = turn l (finds w i) in
@@ -314,7 +315,7 @@ contents_kept w i v needs owed agree c =
           (settled l t)
           (k == i)
           refl
-          (λ e. knows_lasts n (shelf_of w.book) (shelf_of (step w i).book) w.mem (step w i).mem (w.seat k).phase (λ s y. d.far s (owed.held k s y)) (λ s q y low. rows_stay w.mem l.phase l.post s q (owned_stays slots v i k l.phase (w.seat k).phase l.desk.list (w.seat k).desk.list s e agree.good (agree.plays i) (agree.plays k) y) low) (c.seats k))
+          (λ e. knows_lasts n (shelf_of w.book) (shelf_of (step w i).book) w.mem (step w i).mem (w.seat k).phase (λ s y. d.far s (owed.held k s y)) (λ s q y low. rows_stay w.mem l.phase l.post s q (owned_stays slots v i k l.phase (w.seat k).phase (list_in w i) (list_in w k) s e agree.good (agree.plays i) (agree.plays k) y) low) (c.seats k))
           (subst (λ (phase : Phase). Knows (on n (shelf_of (step w i).book) (step w i).mem) phase) (sym (settled_phase l t.post (noting t.desk (told_by t)) (rounds_told l.rounds (told_by t)) t.outcome)) d.own);
     }
 
@@ -333,7 +334,7 @@ look_right w v key s slot version value y c h =
 
 pub contents_looked : ContentsLooked
 contents_looked w i v index key at slot version value owed c e q =
-    let l : Local = w.seat i in
+    let l : Local = offered w i in
     let n : ℕ = w.layout.config.buckets in
     let a : Shelf = shelf_of w.book in
     let phase : Phase = Works (Keeping (Looks index key at)) in

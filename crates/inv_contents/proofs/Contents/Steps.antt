@@ -1,7 +1,7 @@
 -- Each step of a seat that links no row: what it tells, and what the phase that it leaves knows.
 use Rattle.std.proofs.Common.{ℕ, ◌+◌, ◌-◌, ◌*◌, ◌%◌, ◌≡◌, Bool, true, false, arith, refl, sym, subst, List, [], ◌∷◌, ◌++◌, length}
 use Rattle.std.proofs.lemmas.Bool.Decides.{nat_tests}
-use Rattle.std.specs.Prelude.{◌==◌, if◌then◌else◌, Option, Some, None}
+use Rattle.std.specs.Prelude.{◌==◌, if◌then◌else◌, Option, Some, None, drop}
 use Rattle.inv_covers.specs.words.Place.{Place}
 use Rattle.inv_covers.specs.words.Place.Place.{Row}
 use Rattle.inv_covers.specs.defs.declared.call.Answer.{Answer}
@@ -26,7 +26,7 @@ use Rattle.inv_covers.specs.model.Phases.Ending.{Done, Protected, Followed, Allo
 use Rattle.inv_covers.specs.model.Phases.AllocateAt.{LoadBirth, ClaimSlot, StoreLife}
 use Rattle.inv_covers.specs.model.Phases.Base.{Begin, Protect, Reload, Clear, Finish, Release, Allocate, Write, GiveUp, Retire, Move}
 use Rattle.inv_covers.specs.words.Schemes.{has_one_interval}
-use Rattle.inv_covers.specs.model.Posts.{cleared, reserves_index, stands, withdrawn}
+use Rattle.inv_covers.specs.model.Posts.{cleared, cleared_from, reserves_index, reserves_span, stands, withdrawn}
 use Rattle.inv_covers.specs.model.Rounds.{clearing_next, let_index, opening, scheme_of}
 use Rattle.inv_covers.specs.model.Change as alters
 use Rattle.inv_covers.specs.model.Enqueue as enqueues
@@ -34,13 +34,15 @@ use Rattle.inv_covers.specs.model.Dequeue as dequeues
 use Rattle.inv_covers.specs.model.Keep as keeps
 use Rattle.inv_covers.specs.model.Steps as steps
 use Rattle.inv_covers.specs.model.WriteRow.{row_word, last_written}
-use Rattle.inv_covers.specs.model.Calls.{ChangeKept, EnqueueKept, Task, Gets, Changes, Holds, Enqueues, Dequeues, Next, Again, Answering, Retiring, AfterScan, Why, Opens, FollowsHead, Fills, ClearsNext, Clears, Finishes, GivesUp, Retires, Tidies, Advances, Releases, EnqueueAt, LoadNumber, LoadNext, PassTail, ExchangeNext, ExchangeTail, DequeueAt, LoadTail, SwingTail, TakeNumber, TakeValue, ExchangeHead, Runs, goes_on, LetGo, Released, Rehold, Dropped, KeepAt, Loosens, LoadHeld, StoreHeld, Looks, Misses}
+use Rattle.inv_covers.specs.model.Calls.{ChangeKept, EnqueueKept, Task, Gets, Changes, Holds, Enqueues, Dequeues, Next, Again, Answering, Retiring, AfterScan, Why, Opens, FollowsHead, Fills, ClearsNext, Clears, Finishes, GivesUp, Retires, Tidies, Advances, Releases, EnqueueAt, LoadNumber, LoadNext, PassTail, ExchangeNext, ExchangeTail, DequeueAt, LoadTail, SwingTail, TakeNumber, TakeValue, ExchangeHead, Runs, goes_on, LetGo, Released, Rehold, Dropped, Parting, KeepAt, Loosens, LoadHeld, StoreHeld, Looks, Misses, HideSpan, MarkLeft, TakeList, MarkTaken}
 use Rattle.inv_covers.specs.rows.Hands.{fills_right, holds_slot}
 use Rattle.inv_contents.specs.Shelf.{Shelf, Filled}
 use Rattle.inv_contents.specs.Knows.{ItemKnows, WritingItem, Ground, FillKnows, Decided, Writing, changes_in}
 use Rattle.inv_contents.proofs.Contents.Told.{all_calm, calm_append, calm_claimed, FromNone}
 use Rattle.inv_contents.proofs.Contents.Lasts.{on}
 use Rattle.inv_contents.proofs.Contents.Machines.{cleared_calm, base_calm}
+use Rattle.inv_contents.proofs.Contents.Begun.{free_plain}
+use Rattle.inv_contents.proofs.Stands.Rounds.{parting_from_free}
 use Rattle.inv_contents.proofs.Contents.Reading.{filled_next}
 use Rattle.inv_contents.proofs.Contents.Rounds.{got_turns, Adds, Turns, turns_adds, adds_none, plain_knows, why_plain, task_plain, round_plain, closed_adds, finishing_adds, clearing_adds, clearing_next_adds, tidying_adds}
 use Rattle.inv_contents.proofs.Contents.Turns.{clearing_turns, deciding_turns, null_decided}
@@ -196,6 +198,7 @@ released_adds : (let_go : LetGo) (post : Post) (desk : Desk) (told : List Event)
 released_adds Released post desk told = adds_none told (keeps.released Released post desk told) refl refl
 released_adds (Rehold key) post desk told = adds_none told (keeps.released (Rehold key) post desk told) refl (round_plain (Holds key) post)
 released_adds (Dropped index) post desk told = adds_none told (keeps.released (Dropped index) post desk told) refl refl
+released_adds (Parting index) post desk told = adds_none told (keeps.released (Parting index) post desk told) refl (free_plain (keeps.parting_from (index + 1) post) (parting_from_free (index + 1) post))
 
 -- a copy that ends tells nothing of rows of the map
 copied_turns : (g : Ground) (from index : ℕ) (post : Post) (desk : Desk) (reserved : List Event) (kept : Option ℕ) → all_calm reserved ≡ true → Turns g (keeps.copied from index post desk reserved kept)
@@ -214,6 +217,15 @@ abbrev pub is_look : KeepAt → Bool
 is_look (Looks index key at) = true
 is_look at = false
 
+-- all that stood is withdrawn
+hidden_calm : (index : ℕ) (rows : List (Option ℕ)) → all_calm (cleared_from index rows) ≡ true
+hidden_calm index [] = refl
+hidden_calm index (row ∷ rows) = calm_append (cleared index row) (cleared_from (index + 1) rows) (cleared_calm index row) (hidden_calm (index + 1) rows)
+
+taking_turns : (g : Ground) (place : ℕ) (post : Post) (desk : Desk) (left : Bool) (word : ℕ) → Turns g (keeps.taking place post desk left word)
+taking_turns g place post desk true word = record { calm = (refl, tt); knows = tt }
+taking_turns g place post desk false word = record { calm = tt; knows = tt }
+
 pub keep_turns : (g : Ground) (at : KeepAt) (post : Post) (desk : Desk) (word : ℕ) → is_look at ≡ false → Turns g (keeps.keep_turn at post desk word)
 keep_turns g (Loosens let_go) post desk word h =
     let told : List Event = cleared (let_index let_go) (stands post (let_index let_go)) in
@@ -222,6 +234,13 @@ keep_turns g (LoadHeld from index) post desk word h = load_held_turns g from ind
 keep_turns g (StoreHeld from index era) post desk word h = copied_turns g from index post desk (reserves_index post index era) (stands post from) refl
 keep_turns g (Looks index key at) post desk word h = absurd (cc)
 keep_turns g (Misses index) post desk word h = record { calm = tt; knows = tt }
+keep_turns g HideSpan post desk word h = record {
+  calm = calm_claimed g.shelf (cleared_from 2 (drop 2 post.standing) ++ reserves_span post None) (calm_append (cleared_from 2 (drop 2 post.standing)) (reserves_span post None) (hidden_calm 2 (drop 2 post.standing)) refl);
+  knows = tt;
+}
+keep_turns g MarkLeft post desk word h = record { calm = (refl, tt); knows = tt }
+keep_turns g (TakeList place) post desk word h = taking_turns g place post desk (word == 1) word
+keep_turns g (MarkTaken place count) post desk word h = record { calm = tt; knows = tt }
 
 -- a machine's end that no get or change waits for
 abbrev pub resumes_plain : Why → Bool

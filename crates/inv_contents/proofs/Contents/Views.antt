@@ -10,17 +10,18 @@ use Rattle.inv_covers.specs.model.Phases.{AllocateAt, RetireAt, Base}
 use Rattle.inv_covers.specs.model.Phases.AllocateAt.{LoadBirth, ClaimSlot, StoreLife}
 use Rattle.inv_covers.specs.model.Phases.RetireAt.{LoadLife, LoadRetire, StoreRetired}
 use Rattle.inv_covers.specs.model.Phases.Base.{Begin, Protect, Reload, Clear, Finish, Release, Allocate, Write, GiveUp, Retire, Move}
-use Rattle.inv_covers.specs.model.Calls.{EnqueueKept, ChangeKept, Why, Opens, FollowsHead, Fills, ClearsNext, Clears, Finishes, GivesUp, Retires, Tidies, Advances, Releases, ScanAt, ReadGuard, GiveBack, ChangeAt, LoadVersion, LoadCount, LoadKey, LoadValue, ExchangeRoot, EnqueueAt, LoadNumber, LoadNext, PassTail, ExchangeNext, ExchangeTail, DequeueAt, LoadTail, SwingTail, TakeNumber, TakeValue, ExchangeHead, Work, Getting, Changing, Enqueuing, Dequeuing, Phase, Idle, Runs, Scans, Works, Keeping}
+use Rattle.inv_covers.specs.model.Calls.{EnqueueKept, ChangeKept, Why, Opens, FollowsHead, Fills, ClearsNext, Clears, Finishes, GivesUp, Retires, Tidies, Advances, Releases, ScanAt, ReadGuard, GiveBack, ChangeAt, LoadVersion, LoadCount, LoadKey, LoadValue, ExchangeRoot, EnqueueAt, LoadNumber, LoadNext, PassTail, ExchangeNext, ExchangeTail, DequeueAt, LoadTail, SwingTail, TakeNumber, TakeValue, ExchangeHead, Work, Getting, Changing, Enqueuing, Dequeuing, Phase, Idle, Runs, Scans, Works, Keeping, TakeList, KeepAt}
 use Rattle.inv_covers.proofs.model.Facts.{number_is, false_by}
 use Rattle.inv_covers.specs.rows.Rows.{Status, View, Good, RowMove, made, is_settled}
 use Rattle.inv_covers.specs.rows.Rows.Hand.{Taken}
 use Rattle.inv_covers.specs.rows.Rows.Status.{Free, Claimed, Born, Linked, InQueue, Cut, Sealed, Listed}
-use Rattle.inv_covers.specs.rows.Rows.RowMove.{Stays, Claims, Bears, Drops, Links, Replaces, Appends, Pops, Reads, Seals, Lists, Returns}
-use Rattle.inv_covers.specs.rows.Hands.{is_plain, runs_right, hand_base, base_row, allocate_row, retire_row, scan_row, row_move, change_row, enqueue_row, dequeue_row, work_row}
+use Rattle.inv_covers.specs.rows.Rows.RowMove.{Stays, Claims, Bears, Drops, Links, Replaces, Appends, Pops, Reads, Seals, Lists, Returns, Adopts}
+use Rattle.inv_covers.specs.rows.Hands.{is_plain, runs_right, hand_base, base_row, allocate_row, retire_row, scan_row, row_move, change_row, enqueue_row, dequeue_row, keep_row, work_row}
 use Rattle.inv_covers.specs.rows.Agree.{Plays}
 use Rattle.inv_covers.proofs.rows.Fits.{MoveFits}
 use Rattle.inv_covers.proofs.rows.Steps.{of_taken}
 use Rattle.inv_contents.specs.Knows.{base_owns, owns_in}
+use Rattle.inv_covers.proofs.rows.Made.{passed_linked, passed_settled}
 use Rattle.inv_contents.proofs.Contents.Machines.{writes_in}
 use Rattle.inv_contents.proofs.Contents.Phases.{change_links, work_links, links_in}
 use Rattle.inv_contents.proofs.Contents.Steps.{joins}
@@ -140,6 +141,7 @@ is_settling (Reads slot birth) = false
 is_settling (Seals slot birth retire) = false
 is_settling (Lists slot birth retire) = false
 is_settling (Returns slot) = false
+is_settling (Adopts from) = false
 
 abbrev is_linked : Status → Bool
 is_linked Free = false
@@ -188,6 +190,7 @@ keeps_made i v (Reads slot birth) f h = record { settled = λ s y. y; linked = �
 keeps_made i v (Seals slot birth retire) f h = keeps_put v (made i v (Seals slot birth retire)) slot (Sealed i retire) refl refl (λ y. settled_by (v.status slot) (Cut i) f refl) refl
 keeps_made i v (Lists slot birth retire) f h = keeps_put v (made i v (Lists slot birth retire)) slot (Listed i retire) refl refl (λ y. settled_by (v.status slot) (Sealed i retire) f refl) refl
 keeps_made i v (Returns slot) f h = keeps_put v (made i v (Returns slot)) slot Free refl refl (λ y. absurd (cc)) refl
+keeps_made i v (Adopts from) f h = record { settled = λ s y. sym (passed_settled from i (v.status s)) ∙ y; linked = λ s b y. passed_linked from i b (v.status s) y; root = λ b. refl }
 
 -- a step that links no row makes such a move
 claim_unlinks : (slot : ℕ) (shown : Bool) → is_settling (if shown then Stays else Claims slot) ≡ false
@@ -242,12 +245,20 @@ dequeue_unlinks (TakeNumber head next) word = refl
 dequeue_unlinks (TakeValue head next number) word = refl
 dequeue_unlinks (ExchangeHead head next number value) word = pop_unlinks head next (word == head + 1)
 
+take_unlinks : (place : ℕ) (left : Bool) → is_settling (if left then Adopts place else Stays) ≡ false
+take_unlinks place true = refl
+take_unlinks place false = refl
+
+keep_unlinks : (at : KeepAt) (word : ℕ) → is_settling (keep_row at word) ≡ false
+keep_unlinks (TakeList place) word = take_unlinks place (word == 1)
+keep_unlinks at word = refl
+
 work_unlinks : (work : Work) (post : Post) (word : ℕ) → work_links work word ≡ false → is_settling (work_row work post word) ≡ false
 work_unlinks (Getting key at) post word h = refl
 work_unlinks (Changing kept at) post word h = change_unlinks kept at post word h
 work_unlinks (Enqueuing kept at) post word h = enqueue_unlinks at word h
 work_unlinks (Dequeuing at) post word h = dequeue_unlinks at word
-work_unlinks (Keeping at) post word h = refl
+work_unlinks (Keeping at) post word h = keep_unlinks at word
 
 scan_unlinks : (at : ScanAt) → is_settling (scan_row at) ≡ false
 scan_unlinks (ReadGuard number) = refl

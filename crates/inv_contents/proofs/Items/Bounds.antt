@@ -23,7 +23,7 @@ use Rattle.inv_covers.specs.model.Dequeue as dequeues
 use Rattle.inv_covers.specs.model.Desks.{Desk}
 use Rattle.inv_covers.specs.model.Steps.{phase_turn}
 use Rattle.inv_covers.specs.model.Locals.{told_by, told_end}
-use Rattle.inv_covers.specs.model.World.{World}
+use Rattle.inv_covers.specs.model.World.{World, offered}
 use Rattle.inv_covers.specs.model.Calls.{ChangeKept, EnqueueKept, Changes, Retiring, ChangeAt, LoadVersion, LoadCount, LoadKey, LoadValue, ExchangeRoot, EnqueueAt, LoadNumber, LoadNext, PassTail, ExchangeNext, ExchangeTail, DequeueAt, LoadTail, SwingTail, TakeNumber, TakeValue, ExchangeHead, Getting, Changing, Enqueuing, Dequeuing, Phase, Idle, Runs, Scans, Works, CallTurn, Keeping}
 use Rattle.inv_covers.proofs.model.Facts.{number_is}
 use Rattle.inv_requests.specs.shapes.Slots.{Slots, PhaseIn, ChangeIn, ChangeAtIn}
@@ -201,8 +201,8 @@ pairs_few w i v kept slot b s a c e at =
 pub bounded_kept : BoundedKept
 bounded_kept w i v l s c b h o =
     let post : Post = counted (w.seat i).post in
-    let limits : Limits w.layout.config.last_version w.layout.config.pairs (booked_all w.book (told_by (phase_turn (w.seat i).phase (counted (w.seat i).post) (w.seat i).desk (finds_phase w.mem (w.seat i).phase (w.seat i).post)))) =
-    phase_limits w.layout.config.last_version w.layout.config.pairs w.book v l w.mem (w.seat i).phase (w.seat i).post (w.seat i).desk
+    let limits : Limits w.layout.config.last_version w.layout.config.pairs (booked_all w.book (told_by (phase_turn (w.seat i).phase (counted (w.seat i).post) (offered w i).desk (finds_phase w.mem (w.seat i).phase (w.seat i).post)))) =
+    phase_limits w.layout.config.last_version w.layout.config.pairs w.book v l w.mem (w.seat i).phase (w.seat i).post (offered w i).desk
     (record {
       head = b.rows.words.head;
       line = b.queue.line;

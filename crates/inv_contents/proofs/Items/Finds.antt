@@ -6,7 +6,7 @@ use Rattle.inv_covers.specs.defs.Pairs.{pairs_after}
 use Rattle.inv_covers.specs.defs.declared.event.Root.{Root}
 use Rattle.inv_covers.specs.defs.declared.event.Root.TheVariants as roots
 use Rattle.inv_covers.specs.model.declared.post.Post.{Post}
-use Rattle.inv_covers.specs.model.Calls.{ChangeKept, EnqueueKept, GetAt, FindVersion, FindCount, FindKey, FindValue, ChangeAt, LoadVersion, LoadCount, LoadKey, LoadValue, ExchangeRoot, EnqueueAt, LoadNumber, LoadNext, PassTail, ExchangeNext, ExchangeTail, DequeueAt, LoadTail, SwingTail, TakeNumber, TakeValue, ExchangeHead, Work, Getting, Changing, Enqueuing, Dequeuing, Phase, Works, KeepAt, Loosens, LoadHeld, StoreHeld, Looks, Misses, Keeping}
+use Rattle.inv_covers.specs.model.Calls.{ChangeKept, EnqueueKept, GetAt, FindVersion, FindCount, FindKey, FindValue, ChangeAt, LoadVersion, LoadCount, LoadKey, LoadValue, ExchangeRoot, EnqueueAt, LoadNumber, LoadNext, PassTail, ExchangeNext, ExchangeTail, DequeueAt, LoadTail, SwingTail, TakeNumber, TakeValue, ExchangeHead, Work, Getting, Changing, Enqueuing, Dequeuing, Phase, Works, KeepAt, Loosens, LoadHeld, StoreHeld, Looks, Misses, HideSpan, MarkLeft, TakeList, MarkTaken, Keeping}
 use Rattle.inv_covers.specs.model.Get.{get_move}
 use Rattle.inv_covers.specs.model.Memory.{found, place_in}
 use Rattle.inv_covers.specs.model.World.{World}
@@ -57,6 +57,10 @@ keep_fits w v (LoadHeld from index) post c o y h = tt
 keep_fits w v (StoreHeld from index era) post c o y h = tt
 keep_fits w v (Looks index key at) post c o y h = get_fits w v h.bucket key at c o (λ s e. y s e) h.reads
 keep_fits w v (Misses index) post c o y h = tt
+keep_fits w v HideSpan post c o y h = tt
+keep_fits w v MarkLeft post c o y h = tt
+keep_fits w v (TakeList place) post c o y h = tt
+keep_fits w v (MarkTaken place count) post c o y h = tt
 
 link_same : (kept : ChangeKept) (slot : ℕ) → kept.link ≡ slot + 1 → (kept.link == slot + 1) ≡ true
 link_same kept slot e = rw e (same_number (slot + 1))

@@ -20,6 +20,7 @@ use Rattle.inv_covers.specs.model.Dequeue as dequeues
 use Rattle.inv_covers.specs.model.Desks.{Desk}
 use Rattle.inv_covers.specs.model.Steps.{phase_turn}
 use Rattle.inv_covers.specs.model.Locals.{told_by, told_end}
+use Rattle.inv_covers.specs.model.World.{offered}
 use Rattle.inv_covers.specs.model.Calls.{ChangeKept, EnqueueKept, Changes, Retiring, ChangeAt, LoadVersion, LoadCount, LoadKey, LoadValue, ExchangeRoot, EnqueueAt, LoadNumber, LoadNext, PassTail, ExchangeNext, ExchangeTail, DequeueAt, LoadTail, SwingTail, TakeNumber, TakeValue, ExchangeHead, Getting, Changing, Enqueuing, Dequeuing, Phase, Idle, Runs, Scans, Works, CallTurn, Keeping}
 use Rattle.inv_covers.proofs.model.Facts.{same_number, number_is, first_of, rest_of, same_both}
 use Rattle.inv_covers.specs.rows.Rows.{View}
@@ -175,5 +176,5 @@ phase_right most a v l mem (Works (Keeping at)) post next desk r = calm_right mo
 
 pub items_told : ItemsTold
 items_told w i v l b h =
-    phase_right w.layout.config.last_version w.book v l w.mem (w.seat i).phase (w.seat i).post (counted (w.seat i).post) (w.seat i).desk
+    phase_right w.layout.config.last_version w.book v l w.mem (w.seat i).phase (w.seat i).post (counted (w.seat i).post) (offered w i).desk
     (record { head = b.rows.words.head; line = b.queue.line; walks = b.queue.walks i; reads = h.seats i; shown = h.rows })

@@ -9,7 +9,7 @@ use Rattle.inv_covers.specs.model.Enqueue as enqueues
 use Rattle.inv_covers.specs.model.Posts.{counted}
 use Rattle.inv_covers.specs.model.Locals.{Local, turn, settled}
 use Rattle.inv_covers.specs.model.Calls.{EnqueueKept, ExchangeNext, Enqueuing, AfterScan, GiveBack, Phase, Scans, Works}
-use Rattle.inv_covers.specs.model.World.{World, step, finds}
+use Rattle.inv_covers.specs.model.World.{World, step, finds, offered, list_in}
 use Rattle.inv_covers.proofs.model.Facts.{number_is}
 use Rattle.inv_requests.specs.shapes.Frame.{phase_left, Seated}
 use Rattle.inv_requests.specs.shapes.Slots.{PhaseIn}
@@ -92,7 +92,7 @@ item_filled w i v l kept slot n e = subst (λ (p : Phase). Knows (ground_of w) p
 item_room : (w : World) (i : ℕ) (v : View) (l : Line) (kept : EnqueueKept) (slot : ℕ) → ItemsNeeds w i v l → (w.seat i).phase ≡ Works (Enqueuing kept (ExchangeNext slot)) → kept.number < w.layout.config.last_version
 item_room w i v l kept slot n e = (subst (λ (p : Phase). PhaseIn w.layout (w.seat i).desk p) e (n.slots.seats i).phase).1.1
 
-rests_of : (w : World) (i : ℕ) (v : View) (l : Line) → ItemsNeeds w i v l → Both w v l → Items w v l → Rests w.layout.config.last_version i w.layout.config.slots w.book v l w.mem (w.seat i).phase (w.seat i).desk.list
+rests_of : (w : World) (i : ℕ) (v : View) (l : Line) → ItemsNeeds w i v l → Both w v l → Items w v l → Rests w.layout.config.last_version i w.layout.config.slots w.book v l w.mem (w.seat i).phase (list_in w i)
 rests_of w i v l n b h = record {
   good = b.rows.good;
   plays = b.rows.plays i;
@@ -107,10 +107,10 @@ rests_of w i v l n b h = record {
 
 pub items_kept : ItemsKept
 items_kept w i v l n b h =
-    let own : Local = w.seat i in
+    let own : Local = offered w i in
     let book : Book = (step w i).book in
     let m : Line = line_after w i l in
-    let did : Did w.layout.config.last_version w.book book (step w i).mem (rows_after w i v) l m (phase_after own (finds w i)) = phase_did w.layout.config.last_version i w.layout.config.slots w.book v l w.mem own.phase own.post (counted own.post) own.desk (rows_kept w i v l n.queue b) (rests_of w i v l n b h) in
+    let did : Did w.layout.config.last_version w.book book (step w i).mem (rows_after w i v) l m (phase_after own (finds w i)) = phase_did w.layout.config.last_version i w.layout.config.slots w.book v l w.mem own.phase own.post (counted own.post) own.desk (list_in w i) (rows_kept w i v l n.queue b) (rests_of w i v l n b h) in
     let P : Post → Phase → Type 0 = λ post phase. Reads phase m book.queued in
     let S : ℕ → Local → Type 0 = λ k x. Reads x.phase m book.queued in
     let left : Seated Any P (settled own (turn own (finds w i))) = settled_seated {Q = Any} {P = P} own (turn own (finds w i)) (record { post = tt; phase = did.own }) in

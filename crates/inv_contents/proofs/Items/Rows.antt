@@ -1,5 +1,5 @@
 -- Which rows a step takes into the queue or out of it, and how it changes their numbers.
-use Rattle.std.proofs.Common.{ℕ, ◌≡◌, ◌-◌, Bool, true, false, arith, refl}
+use Rattle.std.proofs.Common.{ℕ, ◌≡◌, ◌-◌, Bool, true, false, arith, refl, sym, ◌∙◌}
 use Rattle.std.proofs.lemmas.Bool.Decides.{nat_tests}
 use Rattle.std.specs.Prelude.{◌==◌, if◌then◌else◌}
 use Rattle.inv_covers.specs.model.declared.post.Post.{Post}
@@ -9,12 +9,13 @@ use Rattle.inv_covers.specs.model.Phases.{AllocateAt, RetireAt, Base}
 use Rattle.inv_covers.specs.model.Phases.AllocateAt.{LoadBirth, ClaimSlot, StoreLife}
 use Rattle.inv_covers.specs.model.Phases.RetireAt.{LoadLife, LoadRetire, StoreRetired}
 use Rattle.inv_covers.specs.model.Phases.Base.{Begin, Protect, Reload, Clear, Finish, Release, Allocate, Write, GiveUp, Retire, Move}
-use Rattle.inv_covers.specs.model.Calls.{ChangeKept, EnqueueKept, ChangeAt, LoadVersion, LoadCount, LoadKey, LoadValue, ExchangeRoot, EnqueueAt, LoadNumber, LoadNext, PassTail, ExchangeNext, ExchangeTail, DequeueAt, LoadTail, SwingTail, TakeNumber, TakeValue, ExchangeHead, ScanAt, ReadGuard, GiveBack, Work, Getting, Changing, Enqueuing, Dequeuing, Phase, Idle, Runs, Scans, Works, Keeping}
+use Rattle.inv_covers.specs.model.Calls.{ChangeKept, EnqueueKept, ChangeAt, LoadVersion, LoadCount, LoadKey, LoadValue, ExchangeRoot, EnqueueAt, LoadNumber, LoadNext, PassTail, ExchangeNext, ExchangeTail, DequeueAt, LoadTail, SwingTail, TakeNumber, TakeValue, ExchangeHead, ScanAt, ReadGuard, GiveBack, Work, Getting, Changing, Enqueuing, Dequeuing, Phase, Idle, Runs, Scans, Works, Keeping, TakeList, KeepAt}
 use Rattle.inv_covers.specs.rows.Rows.{View, RowMove, made}
-use Rattle.inv_covers.specs.rows.Rows.RowMove.{Stays, Claims, Bears, Drops, Links, Replaces, Appends, Pops, Reads, Seals, Lists, Returns}
-use Rattle.inv_covers.specs.rows.Hands.{allocate_row, retire_row, base_row, scan_row, linked_row, change_row, enqueue_row, dequeue_row, work_row, row_move}
+use Rattle.inv_covers.specs.rows.Rows.RowMove.{Stays, Claims, Bears, Drops, Links, Replaces, Appends, Pops, Reads, Seals, Lists, Returns, Adopts}
+use Rattle.inv_covers.specs.rows.Hands.{allocate_row, retire_row, base_row, scan_row, linked_row, change_row, enqueue_row, dequeue_row, keep_row, work_row, row_move}
 use Rattle.inv_covers.specs.rows.Queue.{Line, moved_line, line_move, scan_line, enqueue_line}
 use Rattle.inv_covers.specs.rows.Chain.{queue_of}
+use Rattle.inv_covers.proofs.rows.Fits.{passed_queue}
 use Rattle.inv_contents.specs.Turns.{enqueue_hits, dequeue_hits}
 
 -- a move that neither takes a row into the queue nor cuts its head
@@ -31,6 +32,7 @@ is_mild (Reads slot birth) = true
 is_mild (Seals slot birth retire) = true
 is_mild (Lists slot birth retire) = true
 is_mild (Returns slot) = true
+is_mild (Adopts from) = true
 
 -- no row joins the queue
 pub record Mild (v u : View) : Type 0 where
@@ -50,6 +52,7 @@ mild_made i v (Reads slot birth) h = record { queue = λ s e. e; head = refl }
 mild_made i v (Seals slot birth retire) h = record { queue = λ s e. grind (arith, nat_tests); head = refl }
 mild_made i v (Lists slot birth retire) h = record { queue = λ s e. grind (arith, nat_tests); head = refl }
 mild_made i v (Returns slot) h = record { queue = λ s e. grind (arith, nat_tests); head = refl }
+mild_made i v (Adopts from) h = record { queue = λ s e. sym (passed_queue from i (v.status s)) ∙ e; head = refl }
 
 pub popped_queue : (i : ℕ) (v : View) (slot next s : ℕ) → queue_of (made i v (Pops slot next)) s ≡ true → queue_of v s ≡ true
 popped_queue i v slot next s e = grind (arith, nat_tests)
@@ -131,12 +134,20 @@ queues (Runs why base) found = false
 queues (Scans later at) found = false
 queues (Works work) found = work_queues work found
 
+take_mild : (place : ℕ) (left : Bool) → is_mild (if left then Adopts place else Stays) ≡ true
+take_mild place true = refl
+take_mild place false = refl
+
+keep_mild : (at : KeepAt) (found : ℕ) → is_mild (keep_row at found) ≡ true
+keep_mild (TakeList place) found = take_mild place (found == 1)
+keep_mild at found = refl
+
 work_mild : (work : Work) (post : Post) (found : ℕ) → work_queues work found ≡ false → is_mild (work_row work post found) ≡ true
 work_mild (Getting key at) post found e = refl
 work_mild (Changing kept at) post found e = change_mild kept at post found
 work_mild (Enqueuing kept at) post found e = enqueue_mild at found e
 work_mild (Dequeuing at) post found e = dequeue_mild at found e
-work_mild (Keeping at) post found e = refl
+work_mild (Keeping at) post found e = keep_mild at found
 
 pub phase_mild : (phase : Phase) (post : Post) (found : ℕ) → queues phase found ≡ false → is_mild (row_move phase post found) ≡ true
 phase_mild Idle post found e = refl

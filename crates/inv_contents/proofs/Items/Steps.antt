@@ -227,48 +227,48 @@ abbrev KeptIn : (i : ℕ) → View → Line → (Place → ℕ) → Phase → Po
 KeptIn i v l mem phase post = Kept v (made i v (row_move phase post (finds_phase mem phase post))) l mem (written mem (phase_move phase post))
 
 -- a step that exchanges nothing
-still_did : (most i slots : ℕ) (a : Book) (v : View) (l : Line) (mem : Place → ℕ) (phase : Phase) (post next : Post) (desk : Desk) → hits phase (finds_phase mem phase post) ≡ false → queues phase (finds_phase mem phase post) ≡ false → KeptIn i v l mem phase post → Rests most i slots a v l mem phase desk.list → DidIn most i a v l mem phase post next desk
-still_did most i slots a v l mem phase post next desk e q k r =
+still_did : (most i slots : ℕ) (a : Book) (v : View) (l : Line) (mem : Place → ℕ) (phase : Phase) (post next : Post) (desk : Desk) (list : List Lifetime) → hits phase (finds_phase mem phase post) ≡ false → queues phase (finds_phase mem phase post) ≡ false → KeptIn i v l mem phase post → Rests most i slots a v l mem phase list → DidIn most i a v l mem phase post next desk
+still_did most i slots a v l mem phase post next desk list e q k r =
     calm_did most i a v l mem (written mem (phase_move phase post)) phase post next desk (finds_phase mem phase post) e q
     (phase_turns l a.queued phase next desk (finds_phase mem phase post) e (phase_finds most a v l mem phase post next r.head r.line r.walks r.reads r.shown) r.reads) k r.shown
 
-change_did : (most i slots : ℕ) (a : Book) (v : View) (l : Line) (mem : Place → ℕ) (kept : ChangeKept) (at : ChangeAt) (post next : Post) (desk : Desk) (hit : Bool) → change_hits kept at (finds_phase mem (Works (Changing kept at)) post) ≡ hit → KeptIn i v l mem (Works (Changing kept at)) post → Rests most i slots a v l mem (Works (Changing kept at)) desk.list → DidIn most i a v l mem (Works (Changing kept at)) post next desk
-change_did most i slots a v l mem kept at post next desk false e k r = still_did most i slots a v l mem (Works (Changing kept at)) post next desk e refl k r
-change_did most i slots a v l mem kept (LoadVersion slot) post next desk true e k r = absurd (cc)
-change_did most i slots a v l mem kept (LoadCount slot) post next desk true e k r = absurd (cc)
-change_did most i slots a v l mem kept (LoadKey slot count) post next desk true e k r = absurd (cc)
-change_did most i slots a v l mem kept (LoadValue slot count key) post next desk true e k r = absurd (cc)
-change_did most i slots a v l mem kept (ExchangeRoot slot) post next desk true e k r =
+change_did : (most i slots : ℕ) (a : Book) (v : View) (l : Line) (mem : Place → ℕ) (kept : ChangeKept) (at : ChangeAt) (post next : Post) (desk : Desk) (list : List Lifetime) (hit : Bool) → change_hits kept at (finds_phase mem (Works (Changing kept at)) post) ≡ hit → KeptIn i v l mem (Works (Changing kept at)) post → Rests most i slots a v l mem (Works (Changing kept at)) list → DidIn most i a v l mem (Works (Changing kept at)) post next desk
+change_did most i slots a v l mem kept at post next desk list false e k r = still_did most i slots a v l mem (Works (Changing kept at)) post next desk list e refl k r
+change_did most i slots a v l mem kept (LoadVersion slot) post next desk list true e k r = absurd (cc)
+change_did most i slots a v l mem kept (LoadCount slot) post next desk list true e k r = absurd (cc)
+change_did most i slots a v l mem kept (LoadKey slot count) post next desk list true e k r = absurd (cc)
+change_did most i slots a v l mem kept (LoadValue slot count key) post next desk list true e k r = absurd (cc)
+change_did most i slots a v l mem kept (ExchangeRoot slot) post next desk list true e k r =
     exchange_did most i a v l mem (written mem (phase_move (Works (Changing kept (ExchangeRoot slot))) post)) kept slot post next desk (finds_phase mem (Works (Changing kept (ExchangeRoot slot))) post) e k r.shown
 
-enqueue_did : (most i slots : ℕ) (a : Book) (v : View) (l : Line) (mem : Place → ℕ) (kept : EnqueueKept) (at : EnqueueAt) (post next : Post) (desk : Desk) (hit : Bool) → enqueue_hits at (finds_phase mem (Works (Enqueuing kept at)) post) ≡ hit → KeptIn i v l mem (Works (Enqueuing kept at)) post → Rests most i slots a v l mem (Works (Enqueuing kept at)) desk.list → DidIn most i a v l mem (Works (Enqueuing kept at)) post next desk
-enqueue_did most i slots a v l mem kept at post next desk false e k r = still_did most i slots a v l mem (Works (Enqueuing kept at)) post next desk e e k r
-enqueue_did most i slots a v l mem kept LoadNumber post next desk true e k r = absurd (cc)
-enqueue_did most i slots a v l mem kept LoadNext post next desk true e k r = absurd (cc)
-enqueue_did most i slots a v l mem kept (PassTail link) post next desk true e k r = absurd (cc)
-enqueue_did most i slots a v l mem kept (ExchangeTail slot) post next desk true e k r = absurd (cc)
-enqueue_did most i slots a v l mem kept (ExchangeNext slot) post next desk true e k r =
+enqueue_did : (most i slots : ℕ) (a : Book) (v : View) (l : Line) (mem : Place → ℕ) (kept : EnqueueKept) (at : EnqueueAt) (post next : Post) (desk : Desk) (list : List Lifetime) (hit : Bool) → enqueue_hits at (finds_phase mem (Works (Enqueuing kept at)) post) ≡ hit → KeptIn i v l mem (Works (Enqueuing kept at)) post → Rests most i slots a v l mem (Works (Enqueuing kept at)) list → DidIn most i a v l mem (Works (Enqueuing kept at)) post next desk
+enqueue_did most i slots a v l mem kept at post next desk list false e k r = still_did most i slots a v l mem (Works (Enqueuing kept at)) post next desk list e e k r
+enqueue_did most i slots a v l mem kept LoadNumber post next desk list true e k r = absurd (cc)
+enqueue_did most i slots a v l mem kept LoadNext post next desk list true e k r = absurd (cc)
+enqueue_did most i slots a v l mem kept (PassTail link) post next desk list true e k r = absurd (cc)
+enqueue_did most i slots a v l mem kept (ExchangeTail slot) post next desk list true e k r = absurd (cc)
+enqueue_did most i slots a v l mem kept (ExchangeNext slot) post next desk list true e k r =
     let born : v.status slot ≡ Born i = of_taken slots v i slot r.good (r.plays.hand ∙ taken_slot kept.taken slot r.plays.right) in
     join_did most i a v l mem kept slot next desk (mem (Row kept.tail 0) == 0) e refl born r.line r.walks r.reads (r.filled kept slot refl) (r.room kept slot refl) k r.shown
 
-dequeue_did : (most i slots : ℕ) (a : Book) (v : View) (l : Line) (mem : Place → ℕ) (at : DequeueAt) (post next : Post) (desk : Desk) (hit : Bool) → dequeue_hits at (finds_phase mem (Works (Dequeuing at)) post) ≡ hit → KeptIn i v l mem (Works (Dequeuing at)) post → Rests most i slots a v l mem (Works (Dequeuing at)) desk.list → DidIn most i a v l mem (Works (Dequeuing at)) post next desk
-dequeue_did most i slots a v l mem at post next desk false e k r = still_did most i slots a v l mem (Works (Dequeuing at)) post next desk e e k r
-dequeue_did most i slots a v l mem (LoadTail head) post next desk true e k r = absurd (cc)
-dequeue_did most i slots a v l mem (SwingTail head row) post next desk true e k r = absurd (cc)
-dequeue_did most i slots a v l mem (TakeNumber head row) post next desk true e k r = absurd (cc)
-dequeue_did most i slots a v l mem (TakeValue head row number) post next desk true e k r = absurd (cc)
-dequeue_did most i slots a v l mem (ExchangeHead head row number value) post next desk true e k r =
+dequeue_did : (most i slots : ℕ) (a : Book) (v : View) (l : Line) (mem : Place → ℕ) (at : DequeueAt) (post next : Post) (desk : Desk) (list : List Lifetime) (hit : Bool) → dequeue_hits at (finds_phase mem (Works (Dequeuing at)) post) ≡ hit → KeptIn i v l mem (Works (Dequeuing at)) post → Rests most i slots a v l mem (Works (Dequeuing at)) list → DidIn most i a v l mem (Works (Dequeuing at)) post next desk
+dequeue_did most i slots a v l mem at post next desk list false e k r = still_did most i slots a v l mem (Works (Dequeuing at)) post next desk list e e k r
+dequeue_did most i slots a v l mem (LoadTail head) post next desk list true e k r = absurd (cc)
+dequeue_did most i slots a v l mem (SwingTail head row) post next desk list true e k r = absurd (cc)
+dequeue_did most i slots a v l mem (TakeNumber head row) post next desk list true e k r = absurd (cc)
+dequeue_did most i slots a v l mem (TakeValue head row number) post next desk list true e k r = absurd (cc)
+dequeue_did most i slots a v l mem (ExchangeHead head row number value) post next desk list true e k r =
     pop_did most i a v l mem (written mem (phase_move (Works (Dequeuing (ExchangeHead head row number value))) post)) head row number value next desk (mem Head == head + 1) e (sym r.head ∙ number_is (mem Head) (head + 1) e) r.line r.walks k r.shown
 
-work_did : (most i slots : ℕ) (a : Book) (v : View) (l : Line) (mem : Place → ℕ) (work : Work) (post next : Post) (desk : Desk) → KeptIn i v l mem (Works work) post → Rests most i slots a v l mem (Works work) desk.list → DidIn most i a v l mem (Works work) post next desk
-work_did most i slots a v l mem (Getting key at) post next desk k r = still_did most i slots a v l mem (Works (Getting key at)) post next desk refl refl k r
-work_did most i slots a v l mem (Changing kept at) post next desk k r = change_did most i slots a v l mem kept at post next desk (change_hits kept at (finds_phase mem (Works (Changing kept at)) post)) refl k r
-work_did most i slots a v l mem (Enqueuing kept at) post next desk k r = enqueue_did most i slots a v l mem kept at post next desk (enqueue_hits at (finds_phase mem (Works (Enqueuing kept at)) post)) refl k r
-work_did most i slots a v l mem (Dequeuing at) post next desk k r = dequeue_did most i slots a v l mem at post next desk (dequeue_hits at (finds_phase mem (Works (Dequeuing at)) post)) refl k r
-work_did most i slots a v l mem (Keeping at) post next desk k r = still_did most i slots a v l mem (Works (Keeping at)) post next desk refl refl k r
+work_did : (most i slots : ℕ) (a : Book) (v : View) (l : Line) (mem : Place → ℕ) (work : Work) (post next : Post) (desk : Desk) (list : List Lifetime) → KeptIn i v l mem (Works work) post → Rests most i slots a v l mem (Works work) list → DidIn most i a v l mem (Works work) post next desk
+work_did most i slots a v l mem (Getting key at) post next desk list k r = still_did most i slots a v l mem (Works (Getting key at)) post next desk list refl refl k r
+work_did most i slots a v l mem (Changing kept at) post next desk list k r = change_did most i slots a v l mem kept at post next desk list (change_hits kept at (finds_phase mem (Works (Changing kept at)) post)) refl k r
+work_did most i slots a v l mem (Enqueuing kept at) post next desk list k r = enqueue_did most i slots a v l mem kept at post next desk list (enqueue_hits at (finds_phase mem (Works (Enqueuing kept at)) post)) refl k r
+work_did most i slots a v l mem (Dequeuing at) post next desk list k r = dequeue_did most i slots a v l mem at post next desk list (dequeue_hits at (finds_phase mem (Works (Dequeuing at)) post)) refl k r
+work_did most i slots a v l mem (Keeping at) post next desk list k r = still_did most i slots a v l mem (Works (Keeping at)) post next desk list refl refl k r
 
-pub phase_did : (most i slots : ℕ) (a : Book) (v : View) (l : Line) (mem : Place → ℕ) (phase : Phase) (post next : Post) (desk : Desk) → KeptIn i v l mem phase post → Rests most i slots a v l mem phase desk.list → DidIn most i a v l mem phase post next desk
-phase_did most i slots a v l mem Idle post next desk k r = still_did most i slots a v l mem Idle post next desk refl refl k r
-phase_did most i slots a v l mem (Runs why base) post next desk k r = still_did most i slots a v l mem (Runs why base) post next desk refl refl k r
-phase_did most i slots a v l mem (Scans later at) post next desk k r = still_did most i slots a v l mem (Scans later at) post next desk refl refl k r
-phase_did most i slots a v l mem (Works work) post next desk k r = work_did most i slots a v l mem work post next desk k r
+pub phase_did : (most i slots : ℕ) (a : Book) (v : View) (l : Line) (mem : Place → ℕ) (phase : Phase) (post next : Post) (desk : Desk) (list : List Lifetime) → KeptIn i v l mem phase post → Rests most i slots a v l mem phase list → DidIn most i a v l mem phase post next desk
+phase_did most i slots a v l mem Idle post next desk list k r = still_did most i slots a v l mem Idle post next desk list refl refl k r
+phase_did most i slots a v l mem (Runs why base) post next desk list k r = still_did most i slots a v l mem (Runs why base) post next desk list refl refl k r
+phase_did most i slots a v l mem (Scans later at) post next desk list k r = still_did most i slots a v l mem (Scans later at) post next desk list refl refl k r
+phase_did most i slots a v l mem (Works work) post next desk list k r = work_did most i slots a v l mem work post next desk list k r

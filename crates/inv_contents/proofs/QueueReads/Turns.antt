@@ -2,7 +2,7 @@
 -- phase that it leaves has read.
 use Rattle.std.proofs.Common.{ℕ, ◌≡◌, ◌<◌, ◌+◌, ◌-◌, ◌&&◌, Bool, true, false, arith, refl, ap, sym, ◌∙◌, subst, List, [], ◌∷◌, ◌++◌, length}
 use Rattle.std.proofs.lemmas.Bool.Decides.{nat_tests}
-use Rattle.std.specs.Prelude.{◌==◌, nat_lt, Option, Some, None}
+use Rattle.std.specs.Prelude.{◌==◌, nat_lt, Option, Some, None, drop}
 use Rattle.inv_covers.specs.defs.declared.call.Answer.{Answer}
 use Rattle.inv_covers.specs.defs.declared.call.Answer.TheVariants as the_answers
 use Rattle.inv_covers.specs.defs.declared.event.Event.{Event}
@@ -20,7 +20,7 @@ use Rattle.inv_covers.specs.model.Machine as machine
 use Rattle.inv_covers.specs.model.Phases.{Base, Ending, Outcome, Goes, Ends, Turn}
 use Rattle.inv_covers.specs.model.Phases.Ending.{Done, Protected, Followed, Allocated, Retired, Clocked}
 use Rattle.inv_covers.specs.words.Schemes.{has_one_interval}
-use Rattle.inv_covers.specs.model.Posts.{cleared, reserves_index, stands, withdrawn}
+use Rattle.inv_covers.specs.model.Posts.{cleared, cleared_from, reserves_index, reserves_span, stands, withdrawn}
 use Rattle.inv_covers.specs.model.Rounds.{bucket_of, let_index, scheme_of, clearing, clearing_next, closed}
 use Rattle.inv_covers.specs.model.Get as gets
 use Rattle.inv_covers.specs.model.Change as alters
@@ -30,7 +30,7 @@ use Rattle.inv_covers.specs.model.Keep as keeps
 use Rattle.inv_covers.specs.model.Scan as scan
 use Rattle.inv_covers.specs.model.Steps as steps
 use Rattle.inv_covers.specs.model.Steps.{first_phase}
-use Rattle.inv_covers.specs.model.Calls.{ChangeKept, EnqueueKept, Task, Gets, Changes, Holds, Enqueues, Dequeues, Next, Again, Answering, Why, Opens, FollowsHead, Fills, ClearsNext, Clears, Finishes, GivesUp, Retires, Tidies, Advances, Releases, ScanAt, ReadGuard, GiveBack, GetAt, FindVersion, FindCount, FindKey, FindValue, ChangeAt, LoadVersion, LoadCount, LoadKey, LoadValue, ExchangeRoot, EnqueueAt, LoadNumber, LoadNext, PassTail, ExchangeNext, ExchangeTail, DequeueAt, LoadTail, SwingTail, TakeNumber, TakeValue, ExchangeHead, Work, Getting, Changing, Enqueuing, Dequeuing, Phase, Idle, Runs, Scans, Works, CallTurn, goes_on, KeepAt, Loosens, LoadHeld, StoreHeld, Looks, Misses, Keeping}
+use Rattle.inv_covers.specs.model.Calls.{ChangeKept, EnqueueKept, Task, Gets, Changes, Holds, Enqueues, Dequeues, Next, Again, Answering, Why, Opens, FollowsHead, Fills, ClearsNext, Clears, Finishes, GivesUp, Retires, Tidies, Advances, Releases, ScanAt, ReadGuard, GiveBack, GetAt, FindVersion, FindCount, FindKey, FindValue, ChangeAt, LoadVersion, LoadCount, LoadKey, LoadValue, ExchangeRoot, EnqueueAt, LoadNumber, LoadNext, PassTail, ExchangeNext, ExchangeTail, DequeueAt, LoadTail, SwingTail, TakeNumber, TakeValue, ExchangeHead, Work, Getting, Changing, Enqueuing, Dequeuing, Phase, Idle, Runs, Scans, Works, CallTurn, goes_on, KeepAt, Loosens, LoadHeld, StoreHeld, Looks, Misses, HideSpan, MarkLeft, TakeList, MarkTaken, Keeping}
 use Rattle.inv_requests.specs.shapes.Frame.{phase_left}
 use Rattle.inv_covers.specs.rows.Queue.{Line}
 use Rattle.inv_contents.proofs.Stands.Rounds.{why_free, is_free, Adds, clearing_adds, clearing_next_adds, closed_adds, scan_told, scan_adds, why_ends, ends_free, resume_adds, released_adds, each_first}
@@ -292,6 +292,14 @@ look_turns l queued index key (FindCount slot version) post desk found = looking
 look_turns l queued index key (FindKey slot version count pair) post desk found = looked_key_turns l queued index key slot version count pair post desk (found == key)
 look_turns l queued index key (FindValue slot version pair) post desk found = record { mute = refl; reads = bare_reads Idle l queued refl }
 
+hidden_mute : (index : ℕ) (rows : List (Option ℕ)) → all_mute (cleared_from index rows) ≡ true
+hidden_mute index [] = refl
+hidden_mute index (row ∷ rows) = mute_append (cleared index row) (cleared_from (index + 1) rows) (cleared_mute index row) (hidden_mute (index + 1) rows)
+
+taking_turns : (l : Line) (queued : List ℕ) (place : ℕ) (post : Post) (desk : Desk) (left : Bool) (found : ℕ) → Turns l queued (keeps.taking place post desk left found)
+taking_turns l queued place post desk true found = record { mute = refl; reads = bare_reads _ l queued refl }
+taking_turns l queued place post desk false found = record { mute = refl; reads = bare_reads Idle l queued refl }
+
 keep_turns : (l : Line) (queued : List ℕ) (at : KeepAt) (post : Post) (desk : Desk) (found : ℕ) → Turns l queued (keeps.keep_turn at post desk found)
 keep_turns l queued (Loosens let_go) post desk found =
     let told : List Event = cleared (let_index let_go) (stands post (let_index let_go)) in
@@ -300,6 +308,13 @@ keep_turns l queued (LoadHeld from index) post desk found = load_held_turns l qu
 keep_turns l queued (StoreHeld from index era) post desk found = copied_turns l queued from index post desk (reserves_index post index era) (stands post from) refl
 keep_turns l queued (Looks index key at) post desk found = look_turns l queued index key at post desk found
 keep_turns l queued (Misses index) post desk found = record { mute = refl; reads = bare_reads Idle l queued refl }
+keep_turns l queued HideSpan post desk found = record {
+  mute = mute_append (cleared_from 2 (drop 2 post.standing)) (reserves_span post None) (hidden_mute 2 (drop 2 post.standing)) refl;
+  reads = bare_reads _ l queued refl;
+}
+keep_turns l queued MarkLeft post desk found = record { mute = refl; reads = bare_reads Idle l queued refl }
+keep_turns l queued (TakeList place) post desk found = taking_turns l queued place post desk (found == 1) found
+keep_turns l queued (MarkTaken place count) post desk found = record { mute = refl; reads = bare_reads Idle l queued refl }
 
 -- a call's own step
 

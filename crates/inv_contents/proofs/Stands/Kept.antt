@@ -9,7 +9,7 @@ use Rattle.inv_covers.specs.model.Calls.{Phase, Idle, Runs, Scans, Works}
 use Rattle.inv_covers.specs.model.Steps.{phase_turn, first_phase}
 use Rattle.inv_covers.specs.model.Scan.{scan_turn}
 use Rattle.inv_covers.specs.model.Locals.{Local, begun_post, turn}
-use Rattle.inv_covers.specs.model.World.{begin, step, finds}
+use Rattle.inv_covers.specs.model.World.{begin, step, finds, offered}
 use Rattle.inv_requests.specs.shapes.Seats.{PostFits, PhaseFits}
 use Rattle.inv_requests.proofs.shapes.Frame.{seat_stays, seat_steps, begin_stays, begin_begins, settled_seated}
 use Rattle.inv_requests.proofs.shapes.Kept.{counted_fits, run_counted, one_moves}
@@ -40,8 +40,8 @@ LocalStood n l = Stood l.phase l.post
 pub stands_kept : StandsKept
 stands_kept w i s p h =
     let a = s.fits i in
-    let t : TurnStood (turn (w.seat i) (finds w i)) = turn_stood w.layout i (w.seat i).phase (w.seat i).post (w.seat i).desk (finds w i) a.post a.phase (p.stand i) (h.stood i) in
-    let l = settled_seated {Q = Any} {P = Stand} (w.seat i) (turn (w.seat i) (finds w i)) (record { post = tt; phase = t }) in
+    let t : TurnStood (turn (offered w i) (finds w i)) = turn_stood w.layout i (w.seat i).phase (w.seat i).post (offered w i).desk (finds w i) a.post a.phase (p.stand i) (h.stood i) in
+    let l = settled_seated {Q = Any} {P = Stand} (offered w i) (turn (offered w i) (finds w i)) (record { post = tt; phase = t }) in
     record { stood = λ k. one_moves LocalStood w.seat (step w i).seat i h.stood (seat_stays w i) (subst (LocalStood i) (sym (seat_steps w i)) l.phase) k }
 
 -- a look begins with the row that stands at its index

@@ -1,7 +1,8 @@
 -- The end of a round, and what comes after it: the call works on no row, and tells no more than that rows stand no more.
 use Rattle.std.proofs.Common.{ℕ, ◌≡◌, ◌+◌, ◌%◌, ◌&&◌, Bool, true, false, refl, ◌∙◌, sym, List, [], ◌∷◌, ◌++◌}
 use Rattle.std.proofs.lemmas.List.{append-nil, append_assoc}
-use Rattle.std.specs.Prelude.{◌==◌, nat_lt, Option, Some, None}
+use Rattle.std.specs.Prelude.{◌==◌, nat_lt, Option, Some, None, drop}
+use Rattle.inv_covers.specs.words.Schemes.{has_one_interval}
 use Rattle.inv_covers.specs.defs.declared.call.Answer.{Answer}
 use Rattle.inv_covers.specs.defs.declared.call.Call.{Call}
 use Rattle.inv_covers.specs.defs.declared.call.Call.TheVariants as names
@@ -13,7 +14,7 @@ use Rattle.inv_covers.specs.defs.Shown.{shown}
 use Rattle.inv_covers.specs.words.declared.config.SchemeKind.{SchemeKind}
 use Rattle.inv_covers.specs.model.declared.post.Post.{Post}
 use Rattle.inv_covers.specs.model.Desks.{Desk, with_life}
-use Rattle.inv_covers.specs.model.Posts.{stands, cleared}
+use Rattle.inv_covers.specs.model.Posts.{stands, standing_from, cleared}
 use Rattle.inv_covers.specs.model.Phases.{Base, Ending}
 use Rattle.inv_covers.specs.model.Phases.Ending.{Done, Protected, Followed, Allocated, Retired, Clocked}
 use Rattle.inv_covers.specs.model.Guards as the_guards
@@ -21,11 +22,11 @@ use Rattle.inv_covers.specs.model.Rounds.{scheme_of, taken_of, round, round_by, 
 use Rattle.inv_covers.specs.model.Keep as keeps
 use Rattle.inv_covers.specs.model.Scan as scan
 use Rattle.inv_covers.specs.model.Steps as steps
-use Rattle.inv_covers.specs.model.Calls.{Task, Gets, Changes, Holds, Enqueues, Dequeues, Next, Again, MakeRoom, Answering, Retiring, AfterScan, Answered, Repeated, Counted, Why, Opens, FollowsHead, Fills, ClearsNext, Clears, Finishes, GivesUp, Retires, Tidies, Advances, Releases, ScanAt, ReadGuard, GiveBack, Phase, Idle, Runs, Scans, Works, CallTurn, LetGo, Released, Rehold, Dropped, KeepAt, Looks, FindVersion, Work, Keeping}
+use Rattle.inv_covers.specs.model.Calls.{Task, Gets, Changes, Holds, Enqueues, Dequeues, Next, Again, MakeRoom, Answering, Retiring, AfterScan, Answered, Repeated, Counted, Why, Opens, FollowsHead, Fills, ClearsNext, Clears, Finishes, GivesUp, Retires, Tidies, Advances, Releases, ScanAt, ReadGuard, GiveBack, Phase, Idle, Runs, Scans, Works, CallTurn, LetGo, Released, Rehold, Dropped, Parting, KeepAt, Looks, FindVersion, Work, Keeping}
 use Rattle.inv_requests.specs.shapes.Frame.{phase_left}
 use Rattle.inv_contents.specs.Stands.{Stood}
 use Rattle.inv_contents.proofs.Contents.Rounds.{task_plain}
-use Rattle.inv_covers.proofs.model.Facts.{first_of, rest_of, both}
+use Rattle.inv_covers.proofs.model.Facts.{first_of, rest_of, both, if_by}
 use Rattle.inv_covers.proofs.model.Schemes.{each_clear_told}
 
 abbrev pub why_free : Why → Bool
@@ -226,10 +227,26 @@ advanced_adds (Followed end) post desk told = adds_none told (steps.advanced (Fo
 advanced_adds (Allocated end) post desk told = adds_none told (steps.advanced (Allocated end) post desk told) refl refl
 advanced_adds (Retired life) post desk told = adds_none told (steps.advanced (Retired life) post desk told) refl refl
 
+-- a seat that leaves works on no row
+parting_by_free : (x : Option ℕ) → is_free (keeps.parting_index x) ≡ true
+parting_by_free None = refl
+parting_by_free (Some index) = refl
+
+pub parting_from_free : (index : ℕ) (post : Post) → is_free (keeps.parting_from index post) ≡ true
+parting_from_free index post = parting_by_free (standing_from index (drop index post.standing))
+
+parting_span_free : (x : Option Interval) → is_free (keeps.parting_span x) ≡ true
+parting_span_free None = refl
+parting_span_free (Some span) = refl
+
+parting_free : (post : Post) → is_free (keeps.parting post) ≡ true
+parting_free post = if_by (has_one_interval (scheme_of post)) (keeps.parting_span post.span) (keeps.parting_from 2 post) (λ phase. is_free phase ≡ true) (λ e. parting_span_free post.span) (λ e. parting_from_free 2 post)
+
 pub released_adds : (let_go : LetGo) (post : Post) (desk : Desk) (told : List Event) → Adds told (keeps.released let_go post desk told)
 released_adds Released post desk told = adds_none told (keeps.released Released post desk told) refl refl
 released_adds (Rehold key) post desk told = adds_none told (keeps.released (Rehold key) post desk told) refl (round_free (Holds key) post)
 released_adds (Dropped index) post desk told = adds_none told (keeps.released (Dropped index) post desk told) refl refl
+released_adds (Parting index) post desk told = adds_none told (keeps.released (Parting index) post desk told) refl (parting_from_free (index + 1) post)
 
 -- a machine that is run for no row
 abbrev pub why_ends : Why → Bool
@@ -296,3 +313,5 @@ each_first (names.Look index key) post P f g = look (stands post index) refl
     look None e = f _ refl
     look (Some slot) e = g index key slot refl e
 each_first (names.PutIf key value version) post P f g = f _ (round_free (Changes _) post)
+each_first names.Leave post P f g = f _ (parting_free post)
+each_first (names.Adopt place) post P f g = f _ refl

@@ -26,7 +26,7 @@ use Rattle.inv_covers.specs.model.Enqueue as enqueues
 use Rattle.inv_covers.specs.model.Dequeue as dequeues
 use Rattle.inv_covers.specs.model.Keep as keeps
 use Rattle.inv_covers.specs.model.Steps as steps
-use Rattle.inv_covers.specs.model.Calls.{ChangeKept, EnqueueKept, Task, Gets, Changes, Holds, Enqueues, Dequeues, Next, Again, Answering, Retiring, GetAt, FindVersion, FindCount, FindKey, FindValue, ChangeAt, LoadVersion, LoadCount, LoadKey, LoadValue, ExchangeRoot, EnqueueAt, LoadNumber, LoadNext, PassTail, ExchangeNext, ExchangeTail, DequeueAt, LoadTail, SwingTail, TakeNumber, TakeValue, ExchangeHead, Work, Getting, Changing, Enqueuing, Dequeuing, Works, KeepAt, Loosens, LoadHeld, StoreHeld, Looks, Misses, Keeping, Idle}
+use Rattle.inv_covers.specs.model.Calls.{ChangeKept, EnqueueKept, Task, Gets, Changes, Holds, Enqueues, Dequeues, Next, Again, Answering, Retiring, GetAt, FindVersion, FindCount, FindKey, FindValue, ChangeAt, LoadVersion, LoadCount, LoadKey, LoadValue, ExchangeRoot, EnqueueAt, LoadNumber, LoadNext, PassTail, ExchangeNext, ExchangeTail, DequeueAt, LoadTail, SwingTail, TakeNumber, TakeValue, ExchangeHead, Work, Getting, Changing, Enqueuing, Dequeuing, Works, KeepAt, Loosens, LoadHeld, StoreHeld, Looks, Misses, HideSpan, MarkLeft, TakeList, MarkTaken, Keeping, Idle}
 use Rattle.inv_requests.specs.Parents.{ended}
 use Rattle.inv_contents.specs.Stands.{Stood}
 use Rattle.inv_contents.proofs.Stands.Rounds.{TurnStood, free_stood, adds_stood, clearing_adds, clearing_next_adds, closed_adds, released_adds}
@@ -162,6 +162,10 @@ load_held_stood : (from index : ℕ) (post : Post) (desk : Desk) (found : ℕ) (
 load_held_stood from index post desk found true = copied_stood from index post desk [] (stands post from)
 load_held_stood from index post desk found false = free_stood _ post refl
 
+taking_stood : (place : ℕ) (post : Post) (desk : Desk) (left : Bool) (found : ℕ) → TurnStood (keeps.taking place post desk left found)
+taking_stood place post desk true found = free_stood _ post refl
+taking_stood place post desk false found = free_stood Idle post refl
+
 keep_stood : (at : KeepAt) (post : Post) (desk : Desk) (found : ℕ) → Stood (Works (Keeping at)) post → TurnStood (keeps.keep_turn at post desk found)
 keep_stood (Loosens let_go) post desk found h =
     let told : List Event = cleared (let_index let_go) (stands post (let_index let_go)) in
@@ -170,6 +174,10 @@ keep_stood (LoadHeld from index) post desk found h = load_held_stood from index 
 keep_stood (StoreHeld from index era) post desk found h = copied_stood from index post desk (reserves_index post index era) (stands post from)
 keep_stood (Looks index key at) post desk found h = look_stood index key at post desk found h
 keep_stood (Misses index) post desk found h = free_stood Idle post refl
+keep_stood HideSpan post desk found h = free_stood (Works (Keeping MarkLeft)) _ refl
+keep_stood MarkLeft post desk found h = free_stood Idle post refl
+keep_stood (TakeList place) post desk found h = taking_stood place post desk (found == 1) found
+keep_stood (MarkTaken place count) post desk found h = free_stood Idle post refl
 
 pub work_stood : (work : Work) (post : Post) (desk : Desk) (found : ℕ) → Stood (Works work) post → TurnStood (steps.work_turn work post desk found)
 work_stood (Getting key at) post desk found h = get_stood key at post desk found h

@@ -1,4 +1,4 @@
-use Rattle.inv_covers.proofs.Resting.{rests_start, rests_begin, rests_kept, rests_give}
+use Rattle.inv_covers.proofs.Resting.{rests_start, rests_begin, rests_kept, rests_give, spans_rest}
 use Rattle.inv_covers.proofs.guards_rest.Goals as goal
 
 pub returns-clause-start : goal.returns-clause-start
@@ -12,3 +12,6 @@ returns-clause-step c = rests_kept
 
 pub returns-clause-gives : goal.returns-clause-gives
 returns-clause-gives c = rests_give
+
+pub returns-clause-spans : goal.returns-clause-spans
+returns-clause-spans c = spans_rest

@@ -1,13 +1,13 @@
 -- A step tells that a row is copied where it copies it, and the row stands at both indexes from then on.
 use Rattle.std.proofs.Common.{ℕ, ◌+◌, ◌≤◌, Bool, true, false, ◌≡◌, ◌∙◌, sym, refl, ap, subst, arith}
 use Rattle.std.specs.List.{list_any}
-use Rattle.std.specs.Prelude.{Option, Some, None, length, if◌then◌else◌, ◌==◌, ◌&&◌}
+use Rattle.std.specs.Prelude.{Option, Some, None, drop, length, if◌then◌else◌, ◌==◌, ◌&&◌}
 use Rattle.inv_handover.specs.covers.defs.declared.event.Event.{Event}
 use Rattle.inv_handover.specs.covers.defs.declared.event.Event.TheVariants as events
 use Rattle.inv_handover.specs.covers.defs.declared.event.Root.{Root}
 use Rattle.inv_handover.specs.covers.defs.declared.event.Root.TheVariants as roots
 use Rattle.inv_handover.specs.covers.model.Keep as keeps
-use Rattle.inv_handover.specs.covers.model.Calls.{KeepAt, Loosens, LoadHeld, StoreHeld, Looks, Misses, Keeping, Phase, Idle, Runs, Scans, Works}
+use Rattle.inv_handover.specs.covers.model.Calls.{KeepAt, Loosens, LoadHeld, StoreHeld, Looks, Misses, HideSpan, MarkLeft, TakeList, MarkTaken, Keeping, Phase, Idle, Runs, Scans, Works}
 use Rattle.inv_handover.specs.covers.model.Desks.{Desk}
 use Rattle.inv_handover.specs.covers.model.Locals.{Local, turn}
 use Rattle.inv_handover.specs.covers.model.Memory.{bump}
@@ -18,7 +18,7 @@ use Rattle.inv_handover.specs.covers.model.Posts.{counted, stands, upper, with_r
 use Rattle.inv_handover.specs.covers.model.Protect.{told_held}
 use Rattle.inv_handover.specs.covers.model.Rounds.{let_index, scheme_of}
 use Rattle.inv_handover.specs.covers.model.Steps as steps
-use Rattle.inv_handover.specs.covers.model.World.{finds}
+use Rattle.inv_handover.specs.covers.model.World.{finds, offered}
 use Rattle.inv_handover.specs.covers.model.declared.post.Post.{Post}
 use Rattle.inv_handover.specs.covers.shapes.Slots.{CopyIn, KeepIn, PhaseIn}
 use Rattle.inv_handover.specs.covers.words.Schemes.{has_one_interval}
@@ -30,7 +30,7 @@ use Rattle.inv_handover.proofs.covers.model.Ranges.{bounds_of}
 use Rattle.inv_handover.proofs.covers.model.Standing.{stands-with_row_same, stands-with_row_other}
 use Rattle.model_history.proofs.Passes.{copied_post, keep_post}
 use Rattle.inv_ends.proofs.Ends.Nulls.{none_of}
-use Rattle.inv_ends.proofs.Ends.Tests.{Calm, at_shows, base_shows, copied_shows, keep_shows, none_cleared, phase_shows, step_any}
+use Rattle.inv_ends.proofs.Ends.Tests.{Calm, at_shows, base_shows, copied_shows, keep_shows, none_cleared, none_left, phase_shows, step_any}
 use Rattle.inv_ends.proofs.Told.Turns.{is_later, keep_just}
 use Rattle.inv_ends.specs.Standing.{CopiedCovered, CopiedStands, CopiedTold, CopyStands, copies_at, copies_in, is_row}
 use Rattle.inv_ends.specs.Stands.{is_copied}
@@ -77,6 +77,10 @@ keep_copies f j s (LoadHeld from index) post = ap (λ (b : Bool). has_one_interv
 keep_copies f j s (StoreHeld from index era) post = copied_is f j s from index post (stands post from)
 keep_copies f j s (Looks index key at) post = refl
 keep_copies f j s (Misses index) post = refl
+keep_copies f j s HideSpan post = none_left (is_copied f j s) 2 (drop 2 post.standing) (λ n slot. refl)
+keep_copies f j s MarkLeft post = refl
+keep_copies f j s (TakeList place) post = refl
+keep_copies f j s (MarkTaken place count) post = refl
 
 phase_copies : (f j s : ℕ) (phase : Phase) (post : Post) (found : ℕ) → phase_shows (is_copied f j s) post phase found ≡ copies_in post phase f j s
 phase_copies f j s Idle post found = refl
@@ -130,13 +134,17 @@ keep_left config f j s (LoadHeld from index) post left k b e h = load_held_left 
 keep_left config f j s (StoreHeld from index era) post left k b e h = copied_stands config from index f j s post left k b e h
 keep_left config f j s (Looks index key at) post left k b e h = no_truth_2 h
 keep_left config f j s (Misses index) post left k b e h = no_truth_2 h
+keep_left config f j s HideSpan post left k b e h = no_truth_2 h
+keep_left config f j s MarkLeft post left k b e h = no_truth_2 h
+keep_left config f j s (TakeList place) post left k b e h = no_truth_2 h
+keep_left config f j s (MarkTaken place count) post left k b e h = no_truth_2 h
 
-phase_left : (layout : Layout) (f j s : ℕ) (phase : Phase) (post : Post) (desk : Desk) (found : ℕ) → PhaseIn layout desk phase → layout.config.indexes ≤ length post.standing → copies_in post phase f j s ≡ true → CopyStands layout.config post (steps.phase_turn phase post desk found).post f j s
-phase_left layout f j s (Works (Keeping at)) post desk found k b h = keep_left layout.config f j s at post (keeps.keep_turn at post desk found).post k b (keep_just at post desk found).post h
-phase_left layout f j s Idle post desk found k b h = no_truth_2 h
-phase_left layout f j s (Runs why base) post desk found k b h = no_truth_2 h
-phase_left layout f j s (Scans later at) post desk found k b h = no_truth_2 h
-phase_left layout f j s (Works work) post desk found k b h = no_truth_2 h
+phase_left : (layout : Layout) (f j s : ℕ) (phase : Phase) (post : Post) (own desk : Desk) (found : ℕ) → PhaseIn layout own phase → layout.config.indexes ≤ length post.standing → copies_in post phase f j s ≡ true → CopyStands layout.config post (steps.phase_turn phase post desk found).post f j s
+phase_left layout f j s (Works (Keeping at)) post own desk found k b h = keep_left layout.config f j s at post (keeps.keep_turn at post desk found).post k b (keep_just at post desk found).post h
+phase_left layout f j s Idle post own desk found k b h = no_truth_2 h
+phase_left layout f j s (Runs why base) post own desk found k b h = no_truth_2 h
+phase_left layout f j s (Scans later at) post own desk found k b h = no_truth_2 h
+phase_left layout f j s (Works work) post own desk found k b h = no_truth_2 h
 
 -- a step that is counted leaves what stands
 of_counted : (config : Config) (post left : Post) (f j s : ℕ) → CopyStands config (counted post) left f j s → CopyStands config post left f j s
@@ -147,7 +155,7 @@ copy_stands w i f j s v n k h =
     let l : Local = w.seat i in
     let b : w.layout.config.indexes ≤ length l.post.standing = (let c = bounds_of w.layout v in let e = (n.fits i).post.standing in omega (arith, c.indexes, e)) in
     let c : copies_in (counted l.post) l.phase f j s ≡ true = counted_copies f j s l.phase l.post ∙ sym (copied_is_told w i f j s) ∙ h in
-    subst (λ (p : Post). CopyStands w.layout.config l.post p f j s) (sym (stepped_post w i)) (of_counted w.layout.config l.post (turn l (finds w i)).post f j s (phase_left w.layout f j s l.phase (counted l.post) l.desk (finds w i) (k.seats i).phase b c))
+    subst (λ (p : Post). CopyStands w.layout.config l.post p f j s) (sym (stepped_post w i)) (of_counted w.layout.config l.post (turn (offered w i) (finds w i)).post f j s (phase_left w.layout f j s l.phase (counted l.post) l.desk (offered w i).desk (finds w i) (k.seats i).phase b c))
 
 pub copied_covered : CopiedCovered
 copied_covered w i f j s v l n k a h = a.stood i j s ((copy_stands w i f j s l n k h).now)

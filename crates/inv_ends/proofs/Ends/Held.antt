@@ -14,14 +14,14 @@ use Rattle.inv_handover.specs.covers.model.declared.ends.ProtectEnd.TheVariants 
 use Rattle.inv_handover.specs.covers.model.declared.ends.FollowEnd.TheVariants as follow_ends
 use Rattle.inv_handover.specs.covers.model.Calls.{CallOutcome, CallTurn, KeepAt, Phase, Task, Why, Work, goes_on}
 use Rattle.inv_handover.specs.covers.model.Calls.CallOutcome.{GoesOn}
-use Rattle.inv_handover.specs.covers.model.Calls.KeepAt.{LoadHeld, Loosens, Looks, Misses, StoreHeld}
+use Rattle.inv_handover.specs.covers.model.Calls.KeepAt.{HideSpan, LoadHeld, Loosens, Looks, MarkLeft, MarkTaken, Misses, StoreHeld, TakeList}
 use Rattle.inv_handover.specs.covers.model.Calls.Phase.{Idle, Runs, Scans, Works}
 use Rattle.inv_handover.specs.covers.model.Calls.ScanAt.{GiveBack, ReadGuard}
 use Rattle.inv_handover.specs.covers.model.Calls.Task.{Changes, Dequeues, Enqueues, Gets, Holds}
 use Rattle.inv_handover.specs.covers.model.Calls.Why.{Advances, Clears, ClearsNext, Fills, Finishes, FollowsHead, GivesUp, Opens, Releases, Retires, Tidies}
 use Rattle.inv_handover.specs.covers.model.Calls.Work.{Changing, Dequeuing, Enqueuing, Getting, Keeping}
 use Rattle.inv_handover.specs.covers.model.Desks.{Desk}
-use Rattle.inv_handover.specs.covers.model.Locals.{told_by, told_end}
+use Rattle.inv_handover.specs.covers.model.Locals.{told_by}
 use Rattle.inv_handover.specs.covers.model.Machine.{after}
 use Rattle.inv_handover.specs.covers.model.Memory.{bump}
 use Rattle.inv_handover.specs.covers.model.Phases.{Aim, Base, Turn, ends, goes}
@@ -32,7 +32,7 @@ use Rattle.inv_handover.specs.covers.model.Posts.{cleared, counted, reserves_ind
 use Rattle.inv_handover.specs.covers.model.Protect.{concluded, held_post, protected, told_held}
 use Rattle.inv_handover.specs.covers.model.SlowPath.{after_take_answer}
 use Rattle.inv_handover.specs.covers.model.Rounds.{let_index, scheme_of}
-use Rattle.inv_handover.specs.covers.model.World.{finds}
+use Rattle.inv_handover.specs.covers.model.World.{finds, offered}
 use Rattle.inv_handover.specs.covers.model.declared.post.Post.{Post}
 use Rattle.inv_handover.proofs.covers.Held.{stepped_post}
 use Rattle.inv_handover.proofs.covers.Stands.{withdrawn_shrinks}
@@ -40,11 +40,12 @@ use Rattle.inv_handover.proofs.covers.Stood.{concluded_post}
 use Rattle.inv_handover.specs.covers.Held.{leads}
 use Rattle.inv_handover.specs.covers.defs.declared.event.Event.{Event}
 use Rattle.inv_handover.specs.covers.defs.declared.event.Root.{Root}
+use Rattle.inv_ends.proofs.Ends.Left.{left_stood}
 use Rattle.inv_ends.proofs.Ends.Nulls.{none_of}
 use Rattle.inv_ends.proofs.Told.Rows.{concluded_told, own_told, phase_adds, resumed_adds}
 use Rattle.inv_ends.proofs.Ends.Stood.{base_keeps, clear_calm, counted_fits, fits_index, held_told, is_still, run_index, same_standing, still_shows}
 use Rattle.inv_ends.proofs.Ends.Tests.{any_more, base_any, copied_shows, keep_any, keep_shows}
-use Rattle.inv_ends.proofs.Told.Turns.{Adds, Just, at_index, cleared_stood, end_plain, keep_just, out_adds, resume_adds, work_adds}
+use Rattle.inv_ends.proofs.Told.Turns.{Adds, Just, adds_wide, at_index, cleared_stood, keep_just, out_adds, resume_adds, work_adds}
 use Rattle.inv_ends.specs.Standing.{ClearStood, HeldCovered, HeldStands, holds_base, holds_in, is_end}
 use Rattle.inv_ends.specs.Stands.{is_clear}
 use Rattle.inv_handover.specs.covers.shapes.Seats.{PhaseFits, protects, reloads, suits, kind_of}
@@ -142,7 +143,7 @@ kept_clears : (p post : Post) (told : List Event) (t : CallTurn) (j s : ℕ) →
 kept_clears p post told t j s x n h = no_truth_2 (sym n ∙ sym (x.clears j s) ∙ h)
 
 run_adds : (why : Why) (desk : Desk) (t : Turn) → Adds t.post t.told (steps.run_turn why desk t)
-run_adds why desk t = resumed_adds why desk t.post t.told t.outcome
+run_adds why desk t = adds_wide _ _ _ (resumed_adds why desk t.post t.told t.outcome)
 
 protected_clears : (why : Why) (desk : Desk) (aim : Aim) (index : ℕ) (root : Root) (n link era : ℕ) (post : Post) (j s : ℕ) (null : Bool) → (link == 0) ≡ null → protects (kind_of why) ≡ true → ClearsOf post (steps.run_turn why desk (protected aim index root n link era post)) j s
 protected_clears why desk aim index root n link era post j s true e k =
@@ -153,13 +154,13 @@ protected_clears why desk aim index root n link era post j s false e k =
 
 check_clears : (why : Why) (desk : Desk) (aim : Aim) (index : ℕ) (root : Root) (n link era : ℕ) (post : Post) (next : Base) (j s : ℕ) (same : Bool) → protects (kind_of why) ≡ true → ClearsOf post (steps.run_turn why desk (if same then protected aim index root n link era post else goes post [] next)) j s
 check_clears why desk aim index root n link era post next j s true k = protected_clears why desk aim index root n link era post j s (link == 0) refl k
-check_clears why desk aim index root n link era post next j s false k = left_clears post post [] (goes_on post desk [] (Runs why next)) j s (out_adds post desk [] (GoesOn (Runs why next))) refl refl
+check_clears why desk aim index root n link era post next j s false k = left_clears post post [] (goes_on post desk [] (Runs why next)) j s (adds_wide _ _ _ (out_adds post desk [] (GoesOn (Runs why next)))) refl refl
 
 reload_clears : (why : Why) (desk : Desk) (index slot n found : ℕ) (post : Post) (j s : ℕ) (same : Bool) → reloads (kind_of why) ≡ true → ClearsOf post (steps.run_turn why desk (if same then ends (with_row post index slot) (events.Held index slot n ∷ []) (Followed (follow_ends.Followed slot)) else ends post [] (Followed (follow_ends.RootMoved found)))) j s
 reload_clears why desk index slot n found post j s true k =
     kept_clears (with_row post index slot) post (events.Held index slot n ∷ []) (steps.resume why (Followed (follow_ends.Followed slot)) (with_row post index slot) desk (events.Held index slot n ∷ [])) j s (follow_keeps why slot (with_row post index slot) desk (events.Held index slot n ∷ []) k) refl
 reload_clears why desk index slot n found post j s false k =
-    left_clears post post [] (steps.resume why (Followed (follow_ends.RootMoved found)) post desk []) j s (resume_adds why (Followed (follow_ends.RootMoved found)) post desk []) refl refl
+    left_clears post post [] (steps.resume why (Followed (follow_ends.RootMoved found)) post desk []) j s (adds_wide _ _ _ (resume_adds why (Followed (follow_ends.RootMoved found)) post desk [])) refl refl
 
 still_clears : (why : Why) (desk : Desk) (base : Base) (post : Post) (found j s : ℕ) → is_still base ≡ true → ClearsOf post (steps.run_turn why desk (after base post found)) j s
 still_clears why desk base post found j s k =
@@ -221,13 +222,17 @@ keep_cleared (LoadHeld from index) post j s h = copied_cleared from index post (
 keep_cleared (StoreHeld from index era) post j s h = copied_cleared from index post (stands post from) j s h
 keep_cleared (Looks index key at) post j s h = no_truth_2 h
 keep_cleared (Misses index) post j s h = no_truth_2 h
+keep_cleared HideSpan post j s h = left_stood post j s h
+keep_cleared MarkLeft post j s h = no_truth_2 h
+keep_cleared (TakeList place) post j s h = no_truth_2 h
+keep_cleared (MarkTaken place count) post j s h = no_truth_2 h
 
 keep_clears : (at : KeepAt) (post : Post) (desk : Desk) (found j s : ℕ) → ClearsOf post (keeps.keep_turn at post desk found) j s
 keep_clears at post desk found j s h =
     let t : CallTurn = keeps.keep_turn at post desk found in
     let x : Just (keep_post at post) (keep_told at post) t = keep_just at post desk found in
     let e : list_any (is_clear j s) (told_by t) ≡ keep_shows (is_clear j s) post at =
-    any_more (is_clear j s) t.told (told_end t.post t.outcome) ((end_plain t.post t.outcome).clears j s) ∙ ap (list_any (is_clear j s)) x.told ∙ keep_any (is_clear j s) at post (clear_calm j s) in
+    ap (list_any (is_clear j s)) x.told ∙ any_more (is_clear j s) (keep_told at post) x.more (x.plain.clears j s) ∙ keep_any (is_clear j s) at post (clear_calm j s) in
     keep_cleared at post j s (sym e ∙ h)
 
 work_clears : (work : Work) (post : Post) (desk : Desk) (found j s : ℕ) → ClearsOf post (steps.work_turn work post desk found) j s
@@ -246,7 +251,7 @@ phase_clears layout (Works work) post desk found j s r = work_clears work post d
 
 pub clear_stood : ClearStood
 clear_stood w i j s n h =
-    phase_clears w.layout (w.seat i).phase (counted (w.seat i).post) (w.seat i).desk (finds w i) j s (counted_fits w.layout (w.seat i).phase (w.seat i).post (n.fits i).phase) h
+    phase_clears w.layout (w.seat i).phase (counted (w.seat i).post) (offered w i).desk (finds w i) j s (counted_fits w.layout (w.seat i).phase (w.seat i).post (n.fits i).phase) h
 
 -- a row that comes to stand
 row_is : (post : Post) (index slot j s : ℕ) → index < length post.standing → (index == j) ≡ true → slot ≡ s → stands (with_row post index slot) j ≡ Some s
@@ -328,7 +333,7 @@ phase_stands layout (Works work) post desk found j s l r h = no_truth_2 h
 pub held_stands : HeldStands
 held_stands w i j s n h =
     ap (λ (p : Post). stands p j) (stepped_post w i)
-    ∙ phase_stands w.layout (w.seat i).phase (counted (w.seat i).post) (w.seat i).desk (finds w i) j s (n.fits i).post.standing (counted_fits w.layout (w.seat i).phase (w.seat i).post (n.fits i).phase) (sym (held_told w i j s) ∙ h)
+    ∙ phase_stands w.layout (w.seat i).phase (counted (w.seat i).post) (offered w i).desk (finds w i) j s (n.fits i).post.standing (counted_fits w.layout (w.seat i).phase (w.seat i).post (n.fits i).phase) (sym (held_told w i j s) ∙ h)
 
 pub held_covered : HeldCovered
 held_covered w i j s v n a h = a.stood i j s (held_stands w i j s n h)

@@ -46,6 +46,8 @@ null_later j (events.Removed bucket version key) h = refl
 null_later j (events.Got bucket version key value) h = refl
 null_later j (events.Queued number value) h = refl
 null_later j (events.Taken number value) h = refl
+null_later j (events.Left count) h = refl
+null_later j (events.Adopted place count) h = refl
 
 null_of : (index j : ℕ) → (index == j || false) ≡ (index == j && true)
 null_of index j = by (index == j) where

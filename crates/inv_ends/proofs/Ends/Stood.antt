@@ -10,7 +10,7 @@ use Rattle.inv_handover.specs.covers.defs.declared.call.ClockMove.TheVariants as
 use Rattle.inv_handover.specs.covers.model.Allocate.{after_claim_slot, is_claimed, walk_past, walking}
 use Rattle.inv_handover.specs.covers.defs.declared.event.Guard.TheVariants as guards
 use Rattle.inv_handover.specs.covers.model.Calls.{CallTurn, KeepAt, Phase, Why, Work}
-use Rattle.inv_handover.specs.covers.model.Calls.KeepAt.{LoadHeld, Loosens, Looks, Misses, StoreHeld}
+use Rattle.inv_handover.specs.covers.model.Calls.KeepAt.{HideSpan, LoadHeld, Loosens, Looks, MarkLeft, MarkTaken, Misses, StoreHeld, TakeList}
 use Rattle.inv_handover.specs.covers.model.Calls.Work.{Changing, Dequeuing, Enqueuing, Getting, Keeping}
 use Rattle.inv_handover.specs.covers.model.Calls.Phase.{Idle, Runs, Scans, Works}
 use Rattle.inv_handover.specs.covers.model.Calls.ScanAt.{GiveBack, ReadGuard}
@@ -31,14 +31,16 @@ use Rattle.inv_handover.specs.covers.model.Posts.{cleared, counted, reserves_hel
 use Rattle.inv_handover.specs.covers.model.Protect.{held_post, protected, told_held}
 use Rattle.inv_handover.specs.covers.model.Rounds.{let_index, scheme_of}
 use Rattle.inv_handover.specs.covers.model.SlowPath.{asking, own_request}
-use Rattle.inv_handover.specs.covers.model.World.{finds, step}
+use Rattle.inv_handover.specs.covers.model.World.{finds, offered, step}
 use Rattle.inv_handover.specs.covers.model.WriteRow.{last_written}
 use Rattle.inv_handover.specs.covers.model.declared.post.Post.{Post}
 use Rattle.inv_handover.proofs.covers.Held.{stepped_post}
 use Rattle.inv_handover.proofs.covers.Stood.{concluded_post}
 use Rattle.inv_handover.specs.covers.Held.{leads}
+use Rattle.inv_handover.specs.covers.Rests.{Vacant, vacant, vacant_keep, vacant_work}
 use Rattle.inv_handover.specs.covers.defs.declared.event.Event.{Event}
 use Rattle.inv_handover.specs.covers.defs.declared.event.Root.{Root}
+use Rattle.inv_ends.proofs.Ends.Left.{cleared_away, hidden_stood}
 use Rattle.inv_ends.proofs.Ends.Nulls.{none_of, under_test}
 use Rattle.inv_ends.proofs.Told.Rows.{concluded_told, own_post, own_told, step_adds}
 use Rattle.inv_ends.proofs.Ends.Tests.{Calm, base_any, base_shows, none_worked, phase_shows, step_any}
@@ -87,6 +89,8 @@ held_later j s (events.Removed bucket version key) h = refl
 held_later j s (events.Got bucket version key value) h = refl
 held_later j s (events.Queued number value) h = refl
 held_later j s (events.Taken number value) h = refl
+held_later j s (events.Left count) h = refl
+held_later j s (events.Adopted place count) h = refl
 
 lead_is : (link s : ℕ) (same : Bool) → (link == s + 1) ≡ same → (link == 0) ≡ false → (link - 1 == s) ≡ same
 lead_is link s true e n = grind (arith, nat_tests)
@@ -262,6 +266,8 @@ by_calm (events.Removed bucket version key) x j h = refl
 by_calm (events.Got bucket version key value) x j h = refl
 by_calm (events.Queued number value) x j h = refl
 by_calm (events.Taken number value) x j h = refl
+by_calm (events.Left count) x j h = refl
+by_calm (events.Adopted place count) x j h = refl
 
 calm_stood : (told : List Event) (x : Option ℕ) (j : ℕ) → list_any is_standing told ≡ false → stood told x j ≡ x
 calm_stood [] x j h = refl
@@ -316,10 +322,6 @@ held_stood post index (roots.Next parent) link n j true e b = rw e refl
 held_stood post index (roots.Next parent) link n j false e b = rw e refl
 
 -- a row comes to stand at another index, whatever stood there
-cleared_away : (index j : ℕ) (x y : Option ℕ) → (index == j) ≡ false → stood (cleared index x) y j ≡ y
-cleared_away index j None y e = refl
-cleared_away index j (Some slot) y e = rw e refl
-
 copied_by : (index slot j : ℕ) (y z : Option ℕ) (same : Bool) → (index == j) ≡ same → (same ≡ false → z ≡ y) → (if index == j then Some slot else y) ≡ (if index == j then Some slot else z)
 copied_by index slot j y z true e f = rw e refl
 copied_by index slot j y z false e f = rw e (sym (f refl))
@@ -339,19 +341,23 @@ load_held_stood from index post j true b = copied_stood from index post [] (stan
 load_held_stood from index post j false b = refl
 
 -- what stands after a step on what is kept is what it told
-keep_stood : (config : Config) (at : KeepAt) (post : Post) (j : ℕ) → config.indexes ≤ length post.standing → KeepIn config at → stands (keep_post at post) j ≡ stood (keep_told at post) (stands post j) j
-keep_stood config (Loosens let_go) post j b k = withdrawn_stood post (let_index let_go) j
-keep_stood config (LoadHeld from index) post j b k = load_held_stood from index post j (has_one_interval (scheme_of post)) (omega (arith, b, k.below))
-keep_stood config (StoreHeld from index era) post j b k = copied_stood from index post (reserves_index post index era) (stands post from) j (omega (arith, b, k.below)) (λ y. refl)
-keep_stood config (Looks index key at) post j b k = refl
-keep_stood config (Misses index) post j b k = refl
+keep_stood : (config : Config) (at : KeepAt) (post : Post) (j : ℕ) → config.indexes ≤ length post.standing → KeepIn config at → Vacant (vacant_keep at) post → stands (keep_post at post) j ≡ stood (keep_told at post) (stands post j) j
+keep_stood config (Loosens let_go) post j b k n = withdrawn_stood post (let_index let_go) j
+keep_stood config (LoadHeld from index) post j b k n = load_held_stood from index post j (has_one_interval (scheme_of post)) (omega (arith, b, k.below))
+keep_stood config (StoreHeld from index era) post j b k n = copied_stood from index post (reserves_index post index era) (stands post from) j (omega (arith, b, k.below)) (λ y. refl)
+keep_stood config (Looks index key at) post j b k n = refl
+keep_stood config (Misses index) post j b k n = refl
+keep_stood config HideSpan post j b k n = hidden_stood post j n
+keep_stood config MarkLeft post j b k n = refl
+keep_stood config (TakeList place) post j b k n = refl
+keep_stood config (MarkTaken place count) post j b k n = refl
 
-work_stood : (config : Config) (work : Work) (post : Post) (j : ℕ) → config.indexes ≤ length post.standing → WorkIn config work → stands (work_post work post) j ≡ stood (work_told work post) (stands post j) j
-work_stood config (Getting key at) post j b k = refl
-work_stood config (Changing kept at) post j b k = refl
-work_stood config (Enqueuing kept at) post j b k = refl
-work_stood config (Dequeuing at) post j b k = refl
-work_stood config (Keeping at) post j b k = keep_stood config at post j b k
+work_stood : (config : Config) (work : Work) (post : Post) (j : ℕ) → config.indexes ≤ length post.standing → WorkIn config work → Vacant (vacant_work work) post → stands (work_post work post) j ≡ stood (work_told work post) (stands post j) j
+work_stood config (Getting key at) post j b k n = refl
+work_stood config (Changing kept at) post j b k n = refl
+work_stood config (Enqueuing kept at) post j b k n = refl
+work_stood config (Dequeuing at) post j b k n = refl
+work_stood config (Keeping at) post j b k n = keep_stood config at post j b k n
 
 -- what stands after a machine's step is what it told
 abbrev pub Turned : Post → Turn → ℕ → Type 0
@@ -419,13 +425,13 @@ run_index layout why (Protect aim index root steps at) post l r = at_below why i
 run_index layout why (Reload parent index slot era steps) post l r = at_below why index (length post.standing) (reloads_protect (kind_of why) r.suited) r.shape.at l
 run_index layout why base post l r = tt
 
-phase_turned : (layout : Layout) (phase : Phase) (post : Post) (desk : Desk) (found j : ℕ) → length post.standing ≡ 8 → layout.config.indexes ≤ length post.standing → PhaseFits layout post phase → PhaseIn layout desk phase
+phase_turned : (layout : Layout) (phase : Phase) (post : Post) (desk : Desk) (found j : ℕ) → length post.standing ≡ 8 → layout.config.indexes ≤ length post.standing → PhaseFits layout post phase → PhaseIn layout desk phase → Vacant (vacant phase) post
     → stands (own_post phase post found) j ≡ stood (own_told phase post found) (stands post j) j
-phase_turned layout Idle post desk found j l b r k = refl
-phase_turned layout (Runs why base) post desk found j l b r k = base_turned base post found j (run_index layout why base post l r)
-phase_turned layout (Scans later (ReadGuard number)) post desk found j l b r k = refl
-phase_turned layout (Scans later (GiveBack place slot)) post desk found j l b r k = refl
-phase_turned layout (Works work) post desk found j l b r k = work_stood layout.config work post j b k
+phase_turned layout Idle post desk found j l b r k n = refl
+phase_turned layout (Runs why base) post desk found j l b r k n = base_turned base post found j (run_index layout why base post l r)
+phase_turned layout (Scans later (ReadGuard number)) post desk found j l b r k n = refl
+phase_turned layout (Scans later (GiveBack place slot)) post desk found j l b r k n = refl
+phase_turned layout (Works work) post desk found j l b r k n = work_stood layout.config work post j b k n
 
 pub counted_fits : (layout : Layout) (phase : Phase) (post : Post) → PhaseFits layout post phase → PhaseFits layout (counted post) phase
 counted_fits layout Idle post r = r
@@ -434,15 +440,15 @@ counted_fits layout (Scans later at) post r = r
 counted_fits layout (Works work) post r = work_counted work post r
 
 pub standing_told : StandingTold
-standing_told w i j v s n =
+standing_told w i j v s n r =
     let l : Local = w.seat i in
-    let t : CallTurn = turn l (finds w i) in
+    let t : CallTurn = turn (offered w i) (finds w i) in
     let x : Adds (own_post l.phase (counted l.post) (finds w i)) (own_told l.phase (counted l.post) (finds w i)) t = step_adds w i in
     let p : PhaseFits w.layout (counted l.post) l.phase = counted_fits w.layout l.phase l.post (s.fits i).phase in
     let e : length l.post.standing ≡ 8 = (s.fits i).post.standing in
     let b : w.layout.config.indexes ≤ length l.post.standing = (let c = bounds_of w.layout v in omega (arith, c.indexes, e)) in
     same_standing ((step w i).seat i).post t.post j (ap (λ (q : Post). q.standing) (stepped_post w i))
     ∙ x.stands j
-    ∙ ap (λ (y : Option ℕ). stood x.more y j) (phase_turned w.layout l.phase (counted l.post) l.desk (finds w i) j e b p (n.seats i).phase)
+    ∙ ap (λ (y : Option ℕ). stood x.more y j) (phase_turned w.layout l.phase (counted l.post) l.desk (finds w i) j e b p (n.seats i).phase (r.vacant i))
     ∙ sym (stood_append (own_told l.phase (counted l.post) (finds w i)) x.more (stands l.post j) j)
     ∙ sym (ap (λ (told : List Event). stood told (stands l.post j) j) x.is)

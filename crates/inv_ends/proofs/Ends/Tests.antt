@@ -8,7 +8,7 @@ use Rattle.inv_handover.specs.covers.defs.declared.event.Event.TheVariants as ev
 use Rattle.inv_handover.specs.covers.defs.declared.call.ClockMove.TheVariants as moves
 use Rattle.inv_handover.specs.covers.model.Allocate.{after_claim_slot, is_claimed, walk_past, walking}
 use Rattle.inv_handover.specs.covers.model.Calls.{KeepAt, Phase, Work}
-use Rattle.inv_handover.specs.covers.model.Calls.KeepAt.{LoadHeld, Loosens, Looks, Misses, StoreHeld}
+use Rattle.inv_handover.specs.covers.model.Calls.KeepAt.{HideSpan, LoadHeld, Loosens, Looks, MarkLeft, MarkTaken, Misses, StoreHeld, TakeList}
 use Rattle.inv_handover.specs.covers.model.Calls.Work.{Changing, Dequeuing, Enqueuing, Getting, Keeping}
 use Rattle.inv_handover.specs.covers.model.Calls.Phase.{Idle, Runs, Scans, Works}
 use Rattle.inv_handover.specs.covers.model.Calls.ScanAt.{GiveBack, ReadGuard}
@@ -24,11 +24,11 @@ use Rattle.inv_handover.specs.covers.model.Phases.Ending.{Clocked}
 use Rattle.inv_handover.specs.covers.model.Phases.MoveAt.{AnswerAsked, CheckEra, ExchangeClock, HandOver, HideEra, HideLate, LoadAsked, LoadEra, LoadRequest, LoadReserved, ShowEra}
 use Rattle.inv_handover.specs.covers.model.Phases.ProtectAt.{AnswerOwn, CheckClock, CheckOwnClock, CheckUpper, LoadAnswer, LoadClock, LoadLink, LoadOwnClock, LoadOwnLink, LoadWithin, PublishEra, PublishHelper, PublishRequest, RaiseUpper, TakeAnswer, WithdrawHelper, WithdrawRequest}
 use Rattle.inv_handover.specs.covers.model.Phases.RetireAt.{LoadLife, LoadRetire, StoreRetired}
-use Rattle.inv_handover.specs.covers.model.Posts.{cleared, counted, reserves_helper, reserves_index, stands, upper}
+use Rattle.inv_handover.specs.covers.model.Posts.{cleared, cleared_from, counted, reserves_helper, reserves_index, reserves_span, stands, upper}
 use Rattle.inv_handover.specs.covers.model.Protect.{held_post, protected, told_held}
 use Rattle.inv_handover.specs.covers.model.Rounds.{let_index, scheme_of}
 use Rattle.inv_handover.specs.covers.model.SlowPath.{asking, own_request}
-use Rattle.inv_handover.specs.covers.model.World.{World, finds, told_in}
+use Rattle.inv_handover.specs.covers.model.World.{World, finds, offered, told_in}
 use Rattle.inv_handover.specs.covers.model.WriteRow.{last_written}
 use Rattle.inv_handover.specs.covers.model.declared.post.Post.{Post}
 use Rattle.inv_handover.specs.covers.defs.declared.event.Event.{Event}
@@ -41,7 +41,7 @@ use Rattle.inv_handover.proofs.covers.model.Facts.{and_false, or_false}
 use Rattle.inv_handover.specs.covers.words.Packed.{read_reservation}
 use Rattle.inv_handover.specs.covers.words.Schemes.{has_one_interval}
 use Rattle.model_history.proofs.Passes.{copied_told, keep_told, work_told}
-use Rattle.std.specs.Prelude.{List, [], ◌∷◌, ◌++◌, Option, Some, None, if◌then◌else◌, ◌==◌, ◌&&◌, ◌||◌}
+use Rattle.std.specs.Prelude.{List, [], ◌∷◌, ◌++◌, drop, Option, Some, None, if◌then◌else◌, ◌==◌, ◌&&◌, ◌||◌}
 
 -- a test that is false of guards, eras, rows and scans
 pub record Calm (p : Event → Bool) : Type 0 where
@@ -155,6 +155,11 @@ reload_any p e post next a b true = last (p e) where
   last false = refl
 reload_any p e post next a b false = refl
 
+-- more events that do not pass the test
+pub any_more : (p : Event → Bool) (told more : List Event) → list_any p more ≡ false → list_any p (told ++ more) ≡ list_any p told
+any_more p [] more h = h
+any_more p (e ∷ es) more h = rw (any_more p es more h) refl
+
 cleared_any : (p : Event → Bool) (index : ℕ) (x : Option ℕ) (a : List Event) → list_any p a ≡ false → list_any p (cleared index x ++ a) ≡ list_any p (cleared index x)
 cleared_any p index None a h = h
 cleared_any p index (Some slot) a h = rw h refl
@@ -182,6 +187,7 @@ abbrev pub keep_shows : (Event → Bool) → Post → KeepAt → Bool
 keep_shows p post (Loosens let_go) = list_any p (cleared (let_index let_go) (stands post (let_index let_go)))
 keep_shows p post (LoadHeld from index) = has_one_interval (scheme_of post) && copied_shows p from index post (stands post from)
 keep_shows p post (StoreHeld from index era) = copied_shows p from index post (stands post from)
+keep_shows p post HideSpan = list_any p (cleared_from 2 (drop 2 post.standing))
 keep_shows p post at = false
 
 abbrev pub work_shows : (Event → Bool) → Post → Work → Bool
@@ -211,6 +217,10 @@ keep_any p (LoadHeld from index) post c = load_held_any p from index post (has_o
 keep_any p (StoreHeld from index era) post c = copied_any p from index post (reserves_index post index era) (stands post from) (one_any p _ [] (c.reserve _ _))
 keep_any p (Looks index key at) post c = refl
 keep_any p (Misses index) post c = refl
+keep_any p HideSpan post c = any_more p (cleared_from 2 (drop 2 post.standing)) (reserves_span post None) (one_any p _ [] (c.reserve _ _))
+keep_any p MarkLeft post c = refl
+keep_any p (TakeList place) post c = refl
+keep_any p (MarkTaken place count) post c = refl
 
 work_any : (p : Event → Bool) (work : Work) (post : Post) → Calm p → list_any p (work_told work post) ≡ work_shows p post work
 work_any p (Getting key at) post c = refl
@@ -231,6 +241,11 @@ pub none_cleared : (p : Event → Bool) (index : ℕ) (x : Option ℕ) → ((ind
 none_cleared p index None c = refl
 none_cleared p index (Some slot) c = rw (c index slot) refl
 
+-- nor is it true of all that is let go
+pub none_left : (p : Event → Bool) (index : ℕ) (rows : List (Option ℕ)) → ((index slot : ℕ) → p (events.Clear index slot) ≡ false) → list_any p (cleared_from index rows) ≡ false
+none_left p index [] c = refl
+none_left p index (row ∷ rows) c = any_more p (cleared index row) (cleared_from (index + 1) rows) (none_left p (index + 1) rows c) ∙ none_cleared p index row c
+
 none_copied : (p : Event → Bool) (from index : ℕ) (post : Post) (x : Option ℕ) → ((index slot : ℕ) → p (events.Clear index slot) ≡ false) → ((from index slot : ℕ) → p (events.Copied from index slot) ≡ false) → copied_shows p from index post x ≡ false
 none_copied p from index post None c d = refl
 none_copied p from index post (Some slot) c d = rw (none_cleared p index (stands post index) c, d from index slot) refl
@@ -239,6 +254,7 @@ none_kept : (p : Event → Bool) (at : KeepAt) (post : Post) → ((index slot : 
 none_kept p (Loosens let_go) post c d = none_cleared p (let_index let_go) (stands post (let_index let_go)) c
 none_kept p (LoadHeld from index) post c d = rw (none_copied p from index post (stands post from) c d) (and_false (has_one_interval (scheme_of post)))
 none_kept p (StoreHeld from index era) post c d = none_copied p from index post (stands post from) c d
+none_kept p HideSpan post c d = none_left p 2 (drop 2 post.standing) c
 none_kept p at post c d = refl
 
 pub none_worked : (p : Event → Bool) (work : Work) (post : Post) → ((index slot : ℕ) → p (events.Clear index slot) ≡ false) → ((from index slot : ℕ) → p (events.Copied from index slot) ≡ false) → work_shows p post work ≡ false
@@ -250,12 +266,8 @@ none_later : (p : Event → Bool) (more : List Event) → ((e : Event) → is_la
 none_later p [] f h = refl
 none_later p (e ∷ es) f h = let a : is_later e ≡ true = grind (arith, nat_tests) in let b : list_all is_later es ≡ true = grind (arith, nat_tests) in rw (f e a) (none_later p es f b)
 
-pub any_more : (p : Event → Bool) (told more : List Event) → list_any p more ≡ false → list_any p (told ++ more) ≡ list_any p told
-any_more p [] more h = h
-any_more p (e ∷ es) more h = rw (any_more p es more h) refl
-
 -- what a step tells, by a test that is false of what comes after a machine
 pub step_any : (p : Event → Bool) (w : World) (i : ℕ) → Calm p → ((e : Event) → is_later e ≡ true → p e ≡ false) → list_any p (told_in w i) ≡ phase_shows p (counted (w.seat i).post) (w.seat i).phase (finds w i)
 step_any p w i c f =
-    let x : Adds (own_post (w.seat i).phase (counted (w.seat i).post) (finds w i)) (own_told (w.seat i).phase (counted (w.seat i).post) (finds w i)) (turn (w.seat i) (finds w i)) = step_adds w i in
+    let x : Adds (own_post (w.seat i).phase (counted (w.seat i).post) (finds w i)) (own_told (w.seat i).phase (counted (w.seat i).post) (finds w i)) (turn (offered w i) (finds w i)) = step_adds w i in
     ap (list_any p) x.is ∙ any_more p (own_told (w.seat i).phase (counted (w.seat i).post) (finds w i)) x.more (none_later p x.more f x.later) ∙ own_any p (w.seat i).phase (counted (w.seat i).post) (finds w i) c

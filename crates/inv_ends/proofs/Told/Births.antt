@@ -4,11 +4,11 @@ use Rattle.std.proofs.lemmas.Bool.Decides.{nat_tests}
 use Rattle.inv_handover.specs.covers.model.Machine as machine
 use Rattle.inv_handover.specs.covers.defs.declared.event.Event.TheVariants as events
 use Rattle.inv_handover.specs.covers.model.Allocate.{after_claim_slot, is_claimed, walk_past, walking}
-use Rattle.inv_handover.specs.covers.model.Calls.{Phase, Why, Work}
+use Rattle.inv_handover.specs.covers.model.Calls.{KeepAt, Phase, Why, Work}
 use Rattle.inv_handover.specs.covers.model.Calls.ChangeAt.{ExchangeRoot, LoadCount, LoadKey, LoadValue, LoadVersion}
 use Rattle.inv_handover.specs.covers.model.Calls.DequeueAt.{ExchangeHead, LoadTail, SwingTail, TakeNumber, TakeValue}
 use Rattle.inv_handover.specs.covers.model.Calls.EnqueueAt.{ExchangeNext, ExchangeTail, LoadNext, LoadNumber, PassTail}
-use Rattle.inv_handover.specs.covers.model.Calls.KeepAt.{LoadHeld, StoreHeld}
+use Rattle.inv_handover.specs.covers.model.Calls.KeepAt.{HideSpan, LoadHeld, Loosens, Looks, MarkLeft, MarkTaken, Misses, StoreHeld, TakeList}
 use Rattle.inv_handover.specs.covers.model.Calls.Phase.{Idle, Runs, Scans, Works}
 use Rattle.inv_handover.specs.covers.model.Calls.ScanAt.{GiveBack, ReadGuard}
 use Rattle.inv_handover.specs.covers.model.Calls.Why.{Advances, Clears, ClearsNext, Fills, Finishes, FollowsHead, GivesUp, Opens, Releases, Retires, Tidies}
@@ -22,25 +22,26 @@ use Rattle.inv_handover.specs.covers.model.Phases.Ending.{Done}
 use Rattle.inv_handover.specs.covers.model.Phases.Outcome.{Ends, Goes}
 use Rattle.inv_handover.specs.covers.model.Phases.RetireAt.{LoadLife, LoadRetire, StoreRetired}
 use Rattle.inv_handover.specs.covers.model.Posts.{counted}
-use Rattle.inv_handover.specs.covers.model.World.{World, begin, finds, step, told_in}
+use Rattle.inv_handover.specs.covers.model.World.{World, begin, finds, list_in, offered, step, told_in}
 use Rattle.inv_handover.specs.covers.model.WriteRow.{last_written}
 use Rattle.inv_handover.specs.covers.model.declared.post.Post.{Post}
 use Rattle.inv_handover.specs.covers.defs.declared.event.Event.{Event}
 use Rattle.inv_handover.specs.covers.defs.declared.lifetime.Lifetime.{Lifetime}
 use Rattle.inv_handover.proofs.covers.shapes.Frame.{after_seated, begin_begins, begin_stays, begun_seated, moves_with, seat_stays, seat_steps}
 use Rattle.inv_handover.proofs.covers.shapes.Inside.{shape_moves}
-use Rattle.inv_handover.proofs.covers.shapes.Kept.{begun_fits, counted_fits, one_moves, run_counted, work_counted}
+use Rattle.inv_handover.proofs.covers.shapes.Kept.{bared_fits, begun_fits, counted_fits, one_moves, run_counted, work_counted}
 use Rattle.inv_handover.proofs.covers.shapes.Shapes.{shape_grows}
 use Rattle.inv_handover.specs.covers.shapes.Frame.{Grows, Moves, Onward, Owes, Passed, Seated, Stores}
 use Rattle.inv_handover.specs.covers.shapes.Seats.{Kind, PhaseFits, PostFits, Run, fills, kind_of, suits}
 use Rattle.inv_handover.specs.covers.shapes.Seats.Kind.{ToClear, ToFill, ToFinish, ToFollow, ToGiveUp, ToMove, ToOpen, ToRelease, ToRetire}
 use Rattle.inv_handover.proofs.covers.rows.Fits.{MoveFits, phase_fits}
+use Rattle.inv_handover.proofs.covers.rows.Made.{passed_life}
 use Rattle.inv_handover.proofs.covers.rows.Steps.{of_new}
 use Rattle.inv_handover.specs.covers.rows.Agree.{Plays}
-use Rattle.inv_handover.specs.covers.rows.Hands.{base_row, hand_why, linked_row, row_move, runs_right, work_row}
+use Rattle.inv_handover.specs.covers.rows.Hands.{base_row, hand_why, keep_row, linked_row, row_move, runs_right, work_row}
 use Rattle.inv_handover.specs.covers.rows.Rows.{Good, RowMove, View, has_life, made}
 use Rattle.inv_handover.specs.covers.rows.Rows.Hand.{New}
-use Rattle.inv_handover.specs.covers.rows.Rows.RowMove.{Appends, Bears, Claims, Drops, Links, Lists, Pops, Reads, Replaces, Returns, Seals, Stays}
+use Rattle.inv_handover.specs.covers.rows.Rows.RowMove.{Adopts, Appends, Bears, Claims, Drops, Links, Lists, Pops, Reads, Replaces, Returns, Seals, Stays}
 use Rattle.inv_handover.specs.covers.rows.Rows.Status.{Claimed}
 use Rattle.inv_ends.proofs.Told.Rows.{rows_told, rows_were}
 use Rattle.inv_ends.specs.Births.{GivenBase, GivenBegin, GivenKept, GivenNeeds, GivenPhase, GivenStart, RetiresGiven, given_after, given_all, given_by}
@@ -75,6 +76,8 @@ event_given (events.Removed bucket version key) given h = refl
 event_given (events.Got bucket version key value) given h = refl
 event_given (events.Queued number value) given h = refl
 event_given (events.Taken number value) given h = refl
+event_given (events.Left count) given h = refl
+event_given (events.Adopted place count) given h = refl
 
 one_given : (s : ℕ) (given : ℕ → ℕ) (e : Event) (es : List Event) (own : Bool) → is_of_rows e ≡ own → ((f : ℕ → ℕ) → given_all es f s ≡ given_all (of_rows es) f s) → given_all (e ∷ es) given s ≡ given_all (of_rows (e ∷ es)) given s
 one_given s given e es true h k = rw h (k (given_by e given))
@@ -113,6 +116,21 @@ bear_claim : (given : ℕ → ℕ) (slot : ℕ) (taken : Bool) → Bearing given
 bear_claim given slot true = tt
 bear_claim given slot false = tt
 
+bear_adopt : (given : ℕ → ℕ) (place : ℕ) (left : Bool) → Bearing given (if left then Adopts place else Stays)
+bear_adopt given place true = tt
+bear_adopt given place false = tt
+
+keep_bears : (given : ℕ → ℕ) (at : KeepAt) (found : ℕ) → Bearing given (keep_row at found)
+keep_bears given (TakeList place) found = bear_adopt given place (found == 1)
+keep_bears given (Loosens let_go) found = tt
+keep_bears given (LoadHeld from index) found = tt
+keep_bears given (StoreHeld from index era) found = tt
+keep_bears given (Looks index key at) found = tt
+keep_bears given (Misses index) found = tt
+keep_bears given HideSpan found = tt
+keep_bears given MarkLeft found = tt
+keep_bears given (MarkTaken place count) found = tt
+
 work_bears : (given : ℕ → ℕ) (work : Work) (post : Post) (found : ℕ) → Bearing given (work_row work post found)
 work_bears given (Getting key at) post found = tt
 work_bears given (Changing kept (LoadVersion slot)) post found = tt
@@ -130,7 +148,7 @@ work_bears given (Dequeuing (SwingTail head next)) post found = tt
 work_bears given (Dequeuing (TakeNumber head next)) post found = tt
 work_bears given (Dequeuing (TakeValue head next number)) post found = tt
 work_bears given (Dequeuing (ExchangeHead head next number value)) post found = bear_pop given head next (found == head + 1)
-work_bears given (Keeping at) post found = tt
+work_bears given (Keeping at) post found = keep_bears given at found
 
 phase_bears : (given : ℕ → ℕ) (phase : Phase) (post : Post) (found : ℕ) → GivenPhase given phase → Bearing given (row_move phase post found)
 phase_bears given Idle post found h = tt
@@ -167,6 +185,7 @@ made_born i v given birth (Reads slot born) s f b h l = h l
 made_born i v given birth (Seals slot born retire) s f b h l = grind (arith, nat_tests)
 made_born i v given birth (Lists slot born retire) s f b h l = grind (arith, nat_tests)
 made_born i v given birth (Returns slot) s f b h l = grind (arith, nat_tests)
+made_born i v given birth (Adopts from) s f b h l = h (sym (passed_life from i (v.status s)) ∙ l)
 
 -- a row that another seat has claimed is not given
 other_given : (i k : ℕ) (v : View) (given : ℕ → ℕ) (birth : ℕ) (m : RowMove) (s : ℕ) → MoveFits i v m → v.status s ≡ Claimed k → given_all (row_events birth m) given s ≡ given s
@@ -182,6 +201,7 @@ other_given i k v given birth (Reads slot born) s f h = refl
 other_given i k v given birth (Seals slot born retire) s f h = refl
 other_given i k v given birth (Lists slot born retire) s f h = refl
 other_given i k v given birth (Returns slot) s f h = refl
+other_given i k v given birth (Adopts from) s f h = refl
 
 -- a seat whose birth era is to be stored has claimed the row
 store_hand : (why : Why) (birth slot : ℕ) → runs_right why (Allocate (StoreLife birth slot)) ≡ true → hand_why why (Allocate (StoreLife birth slot)) ≡ New slot
@@ -358,20 +378,20 @@ owed layout k v (Runs why base) post found given q p x =
     let m : Moves (PostFits layout k) (PhaseFits layout) why (machine.after base (counted post) found) = shape_moves layout k v why base (counted post) found (counted_fits layout k post q) (run_counted layout why base post p) in
     moves_with why (machine.after base (counted post) found) m (record { post = m.post; phase = base_on layout k why base (counted post) found given (run_counted layout why base post p) x m.phase })
 owed layout k v (Scans later at) post found given q p x = counted_fits layout k post q
-owed layout k v (Works work) post found given q p x = record { post = counted_fits layout k post q; fits = work_counted work post p; stores = each_stores (λ p q. GivenPhase given q) (λ p from index era. tt) (counted post) found work }
+owed layout k v (Works work) post found given q p x = record { post = bared_fits layout k work (counted post) (counted_fits layout k post q); fits = work_counted work post p; stores = each_stores (λ p q. GivenPhase given q) (λ p from index era. tt) (counted post) found work }
 
 fits_of : (w : World) (i : ℕ) (v : View) → GivenNeeds w i v → MoveFits i v (move_of w i)
-fits_of w i v n = phase_fits w.layout.config.slots i w.mem v (w.seat i).phase (w.seat i).post (w.seat i).desk.list n.needs n.rows.good n.rows.words (n.rows.plays i)
+fits_of w i v n = phase_fits w.layout.config.slots i w.mem v (w.seat i).phase (w.seat i).post (list_in w i) n.needs n.rows.good n.rows.words (n.rows.plays i)
 
 pub given_kept : GivenKept
 given_kept w i v given n x =
     let l : Local = w.seat i in
     let now : ℕ → ℕ = given_after w i given in
     let f : MoveFits i v (move_of w i) = fits_of w i v n in
-    let g : Seated (PostFits w.layout i) (λ p q. GivenPhase now q) (after l (finds w i)) = after_seated (given_grows w.layout i now n.valid) l (finds w i) (owed w.layout i n.valid l.phase l.post (finds w i) now (n.seats.fits i).post (n.seats.fits i).phase (claims_in given now l.phase l.post (finds w i) (λ s. step_given w i given s))) in
+    let g : Seated (PostFits w.layout i) (λ p q. GivenPhase now q) (after (offered w i) (finds w i)) = after_seated (given_grows w.layout i now n.valid) (offered w i) (finds w i) (owed w.layout i n.valid l.phase l.post (finds w i) now (n.seats.fits i).post (n.seats.fits i).phase (claims_in given now l.phase l.post (finds w i) (λ s. step_given w i given s))) in
     record {
       born = λ s h. made_born i v given (birth_in l.phase) (move_of w i) s f (phase_bears given l.phase l.post (finds w i) (x.stores i)) (x.born s) h ∙ sym (step_given w i given s);
-      stores = one_moves (λ k m. GivenPhase now m.phase) w.seat (step w i).seat i (λ k. phase_given w.layout.config.slots k v given now (w.seat k).phase (w.seat k).desk.list n.rows.good (n.rows.plays k) (λ s e. step_given w i given s ∙ other_given i k v given (birth_in l.phase) (move_of w i) s f e) (x.stores k)) (seat_stays w i)
+      stores = one_moves (λ k m. GivenPhase now m.phase) w.seat (step w i).seat i (λ k. phase_given w.layout.config.slots k v given now (w.seat k).phase (list_in w k) n.rows.good (n.rows.plays k) (λ s e. step_given w i given s ∙ other_given i k v given (birth_in l.phase) (move_of w i) s f e) (x.stores k)) (seat_stays w i)
           (subst (λ (m : Local). GivenPhase now m.phase) (sym (seat_steps w i)) g.phase);
     }
 

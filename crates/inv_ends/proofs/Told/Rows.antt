@@ -14,7 +14,7 @@ use Rattle.inv_handover.specs.covers.model.Calls.AfterScan.{Answered, Counted, R
 use Rattle.inv_handover.specs.covers.model.Calls.ChangeAt.{ExchangeRoot, LoadCount, LoadKey, LoadValue, LoadVersion}
 use Rattle.inv_handover.specs.covers.model.Calls.DequeueAt.{ExchangeHead, LoadTail, SwingTail, TakeNumber, TakeValue}
 use Rattle.inv_handover.specs.covers.model.Calls.EnqueueAt.{ExchangeNext, ExchangeTail, LoadNext, LoadNumber, PassTail}
-use Rattle.inv_handover.specs.covers.model.Calls.KeepAt.{LoadHeld, Loosens, Looks, Misses, StoreHeld}
+use Rattle.inv_handover.specs.covers.model.Calls.KeepAt.{HideSpan, LoadHeld, Loosens, Looks, MarkLeft, MarkTaken, Misses, StoreHeld, TakeList}
 use Rattle.inv_handover.specs.covers.model.Calls.Phase.{Idle, Runs, Scans, Works}
 use Rattle.inv_handover.specs.covers.model.Calls.ScanAt.{GiveBack, ReadGuard}
 use Rattle.inv_handover.specs.covers.model.Calls.Why.{Advances, Clears, ClearsNext, Fills, Finishes, FollowsHead, GivesUp, Opens, Releases, Retires, Tidies}
@@ -35,13 +35,13 @@ use Rattle.inv_handover.specs.covers.model.Phases.MoveAt.{AnswerAsked, CheckEra,
 use Rattle.inv_handover.specs.covers.model.Phases.Outcome.{Ends, Goes}
 use Rattle.inv_handover.specs.covers.model.Phases.ProtectAt.{AnswerOwn, CheckClock, CheckOwnClock, CheckUpper, LoadAnswer, LoadClock, LoadLink, LoadOwnClock, LoadOwnLink, LoadWithin, PublishEra, PublishHelper, PublishRequest, RaiseUpper, TakeAnswer, WithdrawHelper, WithdrawRequest}
 use Rattle.inv_handover.specs.covers.model.Phases.RetireAt.{LoadLife, LoadRetire, StoreRetired}
-use Rattle.inv_handover.specs.covers.model.Posts.{cleared, counted, reserves_helper, reserves_index, stands, upper}
+use Rattle.inv_handover.specs.covers.model.Posts.{cleared, cleared_from, counted, reserves_helper, reserves_index, reserves_span, stands, upper}
 use Rattle.inv_handover.specs.covers.model.Protect.{held_post, protected, told_held}
 use Rattle.inv_handover.specs.covers.model.Rounds.{let_index, scheme_of}
 use Rattle.inv_handover.specs.covers.model.Scan.{Entry, giving_back, scanned, unmet_from, with_back, with_kept}
 use Rattle.inv_handover.specs.covers.model.SlowPath.{asking, own_request}
 use Rattle.inv_handover.specs.covers.model.Steps.{phase_move, phase_turn, resumed}
-use Rattle.inv_handover.specs.covers.model.World.{World, finds, told_in}
+use Rattle.inv_handover.specs.covers.model.World.{World, finds, list_in, offered, told_in}
 use Rattle.inv_handover.specs.covers.model.WriteRow.{last_written}
 use Rattle.inv_handover.specs.covers.model.declared.post.Post.{Post}
 use Rattle.inv_handover.proofs.covers.Begun.{standing_stays}
@@ -49,23 +49,23 @@ use Rattle.inv_handover.specs.covers.Covers.{takes_or_frees}
 use Rattle.inv_handover.specs.covers.defs.declared.event.Event.{Event}
 use Rattle.inv_handover.specs.covers.defs.declared.event.Root.{Root}
 use Rattle.inv_handover.specs.covers.defs.declared.lifetime.Lifetime.{Lifetime}
-use Rattle.inv_ends.proofs.Told.Turns.{Adds, is_later, out_adds, resume_adds, work_adds}
+use Rattle.inv_ends.proofs.Told.Turns.{Adds, AddsPlain, adds_wide, hands_list, is_later, out_adds, resume_adds, work_adds, work_still}
 use Rattle.model_history.proofs.Passes.{copied_told, keep_told, work_post, work_told}
 use Rattle.inv_ends.specs.Told.{NoReuse, RowWas, RowsTold, RowsWere, birth_at, birth_base, birth_in, move_of, of_rows, reuses, row_events}
 use Rattle.inv_handover.specs.covers.defs.Events.{is_of_rows}
 use Rattle.inv_handover.specs.covers.shapes.Eras.{PhaseEras, base_eras, retire_eras}
 use Rattle.inv_handover.proofs.covers.rows.Fits.{MoveFits, phase_fits}
 use Rattle.inv_handover.specs.covers.rows.Agree.{Plays}
-use Rattle.inv_handover.specs.covers.rows.Hands.{allocate_row, base_row, hand_retire, hand_why, linked_row, retire_row, row_move, runs_right, work_row}
+use Rattle.inv_handover.specs.covers.rows.Hands.{allocate_row, base_row, hand_retire, hand_why, keep_row, linked_row, retire_row, row_move, runs_right, work_row}
 use Rattle.inv_handover.specs.covers.rows.Rows.{Good, RowMove, View}
 use Rattle.inv_handover.specs.covers.rows.Rows.Hand.{Dated, Known}
-use Rattle.inv_handover.specs.covers.rows.Rows.RowMove.{Appends, Bears, Claims, Drops, Links, Lists, Pops, Reads, Replaces, Returns, Seals, Stays}
+use Rattle.inv_handover.specs.covers.rows.Rows.RowMove.{Adopts, Appends, Bears, Claims, Drops, Links, Lists, Pops, Reads, Replaces, Returns, Seals, Stays}
 use Rattle.inv_handover.specs.covers.words.Packed.{read_reservation}
 use Rattle.inv_handover.specs.covers.words.Schemes.{has_one_interval}
 use Rattle.inv_handover.specs.covers.words.Place.{Place, claim_word}
 use Rattle.inv_handover.specs.covers.words.Place.Place.{Claim, Clock}
 use Rattle.inv_handover.specs.covers.words.declared.layout.Layout.{Layout}
-use Rattle.std.specs.Prelude.{List, [], ◌∷◌, ◌++◌, Option, Some, None, nat_lt, if◌then◌else◌, ◌==◌}
+use Rattle.std.specs.Prelude.{List, None, Option, Some, [], drop, if◌then◌else◌, nat_lt, ◌++◌, ◌==◌, ◌∷◌}
 use Rattle.inv_handover.proofs.covers.model.Facts.{no_truth_2}
 pub use Rattle.inv_handover.proofs.covers.shapes.Frame.{concluded_told}
 
@@ -84,30 +84,40 @@ own_post (Runs why base) post found = (after base post found).post
 own_post (Scans later at) post found = post
 own_post (Works work) post found = work_post work post
 
-scanned_adds : (later : AfterScan) (post : Post) (desk : Desk) (told : List Event) → Adds post told (scanned later post desk told)
+scanned_adds : (later : AfterScan) (post : Post) (desk : Desk) (told : List Event) → AddsPlain post told (scanned later post desk told)
 scanned_adds (Answered answer) post desk told = out_adds _ _ _ _
 scanned_adds (Repeated task) post desk told = out_adds _ _ _ _
 scanned_adds Counted post desk told = out_adds _ _ _ _
 
-giving_adds : (later : AfterScan) (post : Post) (desk : Desk) (told : List Event) (x : Option Entry) → Adds post told (giving_back later post desk told x)
+giving_adds : (later : AfterScan) (post : Post) (desk : Desk) (told : List Event) (x : Option Entry) → AddsPlain post told (giving_back later post desk told x)
 giving_adds later post desk told None = scanned_adds later post (with_kept desk) told
 giving_adds later post desk told (Some entry) = out_adds _ _ _ _
 
-reading_adds : (later : AfterScan) (number : ℕ) (post : Post) (desk : Desk) (told : List Event) (more : Bool) → Adds post told (scans.reading later number post desk told more)
+reading_adds : (later : AfterScan) (number : ℕ) (post : Post) (desk : Desk) (told : List Event) (more : Bool) → AddsPlain post told (scans.reading later number post desk told more)
 reading_adds later number post desk told true = out_adds _ _ _ _
 reading_adds later number post desk told false = giving_adds later post desk told (unmet_from desk 0)
 
-pub resumed_adds : (why : Why) (desk : Desk) (post : Post) (told : List Event) (outcome : Outcome) → Adds post told (resumed why desk post told outcome)
+pub resumed_adds : (why : Why) (desk : Desk) (post : Post) (told : List Event) (outcome : Outcome) → AddsPlain post told (resumed why desk post told outcome)
 resumed_adds why desk post told (Goes base) = out_adds _ _ _ _
 resumed_adds why desk post told (Ends ending) = resume_adds why ending post desk told
 
 -- what a step tells: what its machine, its scan or its step on what is kept tells, and then no more of guards, scans, held rows,
--- eras and free rows
+-- eras and free rows; and nothing of lists, but for the steps that leave or take over one
+abbrev pub hands_lists : Phase → Bool
+hands_lists (Works work) = hands_list work
+hands_lists phase = false
+
+pub phase_still : (phase : Phase) (post : Post) (desk : Desk) (found : ℕ) → hands_lists phase ≡ false → AddsPlain (own_post phase post found) (own_told phase post found) (phase_turn phase post desk found)
+phase_still Idle post desk found h = out_adds _ _ _ _
+phase_still (Runs why base) post desk found h = resumed_adds why desk (after base post found).post (after base post found).told (after base post found).outcome
+phase_still (Scans later (ReadGuard number)) post desk found h = reading_adds later number post (scans.with_read desk number (guard_at post.layout.config number, published (guard_at post.layout.config number) found)) _ (nat_lt (number + 1) (guards post.layout.config))
+phase_still (Scans later (GiveBack place slot)) post desk found h = giving_adds later post (with_back desk place) _ (unmet_from (with_back desk place) place)
+phase_still (Works work) post desk found h = work_still work post desk found h
+
 pub phase_adds : (phase : Phase) (post : Post) (desk : Desk) (found : ℕ) → Adds (own_post phase post found) (own_told phase post found) (phase_turn phase post desk found)
-phase_adds Idle post desk found = out_adds _ _ _ _
-phase_adds (Runs why base) post desk found = resumed_adds why desk (after base post found).post (after base post found).told (after base post found).outcome
-phase_adds (Scans later (ReadGuard number)) post desk found = reading_adds later number post (scans.with_read desk number (guard_at post.layout.config number, published (guard_at post.layout.config number) found)) _ (nat_lt (number + 1) (guards post.layout.config))
-phase_adds (Scans later (GiveBack place slot)) post desk found = giving_adds later post (with_back desk place) _ (unmet_from (with_back desk place) place)
+phase_adds Idle post desk found = adds_wide _ _ _ (phase_still Idle post desk found refl)
+phase_adds (Runs why base) post desk found = adds_wide _ _ _ (phase_still (Runs why base) post desk found refl)
+phase_adds (Scans later at) post desk found = adds_wide _ _ _ (phase_still (Scans later at) post desk found refl)
 phase_adds (Works work) post desk found = work_adds work post desk found
 
 -- no later event passes a test on earlier ones
@@ -140,6 +150,8 @@ later_rows (events.Removed bucket version key) h = refl
 later_rows (events.Got bucket version key value) h = refl
 later_rows (events.Queued number value) h = refl
 later_rows (events.Taken number value) h = refl
+later_rows (events.Left count) h = refl
+later_rows (events.Adopted place count) h = refl
 
 pub held_told : (index : ℕ) (root : Root) (link n : ℕ) (null : Bool) → (link == 0) ≡ null → of_rows (told_held index root link n) ≡ []
 held_told index (roots.Bucket bucket) link n true e = rw e refl
@@ -249,6 +261,10 @@ let_go_rows : (index : ℕ) (x : Option ℕ) → of_rows (cleared index x) ≡ [
 let_go_rows index None = refl
 let_go_rows index (Some slot) = refl
 
+left_rows : (index : ℕ) (rows : List (Option ℕ)) → of_rows (cleared_from index rows) ≡ []
+left_rows index [] = refl
+left_rows index (row ∷ rows) = cleared_rows index row (cleared_from (index + 1) rows) (left_rows (index + 1) rows)
+
 -- a step on what is kept tells nothing of rows
 keep_rows : (at : KeepAt) (post : Post) → of_rows (keep_told at post) ≡ []
 keep_rows (Loosens let_go) post = let_go_rows (let_index let_go) (stands post (let_index let_go))
@@ -256,6 +272,10 @@ keep_rows (LoadHeld from index) post = load_held_rows from index post (has_one_i
 keep_rows (StoreHeld from index era) post = copied_rows from index post (reserves_index post index era) (stands post from) refl
 keep_rows (Looks index key at) post = refl
 keep_rows (Misses index) post = refl
+keep_rows HideSpan post = filter-append is_of_rows (cleared_from 2 (drop 2 post.standing)) (reserves_span post None) ∙ rw (left_rows 2 (drop 2 post.standing)) refl
+keep_rows MarkLeft post = refl
+keep_rows (TakeList place) post = refl
+keep_rows (MarkTaken place count) post = refl
 
 base_rows : (base : Base) (post : Post) (found : ℕ) → of_rows (after base post found).told ≡ row_events (birth_base base) (base_row base found)
 base_rows (Begin at) post found = begin_rows at post found
@@ -286,6 +306,21 @@ pop_none : (head next b : ℕ) (same : Bool) → [] ≡ row_events b (if same th
 pop_none head next b true = refl
 pop_none head next b false = refl
 
+adopt_none : (place b : ℕ) (left : Bool) → [] ≡ row_events b (if left then Adopts place else Stays)
+adopt_none place b true = refl
+adopt_none place b false = refl
+
+keep_none : (at : KeepAt) (found b : ℕ) → [] ≡ row_events b (keep_row at found)
+keep_none (TakeList place) found b = adopt_none place b (found == 1)
+keep_none (Loosens let_go) found b = refl
+keep_none (LoadHeld from index) found b = refl
+keep_none (StoreHeld from index era) found b = refl
+keep_none (Looks index key at) found b = refl
+keep_none (Misses index) found b = refl
+keep_none HideSpan found b = refl
+keep_none MarkLeft found b = refl
+keep_none (MarkTaken place count) found b = refl
+
 work_rows : (work : Work) (post last : Post) (found : ℕ) → of_rows (work_told work post) ≡ row_events 0 (work_row work last found)
 work_rows (Getting key at) post last found = refl
 work_rows (Changing kept (LoadVersion slot)) post last found = refl
@@ -303,7 +338,7 @@ work_rows (Dequeuing (SwingTail head next)) post last found = refl
 work_rows (Dequeuing (TakeNumber head next)) post last found = refl
 work_rows (Dequeuing (TakeValue head next number)) post last found = refl
 work_rows (Dequeuing (ExchangeHead head next number value)) post last found = pop_none head next 0 (found == head + 1)
-work_rows (Keeping at) post last found = keep_rows at post
+work_rows (Keeping at) post last found = keep_rows at post ∙ keep_none at found 0
 
 own_rows : (phase : Phase) (post last : Post) (found : ℕ) → of_rows (own_told phase post found) ≡ row_events (birth_in phase) (row_move phase last found)
 own_rows Idle post last found = refl
@@ -312,13 +347,13 @@ own_rows (Scans later (ReadGuard number)) post last found = refl
 own_rows (Scans later (GiveBack place slot)) post last found = refl
 own_rows (Works work) post last found = work_rows work post last found
 
-pub step_adds : (w : World) (i : ℕ) → Adds (own_post (w.seat i).phase (counted (w.seat i).post) (finds w i)) (own_told (w.seat i).phase (counted (w.seat i).post) (finds w i)) (turn (w.seat i) (finds w i))
-step_adds w i = phase_adds (w.seat i).phase (counted (w.seat i).post) (w.seat i).desk (finds w i)
+pub step_adds : (w : World) (i : ℕ) → Adds (own_post (w.seat i).phase (counted (w.seat i).post) (finds w i)) (own_told (w.seat i).phase (counted (w.seat i).post) (finds w i)) (turn (offered w i) (finds w i))
+step_adds w i = phase_adds (w.seat i).phase (counted (w.seat i).post) (offered w i).desk (finds w i)
 
 -- a test on events that a machine or a scan tells
 pub step_filter : (p : Event → Bool) (w : World) (i : ℕ) → ((e : Event) → is_later e ≡ true → p e ≡ false) → filter p (told_in w i) ≡ filter p (own_told (w.seat i).phase (counted (w.seat i).post) (finds w i))
 step_filter p w i f =
-    let x : Adds (own_post (w.seat i).phase (counted (w.seat i).post) (finds w i)) (own_told (w.seat i).phase (counted (w.seat i).post) (finds w i)) (turn (w.seat i) (finds w i)) = step_adds w i in
+    let x : Adds (own_post (w.seat i).phase (counted (w.seat i).post) (finds w i)) (own_told (w.seat i).phase (counted (w.seat i).post) (finds w i)) (turn (offered w i) (finds w i)) = step_adds w i in
     ap (filter p) x.is ∙ filter_more p (own_told (w.seat i).phase (counted (w.seat i).post) (finds w i)) x.more f x.later
 
 pub rows_told : RowsTold
@@ -350,6 +385,21 @@ extra_claim : (clock : ℕ) (v : View) (slot : ℕ) (taken : Bool) → Extra clo
 extra_claim clock v slot true = tt
 extra_claim clock v slot false = tt
 
+extra_adopt : (clock : ℕ) (v : View) (place : ℕ) (left : Bool) → Extra clock v (if left then Adopts place else Stays)
+extra_adopt clock v place true = tt
+extra_adopt clock v place false = tt
+
+keep_extra : (clock : ℕ) (v : View) (at : KeepAt) (found : ℕ) → Extra clock v (keep_row at found)
+keep_extra clock v (TakeList place) found = extra_adopt clock v place (found == 1)
+keep_extra clock v (Loosens let_go) found = tt
+keep_extra clock v (LoadHeld from index) found = tt
+keep_extra clock v (StoreHeld from index era) found = tt
+keep_extra clock v (Looks index key at) found = tt
+keep_extra clock v (Misses index) found = tt
+keep_extra clock v HideSpan found = tt
+keep_extra clock v MarkLeft found = tt
+keep_extra clock v (MarkTaken place count) found = tt
+
 work_extra : (clock : ℕ) (v : View) (work : Work) (post : Post) (found : ℕ) → Extra clock v (work_row work post found)
 work_extra clock v (Getting key at) post found = tt
 work_extra clock v (Changing kept (LoadVersion slot)) post found = tt
@@ -367,7 +417,7 @@ work_extra clock v (Dequeuing (SwingTail head next)) post found = tt
 work_extra clock v (Dequeuing (TakeNumber head next)) post found = tt
 work_extra clock v (Dequeuing (TakeValue head next number)) post found = tt
 work_extra clock v (Dequeuing (ExchangeHead head next number value)) post found = extra_pop clock v head next (found == head + 1)
-work_extra clock v (Keeping at) post found = tt
+work_extra clock v (Keeping at) post found = keep_extra clock v at found
 
 -- a row that is being retired is in hand
 retire_hand : (why : Why) (at : RetireAt) → runs_right why (Retire at) ≡ true → hand_why why (Retire at) ≡ hand_retire at
@@ -429,6 +479,7 @@ were_by clock i v (Reads slot birth) f e = tt
 were_by clock i v (Seals slot birth retire) f e = record { was = f; born = e.0; now = e.1 }
 were_by clock i v (Lists slot birth retire) f e = record { was = f; born = e.0; later = e.1; most = e.2 }
 were_by clock i v (Returns slot) f e = f
+were_by clock i v (Adopts from) f e = tt
 
 pub rows_were : RowsWere
 rows_were w i v n r a =
@@ -438,8 +489,8 @@ rows_were w i v n r a =
     i
     v
     (move_of w i)
-    (phase_fits w.layout.config.slots i w.mem v l.phase l.post l.desk.list n a.good a.words (a.plays i))
-    (phase_extra w.layout.config.slots i w.layout w.mem v l.phase l.post l.desk.list a.good (a.plays i) (r.seats i).phase)
+    (phase_fits w.layout.config.slots i w.mem v l.phase l.post (list_in w i) n a.good a.words (a.plays i))
+    (phase_extra w.layout.config.slots i w.layout w.mem v l.phase l.post (list_in w i) a.good (a.plays i) (r.seats i).phase)
 
 -- a row that is given or free again is one that events of rows tell
 reuses_rows : (s : ℕ) (e : Event) → is_of_rows e ≡ false → reuses s e ≡ false
@@ -463,6 +514,8 @@ reuses_rows s (events.Removed bucket version key) h = refl
 reuses_rows s (events.Got bucket version key value) h = refl
 reuses_rows s (events.Queued number value) h = refl
 reuses_rows s (events.Taken number value) h = refl
+reuses_rows s (events.Left count) h = refl
+reuses_rows s (events.Adopted place count) h = refl
 
 any_row : (s : ℕ) (e : Event) (es : List Event) (own : Bool) → is_of_rows e ≡ own → list_any (reuses s) es ≡ list_any (reuses s) (of_rows es) → list_any (reuses s) (e ∷ es) ≡ list_any (reuses s) (of_rows (e ∷ es))
 any_row s e es true h k = rw (h, k) refl
@@ -485,6 +538,7 @@ move_reuses s birth (Reads slot born) h = refl
 move_reuses s birth (Seals slot born retire) h = refl
 move_reuses s birth (Lists slot born retire) h = refl
 move_reuses s birth (Returns slot) h = rw h refl
+move_reuses s birth (Adopts from) h = refl
 
 pub no_reuse : NoReuse
 no_reuse w i k j slot v n s h e = any_rows slot (told_in w i) ∙ ap (list_any (reuses slot)) (rows_told w i) ∙ move_reuses slot (birth_in (w.seat i).phase) (move_of w i) (standing_stays w i k j slot v n s h e)

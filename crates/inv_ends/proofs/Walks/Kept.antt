@@ -14,12 +14,12 @@ use Rattle.inv_handover.specs.covers.model.Phases.Base.{Allocate, Begin, Clear, 
 use Rattle.inv_handover.specs.covers.model.Phases.Ending.{Allocated, Done}
 use Rattle.inv_handover.specs.covers.model.Phases.Outcome.{Ends, Goes}
 use Rattle.inv_handover.specs.covers.model.Posts.{counted}
-use Rattle.inv_handover.specs.covers.model.World.{begin, finds, step}
+use Rattle.inv_handover.specs.covers.model.World.{begin, finds, offered, step}
 use Rattle.inv_handover.specs.covers.model.WriteRow.{last_written}
 use Rattle.inv_handover.specs.covers.model.declared.post.Post.{Post}
 use Rattle.inv_handover.proofs.covers.shapes.Frame.{after_seated, begin_begins, begin_stays, begun_seated, moves_with, seat_stays, seat_steps}
 use Rattle.inv_handover.proofs.covers.shapes.Inside.{shape_moves}
-use Rattle.inv_handover.proofs.covers.shapes.Kept.{begun_fits, counted_fits, one_moves, run_counted, work_counted}
+use Rattle.inv_handover.proofs.covers.shapes.Kept.{bared_fits, begun_fits, counted_fits, one_moves, run_counted, work_counted}
 use Rattle.inv_handover.proofs.covers.shapes.Shapes.{shape_grows}
 use Rattle.inv_handover.specs.covers.shapes.Frame.{Grows, Moves, Onward, Owes, Passed, Seated}
 use Rattle.inv_handover.specs.covers.shapes.Seats.{PhaseFits, PostFits, Run, fills, kind_of}
@@ -121,7 +121,7 @@ owed layout k v (Runs why base) post found seen q p x =
     moves_with why (machine.after base (counted post) found) m (record { post = m.post; phase = base_on layout k why base (counted post) found seen (counted_fits layout k post q) (run_counted layout why base post p) x m.phase })
 owed layout k v (Scans later at) post found seen q p x = counted_fits layout k post q
 owed layout k v (Works work) post found seen q p x =
-    record { post = counted_fits layout k post q; fits = work_counted work post p; stores = each_stores (λ p q. WalkPhase layout.config.slots seen q) (λ p from index era. tt) (counted post) found work }
+    record { post = bared_fits layout k work (counted post) (counted_fits layout k post q); fits = work_counted work post p; stores = each_stores (λ p q. WalkPhase layout.config.slots seen q) (λ p from index era. tt) (counted post) found work }
 
 -- the seat that steps, and the others
 abbrev SeatWalks : ℕ → (ℕ → ℕ → Bool) → ℕ → Local → Type 0
@@ -137,7 +137,7 @@ pub walking_kept : WalkingKept
 walking_kept w i seen v s x =
     let l : Local = w.seat i in
     let n : ℕ → Bool = seen_in l.phase (finds w i) (seen i) in
-    let g : Seated (PostFits w.layout i) (λ p q. WalkPhase w.layout.config.slots n q) (after l (finds w i)) = after_seated (walk_grows w.layout i n v) l (finds w i) (owed w.layout i v l.phase l.post (finds w i) (seen i) (s.fits i).post (s.fits i).phase (x.walks i)) in
+    let g : Seated (PostFits w.layout i) (λ p q. WalkPhase w.layout.config.slots n q) (after (offered w i) (finds w i)) = after_seated (walk_grows w.layout i n v) (offered w i) (finds w i) (owed w.layout i v l.phase l.post (finds w i) (seen i) (s.fits i).post (s.fits i).phase (x.walks i)) in
     record { walks = λ k. by k (k == i) refl (subst (λ (m : Local). WalkPhase w.layout.config.slots n m.phase) (sym (seat_steps w i)) g.phase) }
   where
     by : (k : ℕ) (same : Bool) → (k == i) ≡ same → WalkPhase w.layout.config.slots (seen_in (w.seat i).phase (finds w i) (seen i)) ((step w i).seat i).phase → WalkPhase w.layout.config.slots (seen_after w i seen k) ((step w i).seat k).phase

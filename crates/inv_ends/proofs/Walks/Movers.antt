@@ -25,13 +25,13 @@ use Rattle.inv_handover.specs.covers.model.Phases.Outcome.{Ends, Goes}
 use Rattle.inv_handover.specs.covers.model.Posts.{counted, tag_of}
 use Rattle.inv_handover.specs.covers.model.SlowPath.{asking}
 use Rattle.inv_handover.specs.covers.model.Steps.{phase_move}
-use Rattle.inv_handover.specs.covers.model.World.{World, begin, finds, step}
+use Rattle.inv_handover.specs.covers.model.World.{World, begin, finds, offered, step}
 use Rattle.inv_handover.specs.covers.model.declared.post.Post.{Post}
 use Rattle.inv_handover.specs.covers.defs.declared.call.Call.{Call}
 use Rattle.inv_handover.specs.covers.defs.declared.event.Root.{Root}
 use Rattle.inv_handover.proofs.covers.shapes.Frame.{after_seated, begin_begins, begin_stays, begun_seated, moves_with, seat_stays, seat_steps}
 use Rattle.inv_handover.proofs.covers.shapes.Inside.{shape_moves}
-use Rattle.inv_handover.proofs.covers.shapes.Kept.{begun_fits, counted_fits, one_moves, run_counted, work_counted}
+use Rattle.inv_handover.proofs.covers.shapes.Kept.{bared_fits, begun_fits, counted_fits, one_moves, run_counted, work_counted}
 use Rattle.inv_handover.proofs.covers.shapes.Shapes.{shape_grows}
 use Rattle.inv_handover.specs.covers.shapes.Frame.{Grows, Moves, Onward, Owes, Passed, Seated}
 use Rattle.inv_handover.specs.covers.shapes.Seats.{Kind, PhaseFits, PostFits, Run, kind_of, suits}
@@ -308,7 +308,7 @@ phase_owed layout k over met mem v (Runs why base) post n q p x =
 phase_owed layout k over met mem v (Scans later at) post n q p x = counted_fits layout k post q
 phase_owed layout k over met mem v (Works work) post n q p x =
     let f : ℕ = found (phase_move (Works work) post) (mem (place_in (phase_move (Works work) post))) in
-    record { post = counted_fits layout k post q; fits = work_counted work post p; stores = each_stores (λ p q. PhaseMet over met layout.config.seats q) (λ p from index era. tt) (counted post) f work }
+    record { post = bared_fits layout k work (counted post) (counted_fits layout k post q); fits = work_counted work post p; stores = each_stores (λ p q. PhaseMet over met layout.config.seats q) (λ p from index era. tt) (counted post) f work }
 
 -- what the part on requests gives a mover that passes a seat
 passes_of : (w : World) (i : ℕ) (z : View) → MeetingNeeds w i z → (why : Why) (at : MoveAt) → (w.seat i).phase ≡ Runs why (Move at) → Passes (over_in w z.deal) w.mem (w.seat i).post.layout at
@@ -330,8 +330,8 @@ pub meeting_kept : MeetingKept
 meeting_kept w i z met n x =
     let l : Local = w.seat i in
     let m : Known = met_in l.phase (finds w i) (met i) in
-    let g : Seated (PostFits w.layout i) (λ p q. PhaseMet (over_in w z.deal) m w.layout.config.seats q) (after l (finds w i)) =
-    after_seated (met_grows w.layout i (over_in w z.deal) m n.valid) l (finds w i) (phase_owed w.layout i (over_in w z.deal) (met i) w.mem n.valid l.phase l.post (passes_of w i z n) (n.seats.fits i).post (n.seats.fits i).phase (x.movers i)) in
+    let g : Seated (PostFits w.layout i) (λ p q. PhaseMet (over_in w z.deal) m w.layout.config.seats q) (after (offered w i) (finds w i)) =
+    after_seated (met_grows w.layout i (over_in w z.deal) m n.valid) (offered w i) (finds w i) (phase_owed w.layout i (over_in w z.deal) (met i) w.mem n.valid l.phase l.post (passes_of w i z n) (n.seats.fits i).post (n.seats.fits i).phase (x.movers i)) in
     record { movers = λ k. by k (k == i) refl (subst (λ (y : Local). PhaseMet (over_in w z.deal) m w.layout.config.seats y.phase) (sym (seat_steps w i)) g.phase) }
   where
     grows : (met : Known) (phase : Phase) → PhaseMet (over_in w z.deal) met w.layout.config.seats phase → PhaseMet (over_in (step w i) (next_deals w i z.deal)) met w.layout.config.seats phase

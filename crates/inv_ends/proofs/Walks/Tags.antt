@@ -1,4 +1,6 @@
 -- A seat's tags after its step: one rises where an answer is taken, and else they stay.
+use Rattle.inv_handover.specs.covers.model.Calls.Work.{Keeping}
+use Rattle.inv_handover.specs.covers.model.Calls.KeepAt.{HideSpan}
 use Rattle.std.proofs.Common.{ℕ, ◌+◌, ◌≤◌, ◌<◌, ◌-◌, Bool, true, false, ◌≡◌, ◌≢◌, ◌∙◌, sym, refl, ap, subst, arith}
 use Rattle.std.proofs.lemmas.Bool.Decides.{nat_tests}
 use Rattle.std.proofs.lemmas.Grind.{common_steps}
@@ -10,7 +12,7 @@ use Rattle.inv_handover.specs.covers.defs.declared.event.Event.TheVariants as ev
 use Rattle.inv_handover.specs.covers.defs.declared.event.Root.TheVariants as roots
 use Rattle.inv_handover.specs.covers.defs.declared.call.ClockMove.TheVariants as moves
 use Rattle.inv_handover.specs.covers.model.Allocate.{after_claim_slot, is_claimed, walk_past, walking}
-use Rattle.inv_handover.specs.covers.model.Calls.{Phase, Why}
+use Rattle.inv_handover.specs.covers.model.Calls.{KeepAt, Phase, Why, Work}
 use Rattle.inv_handover.specs.covers.model.Calls.Phase.{Idle, Runs, Scans, Works}
 use Rattle.inv_handover.specs.covers.model.Links.{parent_of}
 use Rattle.inv_handover.specs.covers.model.Locals.{Local, after, settled}
@@ -30,16 +32,16 @@ use Rattle.inv_handover.specs.covers.model.Posts.{counted, reserves_helper, tag_
 use Rattle.inv_handover.specs.covers.model.Protect.{concluded, held_post, protected, told_held}
 use Rattle.inv_handover.specs.covers.model.SlowPath.{asking, own_request}
 use Rattle.inv_handover.specs.covers.model.Steps.{phase_turn}
-use Rattle.inv_handover.specs.covers.model.World.{World, finds, step}
+use Rattle.inv_handover.specs.covers.model.World.{World, finds, offered, step}
 use Rattle.inv_handover.specs.covers.model.WriteRow.{last_written}
 use Rattle.inv_handover.specs.covers.model.declared.post.Post.{Post}
 use Rattle.inv_handover.specs.covers.defs.declared.event.Event.{Event}
 use Rattle.inv_handover.specs.covers.defs.declared.event.Root.{Root}
 use Rattle.inv_handover.proofs.covers.shapes.Frame.{after_seated, moves_with, seat_stays, seat_steps}
 use Rattle.inv_handover.proofs.covers.shapes.Inside.{shape_moves}
-use Rattle.inv_handover.proofs.covers.shapes.Kept.{counted_fits, run_counted, work_counted}
+use Rattle.inv_handover.proofs.covers.shapes.Kept.{bared_fits, counted_fits, run_counted, work_counted}
 use Rattle.inv_handover.proofs.covers.shapes.Shapes.{shape_grows}
-use Rattle.inv_handover.specs.covers.shapes.Frame.{Grows, Moves, Onward, Owes, Seated}
+use Rattle.inv_handover.specs.covers.shapes.Frame.{Grows, Moves, Onward, Owes, Seated, bared}
 use Rattle.inv_handover.specs.covers.shapes.Seats.{PhaseFits, PostFits, Run, Seats}
 use Rattle.inv_handover.specs.covers.words.Packed.{read_reservation}
 use Rattle.inv_handover.specs.covers.words.Place.{is_valid}
@@ -195,6 +197,15 @@ tags_grow layout i tags v = let g = shape_grows layout i v in record {
   works = λ post work n s q. tt;
 }
 
+-- what a step of a call's own lets go of has no tag
+keep_tagged : (layout : Layout) (i : ℕ) (tags : List ℕ) (at : KeepAt) (post : Post) → Tagged layout i tags post → Tagged layout i tags (bared (Keeping at) post)
+keep_tagged layout i tags HideSpan post p = record { fits = bared_fits layout i (Keeping HideSpan) post p.fits; kept = p.kept }
+keep_tagged layout i tags at post p = p
+
+work_tagged : (layout : Layout) (i : ℕ) (tags : List ℕ) (work : Work) (post : Post) → Tagged layout i tags post → Tagged layout i tags (bared work post)
+work_tagged layout i tags (Keeping at) post p = keep_tagged layout i tags at post p
+work_tagged layout i tags work post p = p
+
 tags_owed : (layout : Layout) (i : ℕ) → is_valid layout ≡ true → (phase : Phase) (post : Post) (found : ℕ) → takes_in phase ≡ false → PostFits layout i post → PhaseFits layout post phase → Owes (Tagged layout i post.tags) Any (counted post) found phase
 tags_owed layout i v Idle post found k q p = record { fits = counted_fits layout i post q; kept = refl }
 tags_owed layout i v (Runs why base) post found k q p =
@@ -202,12 +213,12 @@ tags_owed layout i v (Runs why base) post found k q p =
     moves_with why (machine.after base (counted post) found) m (record { post = record { fits = m.post; kept = base_tags base (counted post) found k }; phase = any_on why (machine.after base (counted post) found).post (machine.after base (counted post) found).outcome })
 tags_owed layout i v (Scans later at) post found k q p = record { fits = counted_fits layout i post q; kept = refl }
 tags_owed layout i v (Works work) post found k q p =
-    record { post = record { fits = counted_fits layout i post q; kept = refl }; fits = work_counted work post p; stores = each_stores Any (λ p from index era. tt) (counted post) found work }
+    record { post = work_tagged layout i post.tags work (counted post) (record { fits = counted_fits layout i post q; kept = refl }); fits = work_counted work post p; stores = each_stores Any (λ p from index era. tt) (counted post) found work }
 
 pub tags_kept : (w : World) (i : ℕ) → is_valid w.layout ≡ true → Seats w → takes_in (w.seat i).phase ≡ false → ((step w i).seat i).post.tags ≡ (w.seat i).post.tags
 tags_kept w i v s k =
     let l : Local = w.seat i in
-    let g : Seated (Tagged w.layout i l.post.tags) Any (after l (finds w i)) = after_seated (tags_grow w.layout i l.post.tags v) l (finds w i) (tags_owed w.layout i v l.phase l.post (finds w i) k (s.fits i).post (s.fits i).phase) in
+    let g : Seated (Tagged w.layout i l.post.tags) Any (after (offered w i) (finds w i)) = after_seated (tags_grow w.layout i l.post.tags v) (offered w i) (finds w i) (tags_owed w.layout i v l.phase l.post (finds w i) k (s.fits i).post (s.fits i).phase) in
     ap (λ (m : Local). m.post.tags) (seat_steps w i) ∙ g.post.kept
 
 -- an answer is taken
@@ -216,7 +227,7 @@ take_tags l why aim index root steps link era found = held_tags (with_tag (count
 
 pub tags_taken : (w : World) (i : ℕ) (why : Why) (aim : Aim) (index : ℕ) (root : Root) (steps link era : ℕ) → (w.seat i).phase ≡ Runs why (Protect aim index root steps (TakeAnswer link era)) → ((step w i).seat i).post.tags ≡ slice_set (w.seat i).post.tags index (tag_of (w.seat i).post index + 1)
 tags_taken w i why aim index root steps link era e =
-    let l : Local = w.seat i in
+    let l : Local = offered w i in
     ap (λ (m : Local). m.post.tags) (seat_steps w i) ∙ subst (λ (p : Phase). (settled l (phase_turn p (counted l.post) l.desk (finds w i))).post.tags ≡ slice_set l.post.tags index (tag_of l.post index + 1)) (sym e) (take_tags l why aim index root steps link era (finds w i))
 
 tag_other : (tags : List ℕ) (index x j : ℕ) → j ≢ index → slice_index (slice_set tags index x) j ≡ slice_index tags j

@@ -10,7 +10,7 @@ use Rattle.inv_covers.specs.model.Book.{Book, RowBook, booked, booked_all}
 use Rattle.inv_covers.specs.model.Calls.{Phase, CallTurn, CallOutcome, GoesOn, Answers}
 use Rattle.inv_covers.specs.model.Locals.{turn, told_end, told_by}
 use Rattle.inv_covers.specs.model.Posts.{counted}
-use Rattle.inv_covers.specs.model.World.{World, step, finds}
+use Rattle.inv_covers.specs.model.World.{World, step, finds, offered}
 use Rattle.inv_covers.proofs.model.Facts.{same_number, first_of, rest_of}
 use Rattle.inv_covers.specs.Covers.{takes_or_frees}
 use Rattle.inv_covers.specs.rows.Hands.{row_move, linked_row}
@@ -67,6 +67,6 @@ ended_in f post (Answers answer) = refl
 
 pub root_stays : (w : World) (i s : ℕ) → takes_or_frees (row_move (w.seat i).phase (w.seat i).post (finds w i)) s ≡ false → ((step w i).book.row s).root ≡ (w.book.row s).root
 root_stays w i s h =
-    let t : CallTurn = turn (w.seat i) (finds w i) in
+    let t : CallTurn = turn (offered w i) (finds w i) in
     all_root (λ n. takes_or_frees (row_move (w.seat i).phase (w.seat i).post (finds w i)) n) s (told_by t) w.book h
-    (append_in (λ n. takes_or_frees (row_move (w.seat i).phase (w.seat i).post (finds w i)) n) t.told (told_end t.post t.outcome) (phase_in (λ n. takes_or_frees (row_move (w.seat i).phase (w.seat i).post (finds w i)) n) (w.seat i).phase (counted (w.seat i).post) (w.seat i).desk (finds w i) (links_of w i)) (ended_in (λ n. takes_or_frees (row_move (w.seat i).phase (w.seat i).post (finds w i)) n) t.post t.outcome))
+    (append_in (λ n. takes_or_frees (row_move (w.seat i).phase (w.seat i).post (finds w i)) n) t.told (told_end t.post t.outcome) (phase_in (λ n. takes_or_frees (row_move (w.seat i).phase (w.seat i).post (finds w i)) n) (w.seat i).phase (counted (w.seat i).post) (offered w i).desk (finds w i) (links_of w i)) (ended_in (λ n. takes_or_frees (row_move (w.seat i).phase (w.seat i).post (finds w i)) n) t.post t.outcome))

@@ -12,7 +12,7 @@ use Rattle.inv_covers.specs.model.Phases.MoveAt.{LoadEra, LoadRequest, ShowEra, 
 use Rattle.inv_covers.specs.model.Phases.Base.{Begin, Protect, Reload, Clear, Finish, Release, Allocate, Write, GiveUp, Retire, Move}
 use Rattle.inv_covers.specs.model.Posts.{counted}
 use Rattle.inv_covers.specs.model.Steps.{phase_move, phase_turn}
-use Rattle.inv_covers.specs.model.World.{World, step, finds}
+use Rattle.inv_covers.specs.model.World.{World, step, finds, offered}
 use Rattle.inv_covers.specs.rows.Agree.{rows_after}
 use Rattle.inv_covers.specs.rows.Chain.{line_after}
 use Rattle.inv_covers.specs.rows.Hands.{row_move}
@@ -27,7 +27,7 @@ pub record Still (w : World) (i : ℕ) (v : View) (l : Line) : Type 0 where
   pub line : line_after w i l ≡ l
 
 abbrev book_after : World → ℕ → Phase → Book
-book_after w i p = booked_all w.book (told_by (phase_turn p (counted (w.seat i).post) (w.seat i).desk (finds w i)))
+book_after w i p = booked_all w.book (told_by (phase_turn p (counted (w.seat i).post) (offered w i).desk (finds w i)))
 
 abbrev mem_after : World → ℕ → Phase → Place → ℕ
 mem_after w i p = written w.mem (phase_move p (w.seat i).post)

@@ -1,6 +1,6 @@
 -- What steps tell of rows that are linked: the exchange of a bucket's root and that of a next link tell it of the new row,
 -- and no other step of any row.
-use Rattle.std.proofs.Common.{ℕ, ◌+◌, ◌≡◌, Bool, true, false, List, [], ◌∷◌, ◌++◌, length, Option, Some, None, arith, refl, ap}
+use Rattle.std.proofs.Common.{ℕ, ◌+◌, ◌≡◌, Bool, true, false, List, [], ◌∷◌, ◌++◌, length, Option, Some, None, arith, refl, ap, drop}
 use Rattle.std.specs.Prelude.{◌==◌, ◌%◌, ◌-◌, ◌&&◌, ◌||◌, nat_lt, if◌then◌else◌}
 use Rattle.inv_covers.specs.words.Packed.{reservation_word}
 use Rattle.inv_covers.specs.words.Schemes.{has_one_interval}
@@ -34,7 +34,7 @@ use Rattle.inv_covers.specs.model.MoveClock as movers
 use Rattle.inv_covers.specs.model.Protect as protects
 use Rattle.inv_covers.specs.model.Scan as scan
 use Rattle.inv_covers.specs.model.Steps as steps
-use Rattle.inv_covers.specs.model.Posts.{stands, withdrawn, cleared, reserves_index, reserves_helper, reserves_span}
+use Rattle.inv_covers.specs.model.Posts.{stands, withdrawn, cleared, reserves_index, reserves_helper, reserves_span, cleared_from}
 use Rattle.inv_covers.specs.model.Phases.{Aim, Alone, Follows, BeginAt, ProtectAt, AllocateAt, RetireAt, MoveAt, Base, Walk, Turn, Outcome, Goes, Ends, Ending}
 use Rattle.inv_covers.specs.model.Phases.BeginAt.{LoadLower, PublishSpan}
 use Rattle.inv_covers.specs.model.Phases.ProtectAt.{LoadClock, PublishEra, LoadLink, CheckClock, PublishRequest, LoadOwnClock, PublishHelper, LoadOwnLink, CheckOwnClock, AnswerOwn, LoadAnswer, TakeAnswer, WithdrawRequest, WithdrawHelper, LoadWithin, CheckUpper, RaiseUpper}
@@ -44,7 +44,7 @@ use Rattle.inv_covers.specs.model.Phases.MoveAt.{LoadEra, LoadRequest, ShowEra, 
 use Rattle.inv_covers.specs.model.Phases.Base.{Begin, Protect, Reload, Clear, Finish, Release, Allocate, Write, GiveUp, Retire, Move}
 use Rattle.inv_covers.specs.model.Phases.Ending.{Done, Protected, Followed, Allocated, Retired, Clocked}
 use Rattle.inv_covers.specs.model.Rounds.{bucket_of, scheme_of, index_of, taken_of, clear_base, clear_post, clear_told, finish_base, finish_span, kept_row, let_index, given_up, closed, finishing_by, finishing, clearing_by, clearing, clearing_next_by, clearing_next}
-use Rattle.inv_covers.specs.model.Calls.{Task, Gets, Changes, Holds, Enqueues, Dequeues, Next, Again, MakeRoom, Answering, Retiring, AfterScan, Answered, Repeated, Counted, ScanAt, ReadGuard, GiveBack, Why, Phase, Idle, Runs, Scans, Works, Work, Getting, Changing, Enqueuing, Dequeuing, Keeping, KeepAt, Loosens, LoadHeld, StoreHeld, Looks, Misses, LetGo, Released, Rehold, Dropped, ChangeKept, EnqueueKept, GetAt, FindVersion, FindCount, FindKey, FindValue, ChangeAt, LoadVersion, LoadCount, LoadKey, LoadValue, ExchangeRoot, EnqueueAt, LoadNumber, LoadNext, PassTail, ExchangeNext, ExchangeTail, DequeueAt, LoadTail, SwingTail, TakeNumber, TakeValue, ExchangeHead, Opens, FollowsHead, Fills, ClearsNext, Clears, Finishes, GivesUp, Retires, Tidies, Advances, Releases}
+use Rattle.inv_covers.specs.model.Calls.{Task, Gets, Changes, Holds, Enqueues, Dequeues, Next, Again, MakeRoom, Answering, Retiring, AfterScan, Answered, Repeated, Counted, ScanAt, ReadGuard, GiveBack, Why, Phase, Idle, Runs, Scans, Works, Work, Getting, Changing, Enqueuing, Dequeuing, Keeping, KeepAt, Loosens, LoadHeld, StoreHeld, Looks, Misses, HideSpan, MarkLeft, TakeList, MarkTaken, LetGo, Released, Rehold, Dropped, Parting, ChangeKept, EnqueueKept, GetAt, FindVersion, FindCount, FindKey, FindValue, ChangeAt, LoadVersion, LoadCount, LoadKey, LoadValue, ExchangeRoot, EnqueueAt, LoadNumber, LoadNext, PassTail, ExchangeNext, ExchangeTail, DequeueAt, LoadTail, SwingTail, TakeNumber, TakeValue, ExchangeHead, Opens, FollowsHead, Fills, ClearsNext, Clears, Finishes, GivesUp, Retires, Tidies, Advances, Releases}
 use Rattle.inv_covers.proofs.model.Facts.{first_of, rest_of, both}
 use Rattle.inv_covers.proofs.model.Schemes.{each_clear, each_clear_told, each_finish}
 use Rattle.inv_covers.specs.rows.Tries.{is_end}
@@ -311,6 +311,7 @@ released_in : (f : ℕ → Bool) (let_go : LetGo) (post : Post) (desk : Desk) (t
 released_in f Released post desk told h = h
 released_in f (Rehold key) post desk told h = h
 released_in f (Dropped index) post desk told h = h
+released_in f (Parting index) post desk told h = h
 
 copied_in : (f : ℕ → Bool) (from index : ℕ) (post : Post) (desk : Desk) (reserved : List Event) (x : Option ℕ) → links_in f reserved ≡ true → links_in f (keeps.copied from index post desk reserved x).told ≡ true
 copied_in f from index post desk reserved None h = refl
@@ -335,6 +336,15 @@ look_in f index key (FindCount slot version) post desk found = looking_in f inde
 look_in f index key (FindKey slot version count pair) post desk found = looked_key_in f index key slot version count pair post desk (found == key)
 look_in f index key (FindValue slot version pair) post desk found = refl
 
+-- and those of seats that leave
+cleared_all_in : (f : ℕ → Bool) (index : ℕ) (rows : List (Option ℕ)) → links_in f (cleared_from index rows) ≡ true
+cleared_all_in f index [] = refl
+cleared_all_in f index (row ∷ rows) = append_in f (cleared index row) (cleared_from (index + 1) rows) (cleared_in f index row) (cleared_all_in f (index + 1) rows)
+
+taking_in : (f : ℕ → Bool) (place : ℕ) (post : Post) (desk : Desk) (left : Bool) (found : ℕ) → links_in f (keeps.taking place post desk left found).told ≡ true
+taking_in f place post desk true found = refl
+taking_in f place post desk false found = refl
+
 keep_in : (f : ℕ → Bool) (at : KeepAt) (post : Post) (desk : Desk) (found : ℕ) → links_in f (keeps.keep_turn at post desk found).told ≡ true
 keep_in f (Loosens let_go) post desk found =
     released_in f let_go (withdrawn post (let_index let_go)) desk (cleared (let_index let_go) (stands post (let_index let_go))) (cleared_in f (let_index let_go) (stands post (let_index let_go)))
@@ -342,6 +352,10 @@ keep_in f (LoadHeld from index) post desk found = load_held_in f from index post
 keep_in f (StoreHeld from index era) post desk found = copied_in f from index post desk (reserves_index post index era) (stands post from) refl
 keep_in f (Looks index key at) post desk found = look_in f index key at post desk found
 keep_in f (Misses index) post desk found = refl
+keep_in f HideSpan post desk found = append_in f (cleared_from 2 (drop 2 post.standing)) (reserves_span post None) (cleared_all_in f 2 (drop 2 post.standing)) refl
+keep_in f MarkLeft post desk found = refl
+keep_in f (TakeList place) post desk found = taking_in f place post desk (found == 1) found
+keep_in f (MarkTaken place count) post desk found = refl
 
 -- what comes after a machine
 opened_row_in : (f : ℕ → Bool) (task : Task) (slot : ℕ) (post : Post) (desk : Desk) (told : List Event) → links_in f told ≡ true → links_in f (steps.opened_row task slot post desk told).told ≡ true

@@ -19,7 +19,7 @@ use Rattle.inv_covers.specs.model.Phases.Base.{Begin, Protect, Reload, Clear, Fi
 use Rattle.inv_covers.specs.model.Calls.{Why, Opens, FollowsHead, Fills, ClearsNext, Clears, Finishes, GivesUp, Retires, Tidies, Advances, Releases, Phase, Idle, Runs, Scans, Works}
 use Rattle.inv_covers.specs.model.Locals.{Local}
 use Rattle.inv_covers.specs.model.Steps.{resumed}
-use Rattle.inv_covers.specs.model.World.{World, step, finds}
+use Rattle.inv_covers.specs.model.World.{World, step, finds, offered}
 use Rattle.inv_covers.specs.shapes.Frame.{phase_left}
 use Rattle.inv_covers.specs.shapes.Seats.{Seats, Aimed, PhaseFits}
 use Rattle.inv_covers.proofs.shapes.Frame.{seat_stays}
@@ -115,12 +115,12 @@ own_by : (w : World) (i : ℕ) (z : View) (phase : Phase) (upto x : ℕ) → Ori
 own_by w i z Idle upto x n q h = absurd (cc)
 own_by w i z (Runs why base) upto x n q h =
     let t : Turn = after base (counted (w.seat i).post) (finds w i) in
-    let c : out_carries ((step w i).mem Clock) upto t.outcome x ≡ true = resumed_carries ((step w i).mem Clock) upto why (w.seat i).desk t.post t.told t.outcome x h in
-    run_came w i z why base upto x n q (ap root_for (stepped_by w i (Runs why base) q) ∙ resumed_root ((step w i).mem Clock) upto why (w.seat i).desk t.post t.told t.outcome x c) c
+    let c : out_carries ((step w i).mem Clock) upto t.outcome x ≡ true = resumed_carries ((step w i).mem Clock) upto why (offered w i).desk t.post t.told t.outcome x h in
+    run_came w i z why base upto x n q (ap root_for (stepped_by w i (Runs why base) q) ∙ resumed_root ((step w i).mem Clock) upto why (offered w i).desk t.post t.told t.outcome x c) c
 own_by w i z (Scans later at) upto x n q h =
-    no_way (carries_in ((step w i).mem Clock) upto (phase_left (turn_of w i (Scans later at)).outcome) x) (start_carries ((step w i).mem Clock) upto (phase_left (turn_of w i (Scans later at)).outcome) x (scan_starts later at (counted (w.seat i).post) (w.seat i).desk (finds w i))) h
+    no_way (carries_in ((step w i).mem Clock) upto (phase_left (turn_of w i (Scans later at)).outcome) x) (start_carries ((step w i).mem Clock) upto (phase_left (turn_of w i (Scans later at)).outcome) x (scan_starts later at (counted (w.seat i).post) (offered w i).desk (finds w i))) h
 own_by w i z (Works work) upto x n q h =
-    no_way (carries_in ((step w i).mem Clock) upto (phase_left (turn_of w i (Works work)).outcome) x) (works_carry ((step w i).mem Clock) upto (phase_left (turn_of w i (Works work)).outcome) x (works_start work (counted (w.seat i).post) (w.seat i).desk (finds w i))) h
+    no_way (carries_in ((step w i).mem Clock) upto (phase_left (turn_of w i (Works work)).outcome) x) (works_carry ((step w i).mem Clock) upto (phase_left (turn_of w i (Works work)).outcome) x (works_start work (counted (w.seat i).post) (offered w i).desk (finds w i))) h
 
 own_came : (w : World) (i : ℕ) (z : View) (x : ℕ) → OriginsNeeds w i z → carries_in ((step w i).mem Clock) (upper ((step w i).seat i).post.span) ((step w i).seat i).phase x ≡ true → Came w i z i x
 own_came w i z x n h =
@@ -167,13 +167,13 @@ helped_by : (w : World) (i k : ℕ) (z : View) (phase : Phase) (x : ℕ) → Ori
 helped_by w i k z Idle x n q same h = absurd (cc)
 helped_by w i k z (Runs why base) x n q same h =
     let t : Turn = after base (counted (w.seat i).post) (finds w i) in
-    run_helped w i k z why base x n q same (resumed_helps w.layout ((step w i).mem Clock) k why (w.seat i).desk t.post t.told t.outcome (next_deals w i z.deal k) x h)
+    run_helped w i k z why base x n q same (resumed_helps w.layout ((step w i).mem Clock) k why (offered w i).desk t.post t.told t.outcome (next_deals w i z.deal k) x h)
 helped_by w i k z (Scans later at) x n q same h =
     no_way (helps_in w.layout ((step w i).mem Clock) k (phase_left (turn_of w i (Scans later at)).outcome) (next_deals w i z.deal k) x)
-    (start_helps w.layout ((step w i).mem Clock) k (phase_left (turn_of w i (Scans later at)).outcome) (next_deals w i z.deal k) x (scan_starts later at (counted (w.seat i).post) (w.seat i).desk (finds w i))) h
+    (start_helps w.layout ((step w i).mem Clock) k (phase_left (turn_of w i (Scans later at)).outcome) (next_deals w i z.deal k) x (scan_starts later at (counted (w.seat i).post) (offered w i).desk (finds w i))) h
 helped_by w i k z (Works work) x n q same h =
     no_way (helps_in w.layout ((step w i).mem Clock) k (phase_left (turn_of w i (Works work)).outcome) (next_deals w i z.deal k) x)
-    (works_help w.layout ((step w i).mem Clock) k (phase_left (turn_of w i (Works work)).outcome) (next_deals w i z.deal k) x (works_start work (counted (w.seat i).post) (w.seat i).desk (finds w i))) h
+    (works_help w.layout ((step w i).mem Clock) k (phase_left (turn_of w i (Works work)).outcome) (next_deals w i z.deal k) x (works_start work (counted (w.seat i).post) (offered w i).desk (finds w i))) h
 
 own_helped : (w : World) (i k : ℕ) (z : View) (x : ℕ) → OriginsNeeds w i z → root_in (step w i) k ≡ root_in w k → helps_in w.layout ((step w i).mem Clock) k ((step w i).seat i).phase (next_deals w i z.deal k) x ≡ true → Came w i z k x
 own_helped w i k z x n same h =

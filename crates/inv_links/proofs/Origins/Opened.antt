@@ -20,7 +20,7 @@ use Rattle.inv_covers.specs.model.Phases.MoveAt.{LoadEra, LoadRequest, ShowEra, 
 use Rattle.inv_covers.specs.model.Phases.Base.{Begin, Protect, Reload, Clear, Finish, Release, Allocate, Write, GiveUp, Retire, Move}
 use Rattle.inv_covers.specs.model.Calls.{Why, Work, Phase, Idle, Runs, Scans, Works, CallTurn}
 use Rattle.inv_covers.specs.model.Steps.{resumed, phase_turn}
-use Rattle.inv_covers.specs.model.World.{World, step, finds}
+use Rattle.inv_covers.specs.model.World.{World, step, finds, offered}
 use Rattle.inv_covers.specs.shapes.Frame.{phase_left}
 use Rattle.inv_requests.specs.Deals.{is_quiet, asked_by, fits}
 use Rattle.inv_requests.specs.NextDeals.{protect_deals, move_deals, base_deals, phase_deals, next_deals}
@@ -138,7 +138,7 @@ open_back w i z k t j u n known h = open_phase w i z (w.seat i).phase k t j u n 
 
 -- what the seat's turn leaves, by its phase
 abbrev pub turn_of : World → ℕ → Phase → CallTurn
-turn_of w i phase = phase_turn phase (counted (w.seat i).post) (w.seat i).desk (finds w i)
+turn_of w i phase = phase_turn phase (counted (w.seat i).post) (offered w i).desk (finds w i)
 
 pub stepped_by : (w : World) (i : ℕ) (phase : Phase) → (w.seat i).phase ≡ phase → ((step w i).seat i).phase ≡ phase_left (turn_of w i phase).outcome
 stepped_by w i phase q = stepped_phase w i ∙ ap (λ (p : Phase). phase_left (turn_of w i p).outcome) q
@@ -237,7 +237,7 @@ busy_phase : (w : World) (i : ℕ) (z : View) (phase : Phase) → OriginsNeeds w
 busy_phase w i z Idle n q h = absurd (quiet_busy (z.deal i) (fit_of w z i Idle n.requests q) h)
 busy_phase w i z (Runs why base) n q h =
     let t : Turn = after base (counted (w.seat i).post) (finds w i) in
-    ap root_for (stepped_by w i (Runs why base) q) ∙ left_root why (w.seat i).desk t.post t.told t.outcome (root_base base) (busy_base w i z why base n q h)
+    ap root_for (stepped_by w i (Runs why base) q) ∙ left_root why (offered w i).desk t.post t.told t.outcome (root_base base) (busy_base w i z why base n q h)
 busy_phase w i z (Scans later at) n q h = absurd (quiet_busy (z.deal i) (fit_of w z i (Scans later at) n.requests q) h)
 busy_phase w i z (Works work) n q h = absurd (quiet_busy (z.deal i) (work_quiet work (z.deal i) (fit_of w z i (Works work) n.requests q)) h)
 

@@ -1,5 +1,5 @@
 -- The same of the machines by which a round ends, and of those that come once in a call.
-use Rattle.std.proofs.Common.{ℕ, ◌∙◌, ◌≡◌, ◌≤◌, ◌+◌, true, [], ◌∷◌, arith, refl, sym, subst}
+use Rattle.std.proofs.Common.{ℕ, ◌∙◌, ◌≡◌, ◌≤◌, ◌+◌, true, [], ◌∷◌, arith, refl, sym, subst, ◌<◌}
 use Rattle.inv_contents.specs.words.Place.{is_valid}
 use Rattle.inv_contents.specs.words.Place.Place.{Clock}
 use Rattle.inv_contents.specs.model.Phases.Base.{Move, Allocate, Begin, Clear, Finish, GiveUp, Protect, Release, Reload, Retire, Write}
@@ -14,9 +14,9 @@ use Rattle.inv_contents.specs.model.Phases.{Base, Ending, MoveAt, RetireAt, Turn
 use Rattle.inv_contents.specs.model.Phases.Ending.{Done}
 use Rattle.inv_contents.specs.model.Posts.{counted, reserves_span, with_span, withdrawn}
 use Rattle.inv_contents.specs.model.Rest.{base_left, base_seen, closing_left, eras_left, span_seen, why_left}
-use Rattle.inv_contents.specs.model.Rounds.{clearing, finishing}
+use Rattle.inv_contents.specs.model.Rounds.{clearing, finishing, let_index}
 use Rattle.inv_contents.specs.model.Steps.{resume, run_turn}
-use Rattle.inv_contents.specs.model.World.{World, finds, step}
+use Rattle.inv_contents.specs.model.World.{World, finds, offered, step}
 use Rattle.inv_contents.specs.model.declared.post.Post.{Post}
 use Rattle.inv_contents.specs.defs.declared.call.Answer.{Answer}
 use Rattle.inv_contents.specs.defs.declared.event.Event.{Event}
@@ -31,6 +31,8 @@ use Rattle.inv_steps_left.proofs.Rest.Ways.{released_left}
 use Rattle.inv_steps_left.specs.Losses.{finish_fit}
 use Rattle.inv_contents.specs.words.declared.config.Config.{Config}
 use Rattle.std.specs.Prelude.{List, length, None}
+use Rattle.inv_links.specs.shapes.Slots.{WhyIn}
+use Rattle.inv_steps_left.proofs.Rest.Small.{few_of}
 
 pub clear_rounds : (w : World) (i index : ℕ) → rounds_told (w.seat i).rounds (after (Clear index) (counted (w.seat i).post) (finds w i)).told ≡ (w.seat i).rounds
 clear_rounds w i index = base_steady (w.seat i).rounds (Clear index) (counted (w.seat i).post) (finds w i) refl
@@ -38,16 +40,16 @@ clear_rounds w i index = base_steady (w.seat i).rounds (Clear index) (counted (w
 -- a machine of one step, with what comes after it
 one_step : (w : World) (i : ℕ) → is_valid w.layout ≡ true → (why : Why) (base : Base) (ending : Ending) (post : Post) (told : List Event) (most : ℕ) → Seat w i why base → Knows w i why base → base_owes w.layout.config base (counted (w.seat i).post) (finds w i)
     → after base (counted (w.seat i).post) (finds w i) ≡ ends post told ending → base_left w.layout.config base ≡ 1
-    → turn_left w.layout.config (w.seat i).rounds (resume why ending post (w.seat i).desk told) + 1 ≤ most
-    → turn_total w.layout.config ((step w i).mem Clock) (w.seat i).rounds (run_turn why (w.seat i).desk (after base (counted (w.seat i).post) (finds w i))) + 1 ≤ most + eras_left w.layout.config (base_seen base (span_seen (w.mem Clock) (w.seat i).post.span))
+    → turn_left w.layout.config (w.seat i).rounds (resume why ending post (offered w i).desk told) + 1 ≤ most
+    → turn_total w.layout.config ((step w i).mem Clock) (w.seat i).rounds (run_turn why (offered w i).desk (after base (counted (w.seat i).post) (finds w i))) + 1 ≤ most + eras_left w.layout.config (base_seen base (span_seen (w.mem Clock) (w.seat i).post.span))
 one_step w i v why base ending post told most s p o e b h =
     let c : Config = w.layout.config in
     let eras : ℕ = eras_left c (base_seen base (span_seen (w.mem Clock) (w.seat i).post.span)) in
     let x = seat_settles w i why base s o in
     let y : Settles c (1 + eras) ((step w i).mem Clock) (after base (counted (w.seat i).post) (finds w i)) = subst (λ (n : ℕ). Settles c (n + eras) ((step w i).mem Clock) (after base (counted (w.seat i).post) (finds w i))) b x in
     let a = seat_after w i why base (1 + eras) v s y p (ends post told ending) e in
-    let k = ends_on c w.layout i ((step w i).mem Clock) (w.seat i).rounds why ending (w.seat i).desk post told eras most h a in
-    subst (λ (t : Turn). turn_total c ((step w i).mem Clock) (w.seat i).rounds (run_turn why (w.seat i).desk t) + 1 ≤ most + eras) (sym e) k
+    let k = ends_on c w.layout i ((step w i).mem Clock) (w.seat i).rounds why ending (offered w i).desk post told eras most h a in
+    subst (λ (t : Turn). turn_total c ((step w i).mem Clock) (w.seat i).rounds (run_turn why (offered w i).desk t) + 1 ≤ most + eras) (sym e) k
 
 closing_at : (c : Config) (lives rounds other : ℕ) (task : Task) (next : Next) (n : ℕ) → other ≡ rounds → n ≤ closing_left c lives other task next → n ≤ closing_left c lives rounds task next
 closing_at c lives rounds other task next n e h = subst (λ (r : ℕ). n ≤ closing_left c lives r task next) e h
@@ -57,9 +59,9 @@ next_clears w i v next index s p =
     let c : Config = w.layout.config in
     let post : Post = counted (w.seat i).post in
     let told : List Event = (after (Clear index) post (finds w i)).told in
-    let h = clearing_left c (w.seat i).rounds Dequeues next (withdrawn post index) (w.seat i).desk told in
-    let g : turn_left c (w.seat i).rounds (clearing Dequeues next (withdrawn post index) (w.seat i).desk told) ≤ 1 + closing_left c (length (w.seat i).desk.list) (w.seat i).rounds Dequeues next =
-    subst (λ (r : ℕ). turn_left c (w.seat i).rounds (clearing Dequeues next (withdrawn post index) (w.seat i).desk told) ≤ 1 + closing_left c (length (w.seat i).desk.list) r Dequeues next) (clear_rounds w i index) h in
+    let h = clearing_left c (w.seat i).rounds Dequeues next (withdrawn post index) (offered w i).desk told in
+    let g : turn_left c (w.seat i).rounds (clearing Dequeues next (withdrawn post index) (offered w i).desk told) ≤ 1 + closing_left c (length (w.seat i).desk.list) (w.seat i).rounds Dequeues next =
+    subst (λ (r : ℕ). turn_left c (w.seat i).rounds (clearing Dequeues next (withdrawn post index) (offered w i).desk told) ≤ 1 + closing_left c (length (w.seat i).desk.list) r Dequeues next) (clear_rounds w i index) h in
     one_step w i v (ClearsNext next) (Clear index) Done (withdrawn post index) told (2 + closing_left c (length (w.seat i).desk.list) (w.seat i).rounds Dequeues next) s p tt refl refl (omega (arith, g))
 
 round_clears : (w : World) (i : ℕ) → is_valid w.layout ≡ true → (task : Task) (next : Next) (index : ℕ) → Seat w i (Clears task next) (Clear index) → Knows w i (Clears task next) (Clear index) → Lowers w i (Clears task next) (Clear index)
@@ -67,8 +69,8 @@ round_clears w i v task next index s p =
     let c : Config = w.layout.config in
     let post : Post = counted (w.seat i).post in
     let told : List Event = (after (Clear index) post (finds w i)).told in
-    let h = finishing_left c (w.seat i).rounds task next (withdrawn post index) (w.seat i).desk told in
-    let g = closing_at c (length (w.seat i).desk.list) (w.seat i).rounds (rounds_told (w.seat i).rounds told) task next (turn_left c (w.seat i).rounds (finishing task next (withdrawn post index) (w.seat i).desk told)) (clear_rounds w i index) h in
+    let h = finishing_left c (w.seat i).rounds task next (withdrawn post index) (offered w i).desk told in
+    let g = closing_at c (length (w.seat i).desk.list) (w.seat i).rounds (rounds_told (w.seat i).rounds told) task next (turn_left c (w.seat i).rounds (finishing task next (withdrawn post index) (offered w i).desk told)) (clear_rounds w i index) h in
     one_step w i v (Clears task next) (Clear index) Done (withdrawn post index) told (1 + closing_left c (length (w.seat i).desk.list) (w.seat i).rounds task next) s p tt refl refl (omega (arith, g))
 
 round_spares : (c : Config) (rounds : ℕ) (task : Task) (next : Next) → finish_fit c rounds task next → spare next ≡ 1
@@ -82,7 +84,7 @@ round_finishes w i v task next s p =
     let c : Config = w.layout.config in
     let post : Post = with_span (counted (w.seat i).post) None in
     let told : List Event = reserves_span (counted (w.seat i).post) None in
-    let h = closed_left c (w.seat i).rounds task next post (w.seat i).desk told in
+    let h = closed_left c (w.seat i).rounds task next post (offered w i).desk told in
     let e = round_spares c (w.seat i).rounds task next s.lost in
     one_step w i v (Finishes task next) Finish Done post told (closing_left c (length (w.seat i).desk.list) (w.seat i).rounds task next) s p tt refl refl (omega (arith, h, e))
 
@@ -93,34 +95,38 @@ gives_up_lowers w i v answer slot s p =
 retires_lowers : (w : World) (i : ℕ) → is_valid w.layout ≡ true → (answer : Answer) (at : RetireAt) → Seat w i (Retires answer) (Retire at) → Knows w i (Retires answer) (Retire at) → Lowers w i (Retires answer) (Retire at)
 retires_lowers w i v answer at s p =
     let t : Turn = after (Retire at) (counted (w.seat i).post) (finds w i) in
-    let h = retires_on w.layout.config w.layout i ((step w i).mem Clock) (w.seat i).rounds answer (w.seat i).desk t.post t.told t.outcome (start_of w.layout.config (w.mem Clock) (w.seat i).post.span (Retire at)) (still_after w i v (Retires answer) (Retire at) s p tt) in
+    let h = retires_on w.layout.config w.layout i ((step w i).mem Clock) (w.seat i).rounds answer (offered w i).desk t.post t.told t.outcome (start_of w.layout.config (w.mem Clock) (w.seat i).post.span (Retire at)) (still_after w i v (Retires answer) (Retire at) s p tt) in
     omega (arith, h)
 
 tidies_lowers : (w : World) (i : ℕ) → is_valid w.layout ≡ true → (later : AfterScan) (at : MoveAt) → Seat w i (Tidies later) (Move at) → Knows w i (Tidies later) (Move at) → Lowers w i (Tidies later) (Move at)
 tidies_lowers w i v later at s p =
     let t : Turn = after (Move at) (counted (w.seat i).post) (finds w i) in
     let told = base_steady (w.seat i).rounds (Move at) (counted (w.seat i).post) (finds w i) refl in
-    let h = tidies_on w.layout.config w.layout i ((step w i).mem Clock) (w.seat i).rounds later (w.seat i).desk t.post t.told t.outcome (start_of w.layout.config (w.mem Clock) (w.seat i).post.span (Move at)) told (still_after w i v (Tidies later) (Move at) s p (s.moves.falls (Tidies later) at s.at)) in
+    let h = tidies_on w.layout.config w.layout i ((step w i).mem Clock) (w.seat i).rounds later (offered w i).desk t.post t.told t.outcome (start_of w.layout.config (w.mem Clock) (w.seat i).post.span (Move at)) told (still_after w i v (Tidies later) (Move at) s p (s.moves.falls (Tidies later) at s.at)) in
     omega (arith, h)
 
 advances_lowers : (w : World) (i : ℕ) → is_valid w.layout ≡ true → (at : MoveAt) → Seat w i Advances (Move at) → Knows w i Advances (Move at) → Lowers w i Advances (Move at)
 advances_lowers w i v at s p =
     let t : Turn = after (Move at) (counted (w.seat i).post) (finds w i) in
-    let h = advances_on w.layout.config w.layout i ((step w i).mem Clock) (w.seat i).rounds (w.seat i).desk t.post t.told t.outcome (start_of w.layout.config (w.mem Clock) (w.seat i).post.span (Move at)) (still_after w i v Advances (Move at) s p (s.moves.falls Advances at s.at)) in
+    let h = advances_on w.layout.config w.layout i ((step w i).mem Clock) (w.seat i).rounds (offered w i).desk t.post t.told t.outcome (start_of w.layout.config (w.mem Clock) (w.seat i).post.span (Move at)) (still_after w i v Advances (Move at) s p (s.moves.falls Advances at s.at)) in
     omega (arith, h)
+
+-- no index is greater than 7
+let_below : (w : World) (i : ℕ) → is_valid w.layout ≡ true → (let_go : LetGo) → WhyIn w.layout.config (Releases let_go) → let_index let_go < 8
+let_below w i v let_go k = let a = (few_of w.layout v).indexes in let b = k.below in omega (arith, a, b)
 
 clear_releases : (w : World) (i : ℕ) → is_valid w.layout ≡ true → (let_go : LetGo) (index : ℕ) → Seat w i (Releases let_go) (Clear index) → Knows w i (Releases let_go) (Clear index) → Lowers w i (Releases let_go) (Clear index)
 clear_releases w i v let_go index s p =
     let post : Post = counted (w.seat i).post in
     let told : List Event = (after (Clear index) post (finds w i)).told in
-    let h = released_left w.layout.config (w.seat i).rounds (length (w.seat i).desk.list) let_go (withdrawn post index) (w.seat i).desk told refl (clear_rounds w i index ∙ s.lost) in
+    let h = released_left w.layout.config (w.seat i).rounds (length (w.seat i).desk.list) let_go (withdrawn post index) (offered w i).desk told (let_below w i v let_go s.inside) refl (clear_rounds w i index ∙ s.lost) in
     one_step w i v (Releases let_go) (Clear index) Done (withdrawn post index) told (why_left w.layout.config (length (w.seat i).desk.list) (w.seat i).rounds (Clear index) (Releases let_go)) s p tt refl refl (omega (arith, h))
 
 span_releases : (w : World) (i : ℕ) → is_valid w.layout ≡ true → (let_go : LetGo) (index : ℕ) → Seat w i (Releases let_go) (Release index) → Knows w i (Releases let_go) (Release index) → Lowers w i (Releases let_go) (Release index)
 span_releases w i v let_go index s p =
     let post : Post = counted (w.seat i).post in
     let t : Turn = after (Release index) post (finds w i) in
-    let h = released_left w.layout.config (w.seat i).rounds (length (w.seat i).desk.list) let_go t.post (w.seat i).desk t.told refl (base_steady (w.seat i).rounds (Release index) post (finds w i) refl ∙ s.lost) in
+    let h = released_left w.layout.config (w.seat i).rounds (length (w.seat i).desk.list) let_go t.post (offered w i).desk t.told (let_below w i v let_go s.inside) refl (base_steady (w.seat i).rounds (Release index) post (finds w i) refl ∙ s.lost) in
     one_step w i v (Releases let_go) (Release index) Done t.post t.told (why_left w.layout.config (length (w.seat i).desk.list) (w.seat i).rounds (Release index) (Releases let_go)) s p tt refl refl (omega (arith, h))
 
 nexts_lower : (w : World) (i : ℕ) → is_valid w.layout ≡ true → (next : Next) (base : Base) → Seat w i (ClearsNext next) base → Knows w i (ClearsNext next) base → Lowers w i (ClearsNext next) base

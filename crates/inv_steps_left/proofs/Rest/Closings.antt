@@ -1,12 +1,12 @@
 -- How a round begins and ends: the steps that are left where its next machine, or what comes after it, is reached.
-use Rattle.std.proofs.Common.{ℕ, ◌∙◌, ◌≡◌, ◌≤◌, ◌+◌, false, [], ◌∷◌, arith, refl, subst}
+use Rattle.std.proofs.Common.{ℕ, ◌∙◌, ◌≡◌, ◌≤◌, ◌+◌, false, [], ◌∷◌, arith, refl, subst, ap}
 use Rattle.inv_contents.specs.model.Calls.{CallOutcome, CallTurn, Next, Task}
 use Rattle.inv_contents.specs.model.Calls.CallOutcome.{Answers, GoesOn}
 use Rattle.inv_contents.specs.model.Calls.Next.{Again, Answering, MakeRoom, Retiring}
 use Rattle.inv_contents.specs.model.Calls.Task.{Dequeues}
 use Rattle.inv_contents.specs.model.Desks.{Desk}
 use Rattle.inv_contents.specs.model.Locals.{round_told, rounds_told}
-use Rattle.inv_contents.specs.model.Posts.{cleared, stands}
+use Rattle.inv_contents.specs.model.Posts.{cleared, stands, cleared_from, reserves_span}
 use Rattle.inv_contents.specs.model.Rest.{base_left, closing_left, is_told, move_most, open_left, phase_left, protect_most, task_left}
 use Rattle.inv_contents.specs.model.Rounds.{begin_base, begin_span, clear_base, clear_post, clear_told, clearing, clearing_by, clearing_next, clearing_next_by, closed, finish_base, finish_span, finishing, finishing_by, given_up, index_of, kept_row, move_base, opening, protect_base, root_of, round, round_by, scheme_of, taken_of}
 use Rattle.inv_contents.specs.model.declared.post.Post.{Post}
@@ -18,7 +18,7 @@ use Rattle.inv_contents.specs.defs.declared.lifetime.Lifetime.{Lifetime}
 use Rattle.inv_contents.specs.words.declared.config.Config.{Config}
 use Rattle.inv_contents.specs.words.declared.config.SchemeKind.{SchemeKind}
 use Rattle.inv_contents.specs.words.declared.config.SchemeKind.TheVariants.{He, Ibr, Wfe}
-use Rattle.std.specs.Prelude.{List, ◌++◌, length, Option, Some, None}
+use Rattle.std.specs.Prelude.{List, ◌++◌, length, Option, Some, None, drop}
 use Rattle.inv_contents.proofs.model.Schemes.{each_begin, each_clear, each_clear_told, each_finish}
 use Rattle.inv_contents.specs.model.Phases.{Base}
 
@@ -112,6 +112,15 @@ clears_rounds rounds index scheme post =
 pub rounds_join : (rounds : ℕ) (told more : List Event) → rounds_told rounds (told ++ more) ≡ rounds_told (rounds_told rounds told) more
 rounds_join rounds [] more = refl
 rounds_join rounds (event ∷ told) more = rounds_join (round_told rounds event) told more
+
+cleared_all : (rounds index : ℕ) (rows : List (Option ℕ)) → rounds_told rounds (cleared_from index rows) ≡ rounds
+cleared_all rounds index [] = refl
+cleared_all rounds index (row ∷ rows) =
+    rounds_join rounds (cleared index row) (cleared_from (index + 1) rows) ∙ ap (λ (r : ℕ). rounds_told r (cleared_from (index + 1) rows)) (cleared_rounds rounds index row) ∙ cleared_all rounds (index + 1) rows
+
+-- a seat that leaves withdraws all rows with its interval
+pub all_cleared : (rounds : ℕ) (post : Post) → rounds_told rounds (cleared_from 2 (drop 2 post.standing) ++ reserves_span post None) ≡ rounds
+all_cleared rounds post = rounds_join rounds (cleared_from 2 (drop 2 post.standing)) (reserves_span post None) ∙ cleared_all rounds 2 (drop 2 post.standing)
 
 pub cleared_told : (rounds index : ℕ) (told : List Event) (post : Post) → rounds_told rounds (told ++ clear_told (scheme_of post) post index) ≡ rounds_told rounds told
 cleared_told rounds index told post = rounds_join rounds told (clear_told (scheme_of post) post index) ∙ clears_rounds (rounds_told rounds told) index (scheme_of post) post

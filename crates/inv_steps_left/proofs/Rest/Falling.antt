@@ -16,7 +16,7 @@ use Rattle.inv_contents.specs.model.Phases.Tries.{Endless, Failed}
 use Rattle.inv_contents.specs.model.Posts.{counted}
 use Rattle.inv_contents.specs.model.Rest.{span_seen}
 use Rattle.inv_contents.specs.model.Steps.{resumed, run_turn}
-use Rattle.inv_contents.specs.model.World.{World, finds, step}
+use Rattle.inv_contents.specs.model.World.{World, finds, offered, step}
 use Rattle.inv_contents.specs.model.declared.post.Post.{Post}
 use Rattle.inv_contents.specs.defs.declared.event.Event.{Event}
 use Rattle.inv_contents.specs.defs.declared.event.Root.{Root}
@@ -41,6 +41,7 @@ use Rattle.inv_contents.specs.words.declared.layout.Layout.{Layout}
 use Rattle.std.specs.Prelude.{List, Option, Some, None, is_some, nat_lt}
 use Rattle.inv_links.proofs.covers.Held.{finds_at}
 use Rattle.inv_contents.proofs.model.Facts.{rest_of}
+use Rattle.inv_links.specs.shapes.Slots.{WhyIn}
 
 -- the scheme of tries
 
@@ -131,6 +132,7 @@ pub record Seat (w : World) (i : ℕ) (why : Why) (base : Base) : Type 0 where
   pub at : (w.seat i).phase ≡ Runs why base
   pub fits : PostFits w.layout i (counted (w.seat i).post)
   pub run : Run w.layout why base (counted (w.seat i).post)
+  pub inside : WhyIn w.layout.config why
   pub eras : base_eras w.layout (w.mem Clock) (w.seat i).post base
   pub span : SpanIn (w.mem Clock) (w.seat i).post.span
   pub none : has_one_interval w.layout.config.scheme ≡ false → (w.seat i).post.span ≡ None
@@ -161,15 +163,15 @@ end_left layout k v why desk post told (Ends ending) q p = resume_left (seen_gro
 -- the turn of a machine, with what comes after it
 pub seat_after : (w : World) (i : ℕ) (why : Why) (base : Base) (old : ℕ) → is_valid w.layout ≡ true → Seat w i why base
     → Settles w.layout.config old ((step w i).mem Clock) (after base (counted (w.seat i).post) (finds w i))
-    → PhaseKnown w.layout (stands_at (run_turn why (w.seat i).desk (after base (counted (w.seat i).post) (finds w i))).outcome)
+    → PhaseKnown w.layout (stands_at (run_turn why (offered w i).desk (after base (counted (w.seat i).post) (finds w i))).outcome)
     → (t : Turn) → after base (counted (w.seat i).post) (finds w i) ≡ t
-    → After w.layout.config w.layout i ((step w i).mem Clock) (w.seat i).rounds old (w.seat i).desk t.post t.told t.outcome (resumed why (w.seat i).desk t.post t.told t.outcome)
+    → After w.layout.config w.layout i ((step w i).mem Clock) (w.seat i).rounds old (offered w i).desk t.post t.told t.outcome (resumed why (offered w i).desk t.post t.told t.outcome)
 seat_after w i why base old v s h p t e =
     let m = shape_moves w.layout i v why base (counted (w.seat i).post) (finds w i) s.fits s.run in
-    subst (λ (x : Turn). After w.layout.config w.layout i ((step w i).mem Clock) (w.seat i).rounds old (w.seat i).desk x.post x.told x.outcome (resumed why (w.seat i).desk x.post x.told x.outcome)) e
+    subst (λ (x : Turn). After w.layout.config w.layout i ((step w i).mem Clock) (w.seat i).rounds old (offered w i).desk x.post x.told x.outcome (resumed why (offered w i).desk x.post x.told x.outcome)) e
     (record {
       config = refl;
       settles = h;
-      left = end_left w.layout i v why (w.seat i).desk (after base (counted (w.seat i).post) (finds w i)).post (after base (counted (w.seat i).post) (finds w i)).told (after base (counted (w.seat i).post) (finds w i)).outcome m.post m.phase;
+      left = end_left w.layout i v why (offered w i).desk (after base (counted (w.seat i).post) (finds w i)).post (after base (counted (w.seat i).post) (finds w i)).told (after base (counted (w.seat i).post) (finds w i)).outcome m.post m.phase;
       slots = p;
     })

@@ -13,7 +13,7 @@ use Rattle.inv_contents.specs.model.declared.ends.AllocateEnd.TheVariants as all
 use Rattle.inv_contents.specs.model.Calls.{AfterScan, CallOutcome, CallTurn, ChangeKept, LetGo, Next, ScanAt, Task}
 use Rattle.inv_contents.specs.model.Calls.AfterScan.{Answered, Counted, Repeated}
 use Rattle.inv_contents.specs.model.Calls.CallOutcome.{Answers, GoesOn}
-use Rattle.inv_contents.specs.model.Calls.LetGo.{Dropped, Rehold, Released}
+use Rattle.inv_contents.specs.model.Calls.LetGo.{Dropped, Parting, Rehold, Released}
 use Rattle.inv_contents.specs.model.Calls.Next.{Again, Answering, MakeRoom, Retiring}
 use Rattle.inv_contents.specs.model.Calls.ScanAt.{GiveBack, ReadGuard}
 use Rattle.inv_contents.specs.model.Calls.Task.{Changes, Dequeues, Enqueues, Gets, Holds}
@@ -36,8 +36,9 @@ use Rattle.inv_steps_left.proofs.Rest.Closings.{cleared_told, opened_untold, spa
 use Rattle.inv_steps_left.specs.Losses.{InRound, fills_fit, finish_fit, is_queue, later_fit, lost_fit, next_fit, opens_fit, phase_fit}
 use Rattle.inv_contents.specs.words.declared.config.Config.{Config}
 use Rattle.inv_contents.specs.words.declared.config.SchemeKind.{SchemeKind}
-use Rattle.std.specs.Prelude.{List, ◌++◌, Option, Some, None, nat_lt, ◌==◌, ◌%◌}
+use Rattle.std.specs.Prelude.{List, ◌++◌, Option, Some, None, nat_lt, ◌==◌, ◌%◌, drop}
 use Rattle.inv_contents.proofs.model.Schemes.{each_begin, each_clear, each_finish}
+use Rattle.inv_contents.specs.model.Posts.{standing_from}
 
 abbrev pub outcome_fit : Config → ℕ → CallOutcome → Type 0
 outcome_fit c rounds (GoesOn phase) = phase_fit c rounds phase
@@ -229,10 +230,18 @@ advanced_fit c rounds (Followed ending) post desk told = tt
 advanced_fit c rounds (Allocated ending) post desk told = tt
 advanced_fit c rounds (Retired life) post desk told = tt
 
+parting_fit : (c : Config) (rounds : ℕ) (x : Option ℕ) → rounds ≡ 0 → phase_fit c rounds (keeps.parting_index x)
+parting_fit c rounds None e = e
+parting_fit c rounds (Some index) e = e
+
+pub parts_fit : (c : Config) (rounds index : ℕ) (post : Post) → rounds ≡ 0 → phase_fit c rounds (keeps.parting_from index post)
+parts_fit c rounds index post e = parting_fit c rounds (standing_from index (drop index post.standing)) e
+
 pub released_fit : (c : Config) (rounds : ℕ) (let_go : LetGo) (post : Post) (desk : Desk) (told : List Event) → rounds_told rounds told ≡ 0 → TurnFit c rounds (keeps.released let_go post desk told)
 released_fit c rounds Released post desk told e = tt
 released_fit c rounds (Rehold key) post desk told e = round_fit c (rounds_told rounds told) (Holds key) post e
 released_fit c rounds (Dropped index) post desk told e = tt
+released_fit c rounds (Parting index) post desk told e = parts_fit c (rounds_told rounds told) (index + 1) post e
 
 -- a scan
 

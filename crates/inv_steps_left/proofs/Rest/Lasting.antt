@@ -1,4 +1,5 @@
 -- No call loses more rounds than its task may: from the start on, where a call begins, and over each step.
+use Rattle.inv_contents.specs.model.Keep as keeps
 use Rattle.std.proofs.Common.{ℕ, ◌∙◌, ◌≡◌, ◌+◌, ◌-◌, true, false, [], ◌∷◌, arith, refl, sym, ap, subst}
 use Rattle.inv_contents.specs.model.Steps as steps
 use Rattle.inv_contents.specs.model.Machine as machine
@@ -36,7 +37,7 @@ use Rattle.inv_contents.specs.model.Protect.{concluded, failed_once, held_post, 
 use Rattle.inv_contents.specs.model.SlowPath.{answer_in, lost_turn, own_request}
 use Rattle.inv_contents.specs.model.Rounds.{let_index, letting, letting_by, release_base, scheme_of}
 use Rattle.inv_contents.specs.model.Steps.{resumed}
-use Rattle.inv_contents.specs.model.World.{World, begin, finds, step}
+use Rattle.inv_contents.specs.model.World.{World, begin, finds, offered, step}
 use Rattle.inv_contents.specs.model.WriteRow.{last_written}
 use Rattle.inv_contents.specs.model.declared.post.Post.{Post}
 use Rattle.inv_contents.specs.defs.declared.call.Call.{Call}
@@ -44,18 +45,18 @@ use Rattle.inv_contents.specs.defs.declared.event.Event.{Event}
 use Rattle.inv_contents.specs.defs.declared.event.Root.{Root}
 use Rattle.inv_links.proofs.shapes.Frame.{begin_begins, begin_stays, seat_stays, seat_steps}
 use Rattle.inv_links.proofs.shapes.Inside.{shape_moves}
-use Rattle.inv_links.proofs.shapes.Kept.{counted_fits, run_counted, work_counted, one_moves}
-use Rattle.inv_links.specs.shapes.Frame.{Passed}
+use Rattle.inv_links.proofs.shapes.Kept.{counted_fits, run_counted, work_counted, one_moves, bared_fits}
+use Rattle.inv_links.specs.shapes.Frame.{Passed, WorkFits, bared}
 use Rattle.inv_contents.specs.words.Schemes.{has_one_interval}
 use Rattle.inv_links.specs.shapes.Seats.{PhaseFits, PostFits, Run, Seats, base_fits, protect_fits}
 use Rattle.inv_steps_left.proofs.Rest.Closings.{rounds_join}
-use Rattle.inv_steps_left.proofs.Rest.Fits.{TurnFit, round_fit, scan_fit}
+use Rattle.inv_steps_left.proofs.Rest.Fits.{TurnFit, round_fit, scan_fit, parts_fit}
 use Rattle.inv_steps_left.proofs.Rest.Kept.{post_is, seat_of}
 use Rattle.inv_steps_left.proofs.Rest.Loses.{run_fits}
 use Rattle.inv_steps_left.proofs.Rest.Machines.{held_span}
 use Rattle.inv_steps_left.proofs.Rest.Moves.{move_post}
 use Rattle.inv_steps_left.proofs.Rest.Own.{WorkFew, work_turn_fit}
-use Rattle.inv_steps_left.proofs.Rest.Seen.{seen_grows, stores_same}
+use Rattle.inv_steps_left.proofs.Rest.Seen.{seen_grows, stores_same, PostIs}
 use Rattle.inv_steps_left.specs.Falls.{LossesBegin, LossesKept, LossesStart, RestNeeds}
 use Rattle.inv_steps_left.specs.Losses.{LossNeeds, Losses, phase_fit}
 use Rattle.inv_contents.specs.words.Packed.{read_request}
@@ -64,6 +65,8 @@ use Rattle.inv_contents.specs.words.declared.config.SchemeKind.{SchemeKind}
 use Rattle.inv_contents.specs.words.declared.layout.Layout.{Layout}
 use Rattle.std.specs.Prelude.{List, Option, Some, None, ◌==◌}
 use Rattle.inv_contents.proofs.model.Facts.{if_by, no_truth}
+use Rattle.inv_contents.specs.defs.declared.lifetime.Interval.{Interval}
+use Rattle.inv_contents.specs.model.Calls.KeepAt.{HideSpan}
 
 -- a step but of 2GE keeps the seat's interval
 
@@ -124,18 +127,26 @@ resumed_span : (layout : Layout) (k : ℕ) → is_valid layout ≡ true → (why
 resumed_span layout k v why desk post told (Goes base) q p = refl
 resumed_span layout k v why desk post told (Ends ending) q p = (resume_left (seen_grows layout k post.span v) why ending post desk told p (record { fits = q; same = refl })).post.same
 
-turn_span : (w : World) (i : ℕ) → is_valid w.layout ≡ true → Seats w → has_one_interval w.layout.config.scheme ≡ false → (phase : Phase) → (w.seat i).phase ≡ phase → (steps.phase_turn phase (counted (w.seat i).post) (w.seat i).desk (finds w i)).post.span ≡ (w.seat i).post.span
+bared_span : (work : Work) (post : Post) → has_one_interval (scheme_of post) ≡ false → WorkFits post work → (bared work post).span ≡ post.span
+bared_span (Keeping HideSpan) post b f = absurd (no_truth (sym b ∙ f.interval))
+bared_span work post b f = refl
+
+turn_span : (w : World) (i : ℕ) → is_valid w.layout ≡ true → Seats w → has_one_interval w.layout.config.scheme ≡ false → (phase : Phase) → (w.seat i).phase ≡ phase → (steps.phase_turn phase (counted (w.seat i).post) (offered w i).desk (finds w i)).post.span ≡ (w.seat i).post.span
 turn_span w i v s b Idle e = refl
 turn_span w i v s b (Runs why base) e =
     let f = s.fits i in
     let r : Run w.layout why base (w.seat i).post = subst (λ (p : Phase). PhaseFits w.layout (w.seat i).post p) e f.phase in
     let m = shape_moves w.layout i v why base (counted (w.seat i).post) (finds w i) (counted_fits w.layout i (w.seat i).post f.post) (run_counted w.layout why base (w.seat i).post r) in
     let t : Turn = machine.after base (counted (w.seat i).post) (finds w i) in
-    resumed_span w.layout i v why (w.seat i).desk t.post t.told t.outcome m.post m.phase ∙ base_span w.layout.config base (counted (w.seat i).post) (finds w i) b r.fits
-turn_span w i v s b (Scans later at) e = (scan_grows (seen_grows w.layout i (w.seat i).post.span v) later at (counted (w.seat i).post) (w.seat i).desk (finds w i) (post_is w i s)).post.same
+    resumed_span w.layout i v why (offered w i).desk t.post t.told t.outcome m.post m.phase ∙ base_span w.layout.config base (counted (w.seat i).post) (finds w i) b r.fits
+turn_span w i v s b (Scans later at) e = (scan_grows (seen_grows w.layout i (w.seat i).post.span v) later at (counted (w.seat i).post) (offered w i).desk (finds w i) (post_is w i s)).post.same
 turn_span w i v s b (Works work) e =
     let f = work_counted work (w.seat i).post (subst (λ (q : Phase). PhaseFits w.layout (w.seat i).post q) e (s.fits i).phase) in
-    (work_grows (seen_grows w.layout i (w.seat i).post.span v) work (counted (w.seat i).post) (w.seat i).desk (finds w i) f (stores_same (counted (w.seat i).post) (finds w i) work) (post_is w i s)).post.same
+    let post : Post = counted (w.seat i).post in
+    let p = counted_fits w.layout i (w.seat i).post (s.fits i).post in
+    let span : Option Interval = (bared work post).span in
+    let q : PostIs w.layout i span (bared work post) = record { fits = bared_fits w.layout i work post p; same = refl } in
+    (work_grows (seen_grows w.layout i span v) work post (offered w i).desk (finds w i) f (stores_same post (finds w i) work) q).post.same ∙ bared_span work post (ap (λ (l : Layout). has_one_interval l.config.scheme) p.layout ∙ b) f
 
 settled_span : (l : Local) (post : Post) (desk : Desk) (told : List Event) (outcome : CallOutcome) → (settled l (record { post = post; desk = desk; told = told; outcome = outcome })).post.span ≡ post.span
 settled_span l post desk told (GoesOn phase) = refl
@@ -166,22 +177,22 @@ work_few w i (Dequeuing (TakeValue head next number)) n e = tt
 work_few w i (Dequeuing (ExchangeHead head next number value)) n e = n.dequeues head next number value e
 work_few w i (Keeping at) n e = tt
 
-turn_fits : (w : World) (i : ℕ) → is_valid w.layout ≡ true → RestNeeds w i → LossNeeds w i → (phase : Phase) → (w.seat i).phase ≡ phase → TurnFit w.layout.config (w.seat i).rounds (steps.phase_turn phase (counted (w.seat i).post) (w.seat i).desk (finds w i))
+turn_fits : (w : World) (i : ℕ) → is_valid w.layout ≡ true → RestNeeds w i → LossNeeds w i → (phase : Phase) → (w.seat i).phase ≡ phase → TurnFit w.layout.config (w.seat i).rounds (steps.phase_turn phase (counted (w.seat i).post) (offered w i).desk (finds w i))
 turn_fits w i v n l Idle e = tt
 turn_fits w i v n l (Runs why base) e = run_fits w i why base (seat_of w i v n why base e) l
-turn_fits w i v n l (Scans later at) e = scan_fit w.layout.config (w.seat i).rounds later at (counted (w.seat i).post) (w.seat i).desk (finds w i) (subst (λ (q : Phase). phase_fit w.layout.config (w.seat i).rounds q) e (n.losses.few i))
-turn_fits w i v n l (Works work) e = work_turn_fit w.layout.config (w.seat i).rounds work (counted (w.seat i).post) (w.seat i).desk (finds w i) (subst (λ (q : Phase). phase_fit w.layout.config (w.seat i).rounds q) e (n.losses.few i)) (work_few w i work l e)
+turn_fits w i v n l (Scans later at) e = scan_fit w.layout.config (w.seat i).rounds later at (counted (w.seat i).post) (offered w i).desk (finds w i) (subst (λ (q : Phase). phase_fit w.layout.config (w.seat i).rounds q) e (n.losses.few i))
+turn_fits w i v n l (Works work) e = work_turn_fit w.layout.config (w.seat i).rounds work (counted (w.seat i).post) (offered w i).desk (finds w i) (subst (λ (q : Phase). phase_fit w.layout.config (w.seat i).rounds q) e (n.losses.few i)) (work_few w i work l e)
 
 own_few : (w : World) (i : ℕ) → is_valid w.layout ≡ true → RestNeeds w i → LossNeeds w i → phase_fit w.layout.config ((step w i).seat i).rounds ((step w i).seat i).phase
 own_few w i v n l =
-    let t : CallTurn = turn (w.seat i) (finds w i) in
-    let f = settled_fit w.layout.config (w.seat i) t.post t.desk t.told t.outcome (turn_fits w i v n l (w.seat i).phase refl) in
+    let t : CallTurn = turn (offered w i) (finds w i) in
+    let f = settled_fit w.layout.config (offered w i) t.post t.desk t.told t.outcome (turn_fits w i v n l (w.seat i).phase refl) in
     subst (λ (s : Local). phase_fit w.layout.config s.rounds s.phase) (sym (seat_steps w i)) f
 
 own_span : (w : World) (i : ℕ) → is_valid w.layout ≡ true → Seats w → Losses w → has_one_interval w.layout.config.scheme ≡ false → ((step w i).seat i).post.span ≡ None
 own_span w i v s l b =
-    let t : CallTurn = turn (w.seat i) (finds w i) in
-    ap (λ (s : Local). s.post.span) (seat_steps w i) ∙ settled_span (w.seat i) t.post t.desk t.told t.outcome ∙ turn_span w i v s b (w.seat i).phase refl ∙ l.spans i b
+    let t : CallTurn = turn (offered w i) (finds w i) in
+    ap (λ (s : Local). s.post.span) (seat_steps w i) ∙ settled_span (offered w i) t.post t.desk t.told t.outcome ∙ turn_span w i v s b (w.seat i).phase refl ∙ l.spans i b
 
 pub losses_kept : LossesKept
 losses_kept w i v n l = record {
@@ -210,6 +221,13 @@ looking_fit : (c : Config) (index key : ℕ) (stood : Option ℕ) → phase_fit 
 looking_fit c index key None = refl
 looking_fit c index key (Some slot) = refl
 
+leaves_span : (c : Config) (span : Option Interval) → phase_fit c 0 (keeps.parting_span span)
+leaves_span c None = refl
+leaves_span c (Some span) = refl
+
+leaving_fit : (c : Config) (post : Post) → phase_fit c 0 (keeps.parting post)
+leaving_fit c post = if_by (has_one_interval (scheme_of post)) (keeps.parting_span post.span) (keeps.parting_from 2 post) (λ (p : Phase). phase_fit c 0 p) (λ e. leaves_span c post.span) (λ e. parts_fit c 0 2 post refl)
+
 first_fit : (c : Config) (call : Call) (post : Post) → phase_fit c 0 (steps.first_phase call post)
 first_fit c (names.Get key) post = round_fit c 0 (Gets key) post (omega arith)
 first_fit c (names.Put key value) post = round_fit c 0 (steps.changing (changes.Put key value) None) post (omega arith)
@@ -223,6 +241,8 @@ first_fit c names.Scan post = tt
 first_fit c (names.Copy from index) post = copying_fit c from index (stands post from)
 first_fit c (names.DropIndex index) post = letting_fit c (Dropped index) post
 first_fit c (names.Look index key) post = looking_fit c index key (stands post index)
+first_fit c names.Leave post = leaving_fit c post
+first_fit c (names.Adopt place) post = refl
 first_fit c (names.PutIf key value version) post = round_fit c 0 (steps.changing (changes.Put key value) (Some version)) post (omega arith)
 
 pub losses_begin : LossesBegin

@@ -31,7 +31,7 @@ use Rattle.inv_contents.specs.model.Protect.{concluded, failed_once, held_post, 
 use Rattle.inv_contents.specs.model.Rest.{has_walked, is_told, lost_by, rounds_most}
 use Rattle.inv_contents.specs.model.SlowPath.{answer_in, lost_turn, own_request}
 use Rattle.inv_contents.specs.model.Steps.{resumed, run_turn}
-use Rattle.inv_contents.specs.model.World.{World, finds}
+use Rattle.inv_contents.specs.model.World.{World, finds, offered}
 use Rattle.inv_contents.specs.model.WriteRow.{after_write, last_written}
 use Rattle.inv_contents.specs.model.declared.post.Post.{Post}
 use Rattle.inv_contents.specs.defs.declared.call.Answer.{Answer}
@@ -52,7 +52,7 @@ use Rattle.inv_contents.proofs.model.Facts.{if_by}
 
 -- what is left of a call once a machine has made its step
 abbrev pub FitAfter : World → ℕ → Why → Base → Type 0
-FitAfter w i why base = TurnFit w.layout.config (w.seat i).rounds (run_turn why (w.seat i).desk (after base (counted (w.seat i).post) (finds w i)))
+FitAfter w i why base = TurnFit w.layout.config (w.seat i).rounds (run_turn why (offered w i).desk (after base (counted (w.seat i).post) (finds w i)))
 
 -- a root that is told has been told once
 abbrev Once : ℕ → Outcome → Type 0
@@ -146,7 +146,7 @@ own_fits w i task index root n at s l d z f =
     let t : Turn = after base post (finds w i) in
     let o = own_root w.layout.config.buckets task root s.run.shape.of in
     let k = once_told (rounds_most c task) r (is_told base) f in
-    own_opens c r task (w.seat i).desk t.post t.told t.outcome (lost_by r (is_told base)) d (lost_few (rounds_most c task) r (is_told base) f)
+    own_opens c r task (offered w i).desk t.post t.told t.outcome (lost_by r (is_told base)) d (lost_few (rounds_most c task) r (is_told base) f)
     (protect_tells r index root n (bump n) at post (finds w i) z o k) (told_once r index root n (bump n) at post (finds w i) z o k) (ends_well index root (bump n) at post (finds w i))
     (λ e q. l.roots task base s.at q e)
 
@@ -156,7 +156,7 @@ opens_fits w i (Changes kept) index root n at s l = own_fits w i (Changes kept) 
 opens_fits w i (Holds key) index root n at s l =
     let t : Turn = after (Protect Alone index root n at) (counted (w.seat i).post) (finds w i) in
     let z : (index == 0) ≡ false = (let e : index ≡ 2 = s.run.shape.at in rw e refl) in
-    hold_opens w.layout.config (w.seat i).rounds key (w.seat i).desk t.post t.told t.outcome (protect_steady (w.seat i).rounds Alone index root (bump n) at (counted (w.seat i).post) (finds w i) z ∙ s.lost) (ends_well index root (bump n) at (counted (w.seat i).post) (finds w i))
+    hold_opens w.layout.config (w.seat i).rounds key (offered w i).desk t.post t.told t.outcome (protect_steady (w.seat i).rounds Alone index root (bump n) at (counted (w.seat i).post) (finds w i) z ∙ s.lost) (ends_well index root (bump n) at (counted (w.seat i).post) (finds w i))
 opens_fits w i (Enqueues kept) index root n at s l = own_fits w i (Enqueues kept) index root n at s l refl (let e : index ≡ 0 = s.run.shape.at in rw e refl) s.lost
 opens_fits w i Dequeues index root n at s l = own_fits w i Dequeues index root n at s l refl (let e : index ≡ 0 = s.run.shape.at in rw e refl) s.lost
 
@@ -235,11 +235,11 @@ follows_fit_after : (w : World) (i : ℕ) (head tail : ℕ) (base : Base) → Se
 follows_fit_after w i head tail (Protect Follows index root n at) s l =
     let t : Turn = after (Protect Follows index root n at) (counted (w.seat i).post) (finds w i) in
     let z : (index == 0) ≡ false = (let e : index ≡ 1 = s.run.shape.at in rw e refl) in
-    follow_resumes w.layout.config (w.seat i).rounds head tail (w.seat i).desk t.post t.told t.outcome s.lost (protect_steady (w.seat i).rounds Follows index root (bump n) at (counted (w.seat i).post) (finds w i) z) (ends_follow index root (bump n) at (counted (w.seat i).post) (finds w i))
+    follow_resumes w.layout.config (w.seat i).rounds head tail (offered w i).desk t.post t.told t.outcome s.lost (protect_steady (w.seat i).rounds Follows index root (bump n) at (counted (w.seat i).post) (finds w i) z) (ends_follow index root (bump n) at (counted (w.seat i).post) (finds w i))
 follows_fit_after w i head tail (Protect Alone index root n at) s l = absurd (let e = follows_alone (sym s.run.shape.aimed) in cc)
 follows_fit_after w i head tail (Reload parent index slot era n) s l =
     let z : (index == 0) ≡ false = (let e : index ≡ 1 = s.run.shape.at in rw e refl) in
-    reload_fits w.layout.config (w.seat i).rounds head tail parent index slot (bump n) (counted (w.seat i).post) (w.seat i).desk (finds w i) z s.lost (l.reloads head tail parent index slot era n s.at)
+    reload_fits w.layout.config (w.seat i).rounds head tail parent index slot (bump n) (counted (w.seat i).post) (offered w i).desk (finds w i) z s.lost (l.reloads head tail parent index slot era n s.at)
 follows_fit_after w i head tail (Begin at) s l = absurd (let e = s.run.suited in cc)
 follows_fit_after w i head tail (Clear index) s l = absurd (let e = s.run.suited in cc)
 follows_fit_after w i head tail Finish s l = absurd (let e = s.run.suited in cc)
@@ -264,10 +264,10 @@ allocate_fits_after w i task LoadBirth s l = s.lost
 allocate_fits_after w i task (ClaimSlot birth walk) s l =
     let post : Post = counted (w.seat i).post in
     if_by (is_claimed (finds w i) walk.slot) (walking birth post (walk_past post.layout.config.slots walk (finds w i))) (goes (record post { cursor = next_slot post.layout.config.slots walk.slot }) (events.Give walk.slot birth ∷ []) (Allocate (StoreLife birth walk.slot)))
-    (λ (t : Turn). TurnFit w.layout.config (w.seat i).rounds (run_turn (Fills task) (w.seat i).desk t))
-    (λ e. walking_fits w.layout.config (w.seat i).rounds task birth post (w.seat i).desk (walk_past post.layout.config.slots walk (finds w i)) s.lost (l.walks task birth walk s.at)) (λ e. s.lost)
+    (λ (t : Turn). TurnFit w.layout.config (w.seat i).rounds (run_turn (Fills task) (offered w i).desk t))
+    (λ e. walking_fits w.layout.config (w.seat i).rounds task birth post (offered w i).desk (walk_past post.layout.config.slots walk (finds w i)) s.lost (l.walks task birth walk s.at)) (λ e. s.lost)
 allocate_fits_after w i task (StoreLife birth slot) s l =
-    filled_by_fit w.layout.config (w.seat i).rounds task (allocate_ends.Given slot birth) (counted (w.seat i).post) (w.seat i).desk [] s.lost refl (λ e w. absurd (let x = given_not_full slot birth e in cc))
+    filled_by_fit w.layout.config (w.seat i).rounds task (allocate_ends.Given slot birth) (counted (w.seat i).post) (offered w i).desk [] s.lost refl (λ e w. absurd (let x = given_not_full slot birth e in cc))
 
 write_fits : (c : Config) (rounds : ℕ) (task : Task) (slot : ℕ) (row : RowOf) (place : ℕ) (post : Post) (desk : Desk) → fills_fit c rounds task → TurnFit c rounds (run_turn (Fills task) desk (after_write slot row place post))
 write_fits c rounds task slot row place post desk f =
@@ -275,7 +275,7 @@ write_fits c rounds task slot row place post desk f =
 
 fills_fit_after : (w : World) (i : ℕ) (task : Task) (base : Base) → Seat w i (Fills task) base → LossNeeds w i → FitAfter w i (Fills task) base
 fills_fit_after w i task (Allocate at) s l = allocate_fits_after w i task at s l
-fills_fit_after w i task (Write slot row place) s l = write_fits w.layout.config (w.seat i).rounds task slot row place (counted (w.seat i).post) (w.seat i).desk s.lost
+fills_fit_after w i task (Write slot row place) s l = write_fits w.layout.config (w.seat i).rounds task slot row place (counted (w.seat i).post) (offered w i).desk s.lost
 fills_fit_after w i task (Begin at) s l = absurd (let e = s.run.suited in cc)
 fills_fit_after w i task (Protect aim index root n at) s l = absurd (let e = s.run.suited in cc)
 fills_fit_after w i task (Reload parent index slot era n) s l = absurd (let e = s.run.suited in cc)
@@ -318,7 +318,7 @@ tidy_resumes c rounds later desk post told (Ends ending) e l = tidied_fit c roun
 nexts_fit_after : (w : World) (i : ℕ) (next : Next) (base : Base) → Seat w i (ClearsNext next) base → LossNeeds w i → FitAfter w i (ClearsNext next) base
 nexts_fit_after w i next (Clear index) s l =
     let told : List Event = (after (Clear index) (counted (w.seat i).post) (finds w i)).told in
-    clearing_fit w.layout.config (w.seat i).rounds Dequeues next (withdrawn (counted (w.seat i).post) index) (w.seat i).desk told (after_fit w.layout.config (w.seat i).rounds (rounds_told (w.seat i).rounds told) Dequeues next (clear_rounds w i index) s.lost)
+    clearing_fit w.layout.config (w.seat i).rounds Dequeues next (withdrawn (counted (w.seat i).post) index) (offered w i).desk told (after_fit w.layout.config (w.seat i).rounds (rounds_told (w.seat i).rounds told) Dequeues next (clear_rounds w i index) s.lost)
 nexts_fit_after w i next (Begin at) s l = absurd (let e = s.run.suited in cc)
 nexts_fit_after w i next (Protect aim index root n at) s l = absurd (let e = s.run.suited in cc)
 nexts_fit_after w i next (Reload parent index slot era n) s l = absurd (let e = s.run.suited in cc)
@@ -333,7 +333,7 @@ nexts_fit_after w i next (Move at) s l = absurd (let e = s.run.suited in cc)
 clears_fit_after : (w : World) (i : ℕ) (task : Task) (next : Next) (base : Base) → Seat w i (Clears task next) base → LossNeeds w i → FitAfter w i (Clears task next) base
 clears_fit_after w i task next (Clear index) s l =
     let told : List Event = (after (Clear index) (counted (w.seat i).post) (finds w i)).told in
-    finishing_fit w.layout.config (w.seat i).rounds task next (withdrawn (counted (w.seat i).post) index) (w.seat i).desk told (after_fit w.layout.config (w.seat i).rounds (rounds_told (w.seat i).rounds told) task next (clear_rounds w i index) s.lost)
+    finishing_fit w.layout.config (w.seat i).rounds task next (withdrawn (counted (w.seat i).post) index) (offered w i).desk told (after_fit w.layout.config (w.seat i).rounds (rounds_told (w.seat i).rounds told) task next (clear_rounds w i index) s.lost)
 clears_fit_after w i task next (Begin at) s l = absurd (let e = s.run.suited in cc)
 clears_fit_after w i task next (Protect aim index root n at) s l = absurd (let e = s.run.suited in cc)
 clears_fit_after w i task next (Reload parent index slot era n) s l = absurd (let e = s.run.suited in cc)
@@ -347,7 +347,7 @@ clears_fit_after w i task next (Move at) s l = absurd (let e = s.run.suited in c
 
 finishes_fit_after : (w : World) (i : ℕ) (task : Task) (next : Next) (base : Base) → Seat w i (Finishes task next) base → LossNeeds w i → FitAfter w i (Finishes task next) base
 finishes_fit_after w i task next Finish s l =
-    closed_fit w.layout.config (w.seat i).rounds task next (with_span (counted (w.seat i).post) None) (w.seat i).desk (reserves_span (counted (w.seat i).post) None) (of_finish w.layout.config (w.seat i).rounds task next s.lost)
+    closed_fit w.layout.config (w.seat i).rounds task next (with_span (counted (w.seat i).post) None) (offered w i).desk (reserves_span (counted (w.seat i).post) None) (of_finish w.layout.config (w.seat i).rounds task next s.lost)
 finishes_fit_after w i task next (Begin at) s l = absurd (let e = s.run.suited in cc)
 finishes_fit_after w i task next (Protect aim index root n at) s l = absurd (let e = s.run.suited in cc)
 finishes_fit_after w i task next (Reload parent index slot era n) s l = absurd (let e = s.run.suited in cc)
@@ -375,7 +375,7 @@ gives_fit_after w i answer (Move at) s l = absurd (let e = s.run.suited in cc)
 tidies_fit_after : (w : World) (i : ℕ) (later : AfterScan) (base : Base) → Seat w i (Tidies later) base → LossNeeds w i → FitAfter w i (Tidies later) base
 tidies_fit_after w i later (Move at) s l =
     let t : Turn = after (Move at) (counted (w.seat i).post) (finds w i) in
-    tidy_resumes w.layout.config (w.seat i).rounds later (w.seat i).desk t.post t.told t.outcome (base_steady (w.seat i).rounds (Move at) (counted (w.seat i).post) (finds w i) refl) s.lost
+    tidy_resumes w.layout.config (w.seat i).rounds later (offered w i).desk t.post t.told t.outcome (base_steady (w.seat i).rounds (Move at) (counted (w.seat i).post) (finds w i) refl) s.lost
 tidies_fit_after w i later (Begin at) s l = absurd (let e = s.run.suited in cc)
 tidies_fit_after w i later (Protect aim index root n at) s l = absurd (let e = s.run.suited in cc)
 tidies_fit_after w i later (Reload parent index slot era n) s l = absurd (let e = s.run.suited in cc)
@@ -390,10 +390,10 @@ tidies_fit_after w i later (Retire at) s l = absurd (let e = s.run.suited in cc)
 releases_fit_after : (w : World) (i : ℕ) (let_go : LetGo) (base : Base) → Seat w i (Releases let_go) base → LossNeeds w i → FitAfter w i (Releases let_go) base
 releases_fit_after w i let_go (Clear index) s l =
     let t : Turn = after (Clear index) (counted (w.seat i).post) (finds w i) in
-    released_fit w.layout.config (w.seat i).rounds let_go (withdrawn (counted (w.seat i).post) index) (w.seat i).desk t.told (clear_rounds w i index ∙ s.lost)
+    released_fit w.layout.config (w.seat i).rounds let_go (withdrawn (counted (w.seat i).post) index) (offered w i).desk t.told (clear_rounds w i index ∙ s.lost)
 releases_fit_after w i let_go (Release index) s l =
     let t : Turn = after (Release index) (counted (w.seat i).post) (finds w i) in
-    released_fit w.layout.config (w.seat i).rounds let_go t.post (w.seat i).desk t.told (base_steady (w.seat i).rounds (Release index) (counted (w.seat i).post) (finds w i) refl ∙ s.lost)
+    released_fit w.layout.config (w.seat i).rounds let_go t.post (offered w i).desk t.told (base_steady (w.seat i).rounds (Release index) (counted (w.seat i).post) (finds w i) refl ∙ s.lost)
 releases_fit_after w i let_go (Begin at) s l = absurd (let e = s.run.suited in cc)
 releases_fit_after w i let_go (Protect aim index root n at) s l = absurd (let e = s.run.suited in cc)
 releases_fit_after w i let_go (Reload parent index slot era n) s l = absurd (let e = s.run.suited in cc)
@@ -412,7 +412,7 @@ run_fits w i (ClearsNext next) base s l = nexts_fit_after w i next base s l
 run_fits w i (Clears task next) base s l = clears_fit_after w i task next base s l
 run_fits w i (Finishes task next) base s l = finishes_fit_after w i task next base s l
 run_fits w i (GivesUp answer) base s l = gives_fit_after w i answer base s l
-run_fits w i (Retires answer) base s l = retire_resumes w.layout.config (w.seat i).rounds answer (w.seat i).desk (after base (counted (w.seat i).post) (finds w i))
+run_fits w i (Retires answer) base s l = retire_resumes w.layout.config (w.seat i).rounds answer (offered w i).desk (after base (counted (w.seat i).post) (finds w i))
 run_fits w i (Tidies later) base s l = tidies_fit_after w i later base s l
-run_fits w i Advances base s l = advance_resumes w.layout.config (w.seat i).rounds (w.seat i).desk (after base (counted (w.seat i).post) (finds w i))
+run_fits w i Advances base s l = advance_resumes w.layout.config (w.seat i).rounds (offered w i).desk (after base (counted (w.seat i).post) (finds w i))
 run_fits w i (Releases let_go) base s l = releases_fit_after w i let_go base s l

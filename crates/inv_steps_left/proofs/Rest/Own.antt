@@ -15,7 +15,7 @@ use Rattle.inv_contents.specs.model.Calls.ChangeAt.{ExchangeRoot, LoadCount, Loa
 use Rattle.inv_contents.specs.model.Calls.DequeueAt.{ExchangeHead, LoadTail, SwingTail, TakeNumber, TakeValue}
 use Rattle.inv_contents.specs.model.Calls.EnqueueAt.{ExchangeNext, ExchangeTail, LoadNext, LoadNumber, PassTail}
 use Rattle.inv_contents.specs.model.Calls.GetAt.{FindCount, FindKey, FindValue, FindVersion}
-use Rattle.inv_contents.specs.model.Calls.KeepAt.{LoadHeld, Looks, Loosens, Misses, StoreHeld}
+use Rattle.inv_contents.specs.model.Calls.KeepAt.{HideSpan, LoadHeld, Looks, Loosens, MarkLeft, MarkTaken, Misses, StoreHeld, TakeList}
 use Rattle.inv_contents.specs.model.Calls.Next.{Again, Answering, Retiring}
 use Rattle.inv_contents.specs.model.Calls.Task.{Changes, Dequeues, Enqueues, Gets}
 use Rattle.inv_contents.specs.model.Calls.Work.{Changing, Dequeuing, Enqueuing, Getting, Keeping}
@@ -28,7 +28,7 @@ use Rattle.inv_contents.specs.model.Rounds.{bucket_of, let_index, scheme_of}
 use Rattle.inv_contents.specs.model.declared.post.Post.{Post}
 use Rattle.inv_contents.specs.defs.declared.event.Event.{Event}
 use Rattle.inv_steps_left.proofs.Rest.Fits.{TurnFit, clearing_fit, clearing_next_fit, deciding_fit, released_fit}
-use Rattle.inv_steps_left.proofs.Rest.Closings.{cleared_rounds}
+use Rattle.inv_steps_left.proofs.Rest.Closings.{cleared_rounds, all_cleared}
 use Rattle.inv_steps_left.proofs.Rest.Works.{link_told}
 use Rattle.inv_steps_left.specs.Losses.{InRound, lost_fit, next_fit, work_fit}
 use Rattle.inv_contents.specs.words.Schemes.{has_one_interval}
@@ -153,6 +153,10 @@ look_fit c rounds index key (FindCount slot version) post desk found i = looking
 look_fit c rounds index key (FindKey slot version count pair) post desk found i = looked_fit c rounds index key slot version count pair post desk (found == key) i
 look_fit c rounds index key (FindValue slot version pair) post desk found i = tt
 
+taking_fit : (c : Config) (rounds place : ℕ) (post : Post) (desk : Desk) (left : Bool) (found : ℕ) → rounds ≡ 0 → TurnFit c rounds (keeps.taking place post desk left found)
+taking_fit c rounds place post desk true found i = i
+taking_fit c rounds place post desk false found i = tt
+
 keep_fit : (c : Config) (rounds : ℕ) (at : KeepAt) (post : Post) (desk : Desk) (found : ℕ) → rounds ≡ 0 → TurnFit c rounds (keeps.keep_turn at post desk found)
 keep_fit c rounds (Loosens let_go) post desk found i =
     released_fit c rounds let_go (withdrawn post (let_index let_go)) desk (cleared (let_index let_go) (stands post (let_index let_go))) (cleared_rounds rounds (let_index let_go) (stands post (let_index let_go)) ∙ i)
@@ -160,6 +164,10 @@ keep_fit c rounds (LoadHeld from index) post desk found i = held_fit c rounds fr
 keep_fit c rounds (StoreHeld from index era) post desk found i = copied_fit c rounds from index post desk (reserves_index post index era) (stands post from)
 keep_fit c rounds (Looks index key at) post desk found i = look_fit c rounds index key at post desk found i
 keep_fit c rounds (Misses index) post desk found i = tt
+keep_fit c rounds HideSpan post desk found i = all_cleared rounds post ∙ i
+keep_fit c rounds MarkLeft post desk found i = tt
+keep_fit c rounds (TakeList place) post desk found i = taking_fit c rounds place post desk (found == 1) found i
+keep_fit c rounds (MarkTaken place count) post desk found i = tt
 
 pub work_turn_fit : (c : Config) (rounds : ℕ) (work : Work) (post : Post) (desk : Desk) (found : ℕ) → work_fit c rounds work → WorkFew c rounds work found → TurnFit c rounds (steps.work_turn work post desk found)
 work_turn_fit c rounds (Getting key at) post desk found i l = get_fit c rounds key at post desk found i

@@ -19,7 +19,7 @@ use Rattle.inv_contents.specs.model.Posts.{counted, with_span}
 use Rattle.inv_contents.specs.model.Rest.{base_seen, eras_left, is_told, lost_by, rounds_most, span_seen, why_left, task_left}
 use Rattle.inv_contents.specs.model.Rounds.{scheme_of}
 use Rattle.inv_contents.specs.model.Steps.{run_turn}
-use Rattle.inv_contents.specs.model.World.{World, finds, step}
+use Rattle.inv_contents.specs.model.World.{World, finds, offered, step}
 use Rattle.inv_contents.specs.model.declared.post.Post.{Post}
 use Rattle.inv_contents.specs.defs.declared.event.Root.{Root}
 use Rattle.inv_links.specs.shapes.Seats.{task_root}
@@ -43,11 +43,11 @@ use Rattle.inv_links.proofs.covers.Held.{finds_at}
 -- what a machine's step leaves is less than what was left
 abbrev pub Lowers : World → ℕ → Why → Base → Type 0
 Lowers w i why base =
-    turn_total w.layout.config ((step w i).mem Clock) (w.seat i).rounds (run_turn why (w.seat i).desk (after base (counted (w.seat i).post) (finds w i))) + 1
+    turn_total w.layout.config ((step w i).mem Clock) (w.seat i).rounds (run_turn why (offered w i).desk (after base (counted (w.seat i).post) (finds w i))) + 1
     ≤ why_left w.layout.config (length (w.seat i).desk.list) (w.seat i).rounds base why + eras_left w.layout.config (base_seen base (span_seen (w.mem Clock) (w.seat i).post.span))
 
 abbrev pub Knows : World → ℕ → Why → Base → Type 0
-Knows w i why base = PhaseKnown w.layout (stands_at (run_turn why (w.seat i).desk (after base (counted (w.seat i).post) (finds w i))).outcome)
+Knows w i why base = PhaseKnown w.layout (stands_at (run_turn why (offered w i).desk (after base (counted (w.seat i).post) (finds w i))).outcome)
 
 -- what an own protection is of
 
@@ -78,7 +78,7 @@ own_protects w i v task index root n at s z f p =
     let a = seat_after w i (Opens task) base old v s settled p t refl in
     let o = own_root w.layout.config.buckets task root s.run.shape.of in
     let told = protect_tells r index root n (bump n) at (counted (w.seat i).post) (finds w i) z o (once_told (rounds_most c task) r (is_told base) f) in
-    let h = opens_own c w.layout i ((step w i).mem Clock) r task base (w.seat i).desk t.post t.told t.outcome old (lost_by r (is_told base)) (lost_few (rounds_most c task) r (is_told base) f) told (ends_well index root (bump n) at (counted (w.seat i).post) (finds w i)) a in
+    let h = opens_own c w.layout i ((step w i).mem Clock) r task base (offered w i).desk t.post t.told t.outcome old (lost_by r (is_told base)) (lost_few (rounds_most c task) r (is_told base) f) told (ends_well index root (bump n) at (counted (w.seat i).post) (finds w i)) a in
     omega (arith, h)
 
 hold_protects : (w : World) (i : ℕ) → is_valid w.layout ≡ true → (key index : ℕ) (root : Root) (n : ℕ) (at : ProtectAt) → Seat w i (Opens (Holds key)) (Protect Alone index root n at)
@@ -92,7 +92,7 @@ hold_protects w i v key index root n at s z f p =
     let settled : Settles c old ((step w i).mem Clock) t = protect_settles c (w.mem Clock) ((step w i).mem Clock) Alone index root n (bump n) at (counted (w.seat i).post) (finds w i) (seat_protects w i (Opens (Holds key)) Alone index root n at s) in
     let a = seat_after w i (Opens (Holds key)) base old v s settled p t refl in
     let told = protect_steady r Alone index root (bump n) at (counted (w.seat i).post) (finds w i) z in
-    let h = opens_hold c w.layout i ((step w i).mem Clock) r key (w.seat i).desk t.post t.told t.outcome old (told ∙ f) (ends_well index root (bump n) at (counted (w.seat i).post) (finds w i)) a in
+    let h = opens_hold c w.layout i ((step w i).mem Clock) r key (offered w i).desk t.post t.told t.outcome old (told ∙ f) (ends_well index root (bump n) at (counted (w.seat i).post) (finds w i)) a in
     let k : lost_by r (is_told base) ≡ 0 = rw f (none_lost (is_told base)) in
     rw k (omega (arith, h))
 
@@ -159,12 +159,12 @@ follow_protects w i v head tail aim index root n at s p =
     let a = seat_after w i (FollowsHead head tail) base old v s settled p t refl in
     let e : index ≡ 1 = s.run.shape.at in
     let told = protect_steady r aim index root (bump n) at (counted (w.seat i).post) (finds w i) (rw e refl) in
-    let h = follows_on c w.layout i ((step w i).mem Clock) r head tail (w.seat i).desk t.post t.told t.outcome old s.lost told a in
+    let h = follows_on c w.layout i ((step w i).mem Clock) r head tail (offered w i).desk t.post t.told t.outcome old s.lost told a in
     omega (arith, h)
 
 -- a machine that tells no round
 pub still_after : (w : World) (i : ℕ) → is_valid w.layout ≡ true → (why : Why) (base : Base) → Seat w i why base → Knows w i why base → base_owes w.layout.config base (counted (w.seat i).post) (finds w i)
-    → After w.layout.config w.layout i ((step w i).mem Clock) (w.seat i).rounds (start_of w.layout.config (w.mem Clock) (w.seat i).post.span base) (w.seat i).desk (after base (counted (w.seat i).post) (finds w i)).post (after base (counted (w.seat i).post) (finds w i)).told (after base (counted (w.seat i).post) (finds w i)).outcome (run_turn why (w.seat i).desk (after base (counted (w.seat i).post) (finds w i)))
+    → After w.layout.config w.layout i ((step w i).mem Clock) (w.seat i).rounds (start_of w.layout.config (w.mem Clock) (w.seat i).post.span base) (offered w i).desk (after base (counted (w.seat i).post) (finds w i)).post (after base (counted (w.seat i).post) (finds w i)).told (after base (counted (w.seat i).post) (finds w i)).outcome (run_turn why (offered w i).desk (after base (counted (w.seat i).post) (finds w i)))
 still_after w i v why base s p o = seat_after w i why base (start_of w.layout.config (w.mem Clock) (w.seat i).post.span base) v s (seat_settles w i why base s o) p (after base (counted (w.seat i).post) (finds w i)) refl
 
 follow_reloads : (w : World) (i : ℕ) → is_valid w.layout ≡ true → (head tail parent index slot era n : ℕ) → Seat w i (FollowsHead head tail) (Reload parent index slot era n) → Knows w i (FollowsHead head tail) (Reload parent index slot era n) → Lowers w i (FollowsHead head tail) (Reload parent index slot era n)
@@ -173,7 +173,7 @@ follow_reloads w i v head tail parent index slot era n s p =
     let t : Turn = after base (counted (w.seat i).post) (finds w i) in
     let e : index ≡ 1 = s.run.shape.at in
     let told = base_steady (w.seat i).rounds base (counted (w.seat i).post) (finds w i) (rw e refl) in
-    let h = follows_on w.layout.config w.layout i ((step w i).mem Clock) (w.seat i).rounds head tail (w.seat i).desk t.post t.told t.outcome (start_of w.layout.config (w.mem Clock) (w.seat i).post.span base) s.lost told (still_after w i v (FollowsHead head tail) base s p tt) in
+    let h = follows_on w.layout.config w.layout i ((step w i).mem Clock) (w.seat i).rounds head tail (offered w i).desk t.post t.told t.outcome (start_of w.layout.config (w.mem Clock) (w.seat i).post.span base) s.lost told (still_after w i v (FollowsHead head tail) base s p tt) in
     omega (arith, h)
 
 pub follows_lowers : (w : World) (i : ℕ) → is_valid w.layout ≡ true → (head tail : ℕ) (base : Base) → Seat w i (FollowsHead head tail) base → Knows w i (FollowsHead head tail) base → Lowers w i (FollowsHead head tail) base
@@ -194,7 +194,7 @@ fill_allocates w i v task at s p =
     let base : Base = Allocate at in
     let t : Turn = after base (counted (w.seat i).post) (finds w i) in
     let told = base_steady (w.seat i).rounds base (counted (w.seat i).post) (finds w i) refl in
-    let h = allocates_on w.layout.config w.layout i ((step w i).mem Clock) (w.seat i).rounds task (w.seat i).desk t.post t.told t.outcome (start_of w.layout.config (w.mem Clock) (w.seat i).post.span base) s.lost told (walks_on at (counted (w.seat i).post) (finds w i)) (still_after w i v (Fills task) base s p tt) in
+    let h = allocates_on w.layout.config w.layout i ((step w i).mem Clock) (w.seat i).rounds task (offered w i).desk t.post t.told t.outcome (start_of w.layout.config (w.mem Clock) (w.seat i).post.span base) s.lost told (walks_on at (counted (w.seat i).post) (finds w i)) (still_after w i v (Fills task) base s p tt) in
     omega (arith, h)
 
 place_below : (row : RowOf) (place : ℕ) → (nat_le (first_written row) place && nat_le place (last_written row)) ≡ true → place ≤ last_written row
@@ -216,8 +216,8 @@ fill_writes w i v task slot row place s p =
     let old : ℕ = start_of w.layout.config (w.mem Clock) (w.seat i).post.span base in
     let e = write_turn slot row place post last in
     let a = seat_after w i (Fills task) base old v s (seat_settles w i (Fills task) base s (place_below row place s.run.fits)) p (record { post = post; told = []; outcome = (if last then ends post [] Done else goes post [] (Write slot row (place + 1))).outcome }) e in
-    let h = writes_on w.layout.config w.layout i ((step w i).mem Clock) (w.seat i).rounds task slot row place (w.seat i).desk post last old s.lost a in
-    let k = subst (λ (x : Turn). turn_total w.layout.config ((step w i).mem Clock) (w.seat i).rounds (run_turn (Fills task) (w.seat i).desk x) + 1 ≤ old + 5 + task_left w.layout.config (length (w.seat i).desk.list) task ((w.seat i).rounds - 1)) (sym e) h in
+    let h = writes_on w.layout.config w.layout i ((step w i).mem Clock) (w.seat i).rounds task slot row place (offered w i).desk post last old s.lost a in
+    let k = subst (λ (x : Turn). turn_total w.layout.config ((step w i).mem Clock) (w.seat i).rounds (run_turn (Fills task) (offered w i).desk x) + 1 ≤ old + 5 + task_left w.layout.config (length (w.seat i).desk.list) task ((w.seat i).rounds - 1)) (sym e) h in
     omega (arith, k)
 
 pub fills_lowers : (w : World) (i : ℕ) → is_valid w.layout ≡ true → (task : Task) (base : Base) → Seat w i (Fills task) base → Knows w i (Fills task) base → Lowers w i (Fills task) base

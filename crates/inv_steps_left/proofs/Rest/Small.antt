@@ -11,8 +11,8 @@ use Rattle.inv_contents.specs.model.Calls.ChangeAt.{ExchangeRoot, LoadCount, Loa
 use Rattle.inv_contents.specs.model.Calls.DequeueAt.{ExchangeHead, LoadTail, SwingTail, TakeNumber, TakeValue}
 use Rattle.inv_contents.specs.model.Calls.EnqueueAt.{ExchangeNext, ExchangeTail, LoadNext, LoadNumber, PassTail}
 use Rattle.inv_contents.specs.model.Calls.GetAt.{FindCount, FindKey, FindValue, FindVersion}
-use Rattle.inv_contents.specs.model.Calls.KeepAt.{LoadHeld, Looks, Loosens, Misses, StoreHeld}
-use Rattle.inv_contents.specs.model.Calls.LetGo.{Dropped, Rehold, Released}
+use Rattle.inv_contents.specs.model.Calls.KeepAt.{HideSpan, LoadHeld, Looks, Loosens, MarkLeft, MarkTaken, Misses, StoreHeld, TakeList}
+use Rattle.inv_contents.specs.model.Calls.LetGo.{Dropped, Parting, Rehold, Released}
 use Rattle.inv_contents.specs.model.Calls.Next.{Again, Answering, MakeRoom, Retiring}
 use Rattle.inv_contents.specs.model.Calls.Phase.{Idle, Runs, Scans, Works}
 use Rattle.inv_contents.specs.model.Calls.ScanAt.{GiveBack, ReadGuard}
@@ -239,6 +239,7 @@ let_small : (c : Config) (lives : ℕ) (let_go : LetGo) → Few c → lives ≤ 
 let_small c lives Released f l = omega arith
 let_small c lives (Rehold key) f l = let t = task_small c lives (Holds key) 0 f l in let s = f.tries in omega (arith, t, s)
 let_small c lives (Dropped index) f l = omega arith
+let_small c lives (Parting index) f l = omega arith
 
 why_small : (layout : Layout) (lives rounds : ℕ) (base : Base) (why : Why) → Few layout.config → base_left layout.config base ≤ 65540 → lives ≤ 65537 → why_left layout.config lives rounds base why ≤ 274719577270300000
 why_small layout lives rounds base (Opens task) f b l = let t = task_small layout.config lives task (lost_by rounds (is_told base)) f l in let r = round_small layout.config task f in omega (arith, b, t, r)
@@ -286,6 +287,10 @@ keep_small c lives (LoadHeld from index) f l g = omega arith
 keep_small c lives (StoreHeld from index era) f l g = omega arith
 keep_small c lives (Looks index key at) f l g = let a = get_small c at f g.1 in omega (arith, a)
 keep_small c lives (Misses index) f l g = omega arith
+keep_small c lives HideSpan f l g = omega arith
+keep_small c lives MarkLeft f l g = omega arith
+keep_small c lives (TakeList place) f l g = omega arith
+keep_small c lives (MarkTaken place count) f l g = omega arith
 
 work_small : (c : Config) (lives rounds : ℕ) (work : Work) → Few c → lives ≤ 65537 → WorkIn c work → work_left c lives rounds work ≤ 274719577270300000
 work_small c lives rounds (Getting key at) f l g = let a = get_small c at f g in let t = task_small c lives (Gets key) (rounds - 1) f l in omega (arith, a, t)

@@ -1,5 +1,5 @@
 -- What comes after the other machines, and after a call's own steps.
-use Rattle.std.proofs.Common.{ℕ, ◌∙◌, ◌≡◌, ◌≤◌, ◌+◌, ◌-◌, Bool, true, false, [], ◌∷◌, arith, refl, subst}
+use Rattle.std.proofs.Common.{ℕ, ◌∙◌, ◌≡◌, ◌≤◌, ◌<◌, ◌+◌, ◌-◌, Bool, true, false, [], ◌∷◌, arith, refl, subst}
 use Rattle.inv_steps_left.proofs.Rest.Amounts.{PhaseKnown}
 use Rattle.inv_links.specs.shapes.Frame.{phase_left as stands_at}
 use Rattle.inv_contents.specs.model.Change as alters
@@ -10,7 +10,7 @@ use Rattle.inv_contents.specs.model.Steps as steps
 use Rattle.inv_contents.specs.defs.declared.call.Answer.TheVariants as answers
 use Rattle.inv_contents.specs.model.declared.ends.FollowEnd.TheVariants as follow_ends
 use Rattle.inv_contents.specs.model.Calls.{Task, AfterScan, LetGo, Next}
-use Rattle.inv_contents.specs.model.Calls.LetGo.{Dropped, Rehold, Released}
+use Rattle.inv_contents.specs.model.Calls.LetGo.{Dropped, Parting, Rehold, Released}
 use Rattle.inv_contents.specs.model.Calls.Next.{Again, Answering, MakeRoom}
 use Rattle.inv_contents.specs.model.Calls.Task.{Changes, Dequeues, Enqueues, Gets, Holds}
 use Rattle.inv_contents.specs.model.Desks.{Desk, with_life}
@@ -18,7 +18,8 @@ use Rattle.inv_contents.specs.model.Locals.{rounds_told}
 use Rattle.inv_contents.specs.model.Phases.{Ending}
 use Rattle.inv_contents.specs.model.Phases.Ending.{Allocated, Clocked, Done, Followed, Protected, Retired}
 use Rattle.inv_contents.specs.model.Rest.{closing_left, ending_most, room_most, rounds_left, rounds_most, task_left, walks_after, walks_by, fill_left, has_walked, later_left, let_left, open_left, phase_left, scan_most, walk_most}
-use Rattle.inv_contents.specs.model.Rounds.{clearing, closed, round, scheme_of, taken_of}
+use Rattle.inv_contents.specs.model.Posts.{standing_from}
+use Rattle.inv_contents.specs.model.Rounds.{clearing, closed, let_index, round, scheme_of, taken_of}
 use Rattle.inv_contents.specs.model.declared.ends.FollowEnd.{FollowEnd}
 use Rattle.inv_contents.specs.model.declared.post.Post.{Post}
 use Rattle.inv_contents.specs.defs.declared.event.Event.{Event}
@@ -26,7 +27,8 @@ use Rattle.inv_steps_left.proofs.Rest.Closings.{clearing_left, clearing_next_lef
 use Rattle.inv_steps_left.proofs.Rest.Opens.{again_left}
 use Rattle.inv_steps_left.specs.Losses.{InRound, fills_fit}
 use Rattle.inv_contents.specs.words.declared.config.Config.{Config}
-use Rattle.std.specs.Prelude.{List, length, None, ◌==◌, ◌++◌, Option, Some, ◌%◌}
+use Rattle.inv_links.proofs.shapes.Leaving.{next_stands}
+use Rattle.std.specs.Prelude.{List, drop, length, None, ◌==◌, ◌++◌, Option, Some, ◌%◌}
 use Rattle.inv_contents.specs.model.declared.ends.AllocateEnd.TheVariants as allocate_ends
 use Rattle.inv_contents.specs.model.Calls.AfterScan.{Answered, Counted, Repeated}
 use Rattle.inv_contents.specs.model.declared.ends.AllocateEnd.{AllocateEnd}
@@ -138,11 +140,17 @@ advanced_left c rounds (Followed ending) post desk told = omega arith
 advanced_left c rounds (Allocated ending) post desk told = omega arith
 advanced_left c rounds (Retired life) post desk told = omega arith
 
+-- a seat that leaves goes on at a greater index
+parting_left : (c : Config) (rounds index : ℕ) (lives : List Lifetime) (post : Post) (x : Option ℕ) → standing_from (index + 1) (drop (index + 1) post.standing) ≡ x → index < 8 → phase_left c rounds lives (keeps.parting_index x) ≤ 8 - index
+parting_left c rounds index lives post None e b = omega (arith, b)
+parting_left c rounds index lives post (Some next) e b = let n = (next_stands post (index + 1) next e).from in omega (arith, b, n)
+
 -- what comes once something is let go
-pub released_left : (c : Config) (rounds lives : ℕ) (let_go : LetGo) (post : Post) (desk : Desk) (told : List Event) → length desk.list ≡ lives → rounds_told rounds told ≡ 0 → turn_left c rounds (keeps.released let_go post desk told) ≤ let_left c lives let_go
-released_left c rounds lives Released post desk told l e = omega arith
-released_left c rounds lives (Dropped index) post desk told l e = omega arith
-released_left c rounds lives (Rehold key) post desk told l e =
+pub released_left : (c : Config) (rounds lives : ℕ) (let_go : LetGo) (post : Post) (desk : Desk) (told : List Event) → let_index let_go < 8 → length desk.list ≡ lives → rounds_told rounds told ≡ 0 → turn_left c rounds (keeps.released let_go post desk told) ≤ let_left c lives let_go
+released_left c rounds lives Released post desk told b l e = omega arith
+released_left c rounds lives (Dropped index) post desk told b l e = omega arith
+released_left c rounds lives (Parting index) post desk told b l e = parting_left c (rounds_told rounds told) index desk.list post (standing_from (index + 1) (drop (index + 1) post.standing)) refl b
+released_left c rounds lives (Rehold key) post desk told b l e =
     let h = round_begins c (rounds_told rounds told) desk.list (Holds key) post in
     subst (λ (n : ℕ). phase_left c (rounds_told rounds told) desk.list (round (Holds key) post) ≤ open_left c (Holds key) + task_left c n (Holds key) 0) l
     (subst (λ (r : ℕ). phase_left c (rounds_told rounds told) desk.list (round (Holds key) post) ≤ open_left c (Holds key) + task_left c (length desk.list) (Holds key) r) e h)

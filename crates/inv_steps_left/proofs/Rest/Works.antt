@@ -17,7 +17,7 @@ use Rattle.inv_contents.specs.model.Calls.ChangeAt.{ExchangeRoot, LoadCount, Loa
 use Rattle.inv_contents.specs.model.Calls.DequeueAt.{ExchangeHead, LoadTail, SwingTail, TakeNumber, TakeValue}
 use Rattle.inv_contents.specs.model.Calls.EnqueueAt.{ExchangeNext, ExchangeTail, LoadNext, LoadNumber, PassTail}
 use Rattle.inv_contents.specs.model.Calls.GetAt.{FindCount, FindKey, FindValue, FindVersion}
-use Rattle.inv_contents.specs.model.Calls.KeepAt.{LoadHeld, Looks, Loosens, Misses, StoreHeld}
+use Rattle.inv_contents.specs.model.Calls.KeepAt.{HideSpan, LoadHeld, Looks, Loosens, MarkLeft, MarkTaken, Misses, StoreHeld, TakeList}
 use Rattle.inv_contents.specs.model.Calls.Next.{Again, Answering, Retiring}
 use Rattle.inv_contents.specs.model.Calls.Task.{Changes, Dequeues, Enqueues, Gets}
 use Rattle.inv_contents.specs.model.Calls.Work.{Changing, Dequeuing, Enqueuing, Getting, Keeping}
@@ -192,21 +192,30 @@ look_falls c layout rounds index key (FindCount slot version) post desk found t 
 look_falls c layout rounds index key (FindKey slot version count pair) post desk found t g p = looked_left c rounds index key slot version count pair post desk (found == key) g.1
 look_falls c layout rounds index key (FindValue slot version pair) post desk found t g p = omega arith
 
-keep_falls : (c : Config) (layout : Layout) (rounds : ℕ) (at : KeepAt) (post : Post) (desk : Desk) (found : ℕ) → layout.config ≡ c → rounds ≡ 0 → KeepIn layout.config at → PhaseKnown layout (stands_at (keeps.keep_turn at post desk found).outcome)
-    → turn_left c rounds (keeps.keep_turn at post desk found) + 1 ≤ keep_left c (length desk.list) at
-keep_falls c layout rounds (Loosens let_go) post desk found t i g p =
-    let told : List Event = cleared (let_index let_go) (stands post (let_index let_go)) in
-    let h = released_left c rounds (length desk.list) let_go (withdrawn post (let_index let_go)) desk told refl (cleared_rounds rounds (let_index let_go) (stands post (let_index let_go)) ∙ i) in
-    omega (arith, h)
-keep_falls c layout rounds (LoadHeld from index) post desk found t i g p = let h = held_left c rounds from index post desk found (has_one_interval (scheme_of post)) in omega (arith, h)
-keep_falls c layout rounds (StoreHeld from index era) post desk found t i g p = let h = copied_left c rounds from index post desk (reserves_index post index era) (stands post from) in omega (arith, h)
-keep_falls c layout rounds (Looks index key at) post desk found t i g p = look_falls c layout rounds index key at post desk found t g.1 p
-keep_falls c layout rounds (Misses index) post desk found t i g p = omega arith
+taking_falls : (c : Config) (rounds place : ℕ) (post : Post) (desk : Desk) (left : Bool) (found : ℕ) → turn_left c rounds (keeps.taking place post desk left found) ≤ 1
+taking_falls c rounds place post desk true found = omega arith
+taking_falls c rounds place post desk false found = omega arith
 
-pub work_falls : (c : Config) (layout : Layout) (rounds : ℕ) (work : Work) (post : Post) (desk : Desk) (found : ℕ) → layout.config ≡ c → work_fit c rounds work → WorkIn layout.config work → PhaseKnown layout (stands_at (steps.work_turn work post desk found).outcome)
+keep_falls : (c : Config) (layout : Layout) (rounds : ℕ) (at : KeepAt) (post : Post) (desk : Desk) (found : ℕ) → layout.config ≡ c → c.indexes ≤ 8 → rounds ≡ 0 → KeepIn layout.config at → PhaseKnown layout (stands_at (keeps.keep_turn at post desk found).outcome)
+    → turn_left c rounds (keeps.keep_turn at post desk found) + 1 ≤ keep_left c (length desk.list) at
+keep_falls c layout rounds (Loosens let_go) post desk found t q i g p =
+    let told : List Event = cleared (let_index let_go) (stands post (let_index let_go)) in
+    let k : let_index let_go < c.indexes = subst (λ (d : Config). let_index let_go < d.indexes) t g.below in
+    let h = released_left c rounds (length desk.list) let_go (withdrawn post (let_index let_go)) desk told (omega (arith, q, k)) refl (cleared_rounds rounds (let_index let_go) (stands post (let_index let_go)) ∙ i) in
+    omega (arith, h)
+keep_falls c layout rounds (LoadHeld from index) post desk found t q i g p = let h = held_left c rounds from index post desk found (has_one_interval (scheme_of post)) in omega (arith, h)
+keep_falls c layout rounds (StoreHeld from index era) post desk found t q i g p = let h = copied_left c rounds from index post desk (reserves_index post index era) (stands post from) in omega (arith, h)
+keep_falls c layout rounds (Looks index key at) post desk found t q i g p = look_falls c layout rounds index key at post desk found t g.1 p
+keep_falls c layout rounds (Misses index) post desk found t q i g p = omega arith
+keep_falls c layout rounds HideSpan post desk found t q i g p = omega arith
+keep_falls c layout rounds MarkLeft post desk found t q i g p = omega arith
+keep_falls c layout rounds (TakeList place) post desk found t q i g p = let h = taking_falls c rounds place post desk (found == 1) found in omega (arith, h)
+keep_falls c layout rounds (MarkTaken place count) post desk found t q i g p = omega arith
+
+pub work_falls : (c : Config) (layout : Layout) (rounds : ℕ) (work : Work) (post : Post) (desk : Desk) (found : ℕ) → layout.config ≡ c → c.indexes ≤ 8 → work_fit c rounds work → WorkIn layout.config work → PhaseKnown layout (stands_at (steps.work_turn work post desk found).outcome)
     → turn_left c rounds (steps.work_turn work post desk found) + 1 ≤ work_left c (length desk.list) rounds work
-work_falls c layout rounds (Getting key at) post desk found t i g p = get_falls c layout rounds key at post desk found t g p
-work_falls c layout rounds (Changing kept at) post desk found t i g p = change_falls c layout rounds kept at post desk found t i g.1 p
-work_falls c layout rounds (Enqueuing kept at) post desk found t i g p = enqueue_falls c rounds kept at post desk found i
-work_falls c layout rounds (Dequeuing at) post desk found t i g p = dequeue_falls c rounds at post desk found i
-work_falls c layout rounds (Keeping at) post desk found t i g p = keep_falls c layout rounds at post desk found t i g p
+work_falls c layout rounds (Getting key at) post desk found t q i g p = get_falls c layout rounds key at post desk found t g p
+work_falls c layout rounds (Changing kept at) post desk found t q i g p = change_falls c layout rounds kept at post desk found t i g.1 p
+work_falls c layout rounds (Enqueuing kept at) post desk found t q i g p = enqueue_falls c rounds kept at post desk found i
+work_falls c layout rounds (Dequeuing at) post desk found t q i g p = dequeue_falls c rounds at post desk found i
+work_falls c layout rounds (Keeping at) post desk found t q i g p = keep_falls c layout rounds at post desk found t q i g p

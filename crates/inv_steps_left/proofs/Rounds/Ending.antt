@@ -1,4 +1,5 @@
 -- Each step keeps what is known of rounds, and so no call loses more than it may.
+use Rattle.inv_contents.specs.model.Keep as keeps
 use Rattle.std.proofs.Common.{ℕ, ◌∙◌, ◌≡◌, ◌≤◌, ◌+◌, ◌*◌, ◌-◌, Bool, true, false, arith, refl, sym, ap, subst}
 use Rattle.std.proofs.lemmas.Bool.Decides.{nat_tests}
 use Rattle.inv_contents.specs.words.Place.{Place}
@@ -25,7 +26,7 @@ use Rattle.inv_contents.specs.model.Phases.{Aim, Base, MoveAt, ProtectAt, Outcom
 use Rattle.inv_contents.specs.model.Phases.MoveAt.{AnswerAsked, CheckEra, ExchangeClock, HandOver, HideEra, HideLate, LoadAsked, LoadEra, LoadRequest, LoadReserved, ShowEra}
 use Rattle.inv_contents.specs.model.Posts.{counted, stands, upper}
 use Rattle.inv_contents.specs.model.Rounds.{key_of, let_index, letting, letting_by, release_base, scheme_of}
-use Rattle.inv_contents.specs.model.World.{World, finds, is_busy, step, begin, start}
+use Rattle.inv_contents.specs.model.World.{World, begin, finds, is_busy, offered, start, step}
 use Rattle.inv_contents.specs.model.declared.post.Post.{Post}
 use Rattle.inv_contents.specs.defs.declared.call.Call.{Call}
 use Rattle.inv_contents.specs.defs.declared.event.Root.{Root}
@@ -40,7 +41,7 @@ use Rattle.inv_steps_left.proofs.Rounds.Fresh.{Loads, goes_loaded, has_loaded, l
 use Rattle.inv_steps_left.proofs.Rounds.Grows.{phase_grows}
 use Rattle.inv_steps_left.proofs.Rounds.Kept.{step_counts, lost_now, own_bucket, swung}
 use Rattle.inv_steps_left.proofs.Rounds.Lasting.{own_paced, settled_good, stays_at, step_is}
-use Rattle.inv_steps_left.proofs.Rounds.Paced.{round_paced}
+use Rattle.inv_steps_left.proofs.Rounds.Paced.{round_paced, parts_paced}
 use Rattle.inv_steps_left.proofs.Rounds.Protects.{is_protecting, none_tracked}
 use Rattle.inv_steps_left.specs.Rounds.{RoundsKept, RoundsNeeds, Rounds, RoundsBegin, RoundsGive, RoundsStart}
 use Rattle.inv_steps_left.specs.Tallies.{Tally, good_link, phase_good, phase_paced, tally, fills_paced, once, task_good}
@@ -65,7 +66,9 @@ use Rattle.inv_steps_left.specs.Losses.{is_queue}
 use Rattle.inv_steps_left.proofs.Rounds.Machines.{EndGood, carried_good, never_null, protect_carries}
 use Rattle.inv_steps_left.proofs.Rounds.Worlds.{next_number}
 use Rattle.inv_links.proofs.covers.Held.{finds_at}
-use Rattle.inv_contents.proofs.model.Facts.{same_both}
+use Rattle.inv_contents.proofs.model.Facts.{same_both, if_by}
+use Rattle.inv_contents.specs.defs.declared.lifetime.Interval.{Interval}
+use Rattle.inv_contents.specs.words.Schemes.{has_one_interval}
 
 -- what is in a root that the step loads is good
 
@@ -92,14 +95,14 @@ runs_bucket why aim index root n at kept base e = ap why_of e
     why_of (Works work) = why
 
 own_loads : (w : World) (i : ℕ) (v : View) (l : Line) (z : Asking) → RoundsNeeds w i v l z → (phase : Phase) → (w.seat i).phase ≡ phase → loads_link phase ≡ true
-    → phase_good (tally (step w i) (line_after w i l)) (rounds_told (w.seat i).rounds (steps.phase_turn phase (counted (w.seat i).post) (w.seat i).desk (finds w i)).told) (stands_at (steps.phase_turn phase (counted (w.seat i).post) (w.seat i).desk (finds w i)).outcome) (root_for phase) (w.mem (link_place (root_for phase))) ≡ true
+    → phase_good (tally (step w i) (line_after w i l)) (rounds_told (w.seat i).rounds (steps.phase_turn phase (counted (w.seat i).post) (offered w i).desk (finds w i)).told) (stands_at (steps.phase_turn phase (counted (w.seat i).post) (offered w i).desk (finds w i)).outcome) (root_for phase) (w.mem (link_place (root_for phase))) ≡ true
 own_loads w i v l z n Idle e h = absurd (cc)
 own_loads w i v l z n (Scans later at) e h = absurd (cc)
 own_loads w i v l z n (Works work) e h = absurd (cc)
 own_loads w i v l z n (Runs why (Protect aim index root m at)) e h =
     let r : Run w.layout why (Protect aim index root m at) (w.seat i).post = subst (λ (p : Phase). PhaseFits w.layout (w.seat i).post p) e (n.origins.seats.fits i).phase in
-    loaded_good (tally (step w i) (line_after w i l)) w.mem (w.seat i).rounds (w.seat i) (steps.phase_turn (Runs why (Protect aim index root m at)) (counted (w.seat i).post) (w.seat i).desk (finds w i)) why aim index root
-    (goes_loaded why aim index root m at (counted (w.seat i).post) (w.seat i).desk (finds w i) h)
+    loaded_good (tally (step w i) (line_after w i l)) w.mem (w.seat i).rounds (w.seat i) (steps.phase_turn (Runs why (Protect aim index root m at)) (counted (w.seat i).post) (offered w i).desk (finds w i)) why aim index root
+    (goes_loaded why aim index root m at (counted (w.seat i).post) (offered w i).desk (finds w i) h)
     (λ a b. loads_at_step w i v l z (Runs why (Protect aim index root a b)) root n (rw e h) (λ kept base c p q.
     let x : why ≡ Opens (Changes kept) = runs_bucket why aim index root a b kept base p in
     let y : root ≡ roots.Bucket (key_of kept.change % w.layout.config.buckets) = r.shape.of ∙ ap (λ (o : Why). root_by w.layout.config.buckets o) x in
@@ -119,7 +122,7 @@ own_loads w i v l z n (Runs why (Retire at)) e h = absurd (cc)
 own_loads w i v l z n (Runs why (Move at)) e h = move_loads why at h e
   where
     move_loads : (why : Why) (at : MoveAt) → loads_asked at ≡ true → (w.seat i).phase ≡ Runs why (Move at)
-        → phase_good (tally (step w i) (line_after w i l)) (rounds_told (w.seat i).rounds (steps.phase_turn (Runs why (Move at)) (counted (w.seat i).post) (w.seat i).desk (finds w i)).told) (stands_at (steps.phase_turn (Runs why (Move at)) (counted (w.seat i).post) (w.seat i).desk (finds w i)).outcome) roots.Head (w.mem Head) ≡ true
+        → phase_good (tally (step w i) (line_after w i l)) (rounds_told (w.seat i).rounds (steps.phase_turn (Runs why (Move at)) (counted (w.seat i).post) (offered w i).desk (finds w i)).told) (stands_at (steps.phase_turn (Runs why (Move at)) (counted (w.seat i).post) (offered w i).desk (finds w i)).outcome) roots.Head (w.mem Head) ≡ true
     move_loads why (LoadAsked era seat tag index root) h e = asked why era seat tag index root e
       where
         asked : (why : Why) (era seat tag index : ℕ) (root : Root) → (w.seat i).phase ≡ Runs why (Move (LoadAsked era seat tag index root)) → phase_good (tally (step w i) (line_after w i l)) (w.seat i).rounds (Runs why (Move (CheckEra era seat tag index root (finds w i)))) roots.Head (w.mem Head) ≡ true
@@ -137,7 +140,7 @@ own_loads w i v l z n (Runs why (Move at)) e h = move_loads why at h e
 
 own_root_good : (w : World) (i : ℕ) (v : View) (l : Line) (z : Asking) → RoundsNeeds w i v l z → loads_link (w.seat i).phase ≡ true → good_link (step w i) (line_after w i l) i (root_in w i) (w.mem (link_place (root_in w i))) ≡ true
 own_root_good w i v l z n h =
-    let c : CallTurn = turn (w.seat i) (finds w i) in
+    let c : CallTurn = turn (offered w i) (finds w i) in
     let f = settled_good (tally (step w i) (line_after w i l)) (w.seat i) c.post c.desk c.told c.outcome (root_in w i) (w.mem (link_place (root_in w i))) (own_loads w i v l z n (w.seat i).phase refl h) in
     subst (λ (m : Local). phase_good (tally (step w i) (line_after w i l)) m.rounds m.phase (root_in w i) (w.mem (link_place (root_in w i))) ≡ true) (sym (seat_steps w i)) f
 
@@ -178,6 +181,13 @@ looking_paced : (u : Tally) (index key : ℕ) (stood : Option ℕ) → phase_pac
 looking_paced u index key None = tt
 looking_paced u index key (Some slot) = tt
 
+leaves_span : (u : Tally) (span : Option Interval) → phase_paced u 0 (keeps.parting_span span)
+leaves_span u None = tt
+leaves_span u (Some span) = tt
+
+leaving_paced : (u : Tally) (post : Post) → phase_paced u 0 (keeps.parting post)
+leaving_paced u post = if_by (has_one_interval (scheme_of post)) (keeps.parting_span post.span) (keeps.parting_from 2 post) (λ (p : Phase). phase_paced u 0 p) (λ e. leaves_span u post.span) (λ e. parts_paced u 0 2 post)
+
 first_paced : (u : Tally) (call : Call) (post : Post) → phase_paced u 0 (steps.first_phase call post)
 first_paced u (names.Get key) post = round_paced u 0 (Gets key) post tt
 first_paced u (names.Put key value) post = round_paced u 0 (steps.changing (changes.Put key value) None) post (omega arith)
@@ -191,6 +201,8 @@ first_paced u names.Scan post = tt
 first_paced u (names.Copy from index) post = copying_paced u from index (stands post from)
 first_paced u (names.DropIndex index) post = letting_paced u (Dropped index) post
 first_paced u (names.Look index key) post = looking_paced u index key (stands post index)
+first_paced u names.Leave post = leaving_paced u post
+first_paced u (names.Adopt place) post = tt
 first_paced u (names.PutIf key value version) post = round_paced u 0 (steps.changing (changes.Put key value) (Some version)) post (omega arith)
 
 idle_tracks : (w : World) (i : ℕ) (z : Asking) (x : ℕ) → is_busy w i ≡ false → Requests w z → Tracked w z i x → false ≡ true

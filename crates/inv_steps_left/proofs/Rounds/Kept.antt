@@ -19,7 +19,7 @@ use Rattle.inv_contents.specs.model.Calls.Work.{Changing, Dequeuing, Enqueuing, 
 use Rattle.inv_contents.specs.model.Phases.{Base, RowOf}
 use Rattle.inv_contents.specs.model.Phases.RowOf.{MapRow, QueueRow}
 use Rattle.inv_contents.specs.model.Rounds.{key_of}
-use Rattle.inv_contents.specs.model.World.{World, finds, step}
+use Rattle.inv_contents.specs.model.World.{World, finds, offered, step}
 use Rattle.inv_contents.specs.model.WriteRow.{first_written, last_written, row_word}
 use Rattle.inv_contents.specs.model.declared.post.Post.{Post}
 use Rattle.inv_links.specs.shapes.Seats.{PhaseFits, Run, Seats}
@@ -38,6 +38,8 @@ use Rattle.std.specs.Prelude.{nat_le, if◌then◌else◌, ◌==◌, ◌||◌, �
 use Rattle.inv_links.proofs.covers.Held.{finds_at}
 use Rattle.inv_contents.proofs.rows.Runs.{taken_slot}
 use Rattle.inv_contents.proofs.model.Facts.{first_of, same_both, number_is, le_of_test}
+use Rattle.inv_contents.proofs.rows.Kept.{busy_plays}
+use Rattle.inv_contents.specs.model.Locals.{busy_in}
 
 or_false : (a b : Bool) → (a || b) ≡ true → a ≡ false → b ≡ true
 or_false true b h e = absurd (cc)
@@ -67,14 +69,14 @@ writes_fit layout post (Works work) f = tt
 
 joins_fit : (w : World) (i : ℕ) (v : View) (l : Line) → Both w v l → (kept : EnqueueKept) (slot : ℕ) → (w.seat i).phase ≡ Works (Enqueuing kept (ExchangeNext slot)) → l.lined slot ≡ false
 joins_fit w i v l b kept slot e =
-    let p = b.rows.plays i in
+    let p = busy_plays w i v (ap (λ (f : Phase). busy_in f) e) b.rows in
     let r : is_right (Works (Enqueuing kept (ExchangeNext slot))) (w.seat i).desk.list ≡ true = subst (λ (f : Phase). is_right f (w.seat i).desk.list ≡ true) e p.right in
     let h : v.hand i ≡ hand_in (Works (Enqueuing kept (ExchangeNext slot))) = p.hand ∙ ap (λ (f : Phase). hand_in f) e in
     born_unlined i v l w.mem slot b.queue.line (of_taken w.layout.config.slots v i slot b.rows.good (h ∙ taken_slot kept.taken slot r))
 
 pub step_counts : (w : World) (i : ℕ) (v : View) (l : Line) (z : Asking) → RoundsNeeds w i v l z → Grows (tally w l) (tally (step w i) (line_after w i l))
 step_counts w i v l z n =
-    phase_counts w.layout.config.buckets w.mem w.book v l (w.seat i).phase (w.seat i).post (w.seat i).desk
+    phase_counts w.layout.config.buckets w.mem w.book v l (w.seat i).phase (w.seat i).post (offered w i).desk
     (record {
       line = n.both.queue.line;
       walks = n.both.queue.walks i;

@@ -29,7 +29,7 @@ use Rattle.inv_contents.specs.model.Phases.Outcome.{Ends, Goes}
 use Rattle.inv_contents.specs.model.Posts.{counted, upper}
 use Rattle.inv_contents.specs.model.Rounds.{bucket_of, clear_base, clear_post, clear_told, clearing, clearing_by, finish_base, finish_span, finishing_by, given_up, index_of, scheme_of, taken_of, kept_row}
 use Rattle.inv_contents.specs.model.Steps.{resumed}
-use Rattle.inv_contents.specs.model.World.{World, finds, step}
+use Rattle.inv_contents.specs.model.World.{World, finds, offered, step}
 use Rattle.inv_contents.specs.model.declared.post.Post.{Post}
 use Rattle.inv_contents.specs.defs.declared.call.Answer.{Answer}
 use Rattle.inv_contents.specs.defs.declared.event.Event.{Event}
@@ -82,16 +82,16 @@ step_is w i v l z n h why base e =
       moved = reload_now w i v l z why base n p r e;
     }
 
-turn_paced : (w : World) (i : ℕ) (v : View) (l : Line) (z : Asking) → RoundsNeeds w i v l z → Rounds w l z → (phase : Phase) → (w.seat i).phase ≡ phase → TurnPaced (tally (step w i) (line_after w i l)) (w.seat i).rounds (steps.phase_turn phase (counted (w.seat i).post) (w.seat i).desk (finds w i))
+turn_paced : (w : World) (i : ℕ) (v : View) (l : Line) (z : Asking) → RoundsNeeds w i v l z → Rounds w l z → (phase : Phase) → (w.seat i).phase ≡ phase → TurnPaced (tally (step w i) (line_after w i l)) (w.seat i).rounds (steps.phase_turn phase (counted (w.seat i).post) (offered w i).desk (finds w i))
 turn_paced w i v l z n h Idle e = tt
 turn_paced w i v l z n h (Runs why base) e = run_paced w i (tally (step w i) (line_after w i l)) why base (step_is w i v l z n h why base e)
 turn_paced w i v l z n h (Scans later at) e =
     let p : later_paced (tally w l) later (w.seat i).rounds = subst (λ (f : Phase). phase_paced (tally w l) (w.seat i).rounds f) e (h.paced i) in
-    scan_paced (tally (step w i) (line_after w i l)) (w.seat i).rounds later at (counted (w.seat i).post) (w.seat i).desk (finds w i)
+    scan_paced (tally (step w i) (line_after w i l)) (w.seat i).rounds later at (counted (w.seat i).post) (offered w i).desk (finds w i)
     (phase_grows (tally w l) (tally (step w i) (line_after w i l)) (w.seat i).rounds (Scans later at) (step_counts w i v l z n) p)
 turn_paced w i v l z n h (Works work) e =
     let p : work_paced (tally w l) work ((w.seat i).rounds - 1) = subst (λ (f : Phase). phase_paced (tally w l) (w.seat i).rounds f) e (h.paced i) in
-    work_turn_paced (tally (step w i) (line_after w i l)) (w.seat i).rounds work (counted (w.seat i).post) (w.seat i).desk (finds w i)
+    work_turn_paced (tally (step w i) (line_after w i l)) (w.seat i).rounds work (counted (w.seat i).post) (offered w i).desk (finds w i)
     (phase_grows (tally w l) (tally (step w i) (line_after w i l)) (w.seat i).rounds (Works work) (step_counts w i v l z n) p) (work_now w i v l z work n p e)
 
 settled_paced : (u : Tally) (l : Local) (post : Post) (desk : Desk) (told : List Event) (outcome : CallOutcome) → TurnPaced u l.rounds (record { post = post; desk = desk; told = told; outcome = outcome })
@@ -101,7 +101,7 @@ settled_paced u l post desk told (Answers answer) f = tt
 
 pub own_paced : (w : World) (i : ℕ) (v : View) (l : Line) (z : Asking) → RoundsNeeds w i v l z → Rounds w l z → phase_paced (tally (step w i) (line_after w i l)) ((step w i).seat i).rounds ((step w i).seat i).phase
 own_paced w i v l z n h =
-    let t : CallTurn = turn (w.seat i) (finds w i) in
+    let t : CallTurn = turn (offered w i) (finds w i) in
     let f = settled_paced (tally (step w i) (line_after w i l)) (w.seat i) t.post t.desk t.told t.outcome (turn_paced w i v l z n h (w.seat i).phase refl) in
     subst (λ (s : Local). phase_paced (tally (step w i) (line_after w i l)) s.rounds s.phase) (sym (seat_steps w i)) f
 
@@ -233,7 +233,7 @@ hold_stays u rounds key desk post told (Ends (Clocked time)) root x w = absurd (
 -- what is good after the turn of the seat that steps
 abbrev GoodAfter : World → ℕ → Tally → Phase → Root → ℕ → Type 0
 GoodAfter w i u phase root x =
-    phase_good u (rounds_told (w.seat i).rounds (steps.phase_turn phase (counted (w.seat i).post) (w.seat i).desk (finds w i)).told) (stands_at (steps.phase_turn phase (counted (w.seat i).post) (w.seat i).desk (finds w i)).outcome) root x ≡ true
+    phase_good u (rounds_told (w.seat i).rounds (steps.phase_turn phase (counted (w.seat i).post) (offered w i).desk (finds w i)).told) (stands_at (steps.phase_turn phase (counted (w.seat i).post) (offered w i).desk (finds w i)).outcome) root x ≡ true
 
 task_stays_good : (w : World) (i : ℕ) (u : Tally) (task : Task) (index : ℕ) (root : Root) (n : ℕ) (at : ProtectAt) (x : ℕ) → Steps w i u (Opens task) (Protect Alone index root n at) → is_hold task ≡ false → (index == 0) ≡ true
     → task_good u task (lost_by (w.seat i).rounds (is_told (Protect Alone index root n at))) root x ≡ true → GoodAfter w i u (Runs (Opens task) (Protect Alone index root n at)) root x
@@ -246,7 +246,7 @@ task_stays_good w i u task index root n at x s d y h =
     let is : root ≡ task_root u.buckets task = s.run.shape.of ∙ ap (λ (b : ℕ). task_root b task) (sym s.buckets) in
     let c = protect_carries (w.mem Clock) index root (bump n) at post (finds w i) (fit_clock w i (Opens task) Alone index root n at s.at) in
     let g : EndGood u task (lost_by r (is_told base)) root t.outcome = carried_good (w.mem Clock) (upper (w.seat i).post.span) at u task (lost_by r (is_told base)) root t.outcome s.good c in
-    own_good u r task (w.seat i).desk t.post t.told t.outcome (lost_by r (is_told base)) root x
+    own_good u r task (offered w i).desk t.post t.told t.outcome (lost_by r (is_told base)) root x
     (protect_tells r index root n (bump n) at post (finds w i) y o (once_told_by w.layout.config r task (is_told base) d s.fits)) (ends_well index root (bump n) at post (finds w i))
     (subst (λ (a : Root). EndGood u task (lost_by r (is_told base)) a t.outcome) is g) h
 
@@ -255,7 +255,7 @@ opens_stay w i u (Gets key) index root n at x s h = task_stays_good w i u (Gets 
 opens_stay w i u (Changes kept) index root n at x s h = task_stays_good w i u (Changes kept) index root n at x s refl (let e : index ≡ 0 = s.run.shape.at in rw e refl) h
 opens_stay w i u (Holds key) index root n at x s h =
     let t : Turn = machine.after (Protect Alone index root n at) (counted (w.seat i).post) (finds w i) in
-    hold_stays u (w.seat i).rounds key (w.seat i).desk t.post t.told t.outcome root x (ends_well index root (bump n) at (counted (w.seat i).post) (finds w i))
+    hold_stays u (w.seat i).rounds key (offered w i).desk t.post t.told t.outcome root x (ends_well index root (bump n) at (counted (w.seat i).post) (finds w i))
 opens_stay w i u (Enqueues kept) index root n at x s h = task_stays_good w i u (Enqueues kept) index root n at x s refl (let e : index ≡ 0 = s.run.shape.at in rw e refl) h
 opens_stay w i u Dequeues index root n at x s h = task_stays_good w i u Dequeues index root n at x s refl (let e : index ≡ 0 = s.run.shape.at in rw e refl) h
 
@@ -264,7 +264,7 @@ protect_stays w i u (Opens task) Alone index root n at x s h = opens_stay w i u 
 protect_stays w i u (Opens task) Follows index root n at x s h = absurd (let e = follows_alone s.run.shape.aimed in cc)
 protect_stays w i u (FollowsHead head tail) aim index root n at x s h =
     let e : root ≡ roots.Next head = s.run.shape.of in
-    let t : CallTurn = steps.phase_turn (Runs (FollowsHead head tail) (Protect aim index root n at)) (counted (w.seat i).post) (w.seat i).desk (finds w i) in
+    let t : CallTurn = steps.phase_turn (Runs (FollowsHead head tail) (Protect aim index root n at)) (counted (w.seat i).post) (offered w i).desk (finds w i) in
     subst (λ (a : Root). phase_good u (rounds_told (w.seat i).rounds t.told) (stands_at t.outcome) a x ≡ true) (sym e) (next_good u (rounds_told (w.seat i).rounds t.told) (stands_at t.outcome) head x)
 protect_stays w i u (Fills task) aim index root n at x s h = absurd (let e = s.run.suited in cc)
 protect_stays w i u (ClearsNext next) aim index root n at x s h = absurd (let e = s.run.suited in cc)
@@ -286,7 +286,7 @@ own_stays w i v l z n h (Runs why (Protect aim index root m at)) e x k g =
     let p : phase_paced (tally w l) (w.seat i).rounds (Runs why (Protect aim index root m at)) = subst (λ (f : Phase). phase_paced (tally w l) (w.seat i).rounds f) e (h.paced i) in
     protect_stays w i (tally (step w i) (line_after w i l)) why aim index root m at x s (phase_stays (tally w l) (tally (step w i) (line_after w i l)) (w.seat i).rounds (Runs why (Protect aim index root m at)) root x (step_counts w i v l z n) p g)
 own_stays w i v l z n h (Runs why (Reload parent index slot era m)) e x k g =
-    let t : CallTurn = steps.phase_turn (Runs why (Reload parent index slot era m)) (counted (w.seat i).post) (w.seat i).desk (finds w i) in
+    let t : CallTurn = steps.phase_turn (Runs why (Reload parent index slot era m)) (counted (w.seat i).post) (offered w i).desk (finds w i) in
     next_good (tally (step w i) (line_after w i l)) (rounds_told (w.seat i).rounds t.told) (stands_at t.outcome) parent x
 own_stays w i v l z n h (Runs why (Begin at)) e x k g = untracked w i z (tally (step w i) (line_after w i l)) (Runs why (Begin at)) x n.origins.requests e refl k
 own_stays w i v l z n h (Runs why (Clear index)) e x k g = untracked w i z (tally (step w i) (line_after w i l)) (Runs why (Clear index)) x n.origins.requests e refl k
@@ -319,6 +319,6 @@ stays_at w i v l z n h k x true e t g =
         let y : i ≡ k = (let q : k ≡ i = grind (arith, nat_tests, e) in sym q) in
         let t2 : Tracked w z i x = subst (λ (m : ℕ). Tracked w z m x) (sym y) t in
         let g2 : good_link w l i (root_in w i) x ≡ true = subst (λ (m : ℕ). good_link w l m (root_in w m) x ≡ true) (sym y) g in
-        let c : CallTurn = turn (w.seat i) (finds w i) in
+        let c : CallTurn = turn (offered w i) (finds w i) in
         let f = settled_good (tally (step w i) (line_after w i l)) (w.seat i) c.post c.desk c.told c.outcome (root_in w i) x (own_stays w i v l z n h (w.seat i).phase refl x t2 g2) in
         subst (λ (m : Local). phase_good (tally (step w i) (line_after w i l)) m.rounds m.phase (root_in w i) x ≡ true) (sym (seat_steps w i)) f

@@ -35,7 +35,7 @@ use Rattle.inv_contents.specs.model.Protect.{failed_once, protect_end, protected
 use Rattle.inv_contents.specs.model.Rest.{is_told, lost_by, rounds_most}
 use Rattle.inv_contents.specs.model.SlowPath.{answer_in, lost_turn, own_request}
 use Rattle.inv_contents.specs.model.Steps.{resumed, run_turn}
-use Rattle.inv_contents.specs.model.World.{World, finds}
+use Rattle.inv_contents.specs.model.World.{World, finds, offered}
 use Rattle.inv_contents.specs.model.WriteRow.{after_write, last_written}
 use Rattle.inv_contents.specs.model.declared.post.Post.{Post}
 use Rattle.inv_contents.specs.defs.declared.call.Answer.{Answer}
@@ -171,7 +171,7 @@ pub record Steps (w : World) (i : ℕ) (u : Tally) (why : Why) (base : Base) : T
   pub moved : (head tail parent index slot era n : ℕ) → why ≡ FollowsHead head tail → base ≡ Reload parent index slot era n → (finds w i == parent + 1) ≡ false → (w.seat i).rounds ≤ u.takes
 
 abbrev pub PacedAfter : World → ℕ → Tally → Why → Base → Type 0
-PacedAfter w i u why base = TurnPaced u (w.seat i).rounds (run_turn why (w.seat i).desk (after base (counted (w.seat i).post) (finds w i)))
+PacedAfter w i u why base = TurnPaced u (w.seat i).rounds (run_turn why (offered w i).desk (after base (counted (w.seat i).post) (finds w i)))
 
 pub once_told_by : (c : Config) (rounds : ℕ) (task : Task) (told : Bool) → is_hold task ≡ false → opens_fit c rounds task told → told ≡ true → 1 ≤ rounds
 once_told_by c rounds (Gets key) told h f e = once_told (rounds_most c (Gets key)) rounds told f e
@@ -190,7 +190,7 @@ own_protects w i u task index root n at s d z =
     let is : root ≡ task_root u.buckets task = s.run.shape.of ∙ ap (λ (b : ℕ). task_root b task) (sym s.buckets) in
     let c = protect_carries (w.mem Clock) index root (bump n) at post (finds w i) (fit_clock w i (Opens task) Alone index root n at s.at) in
     let g : EndGood u task (lost_by r (is_told base)) root t.outcome = carried_good (w.mem Clock) (upper (w.seat i).post.span) at u task (lost_by r (is_told base)) root t.outcome s.good c in
-    own_opens u r task (w.seat i).desk t.post t.told t.outcome (lost_by r (is_told base)) s.paced
+    own_opens u r task (offered w i).desk t.post t.told t.outcome (lost_by r (is_told base)) s.paced
     (protect_tells r index root n (bump n) at post (finds w i) z o (once_told_by w.layout.config r task (is_told base) d s.fits)) (ends_well index root (bump n) at post (finds w i))
     (subst (λ (x : Root). EndGood u task (lost_by r (is_told base)) x t.outcome) is g)
 
@@ -199,7 +199,7 @@ opens_protects w i u (Gets key) index root n at s = own_protects w i u (Gets key
 opens_protects w i u (Changes kept) index root n at s = own_protects w i u (Changes kept) index root n at s refl (let e : index ≡ 0 = s.run.shape.at in rw e refl)
 opens_protects w i u (Holds key) index root n at s =
     let t : Turn = after (Protect Alone index root n at) (counted (w.seat i).post) (finds w i) in
-    hold_opens u (w.seat i).rounds key (w.seat i).desk t.post t.told t.outcome (ends_well index root (bump n) at (counted (w.seat i).post) (finds w i))
+    hold_opens u (w.seat i).rounds key (offered w i).desk t.post t.told t.outcome (ends_well index root (bump n) at (counted (w.seat i).post) (finds w i))
 opens_protects w i u (Enqueues kept) index root n at s = own_protects w i u (Enqueues kept) index root n at s refl (let e : index ≡ 0 = s.run.shape.at in rw e refl)
 opens_protects w i u Dequeues index root n at s = own_protects w i u Dequeues index root n at s refl (let e : index ≡ 0 = s.run.shape.at in rw e refl)
 
@@ -241,11 +241,11 @@ follows_step : (w : World) (i : ℕ) (u : Tally) (head tail : ℕ) (base : Base)
 follows_step w i u head tail (Protect Follows index root n at) s =
     let t : Turn = after (Protect Follows index root n at) (counted (w.seat i).post) (finds w i) in
     let z : (index == 0) ≡ false = (let e : index ≡ 1 = s.run.shape.at in rw e refl) in
-    follow_resumes u (w.seat i).rounds head tail (w.seat i).desk t.post t.told t.outcome s.paced.0 s.paced.1 (protect_steady (w.seat i).rounds Follows index root (bump n) at (counted (w.seat i).post) (finds w i) z) (ends_follow index root (bump n) at (counted (w.seat i).post) (finds w i))
+    follow_resumes u (w.seat i).rounds head tail (offered w i).desk t.post t.told t.outcome s.paced.0 s.paced.1 (protect_steady (w.seat i).rounds Follows index root (bump n) at (counted (w.seat i).post) (finds w i) z) (ends_follow index root (bump n) at (counted (w.seat i).post) (finds w i))
 follows_step w i u head tail (Protect Alone index root n at) s = absurd (let e = follows_alone (sym s.run.shape.aimed) in cc)
 follows_step w i u head tail (Reload parent index slot era n) s =
     let z : (index == 0) ≡ false = (let e : index ≡ 1 = s.run.shape.at in rw e refl) in
-    reload_paced u (w.seat i).rounds head tail parent index slot (bump n) (counted (w.seat i).post) (w.seat i).desk (finds w i) z s.paced.0 s.paced.1 (s.moved head tail parent index slot era n refl refl)
+    reload_paced u (w.seat i).rounds head tail parent index slot (bump n) (counted (w.seat i).post) (offered w i).desk (finds w i) z s.paced.0 s.paced.1 (s.moved head tail parent index slot era n refl refl)
 follows_step w i u head tail (Begin at) s = absurd (let e = s.run.suited in cc)
 follows_step w i u head tail (Clear index) s = absurd (let e = s.run.suited in cc)
 follows_step w i u head tail Finish s = absurd (let e = s.run.suited in cc)
@@ -274,10 +274,10 @@ allocates_step w i u task LoadBirth s = s.paced
 allocates_step w i u task (ClaimSlot birth walk) s =
     let post : Post = counted (w.seat i).post in
     if_by (is_claimed (finds w i) walk.slot) (walking birth post (walk_past post.layout.config.slots walk (finds w i))) (goes (record post { cursor = next_slot post.layout.config.slots walk.slot }) (events.Give walk.slot birth ∷ []) (Allocate (StoreLife birth walk.slot)))
-    (λ (t : Turn). TurnPaced u (w.seat i).rounds (run_turn (Fills task) (w.seat i).desk t))
-    (λ e. walking_paced u (w.seat i).rounds task birth post (w.seat i).desk (walk_past post.layout.config.slots walk (finds w i)) s.paced (filler w.layout.config (w.seat i).rounds task s.fits)) (λ e. s.paced)
+    (λ (t : Turn). TurnPaced u (w.seat i).rounds (run_turn (Fills task) (offered w i).desk t))
+    (λ e. walking_paced u (w.seat i).rounds task birth post (offered w i).desk (walk_past post.layout.config.slots walk (finds w i)) s.paced (filler w.layout.config (w.seat i).rounds task s.fits)) (λ e. s.paced)
 allocates_step w i u task (StoreLife birth slot) s =
-    filled_by_paced u (w.seat i).rounds task (allocate_ends.Given slot birth) (counted (w.seat i).post) (w.seat i).desk [] s.paced (filler w.layout.config (w.seat i).rounds task s.fits) refl
+    filled_by_paced u (w.seat i).rounds task (allocate_ends.Given slot birth) (counted (w.seat i).post) (offered w i).desk [] s.paced (filler w.layout.config (w.seat i).rounds task s.fits) refl
 
 writes_paced : (u : Tally) (rounds : ℕ) (task : Task) (slot : ℕ) (row : RowOf) (place : ℕ) (post : Post) (desk : Desk) → fills_paced u task (rounds - 1) → fills_something task ≡ true → TurnPaced u rounds (run_turn (Fills task) desk (after_write slot row place post))
 writes_paced u rounds task slot row place post desk f h =
@@ -285,7 +285,7 @@ writes_paced u rounds task slot row place post desk f h =
 
 fills_step : (w : World) (i : ℕ) (u : Tally) (task : Task) (base : Base) → Steps w i u (Fills task) base → PacedAfter w i u (Fills task) base
 fills_step w i u task (Allocate at) s = allocates_step w i u task at s
-fills_step w i u task (Write slot row place) s = writes_paced u (w.seat i).rounds task slot row place (counted (w.seat i).post) (w.seat i).desk s.paced (filler w.layout.config (w.seat i).rounds task s.fits)
+fills_step w i u task (Write slot row place) s = writes_paced u (w.seat i).rounds task slot row place (counted (w.seat i).post) (offered w i).desk s.paced (filler w.layout.config (w.seat i).rounds task s.fits)
 fills_step w i u task (Begin at) s = absurd (let e = s.run.suited in cc)
 fills_step w i u task (Protect aim index root n at) s = absurd (let e = s.run.suited in cc)
 fills_step w i u task (Reload parent index slot era n) s = absurd (let e = s.run.suited in cc)
@@ -316,7 +316,7 @@ tidy_resumes u rounds later desk post told (Ends ending) e l = tidied_paced u ro
 nexts_step : (w : World) (i : ℕ) (u : Tally) (next : Next) (base : Base) → Steps w i u (ClearsNext next) base → PacedAfter w i u (ClearsNext next) base
 nexts_step w i u next (Clear index) s =
     let told : List Event = (after (Clear index) (counted (w.seat i).post) (finds w i)).told in
-    clearing_paced u (w.seat i).rounds Dequeues next (withdrawn (counted (w.seat i).post) index) (w.seat i).desk told (after_next u (w.seat i).rounds (rounds_told (w.seat i).rounds told) Dequeues next (clear_rounds w i index) s.paced)
+    clearing_paced u (w.seat i).rounds Dequeues next (withdrawn (counted (w.seat i).post) index) (offered w i).desk told (after_next u (w.seat i).rounds (rounds_told (w.seat i).rounds told) Dequeues next (clear_rounds w i index) s.paced)
 nexts_step w i u next (Begin at) s = absurd (let e = s.run.suited in cc)
 nexts_step w i u next (Protect aim index root n at) s = absurd (let e = s.run.suited in cc)
 nexts_step w i u next (Reload parent index slot era n) s = absurd (let e = s.run.suited in cc)
@@ -331,7 +331,7 @@ nexts_step w i u next (Move at) s = absurd (let e = s.run.suited in cc)
 clears_step : (w : World) (i : ℕ) (u : Tally) (task : Task) (next : Next) (base : Base) → Steps w i u (Clears task next) base → PacedAfter w i u (Clears task next) base
 clears_step w i u task next (Clear index) s =
     let told : List Event = (after (Clear index) (counted (w.seat i).post) (finds w i)).told in
-    finishing_paced u (w.seat i).rounds task next (withdrawn (counted (w.seat i).post) index) (w.seat i).desk told (after_next u (w.seat i).rounds (rounds_told (w.seat i).rounds told) task next (clear_rounds w i index) s.paced)
+    finishing_paced u (w.seat i).rounds task next (withdrawn (counted (w.seat i).post) index) (offered w i).desk told (after_next u (w.seat i).rounds (rounds_told (w.seat i).rounds told) task next (clear_rounds w i index) s.paced)
 clears_step w i u task next (Begin at) s = absurd (let e = s.run.suited in cc)
 clears_step w i u task next (Protect aim index root n at) s = absurd (let e = s.run.suited in cc)
 clears_step w i u task next (Reload parent index slot era n) s = absurd (let e = s.run.suited in cc)
@@ -344,7 +344,7 @@ clears_step w i u task next (Retire at) s = absurd (let e = s.run.suited in cc)
 clears_step w i u task next (Move at) s = absurd (let e = s.run.suited in cc)
 
 finishes_step : (w : World) (i : ℕ) (u : Tally) (task : Task) (next : Next) (base : Base) → Steps w i u (Finishes task next) base → PacedAfter w i u (Finishes task next) base
-finishes_step w i u task next Finish s = closed_paced u (w.seat i).rounds task next (with_span (counted (w.seat i).post) None) (w.seat i).desk (reserves_span (counted (w.seat i).post) None) s.paced
+finishes_step w i u task next Finish s = closed_paced u (w.seat i).rounds task next (with_span (counted (w.seat i).post) None) (offered w i).desk (reserves_span (counted (w.seat i).post) None) s.paced
 finishes_step w i u task next (Begin at) s = absurd (let e = s.run.suited in cc)
 finishes_step w i u task next (Protect aim index root n at) s = absurd (let e = s.run.suited in cc)
 finishes_step w i u task next (Reload parent index slot era n) s = absurd (let e = s.run.suited in cc)
@@ -372,7 +372,7 @@ gives_step w i u answer (Move at) s = absurd (let e = s.run.suited in cc)
 tidies_step : (w : World) (i : ℕ) (u : Tally) (later : AfterScan) (base : Base) → Steps w i u (Tidies later) base → PacedAfter w i u (Tidies later) base
 tidies_step w i u later (Move at) s =
     let t : Turn = after (Move at) (counted (w.seat i).post) (finds w i) in
-    tidy_resumes u (w.seat i).rounds later (w.seat i).desk t.post t.told t.outcome (base_steady (w.seat i).rounds (Move at) (counted (w.seat i).post) (finds w i) refl) s.paced
+    tidy_resumes u (w.seat i).rounds later (offered w i).desk t.post t.told t.outcome (base_steady (w.seat i).rounds (Move at) (counted (w.seat i).post) (finds w i) refl) s.paced
 tidies_step w i u later (Begin at) s = absurd (let e = s.run.suited in cc)
 tidies_step w i u later (Protect aim index root n at) s = absurd (let e = s.run.suited in cc)
 tidies_step w i u later (Reload parent index slot era n) s = absurd (let e = s.run.suited in cc)
@@ -387,10 +387,10 @@ tidies_step w i u later (Retire at) s = absurd (let e = s.run.suited in cc)
 releases_step : (w : World) (i : ℕ) (u : Tally) (let_go : LetGo) (base : Base) → Steps w i u (Releases let_go) base → PacedAfter w i u (Releases let_go) base
 releases_step w i u let_go (Clear index) s =
     let t : Turn = after (Clear index) (counted (w.seat i).post) (finds w i) in
-    released_paced u (w.seat i).rounds let_go (withdrawn (counted (w.seat i).post) index) (w.seat i).desk t.told
+    released_paced u (w.seat i).rounds let_go (withdrawn (counted (w.seat i).post) index) (offered w i).desk t.told
 releases_step w i u let_go (Release index) s =
     let t : Turn = after (Release index) (counted (w.seat i).post) (finds w i) in
-    released_paced u (w.seat i).rounds let_go t.post (w.seat i).desk t.told
+    released_paced u (w.seat i).rounds let_go t.post (offered w i).desk t.told
 releases_step w i u let_go (Begin at) s = absurd (let e = s.run.suited in cc)
 releases_step w i u let_go (Protect aim index root n at) s = absurd (let e = s.run.suited in cc)
 releases_step w i u let_go (Reload parent index slot era n) s = absurd (let e = s.run.suited in cc)
@@ -409,7 +409,7 @@ run_paced w i u (ClearsNext next) base s = nexts_step w i u next base s
 run_paced w i u (Clears task next) base s = clears_step w i u task next base s
 run_paced w i u (Finishes task next) base s = finishes_step w i u task next base s
 run_paced w i u (GivesUp answer) base s = gives_step w i u answer base s
-run_paced w i u (Retires answer) base s = let t : Turn = after base (counted (w.seat i).post) (finds w i) in retire_resumes u (w.seat i).rounds answer (w.seat i).desk t.post t.told t.outcome
+run_paced w i u (Retires answer) base s = let t : Turn = after base (counted (w.seat i).post) (finds w i) in retire_resumes u (w.seat i).rounds answer (offered w i).desk t.post t.told t.outcome
 run_paced w i u (Tidies later) base s = tidies_step w i u later base s
-run_paced w i u Advances base s = let t : Turn = after base (counted (w.seat i).post) (finds w i) in advance_resumes u (w.seat i).rounds (w.seat i).desk t.post t.told t.outcome
+run_paced w i u Advances base s = let t : Turn = after base (counted (w.seat i).post) (finds w i) in advance_resumes u (w.seat i).rounds (offered w i).desk t.post t.told t.outcome
 run_paced w i u (Releases let_go) base s = releases_step w i u let_go base s

@@ -21,8 +21,8 @@ use Rattle.inv_contents.specs.model.Calls.ChangeAt.{ExchangeRoot, LoadCount, Loa
 use Rattle.inv_contents.specs.model.Calls.DequeueAt.{ExchangeHead, LoadTail, SwingTail, TakeNumber, TakeValue}
 use Rattle.inv_contents.specs.model.Calls.EnqueueAt.{ExchangeNext, ExchangeTail, LoadNext, LoadNumber, PassTail}
 use Rattle.inv_contents.specs.model.Calls.GetAt.{FindCount, FindKey, FindValue, FindVersion}
-use Rattle.inv_contents.specs.model.Calls.KeepAt.{LoadHeld, Looks, Loosens, Misses, StoreHeld}
-use Rattle.inv_contents.specs.model.Calls.LetGo.{Dropped, Rehold, Released}
+use Rattle.inv_contents.specs.model.Calls.KeepAt.{HideSpan, LoadHeld, Looks, Loosens, MarkLeft, MarkTaken, Misses, StoreHeld, TakeList}
+use Rattle.inv_contents.specs.model.Calls.LetGo.{Dropped, Parting, Rehold, Released}
 use Rattle.inv_contents.specs.model.Calls.Next.{Again, Answering, MakeRoom, Retiring}
 use Rattle.inv_contents.specs.model.Calls.ScanAt.{GiveBack, ReadGuard}
 use Rattle.inv_contents.specs.model.Calls.Task.{Changes, Dequeues, Enqueues, Gets, Holds}
@@ -32,7 +32,7 @@ use Rattle.inv_contents.specs.model.Guards.{guard_at, guards, eras_in, published
 use Rattle.inv_contents.specs.model.Locals.{rounds_told}
 use Rattle.inv_contents.specs.model.Phases.{Ending, Base}
 use Rattle.inv_contents.specs.model.Phases.Ending.{Allocated, Clocked, Done, Followed, Protected, Retired}
-use Rattle.inv_contents.specs.model.Posts.{stands, cleared, reserves_index, withdrawn}
+use Rattle.inv_contents.specs.model.Posts.{stands, cleared, reserves_index, withdrawn, standing_from}
 use Rattle.inv_contents.specs.model.Rounds.{begin_base, begin_span, bucket_of, clear_base, clear_post, clear_told, clearing, clearing_by, clearing_next, clearing_next_by, closed, finish_base, finish_span, finishing, finishing_by, given_up, index_of, key_of, opening, root_of, round, round_by, scheme_of, taken_of, kept_row, let_index}
 use Rattle.inv_contents.specs.model.declared.ends.AllocateEnd.{AllocateEnd}
 use Rattle.inv_contents.specs.model.declared.ends.FollowEnd.{FollowEnd}
@@ -47,7 +47,7 @@ use Rattle.inv_steps_left.proofs.Rest.Works.{link_told}
 use Rattle.inv_steps_left.specs.Losses.{is_queue}
 use Rattle.inv_steps_left.specs.Tallies.{Since, Tally, changes_so_far, dequeue_paced, enqueue_paced, fills_paced, head_since, lag_since, later_paced, next_paced, next_since, once, passes_so_far, phase_paced, root_since, tail_since, task_paced, work_paced}
 use Rattle.inv_contents.specs.words.declared.config.SchemeKind.{SchemeKind}
-use Rattle.std.specs.Prelude.{List, ◌++◌, length, Option, Some, None, nat_lt, nat_le, ◌==◌, ◌%◌}
+use Rattle.std.specs.Prelude.{List, ◌++◌, length, Option, Some, None, nat_lt, nat_le, ◌==◌, ◌%◌, drop}
 use Rattle.inv_contents.proofs.model.Facts.{or_left_true, one_before, if_by}
 use Rattle.inv_contents.proofs.model.Schemes.{each_begin, each_clear, each_finish}
 
@@ -244,10 +244,18 @@ advanced_paced u rounds (Followed ending) post desk told = tt
 advanced_paced u rounds (Allocated ending) post desk told = tt
 advanced_paced u rounds (Retired life) post desk told = tt
 
+parting_paced : (u : Tally) (rounds : ℕ) (x : Option ℕ) → phase_paced u rounds (keeps.parting_index x)
+parting_paced u rounds None = tt
+parting_paced u rounds (Some index) = tt
+
+pub parts_paced : (u : Tally) (rounds index : ℕ) (post : Post) → phase_paced u rounds (keeps.parting_from index post)
+parts_paced u rounds index post = parting_paced u rounds (standing_from index (drop index post.standing))
+
 pub released_paced : (u : Tally) (rounds : ℕ) (let_go : LetGo) (post : Post) (desk : Desk) (told : List Event) → TurnPaced u rounds (keeps.released let_go post desk told)
 released_paced u rounds Released post desk told = tt
 released_paced u rounds (Rehold key) post desk told = round_paced u (rounds_told rounds told) (Holds key) post tt
 released_paced u rounds (Dropped index) post desk told = tt
+released_paced u rounds (Parting index) post desk told = parts_paced u (rounds_told rounds told) (index + 1) post
 
 -- a scan
 
@@ -393,12 +401,20 @@ look_paced u rounds index key (FindCount slot version) post desk found = looking
 look_paced u rounds index key (FindKey slot version count pair) post desk found = looked_paced u rounds index key slot version count pair post desk (found == key)
 look_paced u rounds index key (FindValue slot version pair) post desk found = tt
 
+taking_paced : (u : Tally) (rounds place : ℕ) (post : Post) (desk : Desk) (left : Bool) (found : ℕ) → TurnPaced u rounds (keeps.taking place post desk left found)
+taking_paced u rounds place post desk true found = tt
+taking_paced u rounds place post desk false found = tt
+
 keep_paced : (u : Tally) (rounds : ℕ) (at : KeepAt) (post : Post) (desk : Desk) (found : ℕ) → TurnPaced u rounds (keeps.keep_turn at post desk found)
 keep_paced u rounds (Loosens let_go) post desk found = released_paced u rounds let_go (withdrawn post (let_index let_go)) desk (cleared (let_index let_go) (stands post (let_index let_go)))
 keep_paced u rounds (LoadHeld from index) post desk found = held_paced u rounds from index post desk found (has_one_interval (scheme_of post))
 keep_paced u rounds (StoreHeld from index era) post desk found = copied_paced u rounds from index post desk (reserves_index post index era) (stands post from)
 keep_paced u rounds (Looks index key at) post desk found = look_paced u rounds index key at post desk found
 keep_paced u rounds (Misses index) post desk found = tt
+keep_paced u rounds HideSpan post desk found = tt
+keep_paced u rounds MarkLeft post desk found = tt
+keep_paced u rounds (TakeList place) post desk found = taking_paced u rounds place post desk (found == 1) found
+keep_paced u rounds (MarkTaken place count) post desk found = tt
 
 pub work_turn_paced : (u : Tally) (rounds : ℕ) (work : Work) (post : Post) (desk : Desk) (found : ℕ) → work_paced u work (rounds - 1) → WorkNow u rounds work found → TurnPaced u rounds (steps.work_turn work post desk found)
 work_turn_paced u rounds (Getting key at) post desk found i l = get_paced u rounds key at post desk found

@@ -53,7 +53,7 @@ use Rattle.inv_contents.proofs.Contents.Shelves.{exchanged_book, linked_booked}
 use Rattle.inv_contents.proofs.Contents.Told.{booked_append}
 use Rattle.inv_contents.specs.model.Calls.DequeueAt.{ExchangeHead, LoadTail, SwingTail, TakeNumber, TakeValue}
 use Rattle.inv_contents.specs.model.Calls.GetAt.{FindCount, FindKey, FindValue, FindVersion}
-use Rattle.inv_contents.specs.model.Calls.KeepAt.{LoadHeld, Looks, Loosens, Misses, StoreHeld}
+use Rattle.inv_contents.specs.model.Calls.KeepAt.{HideSpan, LoadHeld, Looks, Loosens, MarkLeft, MarkTaken, Misses, StoreHeld, TakeList}
 use Rattle.inv_contents.specs.model.Calls.ScanAt.{GiveBack, ReadGuard}
 use Rattle.inv_contents.proofs.rows.Went.{LineIn, WalksIn}
 use Rattle.inv_contents.specs.rows.Chain.{queue_of}
@@ -215,6 +215,10 @@ keep_grows c mem book told l (LoadHeld from index) post = calm_grows c mem (keep
 keep_grows c mem book told l (StoreHeld from index era) post = calm_grows c mem (keeps.keep_move (StoreHeld from index era) post) book told l l refl (λ s. refl)
 keep_grows c mem book told l (Looks index key at) post = get_grows c mem book told l at
 keep_grows c mem book told l (Misses index) post = calm_grows c mem (keeps.keep_move (Misses index) post) book told l l refl (λ s. refl)
+keep_grows c mem book told l HideSpan post = calm_grows c mem (keeps.keep_move HideSpan post) book told l l refl (λ s. refl)
+keep_grows c mem book told l MarkLeft post = calm_grows c mem (keeps.keep_move MarkLeft post) book told l l refl (λ s. refl)
+keep_grows c mem book told l (TakeList place) post = calm_grows c mem (keeps.keep_move (TakeList place) post) book told l l refl (λ s. refl)
+keep_grows c mem book told l (MarkTaken place count) post = calm_grows c mem (keeps.keep_move (MarkTaken place count) post) book told l l refl (λ s. refl)
 
 scan_calm : (at : ScanAt) (post : Post) → touches (scan.scan_move at post) ≡ false
 scan_calm (ReadGuard number) post = refl

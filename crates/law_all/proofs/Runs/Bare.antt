@@ -1,8 +1,8 @@
--- A copy, a drop and a look are given no row and give none back.
+-- A copy, a drop and a look, and calls by which a seat leaves or takes a list over, are given no row and give none back.
 use Rattle.std.proofs.Common.{ℕ, ◌≡◌, Bool, true, false, List, [], ◌∷◌, ◌++◌, Option, Some, None, refl, sym, ◌∙◌, subst}
 use Rattle.std.specs.Prelude.{◌==◌, filter, if◌then◌else◌}
 use Rattle.law_logs.proofs.inv.model.Facts.{number_is}
-use Rattle.law_logs.specs.inv.model.Calls.{CallTurn, CallOutcome, GoesOn, Answers, GetAt, FindVersion, FindCount, FindKey, FindValue, KeepAt, Keeping, Dropped, LoadHeld, Loosens, Looks, Misses, StoreHeld, Phase, Idle, Runs, Works, Releases, Why}
+use Rattle.law_logs.specs.inv.model.Calls.{CallTurn, CallOutcome, GoesOn, Answers, GetAt, FindVersion, FindCount, FindKey, FindValue, KeepAt, Keeping, Dropped, Parting, LoadHeld, Loosens, Looks, Misses, HideSpan, MarkLeft, TakeList, MarkTaken, StoreHeld, Phase, Idle, Runs, Works, Releases, Why}
 use Rattle.law_logs.specs.inv.model.Desks.{Desk, Notes, noted, noted_all, noting}
 use Rattle.law_logs.specs.inv.model.Keep as keeps
 use Rattle.law_logs.specs.inv.model.Locals.{Group, Local, begun, begun_post, rounds_told, settled_by, told_by, turn}
@@ -12,20 +12,22 @@ use Rattle.law_logs.specs.inv.model.Posts.{counted, reserves_index, stands}
 use Rattle.law_logs.specs.inv.model.Rounds as rounds
 use Rattle.law_logs.specs.inv.model.Rounds.{scheme_of}
 use Rattle.law_logs.specs.inv.model.Steps as steps
-use Rattle.law_logs.specs.inv.model.World.{World, begin, finds, step}
+use Rattle.law_logs.specs.inv.model.World.{World, begin, finds, offered, step}
 use Rattle.law_logs.specs.inv.model.declared.post.Post.{Post}
 use Rattle.law_logs.specs.inv.model.defs.Events.{is_of_rows}
 use Rattle.law_logs.specs.inv.model.defs.declared.call.Call.TheVariants as calls
 use Rattle.law_logs.specs.inv.model.defs.declared.call.Call.{Call}
 use Rattle.law_logs.specs.inv.model.defs.declared.event.Event.TheVariants as events
 use Rattle.law_logs.specs.inv.model.defs.declared.event.Event.{Event}
+use Rattle.law_logs.specs.inv.model.defs.declared.lifetime.Interval.{Interval}
 use Rattle.law_logs.specs.inv.model.words.Place.{is_valid}
 use Rattle.law_logs.specs.inv.model.words.Schemes.{has_one_interval}
 use Rattle.law_logs.specs.inv.model.words.declared.layout.Layout.{Layout}
 use Rattle.law_logs.specs.inv.Inv.{Inv}
 use Rattle.law_logs.specs.inv.ends.Told.{birth_in, row_events}
 use Rattle.law_logs.specs.inv.history.History.{Begins, Item, Made, Steps, done_if, fits, made_of, world_of}
-use Rattle.law_logs.specs.inv.rows.Hands.{base_row, row_move}
+use Rattle.law_logs.specs.inv.rows.Hands.{base_row, keep_row, row_move}
+use Rattle.law_logs.specs.inv.rows.Rows.RowMove.{Adopts, Stays}
 use Rattle.law_logs.specs.inv.shapes.Frame.{phase_left}
 use Rattle.law_logs.specs.inv.shapes.Seats.{kind_of, suits}
 use Rattle.law_logs.proofs.inv.Inv.Reached.{inv_reached}
@@ -41,11 +43,13 @@ use Rattle.law_all.proofs.Runs.Calls.{log_of_seat}
 -- the phases of these calls
 abbrev bare_at : KeepAt → Bool
 bare_at (Loosens (Dropped index)) = true
+bare_at (Loosens (Parting index)) = true
 bare_at (Loosens let_go) = false
 bare_at at = true
 
 abbrev bare_why : Why → Bool
 bare_why (Releases (Dropped index)) = true
+bare_why (Releases (Parting index)) = true
 bare_why why = false
 
 abbrev bare_phase : Phase → Bool
@@ -66,10 +70,27 @@ drop_begins : (index : ℕ) (x : Option Base) → bare_phase (rounds.letting_by 
 drop_begins index None = refl
 drop_begins index (Some base) = refl
 
+part_index : (x : Option ℕ) → bare_phase (keeps.parting_index x) ≡ true
+part_index None = refl
+part_index (Some index) = refl
+
+part_span : (x : Option Interval) → bare_phase (keeps.parting_span x) ≡ true
+part_span None = refl
+part_span (Some span) = refl
+
+part_begins : (post : Post) → bare_phase (keeps.parting post) ≡ true
+part_begins post = by (has_one_interval (scheme_of post))
+  where
+    by : (one : Bool) → bare_phase (if one then keeps.parting_span post.span else keeps.parting_from 2 post) ≡ true
+    by true = part_span post.span
+    by false = part_index _
+
 call_begins : (call : Call) (post : Post) → is_bare call ≡ true → bare_phase (steps.first_phase call post) ≡ true
 call_begins (calls.Copy from index) post h = copy_begins from index (stands post from)
 call_begins (calls.DropIndex index) post h = drop_begins index (rounds.release_base (scheme_of post) post index)
 call_begins (calls.Look index key) post h = look_begins index key (stands post index)
+call_begins calls.Leave post h = part_begins post
+call_begins (calls.Adopt place) post h = refl
 call_begins call post h = absurd (cc)
 
 copied_goes : (from index : ℕ) (post : Post) (desk : Desk) (reserved : List Event) (x : Option ℕ) → bare_phase (phase_left (keeps.copied from index post desk reserved x).outcome) ≡ true
@@ -94,21 +115,35 @@ look_goes index key (FindCount slot version) post desk found = looking_goes inde
 look_goes index key (FindKey slot version count pair) post desk found = key_goes index key slot version count pair post desk _
 look_goes index key (FindValue slot version pair) post desk found = refl
 
+take_goes : (place : ℕ) (post : Post) (desk : Desk) (found : ℕ) (left : Bool) → bare_phase (phase_left (keeps.taking place post desk left found).outcome) ≡ true
+take_goes place post desk found true = refl
+take_goes place post desk found false = refl
+
 keep_goes : (at : KeepAt) (post : Post) (desk : Desk) (found : ℕ) → bare_at at ≡ true → bare_phase (phase_left (keeps.keep_turn at post desk found).outcome) ≡ true
 keep_goes (Loosens (Dropped index)) post desk found h = refl
+keep_goes (Loosens (Parting index)) post desk found h = part_index _
 keep_goes (Loosens let_go) post desk found h = absurd (cc)
 keep_goes (LoadHeld from index) post desk found h = load_goes from index post desk found (has_one_interval (scheme_of post))
 keep_goes (StoreHeld from index era) post desk found h = copied_goes from index post desk (reserves_index post index era) (stands post from)
 keep_goes (Looks index key at) post desk found h = look_goes index key at post desk found
 keep_goes (Misses index) post desk found h = refl
+keep_goes HideSpan post desk found h = refl
+keep_goes MarkLeft post desk found h = refl
+keep_goes (TakeList place) post desk found h = take_goes place post desk found (found == 1)
+keep_goes (MarkTaken place count) post desk found h = refl
 
 drop_goes : (index : ℕ) (desk : Desk) (post : Post) (told : List Event) (outcome : Outcome) → bare_phase (phase_left (steps.resumed (Releases (Dropped index)) desk post told outcome).outcome) ≡ true
 drop_goes index desk post told (Goes base) = refl
 drop_goes index desk post told (Ends ending) = refl
 
+part_goes : (index : ℕ) (desk : Desk) (post : Post) (told : List Event) (outcome : Outcome) → bare_phase (phase_left (steps.resumed (Releases (Parting index)) desk post told outcome).outcome) ≡ true
+part_goes index desk post told (Goes base) = refl
+part_goes index desk post told (Ends ending) = part_index _
+
 phase_goes : (phase : Phase) (post : Post) (desk : Desk) (found : ℕ) → bare_phase phase ≡ true → bare_phase (phase_left (steps.phase_turn phase post desk found).outcome) ≡ true
 phase_goes Idle post desk found h = refl
 phase_goes (Runs (Releases (Dropped index)) base) post desk found h = drop_goes index desk _ _ _
+phase_goes (Runs (Releases (Parting index)) base) post desk found h = part_goes index desk _ _ _
 phase_goes (Works (Keeping at)) post desk found h = keep_goes at post desk found h
 phase_goes phase post desk found h = absurd (cc)
 
@@ -118,11 +153,25 @@ drop_row index birth (Clear cleared) found r = refl
 drop_row index birth (Release released) found r = refl
 drop_row index birth base found r = absurd (cc)
 
+part_row : (index birth : ℕ) (base : Base) (found : ℕ) → suits base (kind_of (Releases (Parting index))) ≡ true → row_events birth (base_row base found) ≡ []
+part_row index birth (Clear cleared) found r = refl
+part_row index birth (Release released) found r = refl
+part_row index birth base found r = absurd (cc)
+
+take_none : (birth place : ℕ) (left : Bool) → row_events birth (if left then Adopts place else Stays) ≡ []
+take_none birth place true = refl
+take_none birth place false = refl
+
+keep_none : (birth : ℕ) (at : KeepAt) (found : ℕ) → row_events birth (keep_row at found) ≡ []
+keep_none birth (TakeList place) found = take_none birth place (found == 1)
+keep_none birth at found = refl
+
 phase_row : (phase : Phase) (post : Post) (found : ℕ) → bare_phase phase ≡ true → ((why : Why) (base : Base) → phase ≡ Runs why base → suits base (kind_of why) ≡ true)
     → row_events (birth_in phase) (row_move phase post found) ≡ []
 phase_row Idle post found h r = refl
 phase_row (Runs (Releases (Dropped index)) base) post found h r = drop_row index _ base found (r (Releases (Dropped index)) base refl)
-phase_row (Works (Keeping at)) post found h r = refl
+phase_row (Runs (Releases (Parting index)) base) post found h r = part_row index _ base found (r (Releases (Parting index)) base refl)
+phase_row (Works (Keeping at)) post found h r = keep_none _ at found
 phase_row phase post found h r = absurd (cc)
 
 one_noted : (notes : Notes) (event : Event) → is_of_rows event ≡ false → NoRow notes → NoRow (noted notes event)
@@ -170,7 +219,7 @@ settled_bare l post desk rounds (Answers answer) p n g =
 
 step_own : (w : World) (i : ℕ) → Inv w → Bare (w.seat i) → Bare ((step w i).seat i)
 step_own w i a g =
-    let l : Local = w.seat i in
+    let l : Local = offered w i in
     let t : CallTurn = turn l (finds w i) in
     subst Bare (sym (seat_steps w i))
     (settled_bare l t.post (noting t.desk (told_by t)) (rounds_told l.rounds (told_by t)) t.outcome

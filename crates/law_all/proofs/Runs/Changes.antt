@@ -53,6 +53,8 @@ change_owed n b version = record { owed = owed }
     owed (calls.Copy from index) (answers.Copied slot) notes = refl
     owed (calls.Enqueue value) (answers.Queued number) notes = refl
     owed calls.Dequeue (answers.Taken number value clock) notes = refl
+    owed calls.Leave (answers.Left count) notes = refl
+    owed (calls.Adopt place) (answers.Adopted count) notes = refl
     owed call answer notes = refl
 
 -- in the record

@@ -2,8 +2,8 @@
 use Rattle.std.proofs.Common.{Bool, List, None, Option, Some, ap, arith, false, refl, subst, sym, true, ℕ, ◌++◌, ◌+◌, ◌∙◌, ◌≡◌, ◌≤◌}
 use Rattle.std.proofs.lemmas.Bool.Decides.{nat_tests}
 use Rattle.std.proofs.lemmas.List.Sums.{sum_by_push}
-use Rattle.std.specs.Prelude.{if◌then◌else◌, is_some, nat_lt, ◌%◌, ◌&&◌, ◌==◌}
-use Rattle.law_logs.proofs.inv.model.Facts.{false_of_not, number_is}
+use Rattle.std.specs.Prelude.{if◌then◌else◌, is_some, nat_lt, ◌%◌, ◌&&◌, ◌==◌, not}
+use Rattle.law_logs.proofs.inv.model.Facts.{first_of, false_of_not, number_is}
 use Rattle.law_logs.specs.inv.model.Desks.{Notes, noted}
 use Rattle.law_logs.specs.inv.model.Locals.{Group}
 use Rattle.law_logs.specs.inv.model.defs.declared.call.Answer.TheVariants as answers
@@ -21,7 +21,7 @@ use Rattle.law_logs.proofs.laws.Tells.{seen_other, seen_own}
 use Rattle.law_logs.specs.laws.AnswerLaw.{is_advance, retires_for, suits}
 use Rattle.law_logs.specs.laws.HistoryAnswers.{ClockTally, answer_right, answers_ok, no_clock, plain_clock, plain_clock_by, retires_ok}
 use Rattle.law_logs.specs.laws.Standing.{open_ok}
-use Rattle.law_logs.specs.laws.StateAt.{began_of, is_open, one, opened_by, retires_by, retires_of, told_of}
+use Rattle.law_logs.specs.laws.StateAt.{began_of, has_left, is_open, one, opened_by, retires_by, retires_of, told_of}
 use Rattle.law_all.specs.RunLaw.{retired_by, retired_in}
 use Rattle.law_all.proofs.Runs.Notes.{both_seen, retired_noted}
 
@@ -117,7 +117,7 @@ call_there n (Some call) told answer h = (call, refl)
 own_counted : (every n k : ℕ) (p : Past) (event : Event) → open_ok p k event ≡ true → answers_ok n p k event ≡ true → retires_ok p k event ≡ true
     → Counted every k p → CountedAfter every k p event
 own_counted every n k p (events.Begin call) o a r h =
-    none_pending (plain_clock every k p).retired (retired_by (log_of k p)) (retires_of k p) (is_open k p) (false_of_not (is_open k p) o) h
+    none_pending (plain_clock every k p).retired (retired_by (log_of k p)) (retires_of k p) (is_open k p) (false_of_not (is_open k p) (first_of (not (is_open k p)) (not (has_left k p)) o)) h
 own_counted every n k p (events.Retire slot birth retire) o a r h =
     one_more (plain_clock every k p).retired (retired_by (log_of k p)) (retires_of k p) (is_open k p) o h
 own_counted every n k p (events.End steps answer) o a r h =

@@ -1,20 +1,21 @@
--- What each history keeps of a call's entries beside its laws: a row that is retired is not on the seat's list yet, no dequeue is given a
--- row, and only a dequeue links the head.
-use Rattle.std.proofs.Common.{ℕ, ◌≡◌, ◌<◌, Bool, true, false, List, [], ◌∷◌, ◌++◌, None, Option, Some, refl, sym, ap, ◌∙◌, subst}
+-- What each history keeps of a call's entries beside its laws: a row that is retired is not on the seat's list yet, only a put, a
+-- remove or an enqueue is given a row, and only a dequeue links the head.
+use Rattle.std.proofs.Common.{ℕ, ◌≡◌, ◌<◌, inl, inr, Bool, true, false, List, [], ◌∷◌, ◌++◌, None, Option, Some, refl, sym, ap, ◌∙◌, subst}
 use Rattle.std.specs.List.{filter}
-use Rattle.std.specs.Prelude.{◌==◌, not, if◌then◌else◌}
-use Rattle.law_logs.proofs.inv.model.Facts.{both, first_of, rest_of}
+use Rattle.std.specs.Prelude.{◌==◌, ◌||◌, not, if◌then◌else◌}
+use Rattle.law_logs.proofs.inv.model.Facts.{both, false_of_not, first_of, rest_of}
+use Rattle.law_logs.proofs.inv.model.Lists.{or_left, or_right}
 use Rattle.law_logs.specs.inv.model.Allocate.{is_claimed}
 use Rattle.law_logs.specs.inv.model.Calls.{Task, Gets, Changes, Holds, Enqueues, Dequeues, ChangeKept, EnqueueKept, LoadVersion, LoadCount, LoadKey, LoadValue, ExchangeRoot, LoadNumber, LoadNext, PassTail, ExchangeNext, ExchangeTail, LoadTail, SwingTail, TakeNumber, TakeValue, ExchangeHead, Getting, Keeping, Changing, Enqueuing, Dequeuing, ReadGuard, GiveBack, Why, Fills, Phase, Idle, Runs, Scans, Works, CallTurn, CallOutcome, GoesOn, Answers}
 use Rattle.law_logs.specs.inv.model.Change.{told_change}
 use Rattle.law_logs.specs.inv.model.Enqueue.{told_link}
-use Rattle.law_logs.specs.inv.model.Locals.{may_begin, told_end, turn}
+use Rattle.law_logs.specs.inv.model.Locals.{told_end, turn}
 use Rattle.law_logs.specs.inv.model.Phases.{Base, Walk}
 use Rattle.law_logs.specs.inv.model.Phases.AllocateAt.{ClaimSlot}
 use Rattle.law_logs.specs.inv.model.Phases.Base.{Allocate, Retire}
 use Rattle.law_logs.specs.inv.model.Phases.RetireAt.{LoadLife, LoadRetire, StoreRetired}
 use Rattle.law_logs.specs.inv.model.Posts.{counted}
-use Rattle.law_logs.specs.inv.model.World.{World, finds, is_busy, told_in}
+use Rattle.law_logs.specs.inv.model.World.{World, finds, is_busy, list_in, may_start, offered, told_in}
 use Rattle.law_logs.specs.inv.model.declared.post.Post.{Post}
 use Rattle.law_logs.specs.inv.model.defs.Events.{is_of_rows}
 use Rattle.law_logs.specs.inv.model.defs.declared.call.Call.{Call}
@@ -27,7 +28,8 @@ use Rattle.law_logs.specs.inv.model.defs.declared.lifetime.Lifetime.{Lifetime}
 use Rattle.law_logs.specs.inv.model.words.Place.{is_valid}
 use Rattle.law_logs.specs.inv.model.words.declared.layout.Layout.{Layout}
 use Rattle.law_logs.proofs.laws.Along.{OfKind, Single, list_own, list_quiet, single_each}
-use Rattle.law_logs.specs.laws.StateAt.{began_of, is_dequeue, list_of}
+use Rattle.law_logs.specs.laws.ScanLaw.{is_given_one}
+use Rattle.law_logs.specs.laws.StateAt.{began_of, hands_none, is_dequeue, is_handed, list_of}
 use Rattle.law_logs.proofs.inv.Inv.Whole.{covers_of}
 use Rattle.law_logs.proofs.inv.Machines.{is_within, within_of}
 use Rattle.law_logs.proofs.inv.covers.Kept.{before_at}
@@ -52,32 +54,56 @@ use Rattle.law_logs.proofs.held.places.answers.AnswersTold.Answering as answerin
 use Rattle.law_logs.proofs.held.places.answers.AnswersTold.Answering.{one_began, own_began}
 use Rattle.law_logs.proofs.held.places.answers.AnswersTold.Owed.{Serves, TaskServes, WhyServes, call_for}
 use Rattle.law_logs.proofs.held.reuse.Once.Keeps as once
+use Rattle.law_all.proofs.Runs.Taking.{Handing, step_hands}
 
 -- A row that is retired is not on the seat's list.
 abbrev pub fresh_ok : Test
 fresh_ok p i (events.Retire slot birth retire) = no_entry slot (list_of i p)
 fresh_ok p i event = true
 
-fresh_quiet : (p : Past) (i : ℕ) (event : Event) → is_of_rows event ≡ false → fresh_ok p i event ≡ true
+-- events that change a list
+abbrev moves_list : Event → Bool
+moves_list event = is_of_rows event || is_handed event
+
+fresh_quiet : (p : Past) (i : ℕ) (event : Event) → moves_list event ≡ false → fresh_ok p i event ≡ true
 fresh_quiet p i (events.Retire slot birth retire) h = absurd (cc)
 fresh_quiet p i event h = refl
 
-fresh_still : (p : Past) (i : ℕ) (event other : Event) → is_of_rows event ≡ false → fresh_ok p i other ≡ true → fresh_ok (Then p i event) i other ≡ true
-fresh_still p i event (events.Retire slot birth retire) h c = ap (no_entry slot) (list_own i event p ∙ list_quiet event (list_of i p) h) ∙ c
+fresh_still : (p : Past) (i : ℕ) (event other : Event) → moves_list event ≡ false → fresh_ok p i other ≡ true → fresh_ok (Then p i event) i other ≡ true
+fresh_still p i event (events.Retire slot birth retire) h c =
+    ap (no_entry slot) (list_own i event p (or_right (is_of_rows event) (is_handed event) h)
+    ∙ list_quiet event (list_of i p) (or_left (is_of_rows event) (is_handed event) h)) ∙ c
 fresh_still p i event other h c = c
 
-fresh_kind : OfKind is_of_rows fresh_ok
+fresh_kind : OfKind moves_list fresh_ok
 fresh_kind = record { quiet = fresh_quiet; still = fresh_still }
+
+same_moves : (told : List Event) → hands_none told ≡ true → filter moves_list told ≡ filter is_of_rows told
+same_moves [] h = refl
+same_moves (event ∷ told) h =
+    let none : is_handed event ≡ false = false_of_not (is_handed event) (first_of (not (is_handed event)) (hands_none told) h) in
+    by (is_of_rows event) (is_handed event) none (same_moves told (rest_of (not (is_handed event)) (hands_none told) h))
+  where
+    by : (rows handed : Bool) → handed ≡ false → filter moves_list told ≡ filter is_of_rows told
+        → (if rows || handed then event ∷ filter moves_list told else filter moves_list told) ≡ (if rows then event ∷ filter is_of_rows told else filter is_of_rows told)
+    by rows true n e = absurd (cc)
+    by true false n e = ap (λ (xs : List Event). event ∷ xs) e
+    by false false n e = e
+
+fresh_told : (i : ℕ) (told : List Event) (p : Past) → Handing told → Single fresh_ok p i (filter is_of_rows told) → Each fresh_ok p → Each fresh_ok (tells_of p i told)
+fresh_told i told p (inl n) s g =
+    single_each moves_list fresh_ok fresh_kind i told p (subst (λ (xs : List Event). Single fresh_ok p i xs) (sym (same_moves told n)) s) g
+fresh_told i told p (inr t) s g = subst (λ (xs : List Event). Each fresh_ok (tells_of p i xs)) (sym t.is) (refl, g)
 
 -- a row in hand is on no list
 not_listed : (x : Status) (i retire r : ℕ) (lists : Bool) → x ≡ Sealed i retire → (lists ≡ true → x ≡ Listed i r) → lists ≡ false
 not_listed x i retire r true e f = let listed = f refl in absurd (cc)
 not_listed x i retire r false e f = refl
 
-fresh_move : (w : World) (i birth : ℕ) (v : View) (p : Past) (m : RowMove) → Agree w v → MoveFits i v m → list_of i p ≡ (w.seat i).desk.list
+fresh_move : (w : World) (i birth : ℕ) (v : View) (p : Past) (m : RowMove) → Agree w v → MoveFits i v m → list_of i p ≡ list_in w i
     → Single fresh_ok p i (row_events birth m)
 fresh_move w i birth v p (Lists slot born retire) a f e =
-    let list : List Lifetime = (w.seat i).desk.list in
+    let list : List Lifetime = list_in w i in
     ap (no_entry slot) e
     ∙ no_entry_from list slot (λ b r. sym ((a.plays i).lists slot b r) ∙ not_listed (v.status slot) i retire r (v.lists i slot b r) f
     (λ l. a.good.listed i slot b r l))
@@ -86,9 +112,9 @@ fresh_move w i birth v p (Drops slot) a f e = refl
 fresh_move w i birth v p (Returns slot) a f e = refl
 fresh_move w i birth v p m a f e = tt
 
--- No dequeue is given a row, and only a dequeue links the head.
+-- Only a put, a remove or an enqueue is given a row, and only a dequeue links the head.
 abbrev pub kind_right : Option Call → Event → Bool
-kind_right call (events.Give slot birth) = not (is_dequeue call)
+kind_right call (events.Give slot birth) = is_given_one call
 kind_right call (events.Link roots.Head slot) = is_dequeue call
 kind_right call event = true
 
@@ -199,14 +225,14 @@ end_kind : (call : Option Call) (post : Post) (outcome : CallOutcome) → all_of
 end_kind call post (GoesOn phase) = refl
 end_kind call post (Answers answer) = refl
 
-step_kind : (w : World) (i : ℕ) → is_right (w.seat i).phase (w.seat i).desk.list ≡ true → Serves (w.seat i).call (w.seat i).phase
+step_kind : (w : World) (i : ℕ) → is_right (w.seat i).phase (list_in w i) ≡ true → Serves (w.seat i).call (w.seat i).phase
     → all_of (kind_right (Some (w.seat i).call)) (told_in w i) ≡ true
 step_kind w i r s =
-    let t : CallTurn = turn (w.seat i) (finds w i) in
+    let t : CallTurn = turn (offered w i) (finds w i) in
     let call : Option Call = Some (w.seat i).call in
     of_along (kind_right call) t.told (told_end t.post t.outcome)
     (of_filter call t.told (subst (λ (told : List Event). all_of (kind_right call) told ≡ true) (sym (marks_told w i))
-    (marks_kind (w.seat i).phase (w.seat i).post (finds w i) (w.seat i).desk.list (w.seat i).call r s)))
+    (marks_kind (w.seat i).phase (w.seat i).post (finds w i) (list_in w i) (w.seat i).call r s)))
     (end_kind call t.post t.outcome)
 
 -- within a call
@@ -228,7 +254,7 @@ record Keeps (layout : Layout) (made : Made) : Type 0 where
   fresh : Each fresh_ok made.past
   kinds : Each kinds_ok made.past
 
-begin_keeps : (layout : Layout) (made : Made) (i : ℕ) (call : Call) → is_busy made.world i ≡ false → may_begin made.world.layout.config call ≡ true
+begin_keeps : (layout : Layout) (made : Made) (i : ℕ) (call : Call) → is_busy made.world i ≡ false → may_start made.world i call ≡ true
     → Keeps layout made → Keeps layout (done made (Begins i call))
 begin_keeps layout made i call f m g = record {
   base = once.begin_keeps layout made i call f m g.base;
@@ -248,9 +274,9 @@ step_keeps layout made i b y g =
     let fresh : Single fresh_ok p i (row_events (birth_in (w.seat i).phase) (move_of w i)) =
     fresh_move w i (birth_in (w.seat i).phase) v p (move_of w i) n.rows (before_at w i v n) (g.base.shows.lists i) in
     record {
-      base = once.step_keeps layout made i b g.base;
+      base = once.step_keeps layout made i b y g.base;
       answers = answering.step_keeps layout.config.buckets made i b y g.answers;
-      fresh = single_each is_of_rows fresh_ok fresh_kind i (told_in w i) p
+      fresh = fresh_told i (told_in w i) p (step_hands w i)
           (subst (λ (told : List Event). Single fresh_ok p i told) (sym (rows_told w i)) fresh) g.fresh;
       kinds = kinds_each i (told_in w i) p (within_of w i)
           (subst (λ (x : Option Call). all_of (kind_right x) (told_in w i) ≡ true) (sym (s.began y)) (step_kind w i (n.rows.plays i).right (s.serves y)))

@@ -11,6 +11,7 @@ use Rattle.law_logs.specs.inv.model.defs.declared.event.Event.TheVariants as eve
 use Rattle.law_logs.specs.inv.model.words.declared.config.Config.{Config}
 use Rattle.law_logs.specs.inv.model.words.declared.layout.Layout.{Layout}
 use Rattle.law_logs.specs.laws.HistoryHolds.{copies_ok, indexes_ok}
+use Rattle.law_logs.specs.laws.HistoryTable.{ranges_ok}
 use Rattle.law_logs.specs.laws.StateAt.RowShows.{ShowsVersion}
 use Rattle.law_logs.specs.laws.StateAt.{began_of, changes_of, count_of, is_open, shows_of, stood_at, value_at}
 use Rattle.law_all.proofs.Whole.{histories_are_lawful}
@@ -49,6 +50,7 @@ record_laws layout items rest =
       shows = s.shows;
       misses = s.misses;
       starts = s.starts;
+      ranges = each_of_entries (ranges_ok layout.config) r h.ranges;
     }
 
 -- where a call of the record ends

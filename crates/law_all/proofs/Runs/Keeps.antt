@@ -2,7 +2,7 @@
 use Rattle.std.proofs.Common.{ℕ, ◌≡◌, ◌≤◌, ◌<◌, ◌+◌, Bool, true, false, List, [], ◌∷◌, ◌++◌, length, Option, Some, None, refl, sym, ap, ◌∙◌, subst, arith, length-append}
 use Rattle.std.proofs.lemmas.Bool.Decides.{nat_tests}
 use Rattle.std.proofs.Math.Nat.{max-le}
-use Rattle.std.specs.Prelude.{◌==◌, ◌&&◌, if◌then◌else◌, max, nat_le, nat_lt, is_none}
+use Rattle.std.specs.Prelude.{◌==◌, ◌&&◌, if◌then◌else◌, max, nat_le, nat_lt, is_none, not}
 use Rattle.law_logs.proofs.inv.model.Facts.{false_of_not, first_of, le_of_test, number_is, rest_of, same_number}
 use Rattle.law_logs.specs.inv.model.Desks.{noted}
 use Rattle.law_logs.specs.inv.model.Locals.{Group, may_begin}
@@ -18,9 +18,10 @@ use Rattle.law_logs.specs.inv.model.words.declared.config.Config.{Config}
 use Rattle.law_logs.specs.laws.AnswerLaw.{suits, tells_none}
 use Rattle.law_logs.specs.laws.HistoryAnswers.{answer_right, owes, reason, same_told}
 use Rattle.law_logs.specs.laws.HistoryHolds.{clears_at, copies_ok, indexes_ok, protects_at}
+use Rattle.law_logs.specs.laws.HistoryTable.{is_in_range, ranges_ok}
 use Rattle.law_logs.specs.laws.Standing.{is_copy}
 use Rattle.law_logs.specs.laws.StateAt.RowShows.{LinkedAt, ShowsVersion, Unlinked}
-use Rattle.law_logs.specs.laws.StateAt.{RowShows, began_of, bucket_of, count_of, has_told, is_open, is_row, shows_of, stood_at, told_of}
+use Rattle.law_logs.specs.laws.StateAt.{RowShows, began_of, bucket_of, count_of, has_left, has_told, is_open, is_row, shows_of, stood_at, stood_by, told_of}
 use Rattle.law_logs.specs.inv.history.Record.Past.{Start, Then}
 use Rattle.law_logs.specs.inv.history.Record.{Each, Past, begins, own, tells, told_since}
 use Rattle.law_logs.specs.Answered.{IsRow, IsShown, Says, SaysOfRows}
@@ -45,6 +46,7 @@ pub record Laws (c : Config) (r : Past) : Type 0 where
   pub shows : Each (shows_ok c.buckets) r
   pub misses : Each misses_ok r
   pub starts : Each (starts_ok c) r
+  pub ranges : Each (ranges_ok c) r
 
 pub laws_before : (c : Config) (p : Past) (i : ℕ) (event : Event) → Laws c (Then p i event) → Laws c p
 laws_before c p i event l = record {
@@ -55,6 +57,7 @@ laws_before c p i event l = record {
   shows = l.shows.1;
   misses = l.misses.1;
   starts = l.starts.1;
+  ranges = l.ranges.1;
 }
 
 -- the call that a seat is in, and the index from 2 on at which it may change what stands
@@ -67,6 +70,7 @@ touches (Some (calls.Hold key)) j = j == 2
 touches (Some calls.Release) j = j == 2
 touches (Some (calls.DropIndex index)) j = j == index
 touches (Some (calls.Copy from index)) j = j == index
+touches (Some calls.Leave) j = true
 touches call j = false
 
 -- looks have told no version that the bucket did not have where the present call began
@@ -98,6 +102,7 @@ no_clear : (began : Option Call) (j : ℕ) → 2 ≤ j → clears_at began j ≡
 no_clear (Some calls.Release) j low h t = absurd (cc)
 no_clear (Some (calls.DropIndex dropped)) j low h t = let e = first_of (j == dropped) (nat_le 2 dropped) h in absurd (cc)
 no_clear (Some (calls.Copy from to)) j low h t = let e = first_of (j == to) (nat_le 2 from && nat_lt from to) h in absurd (cc)
+no_clear (Some calls.Leave) j low h t = absurd (cc)
 no_clear began j low h t = no_protect began j low h t
 
 no_copy : (began : Option Call) (from j : ℕ) → is_copy from j began ≡ true → touches began j ≡ false → ⊥
@@ -387,6 +392,32 @@ hold_kept c k steps key slot p l g b o t e r m =
       since_looks = subst (λ (x : ℕ). looked_in n place (log_of k p) ≤ x) (sym same) looked;
     }
 
+-- nothing stands at an index that the table does not have
+above_by : (c : Config) (j : ℕ) (event : Event) (x : Option ℕ) → is_in_range c event ≡ true → c.indexes ≤ j → x ≡ None → stood_by j event x ≡ None
+above_by c j (events.Held index slot steps) x h low e =
+    let below : nat_lt index c.indexes ≡ true = first_of (nat_lt index c.indexes) (nat_le slot c.slots) h in
+    let other : (j == index) ≡ false = grind (arith, nat_tests) in
+    rw other e
+above_by c j (events.Copied from index slot) x h low e =
+    let below : nat_lt index c.indexes ≡ true =
+    first_of (nat_lt index c.indexes) (nat_le slot c.slots) (rest_of (nat_lt from c.indexes) (nat_lt index c.indexes && nat_le slot c.slots) h) in
+    let other : (j == index) ≡ false = grind (arith, nat_tests) in
+    rw other e
+above_by c j (events.Clear index slot) x h low e = by (j == index)
+  where
+    by : (same : Bool) → (if same then None else x) ≡ None
+    by true = refl
+    by false = e
+above_by c j event x h low e = e
+
+none_above : (c : Config) (k j : ℕ) (p : Past) → Each (ranges_ok c) p → c.indexes ≤ j → stood_at k j p ≡ None
+none_above c k j Start l low = refl
+none_above c k j (Then p i event) l low = by (k == i) (none_above c k j p l.1 low)
+  where
+    by : (same : Bool) → stood_at k j p ≡ None → (if same then stood_by j event (stood_at k j p) else stood_at k j p) ≡ None
+    by true e = above_by c j event (stood_at k j p) (rest_of (nat_lt i c.seats) (is_in_range c event) l.0) low e
+    by false e = e
+
 -- what is known where a call ends, of a seat whose log was this
 record Ends (c : Config) (k : ℕ) (p q : Past) (call : Call) (answer : Answer) : Type 0 where
   suits : suits call answer ≡ true
@@ -397,6 +428,7 @@ record Ends (c : Config) (k : ℕ) (p q : Past) (call : Call) (answer : Answer) 
   missed : (key : ℕ) → call ≡ calls.Hold key → answer ≡ answers.Nothing → stood_at k 2 p ≡ None
   copied : (from index : ℕ) → call ≡ calls.Copy from index → answer ≡ answers.Nothing → KeepsAt c k index q (kept_in index (log_of k p))
   may : may_begin c call ≡ true
+  above : (j : ℕ) → c.indexes ≤ j → stood_at k j p ≡ None
 
 abbrev Left : Config → ℕ → Past → Past → Call → Answer → (j : ℕ) → Type 0
 Left c k p q call answer j = KeepsAt c k j q (kept_by (log_of k p) call answer (λ (i : ℕ). kept_in i (log_of k p)) j)
@@ -431,6 +463,12 @@ left_by c k j p q (calls.Copy from index) answers.Nothing low g = by (j == index
     by true e = subst (λ (x : ℕ). KeepsAt c k x q (kept_in x (log_of k p))) (sym (number_is j index e)) (g.copied from index refl refl)
     by false e = g.rest j low e
 left_by c k j p q (calls.Copy from index) answer low g = let s = g.suits in absurd (cc)
+left_by c k j p q calls.Leave (answers.Left count) low g = g.stays j ∙ by (nat_lt j c.indexes) refl
+  where
+    by : (within : Bool) → nat_lt j c.indexes ≡ within → stood_at k j p ≡ None
+    by true e = g.rows.bare j (grind (arith, nat_tests))
+    by false e = g.above j (grind (arith, nat_tests))
+left_by c k j p q calls.Leave answer low g = let s = g.suits in absurd (cc)
 left_by c k j p q call answer low g = g.rest j low refl
 
 held_by : (c : Config) (k steps : ℕ) (p : Past) (call : Call) (answer : Answer) → Laws c (Then p k (events.End steps answer)) → Holds c k p
@@ -496,6 +534,7 @@ holds_end c k steps p answer l g =
       missed = missed_by k steps p a.call answer l.misses.0 a.began;
       copied = λ from index e f. on index (copied_by c k p a.call answer g reasons a.began o from index e f);
       may = g.starts a.call a.began;
+      above = λ j low. none_above c k j p l.ranges.1 low;
     } in
     record {
       keeps = λ j low t.
@@ -519,7 +558,7 @@ holds_end c k steps p answer l g =
 
 -- at each position
 holds_own : (c : Config) (k : ℕ) (p : Past) (event : Event) → Laws c (Then p k event) → Holds c k p → Holds c k (Then p k event)
-holds_own c k p (events.Begin call) l g = holds_begin c k p call (false_of_not (is_open k p) l.lawful.open_calls.0) l g
+holds_own c k p (events.Begin call) l g = holds_begin c k p call (false_of_not (is_open k p) (first_of (not (is_open k p)) (not (has_left k p)) l.lawful.open_calls.0)) l g
 holds_own c k p (events.End steps answer) l g = holds_end c k steps p answer l g
 holds_own c k p event l g = holds_inner c k p event refl l.lawful.open_calls.0 l g
 

@@ -15,7 +15,7 @@ use Rattle.law_logs.specs.inv.history.Record.{Past}
 use Rattle.law_all.proofs.Runs.Agrees.{runs_agree}
 use Rattle.law_all.proofs.Runs.Keeping.{runs_keep}
 use Rattle.law_all.proofs.Runs.Bounds.{bounds}
-use Rattle.law_all.proofs.Runs.Listed.{runs_list}
+use Rattle.law_all.proofs.Runs.Lists.{runs_list}
 use Rattle.law_all.proofs.Runs.Sums.{runs_add_up}
 use Rattle.law_all.proofs.Runs.Ticks.{runs_tick}
 use Rattle.law_all.specs.RunLaw.{backs_in, bucket_in, gives, no_bucket, total, unuseds}

@@ -18,7 +18,7 @@ use Rattle.law_all.proofs.Runs.Kept.{Kept, histories_keep}
 use Rattle.law_all.proofs.Runs.Totals.{of_seats, own_count, sum_most, sum_same, sum_seats, told_is, total_is}
 use Rattle.law_all.proofs.Runs.Weights.{Fits, Measure, Weighs, log_fits}
 
-seats_of : (c : Config) (p : Past) → Each (ranges_ok c) p → Each (of_seats c.seats) p
+pub seats_of : (c : Config) (p : Past) → Each (ranges_ok c) p → Each (of_seats c.seats) p
 seats_of c Start h = tt
 seats_of c (Then p i event) h = (first_of (nat_lt i c.seats) (is_in_range c event) h.0, seats_of c p h.1)
 

@@ -4,6 +4,7 @@ use Rattle.std.proofs.Common.{ℕ, ◌≡◌, ◌+◌, Bool, true, false, List, 
 use Rattle.std.proofs.lemmas.Bool.Decides.{nat_tests}
 use Rattle.std.specs.Prelude.{◌==◌, ◌&&◌, ◌||◌, if◌then◌else◌, is_none, nat_lt, not}
 use Rattle.law_logs.proofs.inv.model.Facts.{first_of, or_more}
+use Rattle.law_logs.specs.inv.model.CallReady.{slots_of}
 use Rattle.law_logs.specs.inv.model.defs.Shown.{Seen, shown}
 use Rattle.law_logs.specs.inv.model.defs.declared.call.Call.{Call}
 use Rattle.law_logs.specs.inv.model.defs.declared.call.Call.TheVariants as calls
@@ -12,19 +13,22 @@ use Rattle.law_logs.specs.inv.model.defs.declared.event.Event.TheVariants as eve
 use Rattle.law_logs.specs.inv.model.defs.declared.event.Root.TheVariants as roots
 use Rattle.law_logs.specs.inv.model.defs.declared.lifetime.Lifetime.{Lifetime}
 use Rattle.law_logs.specs.inv.model.words.declared.config.Config.{Config}
-use Rattle.law_logs.specs.laws.HistoryRows.{is_in_hand, is_without, places_right}
+use Rattle.law_logs.specs.laws.HistoryRows.{cuts_one, is_in_hand, is_without, places_right}
 use Rattle.law_logs.specs.laws.HistoryScans.{Course, Tally, first_course, may_read, moved_course, plain_by, read_course, retired_course, scan_right}
 use Rattle.law_logs.specs.laws.HistoryScans.Course.{Advancing, MayScan, MustScan, Plain, Reading}
-use Rattle.law_logs.specs.laws.ScanLaw.{guards, is_life_of, is_over, next_back, scan_by}
-use Rattle.law_logs.specs.laws.StateAt.{Given, InHand, Placed, Without, cuts_by, given_by, is_dequeue, is_empty, is_scan, list_by, opened_by, read_by, retires_by}
+use Rattle.law_logs.specs.laws.ScanLaw.{guards, is_given_one, is_life_of, is_over, next_back, scan_by}
+use Rattle.law_logs.specs.laws.Standing.{is_leave}
+use Rattle.law_logs.specs.laws.StateAt.{Given, InHand, Placed, Without, cuts_by, gained_by, given_by, is_dequeue, is_empty, is_scan, opened_by, read_by, retires_by, with_told}
 use Rattle.law_logs.proofs.inv.rows.Lists.{once_last}
 use Rattle.law_logs.specs.inv.rows.Hands.{each_once, no_entry}
 use Rattle.law_logs.specs.Ledgers.{Ledger, ledger_by}
 use Rattle.law_all.proofs.Runs.Entries.{kind_right}
 use Rattle.law_all.proofs.Runs.Parts.{once_without}
+use Rattle.law_all.specs.RunLaw.{slots_gained, taken_over}
 
--- What a seat's entries have come to: what it has read, its list, whether it scans, the course of its scans, what its call has done with
--- the row that it was given, which rows it has cut and not retired, how many it has retired, whether a call is under way, and its ledger.
+-- What a seat's entries have come to: what it has read, its list, as it is where the lists that it takes over are these, whether it scans, the course of its scans, what its call has done with
+-- the row that it was given, which rows it has cut and not retired, how many it has retired, whether a call is under way, what it has told
+-- of the map, of the queue and of lists, and its ledger.
 pub record Seat : Type 0 where
   pub read : List Seen
   pub lives : List Lifetime
@@ -34,20 +38,22 @@ pub record Seat : Type 0 where
   pub cuts : List ℕ
   pub retires : ℕ
   pub opened : Bool
+  pub told : List Event
   pub ledger : Ledger
 
--- with one entry more
-abbrev pub seat_by : Config → Event → Seat → Seat
-seat_by c event x =
+-- with one entry more; `left`: the lists that are taken over
+abbrev pub seat_by : Config → (left : ℕ → List Lifetime) → Event → Seat → Seat
+seat_by c left event x =
     record {
       read = read_by (guards c) event x.read;
-      lives = list_by event x.lives;
+      lives = gained_by event left x.lives;
       scans = is_scan event;
       tally = plain_by c.every event x.tally;
       given = given_by event x.given;
       cuts = cuts_by event x.cuts;
       retires = retires_by event x.retires;
       opened = opened_by event x.opened;
+      told = with_told event x.told;
       ledger = ledger_by event x.ledger;
     }
 
@@ -61,28 +67,64 @@ abbrev pub open_right : Event → Bool → Bool
 open_right (events.Begin call) opened = not opened
 open_right event opened = opened
 
--- what else is so where a row is cut or retired, and where a call ends
-abbrev pub Deed : Event → Seat → Type 0
-Deed (events.Cut slot) x = is_out x.ledger.call x.given ≡ true
-Deed (events.Retire slot birth retire) x = ((x.retires == 0) ≡ true) × (no_entry slot x.lives ≡ true) × (is_empty x.cuts ≡ false)
-Deed (events.End steps answer) x = (call : Call) × (x.ledger.call ≡ Some call)
-Deed event x = Unit {0}
+-- calls by which a seat leaves or takes a list over
+abbrev pub takes_list : Option Call → Bool
+takes_list (Some (calls.Adopt place)) = true
+takes_list call = false
+
+abbrev pub hands_on : Option Call → Bool
+hands_on call = is_leave call || takes_list call
+
+-- the slots of the lists that a call has told to take over
+abbrev pub gain : (left : ℕ → List ℕ) → Event → List ℕ
+gain left (events.Adopted place count) = left place
+gain left event = []
+
+abbrev pub gains : (left : ℕ → List ℕ) → List Event → List ℕ
+gains left [] = []
+gains left (event ∷ told) = gain left event ++ gains left told
+
+-- how many lives it has told to leave
+abbrev pub part : Event → List ℕ
+part (events.Left count) = count ∷ []
+part event = []
+
+abbrev pub parts : List Event → List ℕ
+parts [] = []
+parts (event ∷ told) = part event ++ parts told
+
+-- the slots of lists
+abbrev pub slots_in : (left : ℕ → List Lifetime) → (place : ℕ) → List ℕ
+slots_in left place = slots_of (left place)
+
+-- what else is so where a row is cut or retired, a list is left or taken over, and where a call ends
+abbrev pub Deed : (left : ℕ → List Lifetime) → Event → Seat → Type 0
+Deed left (events.Cut slot) x = is_out x.ledger.call x.given ≡ true
+Deed left (events.Retire slot birth retire) x =
+    ((x.retires == 0) ≡ true) × (no_entry slot x.lives ≡ true) × (is_empty x.cuts ≡ false) × (cuts_one x.ledger.call ≡ true)
+Deed left (events.Left count) x = (is_leave x.ledger.call ≡ true) × ((count == length x.lives) ≡ true)
+Deed left (events.Adopted place count) x = (takes_list x.ledger.call ≡ true) × (each_once (x.lives ++ left place) ≡ true)
+Deed left (events.End steps answer) x =
+    (call : Call) × (x.ledger.call ≡ Some call) × (gains (slots_in left) x.told ≡ slots_gained (slots_in left) (taken_over call answer))
+Deed left event x = Unit {0}
 
 -- the seat may tell the event
-pub record Allowed (c : Config) (event : Event) (x : Seat) : Type 0 where
+pub record Allowed (c : Config) (left : ℕ → List Lifetime) (event : Event) (x : Seat) : Type 0 where
   pub opens : open_right event x.opened ≡ true
   pub scans : scan_by c x.read x.lives x.scans event ≡ true
   pub course : scan_right (guards c) event x.tally.course ≡ true
   pub places : places_right event x.given ≡ true
   pub kinds : kind_right x.ledger.call event ≡ true
-  pub deed : Deed event x
+  pub deed : Deed left event x
 
 -- Each slot is on the list once.
 
-pub once_step : (event : Event) (x : Seat) → Deed event x → each_once x.lives ≡ true → each_once (list_by event x.lives) ≡ true
-once_step (events.Retire slot birth retire) x d o = once_last x.lives (record { slot = slot; birth = birth; retire = retire }) o d.1
-once_step (events.Back slot) x d o = once_without slot x.lives o
-once_step event x d o = o
+pub once_step : (left : ℕ → List Lifetime) (event : Event) (x : Seat) → Deed left event x → each_once x.lives ≡ true
+    → each_once (gained_by event left x.lives) ≡ true
+once_step left (events.Retire slot birth retire) x d o = once_last x.lives (record { slot = slot; birth = birth; retire = retire }) o d.1
+once_step left (events.Back slot) x d o = once_without slot x.lives o
+once_step left (events.Adopted place count) x d o = d.1
+once_step left event x d o = o
 
 -- What was read, and the course of the scans.
 
@@ -187,15 +229,31 @@ scan_step c (events.Retire slot birth retire) x h r s = calm (guards c) x.read x
 scan_step c event x h r s = calm (guards c) x.read x.lives x.scans x.tally.course x.tally.course h s s.counts
 
 -- A row is cut and retired only by a dequeue or once the call's own row is placed. From the row that is given on, and in a dequeue, no
--- scan may come before a row is retired.
+-- scan may come before a row is retired; and none in a call by which a seat leaves or takes a list over.
 pub record Path (x : Seat) : Type 0 where
   pub cut : is_empty x.cuts ≡ false → is_out x.ledger.call x.given ≡ true
   pub retired : (x.retires == 0) ≡ false → is_out x.ledger.call x.given ≡ true
   pub plain : (x.retires == 0) ≡ true → (is_dequeue x.ledger.call || not (is_without x.given)) ≡ true → x.tally.course ≡ Plain
+  pub quiet : hands_on x.ledger.call ≡ true → x.tally.course ≡ Plain
 
 first_plain : (call : Call) → (is_dequeue (Some call) || false) ≡ true → first_course call ≡ Plain
 first_plain calls.Dequeue h = refl
 first_plain call h = absurd (cc)
+
+first_quiet : (call : Call) → hands_on (Some call) ≡ true → first_course call ≡ Plain
+first_quiet calls.Leave h = refl
+first_quiet (calls.Adopt place) h = refl
+first_quiet call h = absurd (cc)
+
+cuts_apart : (call : Option Call) → cuts_one call ≡ true → hands_on call ≡ true → ⊥
+cuts_apart (Some calls.Leave) k h = absurd (cc)
+cuts_apart (Some (calls.Adopt place)) k h = absurd (cc)
+cuts_apart call k h = absurd (cc)
+
+-- a call that is given a row is no dequeue
+pub given_not : (call : Option Call) → is_given_one call ≡ true → not (is_dequeue call) ≡ true
+given_not (Some calls.Dequeue) h = absurd (cc)
+given_not call h = refl
 
 -- a call that may be given a row has none, and is no dequeue
 pub not_out : (call : Option Call) (given : Given) → not (is_dequeue call) ≡ true → is_without given ≡ true → is_out call given ≡ true → ⊥
@@ -217,34 +275,46 @@ placing slot x h p z = p.plain z (placed_plain slot x.ledger.call x.given h)
 read_never : (all : ℕ) (course : Course) → course ≡ Plain → may_read all course ≡ true → ⊥
 read_never all course e h = let t : may_read all Plain ≡ true = subst (λ (y : Course). may_read all y ≡ true) e h in cc
 
-pub path_step : (c : Config) (event : Event) (x : Seat) → Allowed c event x → Path x → Path (seat_by c event x)
-path_step c (events.Begin call) x a p = record { cut = λ e. absurd (cc); retired = λ e. absurd (cc); plain = λ z o. first_plain call o }
-path_step c (events.Give slot birth) x a p = record {
-  cut = λ e. absurd (not_out x.ledger.call x.given a.kinds a.places (p.cut e));
-  retired = λ e. absurd (not_out x.ledger.call x.given a.kinds a.places (p.retired e));
+pub path_step : (c : Config) (left : ℕ → List Lifetime) (event : Event) (x : Seat) → Allowed c left event x → Path x → Path (seat_by c left event x)
+path_step c left (events.Begin call) x a p =
+    record { cut = λ e. absurd (cc); retired = λ e. absurd (cc); plain = λ z o. first_plain call o; quiet = λ q. first_quiet call q }
+path_step c left (events.Give slot birth) x a p = record {
+  cut = λ e. absurd (not_out x.ledger.call x.given (given_not x.ledger.call a.kinds) a.places (p.cut e));
+  retired = λ e. absurd (not_out x.ledger.call x.given (given_not x.ledger.call a.kinds) a.places (p.retired e));
   plain = λ z o. refl;
+  quiet = λ q. refl;
 }
-path_step c (events.Unused slot) x a p = record { cut = λ e. refl; retired = λ e. refl; plain = λ z o. placing slot x a.places p z }
-path_step c (events.Link (roots.Bucket bucket) slot) x a p = record {
+path_step c left (events.Unused slot) x a p =
+    record { cut = λ e. refl; retired = λ e. refl; plain = λ z o. placing slot x a.places p z; quiet = p.quiet }
+path_step c left (events.Link (roots.Bucket bucket) slot) x a p = record {
   cut = λ e. refl;
   retired = λ e. refl;
   plain = λ z o. placing slot x a.places p z;
+  quiet = p.quiet;
 }
-path_step c (events.Link (roots.Next parent) slot) x a p = record {
+path_step c left (events.Link (roots.Next parent) slot) x a p = record {
   cut = λ e. refl;
   retired = λ e. refl;
   plain = λ z o. placing slot x a.places p z;
+  quiet = p.quiet;
 }
-path_step c (events.Cut slot) x a p = record { cut = λ e. a.deed; retired = p.retired; plain = p.plain }
-path_step c (events.Retire slot birth retire) x a p = record {
+path_step c left (events.Cut slot) x a p = record { cut = λ e. a.deed; retired = p.retired; plain = p.plain; quiet = p.quiet }
+path_step c left (events.Retire slot birth retire) x a p = record {
   cut = λ e. p.cut a.deed.2;
   retired = λ e. p.cut a.deed.2;
   plain = λ z o. absurd (one_more x.retires z);
+  quiet = λ q. absurd (cuts_apart x.ledger.call a.deed.3 q);
 }
-path_step c (events.Era era) x a p = record { cut = p.cut; retired = p.retired; plain = λ z o. ap moved_course (p.plain z o) }
-path_step c (events.Read guard span) x a p = record {
+path_step c left (events.Era era) x a p = record {
+  cut = p.cut;
+  retired = p.retired;
+  plain = λ z o. ap moved_course (p.plain z o);
+  quiet = λ q. ap moved_course (p.quiet q);
+}
+path_step c left (events.Read guard span) x a p = record {
   cut = p.cut;
   retired = p.retired;
   plain = λ z o. absurd (read_never (guards c) x.tally.course (p.plain z o) a.course);
+  quiet = λ q. absurd (read_never (guards c) x.tally.course (p.quiet q) a.course);
 }
-path_step c event x a p = record { cut = p.cut; retired = p.retired; plain = p.plain }
+path_step c left event x a p = record { cut = p.cut; retired = p.retired; plain = p.plain; quiet = p.quiet }

@@ -39,6 +39,10 @@ same_is (events.Copied from index slot) (events.Copied from' index' slot') h =
     let e1 = number_is from from' (first_of (from == from') (index == index' && slot == slot') h) in
     let e2 = number_is index index' (first_of (index == index') (slot == slot') rest) in
     let e3 = number_is slot slot' (rest_of (index == index') (slot == slot') rest) in cc
+same_is (events.Left count) (events.Left count') h = ap events.Left (number_is count count' h)
+same_is (events.Adopted place count) (events.Adopted place' count') h =
+    let e1 = number_is place place' (first_of (place == place') (count == count') h) in
+    let e2 = number_is count count' (rest_of (place == place') (count == count') h) in cc
 same_is event other h = absurd (cc)
 
 told_same : (told others : List Event) → same_told told others ≡ true → told ≡ others
@@ -49,13 +53,15 @@ told_same (event ∷ told) (other ∷ others) h =
     let e : event ≡ other = same_is event other (first_of (same_event event other) (same_told told others) h) in
     let q : told ≡ others = told_same told others (rest_of (same_event event other) (same_told told others) h) in cc
 
--- a kind of events of the map and of the queue alone
+-- a kind of events of the map, of the queue and of lists alone
 abbrev pub is_heard : Event → Bool
 is_heard (events.Got bucket version key value) = true
 is_heard (events.Put bucket version key value) = true
 is_heard (events.Removed bucket version key) = true
 is_heard (events.Queued number value) = true
 is_heard (events.Taken number value) = true
+is_heard (events.Left count) = true
+is_heard (events.Adopted place count) = true
 is_heard event = false
 
 pub record OfHeard (kind : Event → Bool) : Type 0 where
@@ -81,6 +87,8 @@ count_more kind told (events.Removed bucket version key) o h = count_push kind t
 count_more kind told (events.Queued number value) o h = count_push kind told (events.Queued number value)
 count_more kind told (events.Taken number value) o h = count_push kind told (events.Taken number value)
 count_more kind told (events.Copied from index slot) o h = count_push kind told (events.Copied from index slot)
+count_more kind told (events.Left count) o h = count_push kind told (events.Left count)
+count_more kind told (events.Adopted place count) o h = count_push kind told (events.Adopted place count)
 count_more kind told event o h = count_quiet kind told event (o.quiet event refl)
 
 -- groups that pass a test where their answers say an event of the kind
@@ -98,7 +106,7 @@ pub record OfAnswers (n : ℕ) (test : Group → Bool) (kind : Event → Bool) :
       (call : Call) (answer : Answer) (notes : Notes)
       → (if test (record { call = call; answer = answer; notes = notes }) then 1 else 0) ≡ count_by kind (owes n call answer)
 
-told_owed :
+pub told_owed :
     (n : ℕ) (call : Call) (answer : Answer) (told : List Event) (began : Option Call)
     → began ≡ Some call
     → answer_right n began told answer ≡ true
@@ -107,7 +115,7 @@ told_owed n call answer told began e h =
     let q : (suits call answer && same_told told (owes n call answer)) ≡ true = subst (λ (x : Option Call). answer_right n x told answer ≡ true) e h in
     told_same told (owes n call answer) (rest_of (suits call answer) (same_told told (owes n call answer)) q)
 
-answers_weigh : (c : Config) (test : Group → Bool) (kind : Event → Bool) → OfHeard kind → OfAnswers c.buckets test kind → Weighs c (by_answers test kind)
+pub answers_weigh : (c : Config) (test : Group → Bool) (kind : Event → Bool) → OfHeard kind → OfAnswers c.buckets test kind → Weighs c (by_answers test kind)
 answers_weigh c test kind o w = record {
   inner = record { begins = λ call. o.quiet (events.Begin call) refl; ends = λ steps answer. o.quiet (events.End steps answer) refl };
   stays = λ k i p event e. ap (count_by kind) (other_told k i p event e);

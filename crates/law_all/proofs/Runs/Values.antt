@@ -61,6 +61,8 @@ queued_owed n number = record { owed = owed }
     owed (calls.Copy from index) (answers.Copied slot) notes = refl
     owed (calls.Enqueue value) (answers.Queued other) notes = omega arith
     owed calls.Dequeue (answers.Taken other value clock) notes = refl
+    owed calls.Leave (answers.Left count) notes = refl
+    owed (calls.Adopt place) (answers.Adopted count) notes = refl
     owed call answer notes = refl
 
 taken_owed : (n number : ℕ) → OfAnswers n (is_taken_as number) (is_taken_told number)
@@ -77,6 +79,8 @@ taken_owed n number = record { owed = owed }
     owed (calls.Copy from index) (answers.Copied slot) notes = refl
     owed (calls.Enqueue value) (answers.Queued other) notes = refl
     owed calls.Dequeue (answers.Taken other value clock) notes = omega arith
+    owed calls.Leave (answers.Left count) notes = refl
+    owed (calls.Adopt place) (answers.Adopted count) notes = refl
     owed call answer notes = refl
 
 -- in the record

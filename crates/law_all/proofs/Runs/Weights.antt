@@ -3,8 +3,8 @@
 use Rattle.std.proofs.Common.{ℕ, ◌≡◌, ◌+◌, ◌≤◌, Bool, true, false, [], ◌∷◌, ◌++◌, Option, Some, None, refl, sym, ap, ◌∙◌, subst, arith}
 use Rattle.std.proofs.lemmas.List.Sums.{sum_by_push}
 use Rattle.std.specs.List.{sum_by}
-use Rattle.std.specs.Prelude.{◌==◌}
-use Rattle.law_logs.proofs.inv.model.Facts.{false_of_not, number_is, same_number}
+use Rattle.std.specs.Prelude.{◌==◌, not}
+use Rattle.law_logs.proofs.inv.model.Facts.{first_of, false_of_not, number_is, same_number}
 use Rattle.law_logs.specs.inv.model.Desks.{Notes, noted}
 use Rattle.law_logs.specs.inv.model.Locals.{Group}
 use Rattle.law_logs.specs.inv.model.defs.declared.call.Answer.{Answer}
@@ -13,7 +13,7 @@ use Rattle.law_logs.specs.inv.model.defs.declared.event.Event.{Event}
 use Rattle.law_logs.specs.inv.model.defs.declared.event.Event.TheVariants as events
 use Rattle.law_logs.specs.inv.model.words.declared.config.Config.{Config}
 use Rattle.law_logs.specs.laws.HistoryAnswers.{answer_right}
-use Rattle.law_logs.specs.laws.StateAt.{began_of, is_open, one, told_of}
+use Rattle.law_logs.specs.laws.StateAt.{began_of, has_left, is_open, one, told_of}
 use Rattle.law_logs.proofs.Knows.{inner_own, is_inner, other_inner, own_log, own_open}
 use Rattle.law_logs.proofs.Ledgers.{ledger_began}
 use Rattle.law_logs.specs.Ledgers.{left_by, log_of, notes_of}
@@ -138,7 +138,7 @@ begin_fits :
     → Fitting m k (Then p k (events.Begin call))
 begin_fits c m k p call w l g =
     let q : Past = Then p k (events.Begin call) in
-    let closed : is_open k p ≡ false = false_of_not (is_open k p) l.open_calls.0 in
+    let closed : is_open k p ≡ false = false_of_not (is_open k p) (first_of (not (is_open k p)) (not (has_left k p)) l.open_calls.0) in
     let none : going m k q ≡ 0 = way_none (is_open k q) (m.so_far k q) (w.rises k p (events.Begin call) l) in
     let before : going m k p ≡ 0 = way_same (is_open k p) false (m.so_far k p) (m.so_far k p) closed refl in
     record {

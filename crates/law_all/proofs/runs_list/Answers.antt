@@ -1,5 +1,5 @@
-use Rattle.law_all.proofs.Runs.Listed as listed
+use Rattle.law_all.proofs.Runs.Lists as lists
 use Rattle.law_all.proofs.runs_list.Goals as goal
 
 pub returns : goal.returns
-returns c = listed.runs_list
+returns c = lists.runs_list

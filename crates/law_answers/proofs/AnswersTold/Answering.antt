@@ -12,18 +12,18 @@ use Rattle.inv_all.specs.model.defs.declared.event.Event.{Event}
 use Rattle.inv_all.specs.model.defs.declared.event.Event.TheVariants as events
 use Rattle.inv_all.specs.model.declared.post.Post.{Post}
 use Rattle.inv_all.specs.model.Desks.{Desk, noting}
-use Rattle.inv_all.specs.model.Locals.{Local, begun_post, busy_in, may_begin, settled_by, turn, told_by, told_end, rounds_told}
+use Rattle.inv_all.specs.model.Locals.{Local, begun_post, busy_in, settled_by, turn, told_by, told_end, rounds_told}
 use Rattle.inv_all.specs.model.Posts.{counted}
 use Rattle.inv_all.specs.model.Steps.{first_phase}
 use Rattle.inv_all.specs.model.Calls.{CallTurn, CallOutcome, GoesOn, Answers}
-use Rattle.inv_all.specs.model.World.{World, begin, step, finds, is_busy, told_in}
+use Rattle.inv_all.specs.model.World.{World, begin, finds, is_busy, offered, step, told_in, may_start}
 use Rattle.inv_all.proofs.model.Facts.{both, first_of, rest_of, same_number}
 use Rattle.inv_all.proofs.shapes.Frame.{seat_stays, seat_steps, begin_stays, begin_begins}
 use Rattle.laws.specs.StateAt.{same_value, began_by, began_of, with_told, told_of}
 use Rattle.inv_all.specs.history.Record.{Past, Each, tells_of}
 use Rattle.inv_all.specs.history.Record.Past.{Then}
 use Rattle.inv_all.proofs.history.Entries.{entries_of_each}
-use Rattle.inv_all.specs.history.History.{Begins, Steps, Made, done, first_made, record_of}
+use Rattle.inv_all.specs.history.History.{Begins, Steps, Made, done, first_made, record_of, Item, made_of}
 use Rattle.inv_all.proofs.history.Along.{Steady, items_keep}
 use Rattle.inv_all.specs.Inv.{Inv}
 use Rattle.inv_all.proofs.Inv.Begun.{inv_start, inv_begin}
@@ -52,6 +52,8 @@ one_told (events.Removed bucket version key) before later h = append_one before 
 one_told (events.Queued number value) before later h = append_one before later (events.Queued number value)
 one_told (events.Taken number value) before later h = append_one before later (events.Taken number value)
 one_told (events.Copied from index slot) before later h = append_one before later (events.Copied from index slot)
+one_told (events.Left count) before later h = append_one before later (events.Left count)
+one_told (events.Adopted place count) before later h = append_one before later (events.Adopted place count)
 one_told event before later h = refl
 
 own_entry : (i : ℕ) (p : Past) (event : Event) → told_of i (Then p i event) ≡ with_told event (told_of i p)
@@ -116,6 +118,8 @@ owed_same n (names.Enqueue value) (the_answers.Queued number) = both (number == 
 owed_same n names.Dequeue (the_answers.Taken number value clock) = both (number == number && value == value) true (own_two number value) refl
 owed_same n (names.Copy from index) (the_answers.Copied slot) = both (from == from && (index == index && slot == slot)) true (both (from == from) (index == index && slot == slot) (same_number from) (own_two index slot)) refl
 owed_same n (names.PutIf key value wanted) (the_answers.Done version clock) = both ((key % n == key % n && version == version) && (key == key && value == value)) true (both (key % n == key % n && version == version) (key == key && value == value) (own_two (key % n) version) (own_two key value)) refl
+owed_same n names.Leave (the_answers.Left count) = both (count == count) true (same_number count) refl
+owed_same n (names.Adopt place) (the_answers.Adopted count) = both (place == place && count == count) true (own_two place count) refl
 owed_same n call answer = refl
 
 answer_is : (n : ℕ) (call : Call) (answer : Answer) (began : Option Call) (told : List Event) → began ≡ Some call → told ≡ owes n call answer → suits call answer ≡ true → answer_right n began told answer ≡ true
@@ -165,16 +169,16 @@ pub record Keeps (n : ℕ) (made : Made) : Type 0 where
   pub seats : (k : ℕ) → Right n (made.world.seat k) (began_of k made.past) (told_of k made.past)
   pub law : Each (answers_ok n) made.past
 
-pub owes_of : (n : ℕ) (w : World) (i : ℕ) → w.layout.config.buckets ≡ n → Inv w → Serves (w.seat i).call (w.seat i).phase → Owes n (w.seat i).call (owed n (w.seat i).call (w.seat i).phase) (turn (w.seat i) (finds w i))
+pub owes_of : (n : ℕ) (w : World) (i : ℕ) → w.layout.config.buckets ≡ n → Inv w → Serves (w.seat i).call (w.seat i).phase → Owes n (w.seat i).call (owed n (w.seat i).call (w.seat i).phase) (turn (offered w i) (finds w i))
 owes_of n w i e a s =
     let k = a.known in
-    turn_owes n (w.seat i).call (w.seat i).phase (counted (w.seat i).post) (w.seat i).desk (finds w i) (phase_ends w i k.seats) (ap (λ (table : Layout). table.config.buckets) (k.seats.fits i).post.layout ∙ e) s
+    turn_owes n (w.seat i).call (w.seat i).phase (counted (w.seat i).post) (offered w i).desk (finds w i) (phase_ends w i k.seats) (ap (λ (table : Layout). table.config.buckets) (k.seats.fits i).post.layout ∙ e) s
 
 step_right : (n : ℕ) (w : World) (i k : ℕ) (p : Past) (same : Bool) → (k == i) ≡ same → is_busy w i ≡ true → Inv w → w.layout.config.buckets ≡ n → ((m : ℕ) → Right n (w.seat m) (began_of m p) (told_of m p)) → Right n ((step w i).seat k) (began_of k (tells_of p i (told_in w i))) (told_of k (tells_of p i (told_in w i)))
 step_right n w i k p true e b a d g =
     let one : k ≡ i = grind (arith, nat_tests) in
     let r = g i in
-    let t : CallTurn = turn (w.seat i) (finds w i) in
+    let t : CallTurn = turn (offered w i) (finds w i) in
     let o = owes_of n w i d a (r.serves b) in
     let s = settled_right n (w.seat i) t.post (noting t.desk (told_by t)) (rounds_told (w.seat i).rounds (told_by t)) t.outcome (began_of i (tells_of p i (told_in w i))) (told_of i (tells_of p i (told_in w i)))
     (began_along i (told_in w i) p (within_of w i) ∙ r.began b) (step_told n i (w.seat i).call p t (owed n (w.seat i).call (w.seat i).phase) (within_of w i) (r.told b) o) o.serves in
@@ -198,7 +202,7 @@ begin_right n w i k call p false e g =
     (subst (λ (x : Option Call). Right n (w.seat k) x (told_of k (Then p i (events.Begin call)))) (sym (other_began k i p (events.Begin call) e))
     (subst (λ (x : List Event). Right n (w.seat k) (began_of k p) x) (sym (other_entry k i p (events.Begin call) e)) (g k)))
 
-pub begin_keeps : (n : ℕ) (made : Made) (i : ℕ) (call : Call) → is_busy made.world i ≡ false → may_begin made.world.layout.config call ≡ true → Keeps n made → Keeps n (done made (Begins i call))
+pub begin_keeps : (n : ℕ) (made : Made) (i : ℕ) (call : Call) → is_busy made.world i ≡ false → may_start made.world i call ≡ true → Keeps n made → Keeps n (done made (Begins i call))
 begin_keeps n made i call f m g = record { table = g.table; known = inv_begin made.world i call f m g.known; seats = λ k. begin_right n made.world i k call made.past (k == i) refl g.seats; law = (refl, g.law) }
 
 pub step_keeps : (n : ℕ) (made : Made) (i : ℕ) → i < made.world.layout.config.seats → is_busy made.world i ≡ true → Keeps n made → Keeps n (done made (Steps i))
@@ -208,7 +212,7 @@ step_keeps n made i b y g =
       table = g.table;
       known = inv_kept made.world i b g.known;
       seats = λ k. step_right n made.world i k made.past (k == i) refl y g.known g.table g.seats;
-      law = step_each n i (made.world.seat i).call made.past (turn (made.world.seat i) (finds made.world i)) (owed n (made.world.seat i).call (made.world.seat i).phase) (within_of made.world i) (r.began y) (r.told y) (owes_of n made.world i g.table g.known (r.serves y)) g.law;
+      law = step_each n i (made.world.seat i).call made.past (turn (offered made.world i) (finds made.world i)) (owed n (made.world.seat i).call (made.world.seat i).phase) (within_of made.world i) (r.began y) (r.told y) (owes_of n made.world i g.table g.known (r.serves y)) g.law;
     }
 
 steady : (n : ℕ) → Steady (Keeps n)
@@ -217,7 +221,8 @@ steady n = record { begins = λ made i call b y m g. begin_keeps n made i call y
 pub first_keeps : (layout : Layout) → is_valid layout ≡ true → Keeps layout.config.buckets (first_made layout)
 first_keeps layout d = record { table = refl; known = inv_start layout d; seats = λ k. record { began = λ b. absurd (cc); told = λ b. absurd (cc); serves = λ b. absurd (cc) }; law = tt }
 
+pub answers_kept : (layout : Layout) (items : List Item) → is_valid layout ≡ true → Keeps layout.config.buckets (made_of layout items)
+answers_kept layout items d = items_keep (Keeps layout.config.buckets) (steady layout.config.buckets) items (first_made layout) (first_keeps layout d)
+
 pub records_keep_answers : RecordsKeepAnswers
-records_keep_answers layout items d =
-    let g = items_keep (Keeps layout.config.buckets) (steady layout.config.buckets) items (first_made layout) (first_keeps layout d) in
-    entries_of_each (answers_ok layout.config.buckets) (record_of layout items) g.law
+records_keep_answers layout items d = let g = answers_kept layout items d in entries_of_each (answers_ok layout.config.buckets) (record_of layout items) g.law

@@ -1,4 +1,4 @@
--- What a call has told of the map, of the queue and of copies where it stands, and the answers that suit it.
+-- What a call has told of the map, of the queue, of copies and of lists where it stands, and the answers that suit it.
 use Rattle.std.proofs.Common.{ℕ, ◌≡◌, ◌+◌, Bool, true, false, List, [], ◌∷◌, ◌++◌, Option, Some, None, refl, ap, ◌∙◌}
 use Rattle.std.specs.Prelude.{if◌then◌else◌, is_none}
 use Rattle.inv_all.specs.model.defs.declared.call.Answer.{Answer}
@@ -13,20 +13,24 @@ use Rattle.inv_all.specs.model.defs.declared.fold.Change.TheVariants as changes
 use Rattle.inv_all.specs.model.Rounds.{with_clock}
 use Rattle.inv_all.specs.model.Phases.{Ending, Outcome, Goes, Ends}
 use Rattle.inv_all.specs.model.Phases.Ending.{Clocked}
-use Rattle.inv_all.specs.model.Calls.{Task, Gets, Changes, Holds, Enqueues, Dequeues, Next, Again, MakeRoom, Answering, Retiring, AfterScan, Answered, Repeated, Counted, EnqueueKept, EnqueueAt, LoadNumber, LoadNext, PassTail, ExchangeNext, ExchangeTail, Work, Getting, Changing, Enqueuing, Dequeuing, Keeping, KeepAt, Loosens, LoadHeld, StoreHeld, Looks, Misses, LetGo, Released, Rehold, Dropped, Why, Opens, FollowsHead, Fills, ClearsNext, Clears, Finishes, GivesUp, Retires, Tidies, Advances, Releases, Phase, Idle, Runs, Scans, Works, CallTurn, CallOutcome, GoesOn, Answers}
+use Rattle.inv_all.specs.model.Calls.{Task, Gets, Changes, Holds, Enqueues, Dequeues, Next, Again, MakeRoom, Answering, Retiring, AfterScan, Answered, Repeated, Counted, EnqueueKept, EnqueueAt, LoadNumber, LoadNext, PassTail, ExchangeNext, ExchangeTail, Work, Getting, Changing, Enqueuing, Dequeuing, Keeping, KeepAt, Loosens, LoadHeld, StoreHeld, Looks, Misses, HideSpan, MarkLeft, TakeList, MarkTaken, LetGo, Released, Rehold, Dropped, Parting, Why, Opens, FollowsHead, Fills, ClearsNext, Clears, Finishes, GivesUp, Retires, Tidies, Advances, Releases, Phase, Idle, Runs, Scans, Works, CallTurn, CallOutcome, GoesOn, Answers}
 use Rattle.inv_all.proofs.model.Facts.{first_of, rest_of}
 use Rattle.laws.specs.AnswerLaw.{suits}
 use Rattle.laws.specs.HistoryAnswers.{owes}
 use Rattle.inv_all.proofs.history.AllOf.{all_of, of_along, of_weaker}
 use Rattle.inv_all.proofs.Machines.{is_machine, is_still, machine_still}
 
--- an event that tells nothing of the map and of the queue, and no copy
+-- an event that tells nothing of the map, of the queue and of lists, and no copy
 abbrev pub is_mute : Event → Bool
 is_mute (events.Copied from index slot) = false
+is_mute (events.Left count) = false
+is_mute (events.Adopted place count) = false
 is_mute event = is_still event
 
 pub machine_mute : (event : Event) → is_machine event ≡ true → is_mute event ≡ true
 machine_mute (events.Copied from index slot) h = absurd (cc)
+machine_mute (events.Left count) h = absurd (cc)
+machine_mute (events.Adopted place count) h = absurd (cc)
 machine_mute event h = machine_still event h
 
 -- the others
@@ -99,6 +103,7 @@ abbrev pub FreeServes : Call → LetGo → Type 0
 FreeServes call Released = call ≡ names.Release
 FreeServes call (Rehold key) = call ≡ names.Hold key
 FreeServes call (Dropped index) = call ≡ names.DropIndex index
+FreeServes call (Parting index) = call ≡ names.Leave
 
 abbrev pub WhyServes : Call → Why → Type 0
 WhyServes call (Opens task) = TaskServes call task
@@ -125,6 +130,10 @@ KeepServes call (LoadHeld from index) = call ≡ names.Copy from index
 KeepServes call (StoreHeld from index era) = call ≡ names.Copy from index
 KeepServes call (Looks index key at) = call ≡ names.Look index key
 KeepServes call (Misses index) = MissServes call index
+KeepServes call HideSpan = call ≡ names.Leave
+KeepServes call MarkLeft = call ≡ names.Leave
+KeepServes call (TakeList place) = call ≡ names.Adopt place
+KeepServes call (MarkTaken place count) = call ≡ names.Adopt place
 
 abbrev pub WorkServes : Call → Work → Type 0
 WorkServes call (Getting key at) = call ≡ names.Get key
@@ -171,12 +180,17 @@ enqueue_owed n call kept (PassTail next) = []
 enqueue_owed n call kept (ExchangeNext slot) = []
 enqueue_owed n call kept (ExchangeTail slot) = owes n call (the_answers.Queued (kept.number + 1))
 
+-- a list is told to be taken over before its place is marked so
+abbrev pub keep_owed : ℕ → Call → KeepAt → List Event
+keep_owed n call (MarkTaken place count) = owes n call (the_answers.Adopted count)
+keep_owed n call at = []
+
 abbrev pub work_owed : ℕ → Call → Work → List Event
 work_owed n call (Getting key at) = []
 work_owed n call (Changing kept at) = []
 work_owed n call (Enqueuing kept at) = enqueue_owed n call kept at
 work_owed n call (Dequeuing at) = []
-work_owed n call (Keeping at) = []
+work_owed n call (Keeping at) = keep_owed n call at
 
 abbrev pub owed : ℕ → Call → Phase → List Event
 owed n call Idle = []

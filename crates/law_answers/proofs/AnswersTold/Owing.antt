@@ -1,6 +1,6 @@
 -- A step of a call tells what it comes to owe, and leaves a phase that serves the call.
 use Rattle.std.proofs.Common.{ℕ, ◌≡◌, ◌+◌, ◌-◌, ◌%◌, Bool, true, false, List, [], ◌∷◌, ◌++◌, length, Option, Some, None, refl, sym, ap, ◌∙◌, subst}
-use Rattle.std.specs.Prelude.{◌==◌, ◌&&◌, not, nat_lt, if◌then◌else◌}
+use Rattle.std.specs.Prelude.{◌==◌, ◌&&◌, not, nat_lt, if◌then◌else◌, drop}
 use Rattle.inv_all.specs.model.words.declared.config.Config.{Config}
 use Rattle.inv_all.specs.model.words.declared.layout.Layout.{Layout}
 use Rattle.inv_all.specs.model.defs.Pairs.{Pair}
@@ -30,22 +30,23 @@ use Rattle.inv_all.specs.model.Get as gets
 use Rattle.inv_all.specs.model.Guards.{guards, guard_at, eras_in, published}
 use Rattle.inv_all.specs.model.Machine as machine
 use Rattle.inv_all.specs.model.Keep as keeps
-use Rattle.inv_all.specs.model.Posts.{cleared, reserves_index, stands, withdrawn}
+use Rattle.inv_all.specs.model.Posts.{cleared, reserves_index, stands, withdrawn, standing_from, cleared_from, reserves_span}
 use Rattle.inv_all.specs.model.Scan as scan
 use Rattle.inv_all.specs.model.Steps as steps
 use Rattle.inv_all.specs.model.Rounds.{scheme_of, bucket_of, index_of, key_of, taken_of, begin_base, round, round_by, finish_base, clear_base, clear_post, clear_told, given_up, closed, finishing_by, finishing, clearing_by, clearing, clearing_next_by, clearing_next, let_index, letting_by, release_base}
 use Rattle.inv_all.specs.model.words.Schemes.{has_one_interval}
 use Rattle.inv_all.specs.model.Phases.{Base, Ending, Outcome, Goes, Ends}
 use Rattle.inv_all.specs.model.Phases.Ending.{Done, Protected, Followed, Allocated, Retired, Clocked}
-use Rattle.inv_all.specs.model.Calls.{Task, Gets, Changes, Holds, Enqueues, Dequeues, Next, Again, MakeRoom, Answering, Retiring, AfterScan, Answered, Repeated, Counted, ChangeKept, EnqueueKept, GetAt, FindVersion, FindCount, FindKey, FindValue, ChangeAt, LoadVersion, LoadCount, LoadKey, LoadValue, ExchangeRoot, EnqueueAt, LoadNumber, LoadNext, PassTail, ExchangeNext, ExchangeTail, DequeueAt, SwingTail, ExchangeHead, Work, Getting, Changing, Enqueuing, Dequeuing, Keeping, KeepAt, Loosens, LoadHeld, StoreHeld, Looks, Misses, LetGo, Released, Rehold, Dropped, ScanAt, ReadGuard, GiveBack, Why, Opens, FollowsHead, Fills, ClearsNext, Clears, Finishes, GivesUp, Retires, Tidies, Advances, Releases, Phase, Idle, Runs, Scans, Works, answers}
+use Rattle.inv_all.specs.model.Calls.{Task, Gets, Changes, Holds, Enqueues, Dequeues, Next, Again, MakeRoom, Answering, Retiring, AfterScan, Answered, Repeated, Counted, ChangeKept, EnqueueKept, GetAt, FindVersion, FindCount, FindKey, FindValue, ChangeAt, LoadVersion, LoadCount, LoadKey, LoadValue, ExchangeRoot, EnqueueAt, LoadNumber, LoadNext, PassTail, ExchangeNext, ExchangeTail, DequeueAt, SwingTail, ExchangeHead, Work, Getting, Changing, Enqueuing, Dequeuing, Keeping, KeepAt, Loosens, LoadHeld, StoreHeld, Looks, Misses, HideSpan, MarkLeft, TakeList, MarkTaken, LetGo, Released, Rehold, Dropped, Parting, ScanAt, ReadGuard, GiveBack, Why, Opens, FollowsHead, Fills, ClearsNext, Clears, Finishes, GivesUp, Retires, Tidies, Advances, Releases, Phase, Idle, Runs, Scans, Works, answers, goes_on}
 use Rattle.inv_all.proofs.model.Frames.{after_same}
 use Rattle.inv_all.proofs.model.Facts.{both}
 use Rattle.laws.specs.AnswerLaw.{suits}
 use Rattle.laws.specs.HistoryAnswers.{owes}
 use Rattle.inv_all.proofs.history.AllOf.{all_of, of_along}
-use Rattle.inv_all.proofs.history.MayTell.{cleared_all}
+use Rattle.inv_all.proofs.history.MayTell.{cleared_all, cleared_from_all}
 use Rattle.inv_all.proofs.Machines.{is_machine, base_machine, clear_machine}
-use Rattle.law_answers.proofs.AnswersTold.Owed.{call_for, may_want, ChangeServes, MissServes, KeepServes, is_mute, TaskServes, NextServes, LaterServes, FreeServes, WhyServes, WorkServes, Serves, next_owed, later_owed, why_owed, enqueue_owed, work_owed, owed, Told, Owes, ends_clocked, EndsFor, told_machine, told_more, told_none, clock_owes, clock_suits, is_open, loud, loud_along, append_none}
+use Rattle.law_answers.proofs.AnswersTold.Owed.{call_for, may_want, ChangeServes, MissServes, KeepServes, is_mute, TaskServes, NextServes, LaterServes, FreeServes, WhyServes, WorkServes, Serves, next_owed, later_owed, why_owed, enqueue_owed, work_owed, owed, Told, Owes, ends_clocked, EndsFor, told_machine, told_more, told_none, clock_owes, clock_suits, is_open, loud, loud_along, append_none, keep_owed}
+use Rattle.inv_all.specs.model.defs.declared.lifetime.Interval.{Interval}
 
 -- a round begins
 record Round (n : ℕ) (call : Call) (phase : Phase) : Type 0 where
@@ -299,11 +300,17 @@ dequeue_owes n call (SwingTail head next) post desk found c = clearing_next_owes
 dequeue_owes n call (ExchangeHead head next number value) post desk found c = taken_owes n call head next number value post desk (found == head + 1) c
 dequeue_owes n call at post desk found c = record { told = told_none; serves = c }
 
+-- a seat that leaves
+parting_owes : (n : ℕ) (call : Call) (post : Post) (desk : Desk) (told : List Event) (x : Option ℕ) → call ≡ names.Leave → Told [] told [] → Owes n call [] (goes_on post desk told (keeps.parting_index x))
+parting_owes n call post desk told None c t = record { told = t; serves = c }
+parting_owes n call post desk told (Some index) c t = record { told = t; serves = c }
+
 -- what stands at indexes from 2 on
 released_owes : (n : ℕ) (call : Call) (let_go : LetGo) (post : Post) (desk : Desk) (told : List Event) → FreeServes call let_go → Told [] told [] → Owes n call [] (keeps.released let_go post desk told)
 released_owes n call Released post desk told c t = record { told = rw c t; serves = rw c refl }
 released_owes n call (Rehold key) post desk told c t = record { told = again_owes n call [] (Holds key) post told c t; serves = round_serves n call (Holds key) post c }
 released_owes n call (Dropped index) post desk told c t = record { told = rw c t; serves = rw c refl }
+released_owes n call (Parting index) post desk told c t = parting_owes n call post desk told (standing_from (index + 1) (drop (index + 1) post.standing)) c t
 
 copied_owes : (n : ℕ) (call : Call) (from index : ℕ) (post : Post) (desk : Desk) (reserved : List Event) (o : Option ℕ) → call ≡ names.Copy from index → all_of is_machine reserved ≡ true → Owes n call [] (keeps.copied from index post desk reserved o)
 copied_owes n call from index post desk reserved None c m = record { told = rw c told_none; serves = rw c refl }
@@ -338,7 +345,25 @@ miss_owes n (names.Copy from other) index post desk c = record { told = told_non
 miss_owes n (names.Look own key) index post desk c = record { told = told_none; serves = refl }
 miss_owes n call index post desk c = absurd c
 
-keep_owes : (n : ℕ) (call : Call) (at : KeepAt) (post : Post) (desk : Desk) (found : ℕ) → KeepServes call at → Owes n call [] (keeps.keep_turn at post desk found)
+left_event : (n : ℕ) (call : Call) (count : ℕ) → call ≡ names.Leave → events.Left count ∷ [] ≡ owes n call (the_answers.Left count)
+left_event n call count c = rw c refl
+
+adopted_event : (n : ℕ) (call : Call) (place count : ℕ) → call ≡ names.Adopt place → events.Adopted place count ∷ [] ≡ owes n call (the_answers.Adopted count)
+adopted_event n call place count c = rw c refl
+
+adopted_suits : (call : Call) (place count : ℕ) → call ≡ names.Adopt place → suits call (the_answers.Adopted count) ≡ true
+adopted_suits call place count c = rw c refl
+
+-- no list was taken over
+untaken : (n : ℕ) (call : Call) (place : ℕ) (post : Post) (desk : Desk) (none : Bool) → call ≡ names.Adopt place → Owes n call [] (answers post desk [] (if none then the_answers.NotLeft else the_answers.AdoptedBefore))
+untaken n call place post desk true c = record { told = rw c told_none; serves = rw c refl }
+untaken n call place post desk false c = record { told = rw c told_none; serves = rw c refl }
+
+taking_owes : (n : ℕ) (call : Call) (place : ℕ) (post : Post) (desk : Desk) (left : Bool) (found : ℕ) → call ≡ names.Adopt place → Owes n call [] (keeps.taking place post desk left found)
+taking_owes n call place post desk true found c = record { told = record { sum = adopted_event n call place (length desk.gift) c; goes = refl }; serves = c }
+taking_owes n call place post desk false found c = untaken n call place post desk (found == 0) c
+
+keep_owes : (n : ℕ) (call : Call) (at : KeepAt) (post : Post) (desk : Desk) (found : ℕ) → KeepServes call at → Owes n call (keep_owed n call at) (keeps.keep_turn at post desk found)
 keep_owes n call (Loosens let_go) post desk found c =
     let told : List Event = cleared (let_index let_go) (stands post (let_index let_go)) in
     released_owes n call let_go (withdrawn post (let_index let_go)) desk told c (told_machine [] told (cleared_all is_machine (let_index let_go) (stands post (let_index let_go)) (λ index slot. refl)))
@@ -346,6 +371,14 @@ keep_owes n call (LoadHeld from index) post desk found c = load_owes n call from
 keep_owes n call (StoreHeld from index era) post desk found c = copied_owes n call from index post desk (reserves_index post index era) (stands post from) c refl
 keep_owes n call (Looks index key at) post desk found c = look_owes n call index key at post desk found c
 keep_owes n call (Misses index) post desk found c = miss_owes n call index post desk c
+keep_owes n call HideSpan post desk found c =
+    let rows : List Event = cleared_from 2 (drop 2 post.standing) in
+    let told : List Event = rows ++ reserves_span post None in
+    record { told = told_machine [] told (of_along is_machine rows (reserves_span post None) (cleared_from_all is_machine 2 (drop 2 post.standing) (λ index slot. refl)) refl); serves = c }
+keep_owes n call MarkLeft post desk found c = record { told = record { sum = left_event n call (length desk.list) c; goes = refl }; serves = rw c refl }
+keep_owes n call (TakeList place) post desk found c = taking_owes n call place post desk (found == 1) found c
+keep_owes n call (MarkTaken place count) post desk found c =
+    record { told = record { sum = append_none (owes n call (the_answers.Adopted count)); goes = refl }; serves = adopted_suits call place count c }
 
 work_owes : (n : ℕ) (call : Call) (work : Work) (post : Post) (desk : Desk) (found : ℕ) → post.layout.config.buckets ≡ n → WorkServes call work → Owes n call (work_owed n call work) (steps.work_turn work post desk found)
 work_owes n call (Getting key at) post desk found e c = get_owes n call key at post desk found e c
@@ -540,6 +573,20 @@ first_serves (names.Look index key) post = look_serves (stands post index)
     look_serves : (x : Option ℕ) → Serves (names.Look index key) (steps.looking_at index key x)
     look_serves None = refl
     look_serves (Some slot) = refl
+first_serves names.Leave post = leave_serves (has_one_interval (scheme_of post))
+  where
+    span_serves : (x : Option Interval) → Serves names.Leave (keeps.parting_span x)
+    span_serves None = refl
+    span_serves (Some span) = refl
+
+    index_serves : (x : Option ℕ) → Serves names.Leave (keeps.parting_index x)
+    index_serves None = refl
+    index_serves (Some index) = refl
+
+    leave_serves : (one : Bool) → Serves names.Leave (if one then keeps.parting_span post.span else keeps.parting_from 2 post)
+    leave_serves true = span_serves post.span
+    leave_serves false = index_serves (standing_from 2 (drop 2 post.standing))
+first_serves (names.Adopt place) post = refl
 first_serves names.Advance post = refl
 first_serves names.Scan post = refl
 
@@ -570,5 +617,19 @@ first_owes n (names.Look index key) post = look_none (stands post index)
     look_none : (x : Option ℕ) → owed n (names.Look index key) (steps.looking_at index key x) ≡ []
     look_none None = refl
     look_none (Some slot) = refl
+first_owes n names.Leave post = leave_none (has_one_interval (scheme_of post))
+  where
+    span_none : (x : Option Interval) → owed n names.Leave (keeps.parting_span x) ≡ []
+    span_none None = refl
+    span_none (Some span) = refl
+
+    index_none : (x : Option ℕ) → owed n names.Leave (keeps.parting_index x) ≡ []
+    index_none None = refl
+    index_none (Some index) = refl
+
+    leave_none : (one : Bool) → owed n names.Leave (if one then keeps.parting_span post.span else keeps.parting_from 2 post) ≡ []
+    leave_none true = span_none post.span
+    leave_none false = index_none (standing_from 2 (drop 2 post.standing))
+first_owes n (names.Adopt place) post = refl
 first_owes n names.Advance post = refl
 first_owes n names.Scan post = refl

@@ -13,7 +13,7 @@ use Rattle.inv_all.specs.model.Phases.{Aim, ProtectAt, Base}
 use Rattle.inv_all.specs.model.Phases.ProtectAt.{CheckClock, TakeAnswer, CheckUpper}
 use Rattle.inv_all.specs.model.Phases.Base.{Protect, Reload}
 use Rattle.inv_all.specs.model.Calls.{Why, FollowsHead, ScanAt, ReadGuard, GiveBack, Phase, Idle, Runs, Scans, Works}
-use Rattle.inv_all.specs.model.World.{World, finds, told_in}
+use Rattle.inv_all.specs.model.World.{World, finds, offered, told_in}
 use Rattle.inv_all.proofs.model.Facts.{first_of, rest_of, number_is}
 use Rattle.inv_all.specs.model.words.Schemes.{is_wfe}
 use Rattle.inv_all.specs.shapes.Seats.{protect_fits, kind_of, reloads, index_by, Run}
@@ -92,12 +92,12 @@ first_few : (w : World) (i : ℕ) (phase : Phase) (found : ℕ) → is_wfe w.lay
 first_few w i Idle found f t a e = refl
 first_few w i (Runs why base) found f t a e = let k = a.known in may.base_all (few_steps w.layout.config.tries) base (counted (w.seat i).post) found (λ event. one_few w i why base found event f t e (run_of w i why base k.seats e))
 first_few w i (Scans later at) found f t a e = scan_few w.layout.config.tries at (counted (w.seat i).post) found
-first_few w i (Works work) found f t a e = may.work_all (few_steps w.layout.config.tries) (λ index slot. refl) (λ from index slot. refl) (λ seat index era. refl) work (counted (w.seat i).post)
+first_few w i (Works work) found f t a e = may.work_all (few_steps w.layout.config.tries) (λ index slot. refl) (λ from index slot. refl) (λ seat index era. refl) (λ seat. refl) work (counted (w.seat i).post)
 
 told_few : (w : World) (i : ℕ) → is_wfe w.layout.config.scheme ≡ true → i < w.layout.config.seats → Inv w → Few w.layout.config.tries (told_in w i)
 told_few w i f b a =
     let t = (inv_times w i b a).protects in
-    may.step_all (few_steps w.layout.config.tries) (record { quiet = quiet_one w.layout.config.tries; clears = λ index slot. refl }) (w.seat i).phase (counted (w.seat i).post) (w.seat i).desk (finds w i) (first_few w i (w.seat i).phase (finds w i) f t a refl)
+    may.step_all (few_steps w.layout.config.tries) (record { quiet = quiet_one w.layout.config.tries; clears = λ index slot. refl }) (w.seat i).phase (counted (w.seat i).post) (offered w i).desk (finds w i) (first_few w i (w.seat i).phase (finds w i) f t a refl)
 
 table_few : (layout : Layout) → is_wfe layout.config.scheme ≡ true → Tells layout (few_steps layout.config.tries)
 table_few layout f = record {

@@ -27,7 +27,7 @@ use Rattle.inv_all.specs.model.Steps.{first_phase, phase_turn}
 use Rattle.inv_all.specs.model.Phases.{Base, Ends, Protected}
 use Rattle.inv_all.specs.model.Phases.Base.{Begin, Protect, Reload, Clear, Finish, Release, Allocate, Write, GiveUp, Retire, Move}
 use Rattle.inv_all.specs.model.Calls.{Again, Changes, Enqueues, Gets, Opens, Why, LoadVersion, LoadCount, LoadKey, LoadValue, ExchangeRoot, LoadNumber, LoadNext, PassTail, ExchangeNext, ExchangeTail, Getting, Changing, Enqueuing, Dequeuing, Keeping, Phase, Idle, Runs, Scans, Works, CallTurn}
-use Rattle.inv_all.specs.model.World.{World, start, begin, step, is_busy, finds, told_in}
+use Rattle.inv_all.specs.model.World.{World, begin, finds, is_busy, offered, start, step, told_in, list_in}
 use Rattle.inv_all.specs.shapes.Frame.{phase_left}
 use Rattle.inv_all.specs.model.words.Schemes.{is_wfe}
 use Rattle.inv_all.specs.shapes.Seats.{root_by}
@@ -211,11 +211,11 @@ held_since w i v l z base why one b slot era a c e r o =
     root_version (base i) w.book (root_in w i) b slot (end_root w i why one (Protected (protect_ends.Held slot era)) (slot + 1) a.seats e o refl ∙ r) (c.links.tracked i (slot + 1) (end_tracked w i z why one (Protected (protect_ends.Held slot era)) (slot + 1) e o refl))
 
 own_turns : (w : World) (i : ℕ) (v : View) (l : Line) (z : Asked) (base : ℕ → ℕ → ℕ) → i < w.layout.config.seats → Known w v l z → Current base w z → links_in (w.seat i).phase (finds w i) ≡ false
-    → Beside (on w.layout.config.buckets (shelf_since (base i) w.book) (step w i).mem) (turn (w.seat i) (finds w i))
+    → Beside (on w.layout.config.buckets (shelf_since (base i) w.book) (step w i).mem) (turn (offered w i) (finds w i))
 own_turns w i v l z base b a c n =
     let s = links_show w i v l z b a in
     let g = contents_need w i v l z b a in
-    phase_beside w.layout.config.buckets (shelf_since (base i) w.book) w.mem (w.seat i).phase (w.seat i).post (counted (w.seat i).post) (w.seat i).desk (w.seat i).desk.list (a.whole.both.rows.plays i).right n
+    phase_beside w.layout.config.buckets (shelf_since (base i) w.book) w.mem (w.seat i).phase (w.seat i).post (counted (w.seat i).post) (offered w i).desk (list_in w i) (a.whole.both.rows.plays i).right n
     (record {
       gets = λ key one e slot era o. since_back (base i) (w.book.row slot).root (w.book.row slot).version (key % w.layout.config.buckets) (s.gets key slot era one e o) (held_since w i v l z base (Opens (Gets key)) one (key % w.layout.config.buckets) slot era a c e refl o);
       changes = λ kept one e slot era o. since_back (base i) (w.book.row slot).root (w.book.row slot).version (key_of kept.change % w.layout.config.buckets) (s.changes kept slot era one e o) (held_since w i v l z base (Opens (Changes kept)) one (key_of kept.change % w.layout.config.buckets) slot era a c e refl o);
@@ -255,10 +255,10 @@ linked_knows g (Works (Enqueuing kept (ExchangeNext slot))) post desk word h = a
     appended false = let c = clearing_adds (Enqueues kept) Again post desk [] in plain_knows g (phase_left (enqueues.appended kept slot post desk false).outcome) c.plain
 
 own_knows : (w : World) (i : ℕ) (v : View) (l : Line) (z : Asked) (base : ℕ → ℕ → ℕ) (linking : Bool) → links_in (w.seat i).phase (finds w i) ≡ linking → i < w.layout.config.seats → Known w v l z → Current base w z
-    → looks_in (phase_left (turn (w.seat i) (finds w i)).outcome) ≡ false → Knows (on w.layout.config.buckets (shelf_since (base i) (step w i).book) (step w i).mem) (phase_left (turn (w.seat i) (finds w i)).outcome)
-own_knows w i v l z base true n b a c x = linked_knows (on w.layout.config.buckets (shelf_since (base i) (step w i).book) (step w i).mem) (w.seat i).phase (counted (w.seat i).post) (w.seat i).desk (finds w i) n
+    → looks_in (phase_left (turn (offered w i) (finds w i)).outcome) ≡ false → Knows (on w.layout.config.buckets (shelf_since (base i) (step w i).book) (step w i).mem) (phase_left (turn (offered w i) (finds w i)).outcome)
+own_knows w i v l z base true n b a c x = linked_knows (on w.layout.config.buckets (shelf_since (base i) (step w i).book) (step w i).mem) (w.seat i).phase (counted (w.seat i).post) (offered w i).desk (finds w i) n
 own_knows w i v l z base false n b a c x =
-    let t : CallTurn = turn (w.seat i) (finds w i) in
+    let t : CallTurn = turn (offered w i) (finds w i) in
     let k = own_turns w i v l z base b a c n in
     let same : SameBook w.book (step w i).book = claimed_book (shelf_since (base i) w.book) (told_by t) w.book (claimed_append (shelf_since (base i) w.book) t.told (told_end t.post t.outcome) k.calm (calm_claimed (shelf_since (base i) w.book) (told_end t.post t.outcome) (end_calm t.post t.outcome))) in
     knows_lasts w.layout.config.buckets (shelf_since (base i) w.book) (shelf_since (base i) (step w i).book) (step w i).mem (step w i).mem (phase_left t.outcome)
@@ -271,7 +271,7 @@ other_knows w i k v l z base e b a c x =
     let d = step_did w i v (rows_need w i v l a.seats a.eras a.whole.both) o g a.contents in
     knows_lasts w.layout.config.buckets (shelf_since (base k) w.book) (shelf_since (base k) (step w i).book) w.mem (step w i).mem (w.seat k).phase
     (λ s y. slot_since (base k) w.book (step w i).book s (d.far s (o.held k s y)))
-    (λ s q y low. rows_stay w.mem (w.seat i).phase (w.seat i).post s q (owned_stays w.layout.config.slots v i k (w.seat i).phase (w.seat k).phase (w.seat i).desk.list (w.seat k).desk.list s e g.good (g.plays i) (g.plays k) y) low)
+    (λ s q y low. rows_stay w.mem (w.seat i).phase (w.seat i).post s q (owned_stays w.layout.config.slots v i k (w.seat i).phase (w.seat k).phase (list_in w i) (list_in w k) s e g.good (g.plays i) (g.plays k) y) low)
     (c.knows k x)
 
 knows_by : (w : World) (i k : ℕ) (v : View) (l : Line) (z : Asked) (base : ℕ → ℕ → ℕ) (same : Bool) → (k == i) ≡ same → i < w.layout.config.seats → Known w v l z → Current base w z → looks_in ((step w i).seat k).phase ≡ false → Knows (on w.layout.config.buckets (shelf_since (base k) (step w i).book) (step w i).mem) ((step w i).seat k).phase

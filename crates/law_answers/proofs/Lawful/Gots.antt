@@ -23,8 +23,8 @@ use Rattle.inv_all.specs.model.words.Schemes.{has_one_interval}
 use Rattle.inv_all.specs.model.Rounds.{scheme_of, bucket_of, clear_post, clear_told}
 use Rattle.inv_all.specs.model.Phases.{Base, Ending, Outcome, Goes, Ends}
 use Rattle.inv_all.specs.model.Phases.Ending.{Done, Protected, Followed, Allocated, Retired, Clocked}
-use Rattle.inv_all.specs.model.Calls.{Task, Gets, Changes, Holds, Enqueues, Dequeues, GetAt, FindVersion, FindCount, FindKey, FindValue, KeepAt, Loosens, LoadHeld, StoreHeld, Looks, Misses, Work, Getting, Changing, Enqueuing, Dequeuing, Keeping, Why, Opens, Phase, Idle, Runs, Scans, Works}
-use Rattle.inv_all.specs.model.World.{World, finds, told_in}
+use Rattle.inv_all.specs.model.Calls.{Task, Gets, Changes, Holds, Enqueues, Dequeues, GetAt, FindVersion, FindCount, FindKey, FindValue, KeepAt, Loosens, LoadHeld, StoreHeld, Looks, Misses, HideSpan, MarkLeft, TakeList, MarkTaken, Work, Getting, Changing, Enqueuing, Dequeuing, Keeping, Why, Opens, Phase, Idle, Runs, Scans, Works}
+use Rattle.inv_all.specs.model.World.{World, finds, offered, told_in}
 use Rattle.inv_all.proofs.model.Frames.{after_same}
 use Rattle.inv_all.proofs.model.Facts.{both}
 use Rattle.inv_all.specs.requests.Views.{View as Asked}
@@ -86,6 +86,10 @@ keep_table (LoadHeld from index) post = by (has_one_interval (scheme_of post))
 keep_table (StoreHeld from index era) post = copied_table index post (stands post from)
 keep_table (Looks index key at) post = refl
 keep_table (Misses index) post = refl
+keep_table HideSpan post = refl
+keep_table MarkLeft post = refl
+keep_table (TakeList place) post = refl
+keep_table (MarkTaken place count) post = refl
 
 pub work_table : (work : Work) (post : Post) → (work_post work post).layout ≡ post.layout
 work_table (Keeping at) post = keep_table at post
@@ -119,6 +123,8 @@ new_closing layout base = record {
   links = λ post root slot same h. record { table = h.table; new = still_news layout.config.buckets base (enqueues.told_link root slot same) (link_still root slot same) };
   queues = λ post tail slot number value h. record { table = h.table; new = refl };
   takes = λ post head next number value h. record { table = h.table; new = refl };
+  leaves = λ post count h. record { table = h.table; new = refl };
+  adopts = λ post place count h. record { table = h.table; new = refl };
   clears = λ post told index h. record {
     table = cleared_table (scheme_of post) post index ∙ h.table;
     new = of_along (got_new layout.config.buckets base) told (clear_told (scheme_of post) post index) h.new
@@ -137,7 +143,7 @@ first_before layout (Runs why base) post found e = record {
   still = of_weaker is_machine is_still (machine.after base post found).told machine_still (base_machine base post found);
 }
 first_before layout (Scans later at) post found e = record { table = e; still = of_weaker is_machine is_still (scan_told at post found) machine_still (scan_machine at post found) }
-first_before layout (Works work) post found e = record { table = work_table work post ∙ e; still = work_all is_still (λ index slot. refl) (λ from index slot. refl) (λ seat index era. refl) work post }
+first_before layout (Works work) post found e = record { table = work_table work post ∙ e; still = work_all is_still (λ index slot. refl) (λ from index slot. refl) (λ seat index era. refl) (λ seat. refl) work post }
 
 -- what a get knows allows the version that it tells
 row_allows : (w : World) (base : ℕ → ℕ) (key slot version : ℕ) → FoundRow (on w.layout.config.buckets (shelf_since base w.book) w.mem) (key % w.layout.config.buckets) slot version → Allowed w.layout base key version
@@ -196,6 +202,6 @@ phase_knows w i v l z base (Works work) a c e = work_knows w (base i) work (subs
 
 pub told_new : (w : World) (i : ℕ) (v : View) (l : Line) (z : Asked) (base : ℕ → ℕ → ℕ) → Known w v l z → Current base w z → all_of (got_new w.layout.config.buckets (base i)) (told_in w i) ≡ true
 told_new w i v l z base a c =
-    let h = step_closes (Before w.layout) (After w.layout (base i)) (Allowed w.layout (base i)) (new_closing w.layout (base i)) (w.seat i).phase (counted (w.seat i).post) (w.seat i).desk (finds w i)
+    let h = step_closes (Before w.layout) (After w.layout (base i)) (Allowed w.layout (base i)) (new_closing w.layout (base i)) (w.seat i).phase (counted (w.seat i).post) (offered w i).desk (finds w i)
     (phase_knows w i v l z base (w.seat i).phase a c refl) (first_before w.layout (w.seat i).phase (counted (w.seat i).post) (finds w i) (a.seats.fits i).post.layout) in
     h.new

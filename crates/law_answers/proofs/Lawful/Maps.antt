@@ -13,8 +13,7 @@ use Rattle.inv_all.specs.model.defs.declared.fold.Change.{Change}
 use Rattle.inv_all.specs.model.defs.declared.fold.Change.TheVariants as the_changes
 use Rattle.inv_all.specs.model.Book.{Book, booked, booked_all}
 use Rattle.inv_all.specs.model.Posts.{counted}
-use Rattle.inv_all.specs.model.Locals.{may_begin}
-use Rattle.inv_all.specs.model.World.{World, start, begin, step, finds, is_busy, told_in}
+use Rattle.inv_all.specs.model.World.{World, begin, finds, is_busy, offered, start, step, told_in, may_start}
 use Rattle.inv_all.proofs.model.Facts.{both, first_of, rest_of}
 use Rattle.inv_all.specs.requests.Views.{Deal, View as Asked}
 use Rattle.inv_all.proofs.requests.Kept.{requests_start, requests_begin}
@@ -157,10 +156,10 @@ step_law w i v l z layout p e b a c h t =
     let m : StepTells w i = inv_tells w i b (record { rows = v; line = l; asked = z; known = a }) in
     let s : Unmoved i (base_of p i) w.book p = record { changes = h; begun = λ bucket. refl } in
     subst (λ (table : Layout). Each (map_ok table.config.buckets) (tells_of p i (told_in w i))) e
-    (told_each w.layout.config.buckets i (base_of p i) w.book (told_in w i) p s (told_within (w.seat i).phase (counted (w.seat i).post) (w.seat i).desk (finds w i)) (told_loud (w.seat i).phase (counted (w.seat i).post) (w.seat i).desk (finds w i))
+    (told_each w.layout.config.buckets i (base_of p i) w.book (told_in w i) p s (told_within (w.seat i).phase (counted (w.seat i).post) (offered w i).desk (finds w i)) (told_loud (w.seat i).phase (counted (w.seat i).post) (offered w i).desk (finds w i))
     (told_new w i v l z (base_of p) a c) m.map (subst (λ (table : Layout). Each (map_ok table.config.buckets) p) (sym e) t))
 
-begin_keeps : (layout : Layout) (made : Made) (i : ℕ) (call : Call) → is_busy made.world i ≡ false → may_begin made.world.layout.config call ≡ true → Keeps layout made → Keeps layout (done made (Begins i call))
+begin_keeps : (layout : Layout) (made : Made) (i : ℕ) (call : Call) → is_busy made.world i ≡ false → may_start made.world i call ≡ true → Keeps layout made → Keeps layout (done made (Begins i call))
 begin_keeps layout made i call f m g =
     let k = g.known in
     let q = requests_begin made.world i call g.asked k.valid f k.seats k.requests in
@@ -188,7 +187,7 @@ step_keeps layout made i b g =
       asked = q.0;
       known = known_kept made.world i g.rows g.line g.asked q.0 b k q.1.facts q.1.deal;
       current = current_same (base_of made.past) (base_of (tells_of made.past i (told_in made.world i))) (step made.world i) q.0
-          (λ m bucket. told_base m bucket i (told_in made.world i) made.past (told_within (made.world.seat i).phase (counted (made.world.seat i).post) (made.world.seat i).desk (finds made.world i)))
+          (λ m bucket. told_base m bucket i (told_in made.world i) made.past (told_within (made.world.seat i).phase (counted (made.world.seat i).post) (offered made.world i).desk (finds made.world i)))
           (current_kept made.world i g.rows g.line g.asked q.0 (base_of made.past) b k q.1.deal g.current);
       changes = λ bucket. told_changes bucket i (told_in made.world i) made.past made.world.book (g.changes bucket);
       law = step_law made.world i g.rows g.line g.asked layout made.past g.table b k g.current g.changes g.law;

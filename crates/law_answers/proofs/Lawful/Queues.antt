@@ -8,8 +8,7 @@ use Rattle.inv_all.specs.model.defs.declared.event.Event.TheVariants as events
 use Rattle.inv_all.specs.model.defs.declared.event.Root.TheVariants as roots
 use Rattle.inv_all.specs.model.Book.{Book, booked, booked_all}
 use Rattle.inv_all.specs.model.Posts.{counted}
-use Rattle.inv_all.specs.model.Locals.{may_begin}
-use Rattle.inv_all.specs.model.World.{finds, is_busy, told_in}
+use Rattle.inv_all.specs.model.World.{finds, is_busy, told_in, may_start, offered}
 use Rattle.inv_all.proofs.model.Facts.{both, first_of, rest_of}
 use Rattle.inv_all.specs.contents.Gives.{QueueRight, AllQueueRight}
 use Rattle.inv_all.specs.history.Record.{Past, Each, tells_of}
@@ -53,6 +52,8 @@ one_agrees a i p (events.Held index slot steps) g = record { queued = g.queued; 
 one_agrees a i p (events.Null index steps) g = record { queued = g.queued; taken = g.taken }
 one_agrees a i p (events.Clear index slot) g = record { queued = g.queued; taken = g.taken }
 one_agrees a i p (events.Copied from index slot) g = record { queued = g.queued; taken = g.taken }
+one_agrees a i p (events.Left count) g = record { queued = g.queued; taken = g.taken }
+one_agrees a i p (events.Adopted place count) g = record { queued = g.queued; taken = g.taken }
 one_agrees a i p (events.Got bucket version key value) g = record { queued = g.queued; taken = g.taken }
 one_agrees a i p (events.Put bucket version key value) g = record { queued = g.queued; taken = g.taken }
 one_agrees a i p (events.Removed bucket version key) g = record { queued = g.queued; taken = g.taken }
@@ -110,7 +111,7 @@ record Keeps (made : Made) : Type 0 where
   agrees : Agrees made.world.book made.past
   law : Each queue_ok made.past
 
-begin_keeps : (made : Made) (i : ℕ) (call : Call) → is_busy made.world i ≡ false → may_begin made.world.layout.config call ≡ true → Keeps made → Keeps (done made (Begins i call))
+begin_keeps : (made : Made) (i : ℕ) (call : Call) → is_busy made.world i ≡ false → may_start made.world i call ≡ true → Keeps made → Keeps (done made (Begins i call))
 begin_keeps made i call f m g =
     let o = g.agrees in
     record { known = inv_begin made.world i call f m g.known; agrees = record { queued = o.queued; taken = o.taken }; law = (refl, g.law) }
@@ -121,7 +122,7 @@ step_keeps made i b g =
     record {
       known = inv_kept made.world i b g.known;
       agrees = told_agrees i (told_in made.world i) made.past made.world.book g.agrees;
-      law = told_each i made.world.book (told_in made.world i) made.past g.agrees (told_loud (made.world.seat i).phase (counted (made.world.seat i).post) (made.world.seat i).desk (finds made.world i)) m.queue g.law;
+      law = told_each i made.world.book (told_in made.world i) made.past g.agrees (told_loud (made.world.seat i).phase (counted (made.world.seat i).post) (offered made.world i).desk (finds made.world i)) m.queue g.law;
     }
 
 steady : Steady Keeps

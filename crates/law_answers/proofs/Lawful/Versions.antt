@@ -9,7 +9,7 @@ use Rattle.inv_all.specs.model.Book.{Book, RowBook, booked, booked_all}
 use Rattle.inv_all.specs.model.Calls.{CallTurn}
 use Rattle.inv_all.specs.model.Locals.{turn, told_end, told_by}
 use Rattle.inv_all.specs.model.Posts.{counted}
-use Rattle.inv_all.specs.model.World.{World, step, finds}
+use Rattle.inv_all.specs.model.World.{World, finds, offered, step}
 use Rattle.inv_all.proofs.model.Facts.{first_of, rest_of}
 use Rattle.inv_all.specs.covers.Covers.{takes_or_frees}
 use Rattle.inv_all.specs.rows.Hands.{row_move}
@@ -42,6 +42,6 @@ all_version f s (event ∷ told) a n h = all_version f s told (booked a event) n
 
 pub version_stays : (w : World) (i s : ℕ) → takes_or_frees (row_move (w.seat i).phase (w.seat i).post (finds w i)) s ≡ false → ((step w i).book.row s).version ≡ (w.book.row s).version
 version_stays w i s h =
-    let t : CallTurn = turn (w.seat i) (finds w i) in
+    let t : CallTurn = turn (offered w i) (finds w i) in
     all_version (λ n. takes_or_frees (row_move (w.seat i).phase (w.seat i).post (finds w i)) n) s (told_by t) w.book h
-    (append_in (λ n. takes_or_frees (row_move (w.seat i).phase (w.seat i).post (finds w i)) n) t.told (told_end t.post t.outcome) (phase_in (λ n. takes_or_frees (row_move (w.seat i).phase (w.seat i).post (finds w i)) n) (w.seat i).phase (counted (w.seat i).post) (w.seat i).desk (finds w i) (links_of w i)) (ended_in (λ n. takes_or_frees (row_move (w.seat i).phase (w.seat i).post (finds w i)) n) t.post t.outcome))
+    (append_in (λ n. takes_or_frees (row_move (w.seat i).phase (w.seat i).post (finds w i)) n) t.told (told_end t.post t.outcome) (phase_in (λ n. takes_or_frees (row_move (w.seat i).phase (w.seat i).post (finds w i)) n) (w.seat i).phase (counted (w.seat i).post) (offered w i).desk (finds w i) (links_of w i)) (ended_in (λ n. takes_or_frees (row_move (w.seat i).phase (w.seat i).post (finds w i)) n) t.post t.outcome))

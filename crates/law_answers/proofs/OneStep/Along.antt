@@ -5,8 +5,7 @@ use Rattle.inv_all.specs.model.words.Place.{is_valid}
 use Rattle.inv_all.specs.model.words.declared.layout.Layout.{Layout}
 use Rattle.inv_all.specs.model.defs.declared.call.Call.{Call}
 use Rattle.inv_all.specs.model.Rest.{rest}
-use Rattle.inv_all.specs.model.Locals.{may_begin}
-use Rattle.inv_all.specs.model.World.{is_busy, step, told_in}
+use Rattle.inv_all.specs.model.World.{is_busy, step, told_in, may_start}
 use Rattle.inv_all.specs.history.Turns as schedule
 use Rattle.inv_all.specs.history.Turns.History.{Blank, Starts, Turns}
 use Rattle.inv_all.specs.history.History.{Item, Begins, Steps, Made, fits, done, done_if, did, made_from, first_made, made_of}
@@ -27,14 +26,14 @@ pub record Around (made : Made) (h : schedule.History) : Type 0 where
 
 -- a property of where a history stands, which each item keeps
 pub record Kept (K : Made → schedule.History → Type 0) : Type 0 where
-  pub begins : (made : Made) (h : schedule.History) (i : ℕ) (call : Call) → Around made h → i < made.world.layout.config.seats → is_busy made.world i ≡ false → may_begin made.world.layout.config call ≡ true → K made h → K (done made (Begins i call)) (Starts h i call)
+  pub begins : (made : Made) (h : schedule.History) (i : ℕ) (call : Call) → Around made h → i < made.world.layout.config.seats → is_busy made.world i ≡ false → may_start made.world i call ≡ true → K made h → K (done made (Begins i call)) (Starts h i call)
   pub steps : (made : Made) (h : schedule.History) (i : ℕ) → Around made h → i < made.world.layout.config.seats → is_busy made.world i ≡ true → K made h → K (done made (Steps i)) (Turns h i (told_in made.world i))
 
 item_keeps : (K : Made → schedule.History → Type 0) → Kept K → (made : Made) (h : schedule.History) (item : Item) (fit : Bool) → fits made.world item ≡ fit → Around made h → K made h → K (done_if made item fit) (heard_if made.world item fit h)
 item_keeps K q made h item false f a g = g
 item_keeps K q made h (Begins i call) true f a g =
     let seats : ℕ = made.world.layout.config.seats in
-    let may : Bool = may_begin made.world.layout.config call in
+    let may : Bool = may_start made.world i call in
     q.begins made h i call a (low_seat i seats (not (is_busy made.world i) && may) f) (begins_right i seats (is_busy made.world i) may f) (begins_within i seats (is_busy made.world i) may f) g
 item_keeps K q made h (Steps i) true f a g =
     q.steps made h i a (low_seat i made.world.layout.config.seats (is_busy made.world i) f) (rest_of (nat_lt i made.world.layout.config.seats) (is_busy made.world i) f) g

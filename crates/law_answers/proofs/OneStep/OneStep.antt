@@ -1,6 +1,6 @@
 -- A turn tells at most one event that an atomic step makes.
 use Rattle.std.proofs.Common.{ℕ, ◌≡◌, ◌-◌, ◌+◌, Bool, true, false, List, [], ◌∷◌, ◌++◌, Option, Some, None, refl, arith}
-use Rattle.std.specs.Prelude.{◌==◌, not, if◌then◌else◌}
+use Rattle.std.specs.Prelude.{◌==◌, not, if◌then◌else◌, drop}
 use Rattle.inv_all.specs.model.words.declared.config.SchemeKind.{SchemeKind}
 use Rattle.inv_all.specs.model.defs.declared.event.Event.{Event}
 use Rattle.inv_all.specs.model.defs.declared.event.Event.TheVariants as events
@@ -12,12 +12,12 @@ use Rattle.inv_all.specs.model.Desks.{Desk}
 use Rattle.inv_all.specs.model.Enqueue as enqueues
 use Rattle.inv_all.specs.model.Locals.{told_by, told_end}
 use Rattle.inv_all.specs.model.Machine as machine
-use Rattle.inv_all.specs.model.Posts.{cleared, counted, reserves_index, stands}
+use Rattle.inv_all.specs.model.Posts.{cleared, counted, reserves_index, stands, cleared_from, reserves_span}
 use Rattle.inv_all.specs.model.words.Schemes.{has_one_interval}
 use Rattle.inv_all.specs.model.Rounds.{scheme_of, clear_told, bucket_of, let_index}
 use Rattle.inv_all.specs.model.Steps as steps
 use Rattle.inv_all.specs.model.Phases.{Base}
-use Rattle.inv_all.specs.model.Calls.{ScanAt, ReadGuard, GiveBack, ChangeKept, KeepAt, Loosens, LoadHeld, StoreHeld, Looks, Misses, Work, Keeping, Phase, Idle, Runs, Scans, Works, CallOutcome, GoesOn, Answers}
+use Rattle.inv_all.specs.model.Calls.{ScanAt, ReadGuard, GiveBack, ChangeKept, KeepAt, Loosens, LoadHeld, StoreHeld, Looks, Misses, HideSpan, MarkLeft, TakeList, MarkTaken, Work, Keeping, Phase, Idle, Runs, Scans, Works, CallOutcome, GoesOn, Answers}
 use Rattle.inv_all.proofs.model.Facts.{both, first_of, rest_of, if_implies}
 use Rattle.inv_all.specs.history.Turns as schedule
 use Rattle.inv_all.specs.history.History.{Made}
@@ -27,7 +27,8 @@ use Rattle.laws.specs.HistoryTurns.{is_atomic, none_atomic, one_atomic, one_step
 use Rattle.law_answers.specs.Records.{TurnsTellOne}
 use Rattle.law_answers.proofs.OneStep.Along.{Kept, history_keeps}
 use Rattle.inv_all.proofs.history.AllOf.{all_of}
-use Rattle.inv_all.proofs.history.MayTell.{Shape, Silent, Single, Clears, Takes, is_find, shape_of, clear_all, cleared_all}
+use Rattle.inv_all.proofs.history.MayTell.{Shape, Silent, Single, Clears, Takes, is_find, shape_of, clear_all, cleared_all, cleared_from_all}
+use Rattle.inv_all.specs.model.World.{offered}
 
 none_along : (xs ys : List Event) → none_atomic xs ≡ true → none_atomic ys ≡ true → none_atomic (xs ++ ys) ≡ true
 none_along [] ys h k = k
@@ -107,6 +108,12 @@ keep_one (LoadHeld from index) post = by (has_one_interval (scheme_of post))
 keep_one (StoreHeld from index era) post = copied_one from index post (reserves_index post index era) (stands post from) refl
 keep_one (Looks index key at) post = refl
 keep_one (Misses index) post = refl
+keep_one HideSpan post =
+    let rows : List Event = cleared_from 2 (drop 2 post.standing) in
+    one_after rows (reserves_span post None) (none_all rows (cleared_from_all (λ event. not (is_atomic event)) 2 (drop 2 post.standing) (λ index slot. refl))) refl
+keep_one MarkLeft post = refl
+keep_one (TakeList place) post = refl
+keep_one (MarkTaken place count) post = refl
 
 work_one : (work : Work) (post : Post) → One (work_told work post)
 work_one (Keeping at) post = keep_one at post
@@ -145,6 +152,8 @@ one_closing = record {
   links = λ post root slot same h. link_one root slot same;
   queues = λ post tail slot number value h. refl;
   takes = λ post head next number value h. refl;
+  leaves = λ post count h. refl;
+  adopts = λ post place count h. refl;
   clears = λ post told index h. one_along told (clear_told (scheme_of post) post index) h (clear_none (scheme_of post) post index);
   ends = λ post told outcome h. one_along told (told_end post outcome) h (end_none post outcome);
 }
@@ -164,7 +173,7 @@ OneEach made h = EachTurn one_step h
 one_kept : Kept OneEach
 one_kept = record {
   begins = λ made h i call a b f m g. g;
-  steps = λ made h i a b y g. (told_one (made.world.seat i).phase (counted (made.world.seat i).post) (made.world.seat i).desk _, g);
+  steps = λ made h i a b y g. (told_one (made.world.seat i).phase (counted (made.world.seat i).post) (offered made.world i).desk _, g);
 }
 
 pub turns_tell_one : TurnsTellOne

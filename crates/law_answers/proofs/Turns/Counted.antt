@@ -8,13 +8,13 @@ use Rattle.inv_all.specs.model.defs.declared.event.Event.{Event}
 use Rattle.inv_all.specs.model.defs.declared.event.Event.TheVariants as events
 use Rattle.inv_all.specs.model.declared.post.Post.{Post}
 use Rattle.inv_all.specs.model.Desks.{Desk, noting}
-use Rattle.inv_all.specs.model.Locals.{Local, begun_post, busy_in, may_begin, settled_by, turn, told_by, told_end, rounds_told}
+use Rattle.inv_all.specs.model.Locals.{Local, begun_post, busy_in, settled_by, turn, told_by, told_end, rounds_told}
 use Rattle.inv_all.specs.model.Memory.{bump}
 use Rattle.inv_all.specs.model.Posts.{counted}
 use Rattle.inv_all.specs.model.Rest.{rest}
 use Rattle.inv_all.specs.model.Rest as rests
 use Rattle.inv_all.specs.model.Calls.{Phase, Idle, Runs, Scans, Works, CallTurn, CallOutcome, GoesOn, Answers}
-use Rattle.inv_all.specs.model.World.{World, begin, step, finds, is_busy, told_in}
+use Rattle.inv_all.specs.model.World.{World, begin, finds, is_busy, offered, step, told_in, may_start}
 use Rattle.inv_all.proofs.shapes.Frame.{seat_stays, seat_steps, begin_stays, begin_begins}
 use Rattle.inv_all.specs.history.Turns as schedule
 use Rattle.inv_all.specs.history.Turns.History.{Blank, Starts, Turns}
@@ -78,12 +78,12 @@ settled_steps : (l : Local) (post : Post) (desk : Desk) (rounds : ℕ) (outcome 
 settled_steps l post desk rounds (GoesOn phase) = refl
 settled_steps l post desk rounds (Answers answer) = refl
 
-step_seat : (w : World) (i : ℕ) → (step w i).seat i ≡ settled_by (w.seat i) (turn (w.seat i) (finds w i)).post (noting (turn (w.seat i) (finds w i)).desk (told_by (turn (w.seat i) (finds w i)))) (rounds_told (w.seat i).rounds (told_by (turn (w.seat i) (finds w i)))) (turn (w.seat i) (finds w i)).outcome
+step_seat : (w : World) (i : ℕ) → (step w i).seat i ≡ settled_by (offered w i) (turn (offered w i) (finds w i)).post (noting (turn (offered w i) (finds w i)).desk (told_by (turn (offered w i) (finds w i)))) (rounds_told (w.seat i).rounds (told_by (turn (offered w i) (finds w i)))) (turn (offered w i) (finds w i)).outcome
 step_seat w i = seat_steps w i
 
-step_busy : (n : ℕ) (w : World) (i : ℕ) → Owes n (w.seat i).call (owed n (w.seat i).call (w.seat i).phase) (turn (w.seat i) (finds w i)) → not (schedule.tells_end (told_in w i)) ≡ is_busy (step w i) i
+step_busy : (n : ℕ) (w : World) (i : ℕ) → Owes n (w.seat i).call (owed n (w.seat i).call (w.seat i).phase) (turn (offered w i) (finds w i)) → not (schedule.tells_end (told_in w i)) ≡ is_busy (step w i) i
 step_busy n w i o =
-    let t : CallTurn = turn (w.seat i) (finds w i) in
+    let t : CallTurn = turn (offered w i) (finds w i) in
     let there : Told (owed n (w.seat i).call (w.seat i).phase) t.told (out_owed n (w.seat i).call t.outcome) = o.told in
     ap not (tells_after t.told (told_end t.post t.outcome) there.goes)
     ∙ end_busy (w.seat i).call (w.seat i) t.post (noting t.desk (told_by t)) (rounds_told (w.seat i).rounds (told_by t)) t.outcome o.serves
@@ -97,11 +97,11 @@ bump_next n left h = by_room (nat_lt n 18446744073709551615) refl
     by_room true e = refl
     by_room false e = absurd (grind (arith, nat_tests))
 
-turn_count : (w : World) (i : ℕ) → (w.seat i).post.steps + rest w i < 2 ^ 62 → (turn (w.seat i) (finds w i)).post.steps ≡ (w.seat i).post.steps + 1
-turn_count w i h = turn_steps (w.seat i).phase (counted (w.seat i).post) (w.seat i).desk (finds w i) ∙ bump_next (w.seat i).post.steps (rest w i) h
+turn_count : (w : World) (i : ℕ) → (w.seat i).post.steps + rest w i < 2 ^ 62 → (turn (offered w i) (finds w i)).post.steps ≡ (w.seat i).post.steps + 1
+turn_count w i h = turn_steps (w.seat i).phase (counted (w.seat i).post) (offered w i).desk (finds w i) ∙ bump_next (w.seat i).post.steps (rest w i) h
 
 step_count : (w : World) (i : ℕ) → (w.seat i).post.steps + rest w i < 2 ^ 62 → ((step w i).seat i).post.steps ≡ (w.seat i).post.steps + 1
-step_count w i h = ap (λ (x : Local). x.post.steps) (step_seat w i) ∙ settled_steps (w.seat i) _ _ _ (turn (w.seat i) (finds w i)).outcome ∙ turn_count w i h
+step_count w i h = ap (λ (x : Local). x.post.steps) (step_seat w i) ∙ settled_steps (w.seat i) _ _ _ (turn (offered w i) (finds w i)).outcome ∙ turn_count w i h
 
 -- of each seat: it is busy as the schedule says, and while it is so many turns were taken
 record Timed (w : World) (h : schedule.History) (k : ℕ) : Type 0 where
@@ -165,7 +165,7 @@ begin_timed w h i k call false e l a g =
     other_turns true e = absurd (cc)
     other_turns false e = refl
 
-step_timed : (n : ℕ) (w : World) (h : schedule.History) (i k : ℕ) (same : Bool) → (k == i) ≡ same → i < w.layout.config.seats → is_busy w i ≡ true → Inv w → Owes n (w.seat i).call (owed n (w.seat i).call (w.seat i).phase) (turn (w.seat i) (finds w i)) → ((m : ℕ) → Timed w h m) → Timed (step w i) (Turns h i (told_in w i)) k
+step_timed : (n : ℕ) (w : World) (h : schedule.History) (i k : ℕ) (same : Bool) → (k == i) ≡ same → i < w.layout.config.seats → is_busy w i ≡ true → Inv w → Owes n (w.seat i).call (owed n (w.seat i).call (w.seat i).phase) (turn (offered w i) (finds w i)) → ((m : ℕ) → Timed w h m) → Timed (step w i) (Turns h i (told_in w i)) k
 step_timed n w h i k true e l y a o g =
     let one : k ≡ i = grind (arith, nat_tests) in
     let t = g i in
@@ -219,16 +219,16 @@ step_timed n w h i k false e l y a o g =
     no_more : (count before after : ℕ) → count + before < 2 ^ 62 → after ≤ before → count + after < 2 ^ 62
     no_more count before after p q = omega (p, q, arith)
 
-turn_right : (n : ℕ) (w : World) (h : schedule.History) (i : ℕ) → is_busy w i ≡ true → Owes n (w.seat i).call (owed n (w.seat i).call (w.seat i).phase) (turn (w.seat i) (finds w i)) → Timed w h i → (schedule.is_busy i h && (schedule.begins_none (told_in w i) && schedule.ends_with (schedule.turns_of i h + 1) (told_in w i))) ≡ true
+turn_right : (n : ℕ) (w : World) (h : schedule.History) (i : ℕ) → is_busy w i ≡ true → Owes n (w.seat i).call (owed n (w.seat i).call (w.seat i).phase) (turn (offered w i) (finds w i)) → Timed w h i → (schedule.is_busy i h && (schedule.begins_none (told_in w i) && schedule.ends_with (schedule.turns_of i h + 1) (told_in w i))) ≡ true
 turn_right n w h i y o t =
-    let r : CallTurn = turn (w.seat i) (finds w i) in
+    let r : CallTurn = turn (offered w i) (finds w i) in
     let there : Told (owed n (w.seat i).call (w.seat i).phase) r.told (out_owed n (w.seat i).call r.outcome) = o.told in
     let count : r.post.steps ≡ schedule.turns_of i h + 1 = turn_count w i (t.room y) ∙ ap (λ (x : ℕ). x + 1) (sym (t.turns y)) in
     both (schedule.is_busy i h) (schedule.begins_none (told_in w i) && schedule.ends_with (schedule.turns_of i h + 1) (told_in w i)) (t.busy ∙ y)
     (both (schedule.begins_none (told_in w i)) (schedule.ends_with (schedule.turns_of i h + 1) (told_in w i)) (begins_none (told_in w i) (within_of w i))
     (ends_after (schedule.turns_of i h + 1) r.told (told_end r.post r.outcome) there.goes (end_count (schedule.turns_of i h + 1) r.post r.outcome count)))
 
-begin_keeps : (n : ℕ) (made : Made) (h : schedule.History) (i : ℕ) (call : Call) → i < made.world.layout.config.seats → is_busy made.world i ≡ false → may_begin made.world.layout.config call ≡ true → Keeps n made h → Keeps n (done made (Begins i call)) (Starts h i call)
+begin_keeps : (n : ℕ) (made : Made) (h : schedule.History) (i : ℕ) (call : Call) → i < made.world.layout.config.seats → is_busy made.world i ≡ false → may_start made.world i call ≡ true → Keeps n made h → Keeps n (done made (Begins i call)) (Starts h i call)
 begin_keeps n made h i call l f m g =
     let k = answering.begin_keeps n made i call f m g.kept in
     let t = g.timed i in
@@ -255,7 +255,7 @@ item_keeps : (n : ℕ) (made : Made) (h : schedule.History) (item : Item) (fit :
 item_keeps n made h item false f g = g
 item_keeps n made h (Begins i call) true f g =
     let seats : ℕ = made.world.layout.config.seats in
-    let may : Bool = may_begin made.world.layout.config call in
+    let may : Bool = may_start made.world i call in
     begin_keeps n made h i call (low_seat i seats (not (is_busy made.world i) && may) f) (begins_right i seats (is_busy made.world i) may f) (begins_within i seats (is_busy made.world i) may f) g
 item_keeps n made h (Steps i) true f g =
     step_keeps n made h i (low_seat i made.world.layout.config.seats (is_busy made.world i) f) (rest_of (nat_lt i made.world.layout.config.seats) (is_busy made.world i) f) g
@@ -271,12 +271,12 @@ first_keeps layout d =
 outcome_busy : (call : Call) (outcome : CallOutcome) (phase : Phase) → OutServes call outcome → outcome ≡ GoesOn phase → busy_in phase ≡ true
 outcome_busy call outcome phase s e = phase_busy call phase (subst (OutServes call) e s)
 
-goes_busy : (n : ℕ) (made : Made) (h : schedule.History) (k : ℕ) (phase : Phase) → Keeps n made h → is_busy made.world k ≡ true → (turn (made.world.seat k) (finds made.world k)).outcome ≡ GoesOn phase → busy_in phase ≡ true
+goes_busy : (n : ℕ) (made : Made) (h : schedule.History) (k : ℕ) (phase : Phase) → Keeps n made h → is_busy made.world k ≡ true → (turn (offered made.world k) (finds made.world k)).outcome ≡ GoesOn phase → busy_in phase ≡ true
 goes_busy n made h k phase g y e =
     let a = g.kept in
     let s = a.seats k in
     let o = owes_of n made.world k a.table a.known (s.serves y) in
-    outcome_busy (made.world.seat k).call (turn (made.world.seat k) (finds made.world k)).outcome phase o.serves e
+    outcome_busy (made.world.seat k).call (turn (offered made.world k) (finds made.world k)).outcome phase o.serves e
 
 pub histories_count : HistoriesCount
 histories_count layout items d =

@@ -23,7 +23,7 @@ use Rattle.inv_all.specs.model.Machine.{after}
 use Rattle.inv_all.specs.model.Desks.{Desk}
 use Rattle.inv_all.specs.model.Rounds.{scheme_of, clear_post}
 use Rattle.inv_all.specs.model.Steps as steps
-use Rattle.inv_all.specs.model.Calls.{KeepAt, Loosens, LoadHeld, StoreHeld, Looks, Misses, Work, Keeping, Phase, Idle, Runs, Scans, Works}
+use Rattle.inv_all.specs.model.Calls.{KeepAt, Loosens, LoadHeld, StoreHeld, Looks, Misses, HideSpan, MarkLeft, TakeList, MarkTaken, Work, Keeping, Phase, Idle, Runs, Scans, Works}
 use Rattle.inv_all.specs.model.words.Schemes.{has_one_interval}
 use Rattle.inv_all.proofs.history.Passes.{Closed, First, copied_post, keep_post, work_post, step_goes}
 
@@ -103,6 +103,10 @@ keep_steps (LoadHeld from index) post = same_post_if (has_one_interval (scheme_o
 keep_steps (StoreHeld from index era) post = copied_steps index post (stands post from)
 keep_steps (Looks index key at) post = refl
 keep_steps (Misses index) post = refl
+keep_steps HideSpan post = refl
+keep_steps MarkLeft post = refl
+keep_steps (TakeList place) post = refl
+keep_steps (MarkTaken place count) post = refl
 
 work_steps : (work : Work) (post : Post) → (work_post work post).steps ≡ post.steps
 work_steps (Keeping at) post = keep_steps at post

@@ -13,7 +13,7 @@ use Rattle.law_reuse.specs.inv.model.defs.declared.event.Event.{Event}
 use Rattle.law_reuse.specs.inv.model.defs.declared.event.Root.{Root}
 use Rattle.law_reuse.specs.inv.model.declared.post.Post.{Post}
 use Rattle.law_reuse.specs.inv.model.Allocate as allocates
-use Rattle.law_reuse.specs.inv.model.Calls.{Why, Loosens, LoadHeld, StoreHeld, Looks, Misses, Work, Getting, Changing, Enqueuing, Dequeuing, Keeping, Phase, Idle, Runs, Scans, Works}
+use Rattle.law_reuse.specs.inv.model.Calls.{Why, Loosens, LoadHeld, StoreHeld, Looks, Misses, HideSpan, MarkLeft, TakeList, MarkTaken, Work, Getting, Changing, Enqueuing, Dequeuing, Keeping, Phase, Idle, Runs, Scans, Works}
 use Rattle.law_reuse.specs.inv.model.Machine as machine
 use Rattle.law_reuse.specs.inv.model.Memory.{bump}
 use Rattle.law_reuse.specs.inv.model.MoveClock as movers
@@ -33,7 +33,7 @@ use Rattle.law_reuse.specs.inv.shapes.Frame.{Grows, Moves, Onward, Owes, Stores}
 use Rattle.law_reuse.specs.inv.shapes.Seats.{PhaseFits, PostFits}
 use Rattle.law_reuse.proofs.inv.shapes.Frame.{moves_with}
 use Rattle.law_reuse.proofs.inv.shapes.Inside.{shape_moves}
-use Rattle.law_reuse.proofs.inv.shapes.Kept.{counted_fits, run_counted, work_counted}
+use Rattle.law_reuse.proofs.inv.shapes.Kept.{bared_fits, counted_fits, run_counted, work_counted}
 use Rattle.law_reuse.proofs.inv.shapes.Shapes.{shape_grows}
 
 -- the eras of a phase are no earlier than this, and a retire era no earlier than the clock where the row was cut
@@ -295,6 +295,10 @@ stores_since from cut post found (Keeping (StoreHeld one other era)) = tt
 stores_since from cut post found (Keeping (Loosens let_go)) = tt
 stores_since from cut post found (Keeping (Looks index key at)) = tt
 stores_since from cut post found (Keeping (Misses index)) = tt
+stores_since from cut post found (Keeping HideSpan) = tt
+stores_since from cut post found (Keeping MarkLeft) = tt
+stores_since from cut post found (Keeping (TakeList place)) = tt
+stores_since from cut post found (Keeping (MarkTaken place count)) = tt
 stores_since from cut post found (Getting key at) = tt
 stores_since from cut post found (Changing kept at) = tt
 stores_since from cut post found (Enqueuing kept at) = tt
@@ -308,7 +312,7 @@ since_owed layout k from old cut v (Runs why base) post found q p l f =
     let m : Moves (PostFits layout k) (PhaseFits layout) why t = shape_moves layout k v why base (counted post) found (counted_fits layout k post q) (run_counted layout why base post p) in
     moves_with why t m (record { post = m.post; phase = onward_since from cut why t.post t.outcome (base_on from old cut base (counted post) found l f) })
 since_owed layout k from old cut v (Scans later at) post found q p l f = counted_fits layout k post q
-since_owed layout k from old cut v (Works work) post found q p l f = record { post = counted_fits layout k post q; fits = work_counted work post p; stores = stores_since from cut (counted post) found work }
+since_owed layout k from old cut v (Works work) post found q p l f = record { post = bared_fits layout k work (counted post) (counted_fits layout k post q); fits = work_counted work post p; stores = stores_since from cut (counted post) found work }
 
 -- the same eras, by other words for the clock from which they count
 same_retire : (cut next : ℕ → ℕ) (at : RetireAt) → ((s : ℕ) → next s ≡ cut s) → retire_since cut at → retire_since next at

@@ -19,7 +19,7 @@ use Rattle.law_reuse.specs.inv.model.Phases.MoveAt.{CheckEra, AnswerAsked}
 use Rattle.law_reuse.specs.inv.model.Phases.Base.{Protect, Move}
 use Rattle.law_reuse.specs.inv.model.Posts.{counted, tag_of}
 use Rattle.law_reuse.specs.inv.model.SlowPath.{own_request, asking, answer_in}
-use Rattle.law_reuse.specs.inv.model.World.{World, start, begin, step, finds, is_busy}
+use Rattle.law_reuse.specs.inv.model.World.{World, begin, finds, is_busy, offered, start, step}
 use Rattle.law_reuse.proofs.inv.shapes.Frame.{seat_stays, begin_stays, begin_begins}
 use Rattle.law_reuse.specs.inv.shapes.Seats.{Seats}
 use Rattle.law_reuse.proofs.inv.requests.Answering.{heard, word_by_open}
@@ -66,7 +66,7 @@ finds_checked w i why base q c = absurd (cc)
 own_helps : (w : World) (i : ℕ) (from : ℕ → ℕ) (deals : ℕ → Deal) → ((k : ℕ) → from k ≤ w.mem Clock) → HelpSince w.layout from deals ((step w i).seat i).phase
 own_helps w i from deals l =
     let s = stepped_by w i (w.seat i).phase refl in
-    let c = turn_checked (w.mem Clock) (w.seat i).phase (counted (w.seat i).post) (w.seat i).desk (finds w i) (λ why base q c. subst (λ (x : ℕ). w.mem Clock ≤ x) (sym (finds_checked w i why base q c)) (omega arith)) in
+    let c = turn_checked (w.mem Clock) (w.seat i).phase (counted (w.seat i).post) (offered w i).desk (finds w i) (λ why base q c. subst (λ (x : ℕ). w.mem Clock ≤ x) (sym (finds_checked w i why base q c)) (omega arith)) in
     subst (HelpSince w.layout from deals) (sym s) (checked_since w.layout from deals (w.mem Clock) _ l c)
 
 step_helps : (w : World) (i m : ℕ) (z : View) (from : ℕ → ℕ) (same : Bool) → (m == i) ≡ same → OriginsNeeds w i z → ((k : ℕ) → from k ≤ w.mem Clock) → Answers w z from → HelpSince w.layout from (next_deals w i z.deal) ((step w i).seat m).phase

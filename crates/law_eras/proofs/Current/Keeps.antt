@@ -10,7 +10,7 @@ use Rattle.law_reuse.specs.inv.model.defs.declared.call.Call.TheVariants as name
 use Rattle.law_reuse.specs.inv.model.defs.declared.event.Event.{Event}
 use Rattle.law_reuse.specs.inv.model.defs.declared.event.Event.TheVariants as events
 use Rattle.law_reuse.specs.inv.model.Calls.{Why, Phase, Idle, Runs, Scans, Works, StoreHeld, Keeping}
-use Rattle.law_reuse.specs.inv.model.Locals.{Local, after, begun, told_by, may_begin, busy_in}
+use Rattle.law_reuse.specs.inv.model.Locals.{Local, after, begun, told_by, busy_in}
 use Rattle.law_reuse.specs.inv.model.Phases.{Base}
 use Rattle.law_reuse.specs.inv.model.Phases.BeginAt.{LoadLower}
 use Rattle.law_reuse.specs.inv.model.Phases.ProtectAt.{LoadClock, CheckClock, LoadOwnClock, CheckOwnClock, CheckUpper}
@@ -20,7 +20,7 @@ use Rattle.law_reuse.specs.inv.model.Phases.MoveAt.{LoadEra}
 use Rattle.law_reuse.specs.inv.model.Phases.Base.{Begin, Protect, Allocate, Retire, Move}
 use Rattle.law_reuse.specs.inv.model.Posts.{counted}
 use Rattle.law_reuse.specs.inv.model.Steps as steps
-use Rattle.law_reuse.specs.inv.model.World.{World, begin, step, finds, is_busy, told_in}
+use Rattle.law_reuse.specs.inv.model.World.{World, begin, finds, is_busy, offered, step, told_in, may_start}
 use Rattle.law_reuse.proofs.inv.shapes.Frame.{after_seated, begun_seated, seat_stays, seat_steps, begin_stays, begin_begins}
 use Rattle.law_reuse.proofs.inv.shapes.Kept.{begun_fits}
 use Rattle.law_reuse.specs.inv.shapes.Frame.{Seated}
@@ -125,7 +125,7 @@ loads_clock w i why base q l = absurd (cc)
 
 -- a step that loads the retire era tells nothing
 retire_tells : (w : World) (i : ℕ) (why : Why) (slot birth : ℕ) → (w.seat i).phase ≡ Runs why (Retire (LoadRetire slot birth)) → told_in w i ≡ []
-retire_tells w i why slot birth q = ap (λ (phase : Phase). told_by (steps.phase_turn phase (counted (w.seat i).post) (w.seat i).desk (finds w i))) q
+retire_tells w i why slot birth q = ap (λ (phase : Phase). told_by (steps.phase_turn phase (counted (w.seat i).post) (offered w i).desk (finds w i))) q
 
 base_hears : (w : World) (i : ℕ) (z : Asked) (from : ℕ → ℕ) (why : Why) (base : Base) → OriginsNeeds w i z → (w.seat i).phase ≡ Runs why base → Answers w z from → BaseHears (from i) base (counted (w.seat i).post) (finds w i)
 base_hears w i z from why (Protect aim index root made at) n q g = hears_since w i z (from i) why aim index root made at n q (g.deals i)
@@ -153,7 +153,7 @@ phase_loads w i p z (Works work) n e q g = tt
 -- the seat that steps
 own_since : (w : World) (i : ℕ) (p : Past) (z : Asked) → OriginsNeeds w i z → clock_of p ≡ w.mem Clock → PhaseSince (begun_at i p) (cut_at i p) (w.seat i).phase → Answers w z (λ k. begun_at k p) → PhaseSince (begun_at i p) (cut_at i (tells_of p i (told_in w i))) ((step w i).seat i).phase
 own_since w i p z n e f g =
-    let l : Local = w.seat i in
+    let l : Local = offered w i in
     let from : ℕ = begun_at i p in
     let cut : ℕ → ℕ = cut_at i (tells_of p i (told_in w i)) in
     let s : Seated (PostFits w.layout i) (Aged from cut) (after l (finds w i)) =
@@ -205,7 +205,7 @@ begin_since w i k call p z false q v s f =
     subst (λ (l : Local). PhaseSince (begun_at k later) (cut_at k later) l.phase) (sym (begin_stays w i k call q))
     (same_since (begun_at k p) (begun_at k later) (cut_at k p) (cut_at k later) (w.seat k).phase (begun_other k i (events.Begin call) p q) (λ s. refl) (f k))
 
-begin_current : (layout : Layout) (made : Made) (i : ℕ) (call : Call) → is_valid layout ≡ true → fits made.world (Begins i call) ≡ true → is_busy made.world i ≡ false → may_begin made.world.layout.config call ≡ true → Current layout made → Current layout (done made (Begins i call))
+begin_current : (layout : Layout) (made : Made) (i : ℕ) (call : Call) → is_valid layout ≡ true → fits made.world (Begins i call) ≡ true → is_busy made.world i ≡ false → may_start made.world i call ≡ true → Current layout made → Current layout (done made (Begins i call))
 begin_current layout made i call d h f m g =
     let w : World = made.world in
     let k = g.known in
@@ -226,7 +226,7 @@ item_current : (layout : Layout) (made : Made) (item : Item) (fit : Bool) → fi
 item_current layout made item false f d g = g
 item_current layout made (Begins i call) true f d g =
     let seats : ℕ = made.world.layout.config.seats in
-    let may : Bool = may_begin made.world.layout.config call in
+    let may : Bool = may_start made.world i call in
     begin_current layout made i call d f (begins_right i seats (is_busy made.world i) may f) (begins_within i seats (is_busy made.world i) may f) g
 item_current layout made (Steps i) true f d g = step_current layout made i d f (low_seat i made.world.layout.config.seats (is_busy made.world i) f) g
 

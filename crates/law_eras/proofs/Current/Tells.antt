@@ -7,7 +7,7 @@ use Rattle.law_reuse.specs.inv.model.words.declared.layout.Layout.{Layout}
 use Rattle.law_reuse.specs.inv.model.defs.declared.event.Event.{Event}
 use Rattle.law_reuse.specs.inv.model.defs.declared.event.Event.TheVariants as events
 use Rattle.law_reuse.specs.inv.model.declared.post.Post.{Post}
-use Rattle.law_reuse.specs.inv.model.Calls.{ScanAt, Phase, Idle, Runs, Scans, Works, ReadGuard, GiveBack, Work, Getting, Changing, Enqueuing, Dequeuing, Keeping, KeepAt, Loosens, LoadHeld, StoreHeld, Looks, Misses}
+use Rattle.law_reuse.specs.inv.model.Calls.{ScanAt, Phase, Idle, Runs, Scans, Works, ReadGuard, GiveBack, Work, Getting, Changing, Enqueuing, Dequeuing, Keeping, KeepAt, Loosens, LoadHeld, StoreHeld, Looks, Misses, HideSpan, MarkLeft, TakeList, MarkTaken}
 use Rattle.law_reuse.specs.inv.model.Guards.{one_era, from_to}
 use Rattle.law_reuse.specs.inv.model.Machine as machine
 use Rattle.law_reuse.specs.inv.model.Phases.{Base}
@@ -19,7 +19,7 @@ use Rattle.law_reuse.specs.inv.model.Phases.MoveAt.{ShowEra, HandOver}
 use Rattle.law_reuse.specs.inv.model.Phases.Base.{Begin, Protect, Allocate, Retire, Move}
 use Rattle.law_reuse.specs.inv.model.Posts.{counted, cleared, stands, reserves_index}
 use Rattle.law_reuse.specs.inv.model.Rounds.{scheme_of, clear_told, let_index}
-use Rattle.law_reuse.specs.inv.model.World.{World, finds, told_in}
+use Rattle.law_reuse.specs.inv.model.World.{World, finds, offered, told_in}
 use Rattle.law_reuse.proofs.inv.model.Facts.{first_of, rest_of, number_is, or_more, same_number}
 use Rattle.law_reuse.specs.inv.shapes.Eras.{base_eras, PhaseEras}
 use Rattle.law_reuse.specs.inv.history.Record.{Past, Test, Each, tells_of, begins, own}
@@ -183,10 +183,14 @@ copied_led p i from index era post (Some slot) h =
 
 keep_led : (p : Past) (i : ℕ) (at : KeepAt) (post : Post) → ((from index era : ℕ) → at ≡ StoreHeld from index era → Copies p i from index era) → Led p i (keep_told at post)
 keep_led p i (StoreHeld from index era) post h = copied_led p i from index era post (stands post from) (h from index era refl)
-keep_led p i (LoadHeld from index) post h = idle_led i (keep_told (LoadHeld from index) post) p (work_passes is_idle (λ index slot. refl) (λ from index slot. refl) (Keeping (LoadHeld from index)) post (λ a b era e. absurd (cc)))
+keep_led p i (LoadHeld from index) post h = idle_led i (keep_told (LoadHeld from index) post) p (work_passes is_idle (λ index slot. refl) (λ from index slot. refl) (Keeping (LoadHeld from index)) post (λ a b era e. absurd (cc)) (λ e. refl))
 keep_led p i (Loosens let_go) post h = idle_led i (keep_told (Loosens let_go) post) p (cleared_all is_idle (let_index let_go) (stands post (let_index let_go)) (λ index slot. refl))
 keep_led p i (Looks index key at) post h = λ g. g
 keep_led p i (Misses index) post h = λ g. g
+keep_led p i HideSpan post h = idle_led i (keep_told HideSpan post) p (work_passes is_idle (λ index slot. refl) (λ from index slot. refl) (Keeping HideSpan) post (λ a b era e. absurd (cc)) (λ e. refl))
+keep_led p i MarkLeft post h = λ g. g
+keep_led p i (TakeList place) post h = λ g. g
+keep_led p i (MarkTaken place count) post h = λ g. g
 
 work_led : (p : Past) (i : ℕ) (work : Work) (post : Post) → ((from index era : ℕ) → work ≡ Keeping (StoreHeld from index era) → Copies p i from index era) → Led p i (work_told work post)
 work_led p i (Getting key at) post h = λ g. g
@@ -204,5 +208,5 @@ first_led layout p i (Works work) post last found c f h = work_led p i work post
 -- a step
 pub step_led : (w : World) (i : ℕ) (p : Past) → clock_of p ≡ w.mem Clock → PhaseEras w.layout (w.mem Clock) (w.seat i).post (w.seat i).phase → PhaseSince (begun_at i p) (cut_at i p) (w.seat i).phase → ((from index era : ℕ) → (w.seat i).phase ≡ Works (Keeping (StoreHeld from index era)) → Copies p i from index era) → Led p i (told_in w i)
 step_led w i p e c f h =
-    step_goes (λ q told. Led p i told) (led_closed p i) (w.seat i).phase (counted (w.seat i).post) (w.seat i).desk (finds w i)
+    step_goes (λ q told. Led p i told) (led_closed p i) (w.seat i).phase (counted (w.seat i).post) (offered w i).desk (finds w i)
     (first_led w.layout p i (w.seat i).phase (counted (w.seat i).post) (w.seat i).post (finds w i) (subst (λ (x : ℕ). PhaseEras w.layout x (w.seat i).post (w.seat i).phase) (sym e) c) f h)

@@ -10,7 +10,7 @@ use Rattle.law_reuse.specs.inv.model.defs.declared.event.Event.{Event}
 use Rattle.law_reuse.specs.inv.model.defs.declared.event.Event.TheVariants as events
 use Rattle.law_reuse.specs.inv.model.defs.declared.lifetime.Interval.{Interval}
 use Rattle.law_reuse.specs.inv.model.declared.post.Post.{Post}
-use Rattle.law_reuse.specs.inv.model.Calls.{ChangeKept, EnqueueKept, ReadGuard, GiveBack, GetAt, FindVersion, Loosens, LoadHeld, StoreHeld, Looks, Misses, ChangeAt, LoadVersion, EnqueueAt, LoadNumber, DequeueAt, LoadTail, Work, Getting, Changing, Enqueuing, Dequeuing, Keeping, Why, Phase, Idle, Runs, Scans, Works}
+use Rattle.law_reuse.specs.inv.model.Calls.{ChangeKept, EnqueueKept, ReadGuard, GiveBack, GetAt, FindVersion, Loosens, LoadHeld, StoreHeld, Looks, Misses, HideSpan, MarkLeft, TakeList, MarkTaken, ChangeAt, LoadVersion, EnqueueAt, LoadNumber, DequeueAt, LoadTail, Work, Getting, Changing, Enqueuing, Dequeuing, Keeping, Why, Phase, Idle, Runs, Scans, Works}
 use Rattle.law_reuse.specs.inv.model.Change.{change_move}
 use Rattle.law_reuse.specs.inv.model.Dequeue.{dequeue_move}
 use Rattle.law_reuse.specs.inv.model.Enqueue.{enqueue_move}
@@ -250,6 +250,10 @@ work_clock mem (Keeping (LoadHeld from index)) post = refl
 work_clock mem (Keeping (StoreHeld from index era)) post = refl
 work_clock mem (Keeping (Looks index key at)) post = get_clock mem at
 work_clock mem (Keeping (Misses index)) post = refl
+work_clock mem (Keeping HideSpan) post = refl
+work_clock mem (Keeping MarkLeft) post = refl
+work_clock mem (Keeping (TakeList place)) post = refl
+work_clock mem (Keeping (MarkTaken place count)) post = refl
 
 -- a copy publishes an era that the clock has shown
 stored_most : (clock from index era : ℕ) (work : Work) → work ≡ Keeping (StoreHeld from index era) → work_eras clock work → era ≤ clock
@@ -261,9 +265,9 @@ work_dates layout mem p i work post c h =
     let told : List Event = work_told work (counted post) in
     record {
       single = work_single is_dated (era_ok layout.config) p i (λ index slot. refl) (λ from index slot. refl) work (counted post)
-          (λ from index era e. one_ok layout.config.scheme era (mem places.Clock) (clock_of p) c (stored_most (mem places.Clock) from index era work e h));
+          (λ from index era e. one_ok layout.config.scheme era (mem places.Clock) (clock_of p) c (stored_most (mem places.Clock) from index era work e h)) (λ e. refl);
       ticks = sym (along_kind ticked_by is_dated ticks_quiet told (mem places.Clock))
-          ∙ no_ticks told (mem places.Clock) (work_all (λ event. not (is_tick event)) (λ index slot. refl) (λ from index slot. refl) (λ seat index era. refl) work (counted post))
+          ∙ no_ticks told (mem places.Clock) (work_all (λ event. not (is_tick event)) (λ index slot. refl) (λ from index slot. refl) (λ seat index era. refl) (λ seat. refl) work (counted post))
           ∙ sym (work_clock mem work post);
     }
 

@@ -15,7 +15,7 @@ use Rattle.law_reuse.specs.inv.model.defs.declared.event.Event.TheVariants as ev
 use Rattle.law_reuse.specs.inv.model.defs.declared.event.Guard.{Guard}
 use Rattle.law_reuse.specs.inv.model.defs.declared.event.Guard.TheVariants.{Helper, Index, Whole}
 use Rattle.law_reuse.specs.inv.model.declared.post.Post.{Post}
-use Rattle.law_reuse.specs.inv.model.Calls.{ReadGuard, GiveBack, Why, StoreHeld, Work, Keeping, Phase, Idle, Runs, Scans, Works}
+use Rattle.law_reuse.specs.inv.model.Calls.{ReadGuard, GiveBack, Why, StoreHeld, HideSpan, Work, Keeping, Phase, Idle, Runs, Scans, Works}
 use Rattle.law_reuse.specs.inv.model.Guards.{guard_at, guards_by, guard_by, index_at}
 use Rattle.law_reuse.specs.inv.model.Phases.{Base, Endless, Failed}
 use Rattle.law_reuse.specs.inv.model.Phases.BeginAt.{LoadLower, PublishSpan}
@@ -24,7 +24,7 @@ use Rattle.law_reuse.specs.inv.model.Phases.MoveAt.{ShowEra, HandOver, HideEra, 
 use Rattle.law_reuse.specs.inv.model.Phases.Base.{Begin, Protect, Clear, Finish, Release, Move}
 use Rattle.law_reuse.specs.inv.model.Posts.{counted}
 use Rattle.law_reuse.specs.inv.model.Rounds.{scheme_of}
-use Rattle.law_reuse.specs.inv.model.World.{World, told_in, finds}
+use Rattle.law_reuse.specs.inv.model.World.{World, finds, offered, told_in}
 use Rattle.law_reuse.proofs.inv.model.Facts.{both, first_of, rest_of, and_true, false_of_not, lt_test, number_is}
 use Rattle.law_reuse.proofs.inv.model.Ranges.{bounds_of}
 use Rattle.law_reuse.proofs.inv.model.words.Schemes.{clock_eras, counts_eras, helps_eras, other_eras}
@@ -33,7 +33,7 @@ use Rattle.law_reuse.specs.inv.history.History.{Made, first_made, record_of}
 use Rattle.law_reuse.specs.inv.history.Record.{Past, Each, tells_of}
 use Rattle.law_reuse.specs.inv.history.Record.Past.{Then}
 use Rattle.law_reuse.specs.inv.shapes.Eras.{base_eras}
-use Rattle.law_reuse.specs.inv.shapes.Frame.{Copied, WorkFits}
+use Rattle.law_reuse.specs.inv.shapes.Frame.{Copied, Hides, WorkFits}
 use Rattle.law_reuse.specs.inv.shapes.Seats.{PhaseFits, base_fits}
 use Rattle.law_reuse.specs.inv.shapes.Slots.{CopyIn, PhaseIn, WorkIn}
 use Rattle.law_eras.proofs.EraLaw.Shapes.{work_passes}
@@ -145,6 +145,12 @@ copied_guard layout work post from index era b t e f m =
     (subst (λ (table : Layout). publishes_eras table.config.scheme ≡ true) t (other_eras (scheme_of post) kept.plain))
     (lt_test post.seat layout.config.seats b) (lt_test index layout.config.indexes within.below)
 
+-- and the interval that a seat withdraws which leaves
+hidden_guard : (layout : Layout) (work : Work) (post : Post) → post.seat < layout.config.seats → post.layout ≡ layout → work ≡ Keeping HideSpan → WorkFits post work → is_guard layout.config (Whole post.seat) ≡ true
+hidden_guard layout work post b t e f =
+    let hides : Hides post = subst (WorkFits post) e f in
+    both (has_one_interval layout.config.scheme) (nat_lt post.seat layout.config.seats) (subst (λ (table : Layout). has_one_interval table.config.scheme ≡ true) t hides.interval) (lt_test post.seat layout.config.seats b)
+
 -- a guard that is read
 index_read : (c : Config) (k : ℕ) → publishes_eras c.scheme ≡ true → 1 ≤ c.indexes → k < c.seats * c.indexes → is_guard c (index_at c k) ≡ true
 index_read c k e b h = index_there c (k / c.indexes) (k % c.indexes) e (lt_test (k / c.indexes) c.seats ((div-lt_iff_lt-mul b).1 h)) (lt_test (k % c.indexes) c.indexes (mod-lt k b))
@@ -177,7 +183,7 @@ phase_guards layout clock (Scans later (ReadGuard number)) post found d b t f r 
     (read_guard layout.config number layout.config.scheme refl (let i = (bounds_of layout d).indexes in omega (arith, i.0)) (grind (arith, nat_tests))))
 phase_guards layout clock (Scans later (GiveBack place slot)) post found d b t f r m = refl
 phase_guards layout clock (Works work) post found d b t f r m =
-    work_passes (is_guarded layout.config) (λ index slot. refl) (λ from index slot. refl) work (counted post) (λ from index era e. copied_guard layout work post from index era b t e f (m work refl))
+    work_passes (is_guarded layout.config) (λ index slot. refl) (λ from index slot. refl) work (counted post) (λ from index era e. copied_guard layout work post from index era b t e f (m work refl)) (λ e. hidden_guard layout work post b t e f)
 
 told_all : (ok : Event → Bool) (i : ℕ) (told : List Event) (p : Past) → all_of ok told ≡ true → Each (λ q k event. ok event) p → Each (λ q k event. ok event) (tells_of p i told)
 told_all ok i [] p h g = g
@@ -195,7 +201,7 @@ step_guards layout made i b h =
     let f = k.seats.fits i in
     let s : (w.seat i).post.seat < w.layout.config.seats = subst (λ (x : ℕ). x < w.layout.config.seats) (sym f.post.seat) b in
     subst (λ (table : Layout). all_of (is_guarded table.config) (told_in w i) ≡ true) h.table
-    (step_all (is_guarded w.layout.config) (guard_passes w.layout.config) (w.seat i).phase (counted (w.seat i).post) (w.seat i).desk (finds w i)
+    (step_all (is_guarded w.layout.config) (guard_passes w.layout.config) (w.seat i).phase (counted (w.seat i).post) (offered w i).desk (finds w i)
     (phase_guards w.layout (w.mem Clock) (w.seat i).phase (w.seat i).post (finds w i) k.valid s f.post.layout f.phase (λ why base e. ranges_of w i h.rows h.line h.asked why base k e) (λ work e. subst (PhaseIn w.layout (w.seat i).desk) e (k.slots.seats i).phase)))
 
 steady : (layout : Layout) → Steady (Guarded layout)

@@ -7,10 +7,9 @@ use Rattle.law_reuse.specs.inv.model.words.declared.layout.Layout.{Layout}
 use Rattle.law_reuse.specs.inv.model.defs.declared.call.Call.{Call}
 use Rattle.law_reuse.specs.inv.model.defs.declared.event.Event.{Event}
 use Rattle.law_reuse.specs.inv.model.Calls.{Why, Phase, Runs}
-use Rattle.law_reuse.specs.inv.model.Locals.{may_begin}
 use Rattle.law_reuse.specs.inv.shapes.Eras.{PhaseEras}
 use Rattle.law_reuse.specs.inv.model.Phases.{Base}
-use Rattle.law_reuse.specs.inv.model.World.{World, finds, is_busy, step, told_in}
+use Rattle.law_reuse.specs.inv.model.World.{World, finds, is_busy, step, told_in, may_start}
 use Rattle.law_reuse.specs.inv.rows.Rows.RowMove.{Lists}
 use Rattle.law_reuse.specs.inv.rows.Hands.{row_move}
 use Rattle.law_reuse.specs.inv.history.Record.{Past, Each, tells_of}
@@ -63,7 +62,7 @@ owned_of layout made i h =
     (step_owned w i made.past (h.known.seats.fits i).post.seat
     (λ why base e. hands_of w i h.asked made.past why base h.known.requests (h.tied.values (Helper i)) e (ranges_of w i h.rows h.line h.asked why base h.known e)))
 
-begin_dated : (layout : Layout) (made : Made) (i : ℕ) (call : Call) → is_busy made.world i ≡ false → may_begin made.world.layout.config call ≡ true → Dated layout made → Dated layout (done made (Begins i call))
+begin_dated : (layout : Layout) (made : Made) (i : ℕ) (call : Call) → is_busy made.world i ≡ false → may_start made.world i call ≡ true → Dated layout made → Dated layout (done made (Begins i call))
 begin_dated layout made i call f m g = record { held = begin_held layout made i call f m g.held; clock = g.clock; law = (refl, g.law); guards = (refl, g.guards) }
 
 step_dated : (layout : Layout) (made : Made) (i : ℕ) → i < made.world.layout.config.seats → Dated layout made → Dated layout (done made (Steps i))

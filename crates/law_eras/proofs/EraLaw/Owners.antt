@@ -119,7 +119,7 @@ phase_owned scheme p i (Runs why base) post found e h = base_owned scheme p i ba
 phase_owned scheme p i (Scans later (ReadGuard number)) post found e h = tt
 phase_owned scheme p i (Scans later (GiveBack place slot)) post found e h = tt
 phase_owned scheme p i (Works work) post found e h =
-    work_single is_reserve (guard_ok scheme) p i (λ index slot. refl) (λ from index slot. refl) work (counted post) (λ from index era q. own_seat post.seat i _ e)
+    work_single is_reserve (guard_ok scheme) p i (λ index slot. refl) (λ from index slot. refl) work (counted post) (λ from index era q. own_seat post.seat i _ e) (λ q. own_seat post.seat i _ e)
 
 pub step_owned : (w : World) (i : ℕ) (p : Past) → (w.seat i).post.seat ≡ i → ((why : Why) (base : Base) → (w.seat i).phase ≡ Runs why base → Hands w.layout.config.scheme p i base) → Single (guard_ok w.layout.config.scheme) p i (filter is_reserve (told_in w i))
 step_owned w i p e h =

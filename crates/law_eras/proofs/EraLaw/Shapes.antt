@@ -1,22 +1,22 @@
 -- A law on events of which a step tells one at most is kept where each event that a machine's step may tell keeps it, and what the
--- second step of a copy publishes.
-use Rattle.std.proofs.Common.{ℕ, ◌≡◌, ◌∙◌, Bool, true, false, List, [], ◌∷◌, ◌++◌, refl, sym, ap, subst, Option, Some, None}
+-- second step of a copy publishes, or the step that withdraws an interval.
+use Rattle.std.proofs.Common.{ℕ, ◌≡◌, ◌∙◌, ◌+◌, Bool, true, false, List, [], ◌∷◌, ◌++◌, refl, sym, ap, subst, Option, Some, None}
 use Rattle.std.proofs.lemmas.List.Elements.{filter-append}
 use Rattle.std.specs.List.{filter}
-use Rattle.std.specs.Prelude.{if◌then◌else◌}
+use Rattle.std.specs.Prelude.{drop, if◌then◌else◌}
 use Rattle.law_reuse.specs.inv.model.Phases.{Base}
 use Rattle.law_reuse.specs.inv.model.declared.post.Post.{Post}
 use Rattle.law_reuse.specs.inv.model.defs.declared.event.Event.{Event}
 use Rattle.law_reuse.specs.inv.model.defs.declared.event.Event.TheVariants as events
-use Rattle.law_reuse.proofs.inv.history.MayTell.{Shape, Silent, Clears, Takes, Tells, is_find, cleared_all}
+use Rattle.law_reuse.proofs.inv.history.MayTell.{Shape, Silent, Clears, Takes, Tells, is_find, cleared_all, cleared_from_all}
 use Rattle.law_reuse.proofs.inv.history.AllOf.{all_of, of_along}
 use Rattle.law_reuse.proofs.inv.history.Passes.{copied_told, keep_told, work_told}
 use Rattle.law_reuse.proofs.inv.model.Facts.{and_true}
-use Rattle.law_reuse.specs.inv.model.Calls.{KeepAt, Loosens, LoadHeld, StoreHeld, Looks, Misses, Work, Getting, Changing, Enqueuing, Dequeuing, Keeping}
+use Rattle.law_reuse.specs.inv.model.Calls.{KeepAt, Loosens, LoadHeld, StoreHeld, Looks, Misses, HideSpan, MarkLeft, TakeList, MarkTaken, Work, Getting, Changing, Enqueuing, Dequeuing, Keeping}
 use Rattle.law_reuse.specs.inv.model.Guards.{one_era}
-use Rattle.law_reuse.specs.inv.model.Posts.{cleared, stands, reserves_index}
+use Rattle.law_reuse.specs.inv.model.Posts.{cleared, cleared_from, stands, reserves_index, reserves_span}
 use Rattle.law_reuse.specs.inv.model.Rounds.{scheme_of, let_index}
-use Rattle.law_reuse.specs.inv.model.defs.declared.event.Guard.TheVariants.{Index}
+use Rattle.law_reuse.specs.inv.model.defs.declared.event.Guard.TheVariants.{Index, Whole}
 use Rattle.law_reuse.specs.inv.model.words.Schemes.{has_one_interval}
 use Rattle.law_reuse.specs.inv.history.Record.{Past, Test}
 use Rattle.law_reuse.proofs.laws.Along.{Single}
@@ -45,10 +45,23 @@ shape_single kind ok p i c f base post found told (Takes guard span event e t q 
         by true = ap (λ (es : List Event). event ∷ es) (kept_none kind other [] k)
         by false = kept_none kind other [] k
 
--- the same of a call's own step: of such a kind it tells at most what the second step of a copy publishes
+-- the same of a call's own step: of such a kind it tells at most what the second step of a copy publishes, or that one interval no more
+-- stands
 cleared_filter : (kind : Event → Bool) (index : ℕ) (x : Option ℕ) → ((index slot : ℕ) → kind (events.Clear index slot) ≡ false) → filter kind (cleared index x) ≡ []
 cleared_filter kind index None c = refl
 cleared_filter kind index (Some slot) c = kept_none kind (events.Clear index slot) [] (c index slot)
+
+cleared_from_filter : (kind : Event → Bool) (index : ℕ) (rows : List (Option ℕ)) → ((index slot : ℕ) → kind (events.Clear index slot) ≡ false) → filter kind (cleared_from index rows) ≡ []
+cleared_from_filter kind index [] c = refl
+cleared_from_filter kind index (row ∷ rows) c =
+    filter-append kind (cleared index row) (cleared_from (index + 1) rows)
+    ∙ ap (λ (es : List Event). es ++ filter kind (cleared_from (index + 1) rows)) (cleared_filter kind index row c)
+    ∙ cleared_from_filter kind (index + 1) rows c
+
+-- where all that stands is let go with the interval, what is published comes last
+hidden_filter : (kind : Event → Bool) (rows : List (Option ℕ)) (reserved : List Event) → ((index slot : ℕ) → kind (events.Clear index slot) ≡ false) → filter kind (cleared_from 2 rows ++ reserved) ≡ filter kind reserved
+hidden_filter kind rows reserved c =
+    filter-append kind (cleared_from 2 rows) reserved ∙ ap (λ (es : List Event). es ++ filter kind reserved) (cleared_from_filter kind 2 rows c)
 
 no_more : (xs : List Event) → xs ++ [] ≡ xs
 no_more [] = refl
@@ -75,22 +88,28 @@ load_single kind ok p i from index post true c d = copied_single kind ok p i fro
 load_single kind ok p i from index post false c d = tt
 
 keep_single : (kind : Event → Bool) (ok : Test) (p : Past) (i : ℕ) → ((index slot : ℕ) → kind (events.Clear index slot) ≡ false) → ((from index slot : ℕ) → kind (events.Copied from index slot) ≡ false)
-    → (at : KeepAt) (post : Post) → ((from index era : ℕ) → at ≡ StoreHeld from index era → ok p i (events.Reserve (Index post.seat index) (one_era era)) ≡ true) → Single ok p i (filter kind (keep_told at post))
-keep_single kind ok p i c d (Loosens let_go) post h = rw (cleared_filter kind (let_index let_go) (stands post (let_index let_go)) c) tt
-keep_single kind ok p i c d (LoadHeld from index) post h = load_single kind ok p i from index post (has_one_interval (scheme_of post)) c d
-keep_single kind ok p i c d (StoreHeld from index era) post h =
+    → (at : KeepAt) (post : Post) → ((from index era : ℕ) → at ≡ StoreHeld from index era → ok p i (events.Reserve (Index post.seat index) (one_era era)) ≡ true) → (at ≡ HideSpan → ok p i (events.Reserve (Whole post.seat) None) ≡ true) → Single ok p i (filter kind (keep_told at post))
+keep_single kind ok p i c d (Loosens let_go) post h w = rw (cleared_filter kind (let_index let_go) (stands post (let_index let_go)) c) tt
+keep_single kind ok p i c d (LoadHeld from index) post h w = load_single kind ok p i from index post (has_one_interval (scheme_of post)) c d
+keep_single kind ok p i c d (StoreHeld from index era) post h w =
     let event : Event = events.Reserve (Index post.seat index) (one_era era) in
     copied_single kind ok p i from index post (reserves_index post index era) (stands post from) c d (kept_one kind ok p i event (kind event) refl (h from index era refl))
-keep_single kind ok p i c d (Looks index key at) post h = tt
-keep_single kind ok p i c d (Misses index) post h = tt
+keep_single kind ok p i c d (Looks index key at) post h w = tt
+keep_single kind ok p i c d (Misses index) post h w = tt
+keep_single kind ok p i c d HideSpan post h w =
+    let event : Event = events.Reserve (Whole post.seat) None in
+    subst (λ (es : List Event). Single ok p i es) (sym (hidden_filter kind (drop 2 post.standing) (reserves_span post None) c)) (kept_one kind ok p i event (kind event) refl (w refl))
+keep_single kind ok p i c d MarkLeft post h w = tt
+keep_single kind ok p i c d (TakeList place) post h w = tt
+keep_single kind ok p i c d (MarkTaken place count) post h w = tt
 
 pub work_single : (kind : Event → Bool) (ok : Test) (p : Past) (i : ℕ) → ((index slot : ℕ) → kind (events.Clear index slot) ≡ false) → ((from index slot : ℕ) → kind (events.Copied from index slot) ≡ false)
-    → (work : Work) (post : Post) → ((from index era : ℕ) → work ≡ Keeping (StoreHeld from index era) → ok p i (events.Reserve (Index post.seat index) (one_era era)) ≡ true) → Single ok p i (filter kind (work_told work post))
-work_single kind ok p i c d (Getting key at) post h = tt
-work_single kind ok p i c d (Changing kept at) post h = tt
-work_single kind ok p i c d (Enqueuing kept at) post h = tt
-work_single kind ok p i c d (Dequeuing at) post h = tt
-work_single kind ok p i c d (Keeping at) post h = keep_single kind ok p i c d at post (λ from index era e. h from index era (ap (λ (x : KeepAt). Keeping x) e))
+    → (work : Work) (post : Post) → ((from index era : ℕ) → work ≡ Keeping (StoreHeld from index era) → ok p i (events.Reserve (Index post.seat index) (one_era era)) ≡ true) → (work ≡ Keeping HideSpan → ok p i (events.Reserve (Whole post.seat) None) ≡ true) → Single ok p i (filter kind (work_told work post))
+work_single kind ok p i c d (Getting key at) post h w = tt
+work_single kind ok p i c d (Changing kept at) post h w = tt
+work_single kind ok p i c d (Enqueuing kept at) post h w = tt
+work_single kind ok p i c d (Dequeuing at) post h w = tt
+work_single kind ok p i c d (Keeping at) post h w = keep_single kind ok p i c d at post (λ from index era e. h from index era (ap (λ (x : KeepAt). Keeping x) e)) (λ e. w (ap (λ (x : KeepAt). Keeping x) e))
 
 -- a test that passes whatever such a step tells
 copied_all : (ok : Event → Bool) (from index : ℕ) (post : Post) (reserved : List Event) (x : Option ℕ) → ((index slot : ℕ) → ok (events.Clear index slot) ≡ true) → ((from index slot : ℕ) → ok (events.Copied from index slot) ≡ true) → all_of ok reserved ≡ true → all_of ok (copied_told from index post reserved x) ≡ true
@@ -105,14 +124,19 @@ load_all ok from index post true c d = copied_all ok from index post [] (stands 
 load_all ok from index post false c d = refl
 
 pub work_passes : (ok : Event → Bool) → ((index slot : ℕ) → ok (events.Clear index slot) ≡ true) → ((from index slot : ℕ) → ok (events.Copied from index slot) ≡ true)
-    → (work : Work) (post : Post) → ((from index era : ℕ) → work ≡ Keeping (StoreHeld from index era) → ok (events.Reserve (Index post.seat index) (one_era era)) ≡ true) → all_of ok (work_told work post) ≡ true
-work_passes ok c d (Getting key at) post h = refl
-work_passes ok c d (Changing kept at) post h = refl
-work_passes ok c d (Enqueuing kept at) post h = refl
-work_passes ok c d (Dequeuing at) post h = refl
-work_passes ok c d (Keeping (Loosens let_go)) post h = cleared_all ok (let_index let_go) (stands post (let_index let_go)) c
-work_passes ok c d (Keeping (LoadHeld from index)) post h = load_all ok from index post (has_one_interval (scheme_of post)) c d
-work_passes ok c d (Keeping (StoreHeld from index era)) post h =
+    → (work : Work) (post : Post) → ((from index era : ℕ) → work ≡ Keeping (StoreHeld from index era) → ok (events.Reserve (Index post.seat index) (one_era era)) ≡ true) → (work ≡ Keeping HideSpan → ok (events.Reserve (Whole post.seat) None) ≡ true) → all_of ok (work_told work post) ≡ true
+work_passes ok c d (Getting key at) post h w = refl
+work_passes ok c d (Changing kept at) post h w = refl
+work_passes ok c d (Enqueuing kept at) post h w = refl
+work_passes ok c d (Dequeuing at) post h w = refl
+work_passes ok c d (Keeping (Loosens let_go)) post h w = cleared_all ok (let_index let_go) (stands post (let_index let_go)) c
+work_passes ok c d (Keeping (LoadHeld from index)) post h w = load_all ok from index post (has_one_interval (scheme_of post)) c d
+work_passes ok c d (Keeping (StoreHeld from index era)) post h w =
     copied_all ok from index post (reserves_index post index era) (stands post from) c d (and_true (ok (events.Reserve (Index post.seat index) (one_era era))) (h from index era refl))
-work_passes ok c d (Keeping (Looks index key at)) post h = refl
-work_passes ok c d (Keeping (Misses index)) post h = refl
+work_passes ok c d (Keeping (Looks index key at)) post h w = refl
+work_passes ok c d (Keeping (Misses index)) post h w = refl
+work_passes ok c d (Keeping HideSpan) post h w =
+    of_along ok (cleared_from 2 (drop 2 post.standing)) (reserves_span post None) (cleared_from_all ok 2 (drop 2 post.standing) c) (and_true (ok (events.Reserve (Whole post.seat) None)) (w refl))
+work_passes ok c d (Keeping MarkLeft) post h w = refl
+work_passes ok c d (Keeping (TakeList place)) post h w = refl
+work_passes ok c d (Keeping (MarkTaken place count)) post h w = refl

@@ -19,7 +19,7 @@ use Rattle.law_turns.specs.inv.model.Machine as machine
 use Rattle.law_turns.specs.inv.model.Memory.{bump}
 use Rattle.law_turns.specs.inv.model.Posts.{counted}
 use Rattle.law_turns.specs.inv.model.Rounds.{scheme_of, bucket_of, clear_told}
-use Rattle.law_turns.specs.inv.model.World.{World, finds, told_in}
+use Rattle.law_turns.specs.inv.model.World.{World, finds, offered, told_in}
 use Rattle.law_turns.specs.inv.model.Phases.{Base, Ending, Outcome, Goes, Ends}
 use Rattle.law_turns.specs.inv.model.Phases.Base.{Protect}
 use Rattle.law_turns.specs.inv.model.Phases.Ending.{Done, Protected, Followed, Allocated, Retired, Clocked}
@@ -123,6 +123,8 @@ got_closing layout i p front s g =
       links = λ post root slot same h. (h.0, gotless_each i (enqueues.told_link root slot same) p (link_gotless root slot same) g);
       queues = λ post tail slot number value h. (h.0, gotless_each i (events.Link (roots.Next tail) slot ∷ events.Queued number value ∷ []) p refl g);
       takes = λ post head next number value h. (h.0, gotless_each i (events.Link roots.Head next ∷ events.Cut head ∷ events.Taken number value ∷ []) p refl g);
+      leaves = λ post count h. (h.0, gotless_each i (events.Left count ∷ []) p refl g);
+      adopts = λ post place count h. (h.0, gotless_each i (events.Adopted place count ∷ []) p refl g);
       clears = λ post told index h. (cleared_table (scheme_of post) post index ∙ h.0, more_each i told (clear_told (scheme_of post) post index) p (machines_gotless (clear_told (scheme_of post) post index) (clear_machine (scheme_of post) post index)) h.1);
       ends = λ post told outcome h. (h.0, more_each i told (told_end post outcome) p (end_gotless post outcome) h.1);
     }
@@ -132,7 +134,7 @@ own_gotless Idle post found = refl
 own_gotless (Runs why base) post found = machines_gotless (machine.after base post found).told (base_machine base post found)
 own_gotless (Scans later (ReadGuard number)) post found = refl
 own_gotless (Scans later (GiveBack place slot)) post found = refl
-own_gotless (Works work) post found = work_all is_gotless (λ index slot. refl) (λ from index slot. refl) (λ seat index era. refl) work post
+own_gotless (Works work) post found = work_all is_gotless (λ index slot. refl) (λ from index slot. refl) (λ seat index era. refl) (λ seat. refl) work post
 
 first_before : (layout : Layout) (phase : Phase) (post : Post) (found : ℕ) → post.layout ≡ layout → First (Before layout (own_told phase post found)) phase post found
 first_before layout Idle post found e = (e, refl)
@@ -226,7 +228,7 @@ step_gots w i p s g =
     let phase : Phase = (w.seat i).phase in
     let post : Post = counted (w.seat i).post in
     let front : List Event = own_told phase post (finds w i) in
-    let h = step_closes (Before w.layout front) (After w.layout i p) (Allowed w.layout.config.buckets i (tells_of p i front)) (got_closing w.layout i p front (own_gotless phase post (finds w i)) g) phase post (w.seat i).desk (finds w i)
+    let h = step_closes (Before w.layout front) (After w.layout i p) (Allowed w.layout.config.buckets i (tells_of p i front)) (got_closing w.layout i p front (own_gotless phase post (finds w i)) g) phase post (offered w i).desk (finds w i)
     (phase_right w i phase p refl s) (first_before w.layout phase post (finds w i) (s.seats.fits i).post.layout) in
     h.1
 

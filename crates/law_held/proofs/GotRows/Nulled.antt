@@ -26,7 +26,7 @@ use Rattle.law_turns.specs.inv.model.Posts.{counted, upper, with_row, reserves_h
 use Rattle.law_turns.specs.inv.model.Protect.{held_post, told_held, concluded, protected, failed_once, trying}
 use Rattle.law_turns.specs.inv.model.Rounds.{scheme_of, index_of, protect_at}
 use Rattle.law_turns.specs.inv.model.SlowPath.{own_request, answer_in, lost_turn}
-use Rattle.law_turns.specs.inv.model.World.{World, begin, step, finds, told_in}
+use Rattle.law_turns.specs.inv.model.World.{World, begin, finds, offered, step, told_in}
 use Rattle.law_turns.specs.inv.model.Phases.BeginAt.{LoadLower, PublishSpan}
 use Rattle.law_turns.specs.inv.model.Phases.{Aim, Alone, Follows, BeginAt, Tries, Endless, Failed, ProtectAt, Base, Outcome, Goes, Ends, Turn, goes, ends}
 use Rattle.law_turns.specs.inv.model.Phases.ProtectAt.{PublishEra, LoadLink, CheckClock, PublishRequest, CheckOwnClock, AnswerOwn, LoadAnswer, TakeAnswer, WithdrawRequest, WithdrawHelper, CheckUpper, RaiseUpper}
@@ -41,7 +41,7 @@ use Rattle.law_places.specs.inv.shapes.Seats.{PostFits, PhaseFits, Run, Seats, K
 use Rattle.law_places.proofs.inv.shapes.Frame.{seat_stays, seat_steps, begin_stays, begin_begins, after_seated, begun_seated, moves_with}
 use Rattle.law_places.proofs.inv.shapes.Shapes.{shape_grows}
 use Rattle.law_places.proofs.inv.shapes.Inside.{shape_moves}
-use Rattle.law_places.proofs.inv.shapes.Kept.{counted_fits, run_counted, work_counted, begun_fits}
+use Rattle.law_places.proofs.inv.shapes.Kept.{counted_fits, run_counted, work_counted, begun_fits, bared_fits}
 use Rattle.law_places.specs.inv.history.Record.{Past, tells_of}
 use Rattle.law_places.specs.inv.history.Record.Past.{Then}
 use Rattle.law_turns.proofs.laws.Along.{along}
@@ -223,7 +223,7 @@ owed : (layout : Layout) (k : ℕ) → is_valid layout ≡ true → (phase : Pha
 owed layout k v Idle post found was q f h = counted_fits layout k post q
 owed layout k v (Runs why base) post found was q f h = run_nulled layout k v why base (counted post) found was (counted_fits layout k post q) (run_counted layout why base post f) h
 owed layout k v (Scans later at) post found was q f h = counted_fits layout k post q
-owed layout k v (Works work) post found was q f h = record { post = counted_fits layout k post q; fits = work_counted work post f; stores = each_stores (λ p phase. In (along null_by (own_told (Works work) (counted post) found) was) p phase) (λ p from index era. refl) (counted post) found work }
+owed layout k v (Works work) post found was q f h = record { post = bared_fits layout k work (counted post) (counted_fits layout k post q); fits = work_counted work post f; stores = each_stores (λ p phase. In (along null_by (own_told (Works work) (counted post) found) was) p phase) (λ p from index era. refl) (counted post) found work }
 
 -- what comes after a machine changes nothing of it
 later_one : (event : Event) (x : Bool) → is_later event ≡ true → null_by event x ≡ x
@@ -243,7 +243,7 @@ later_null (event ∷ told) x h =
 pub null_told : (w : World) (i : ℕ) (p : Past) → null_of i (tells_of p i (told_in w i)) ≡ along null_by (own_told (w.seat i).phase (counted (w.seat i).post) (finds w i)) (null_of i p)
 null_told w i p =
     let own : List Event = own_told (w.seat i).phase (counted (w.seat i).post) (finds w i) in
-    let x : Adds (own_post (w.seat i).phase (counted (w.seat i).post) (finds w i)) own (turn (w.seat i) (finds w i)) = step_adds w i in
+    let x : Adds (own_post (w.seat i).phase (counted (w.seat i).post) (finds w i)) own (turn (offered w i) (finds w i)) = step_adds w i in
     seen_tells null_by false i (told_in w i) p
     ∙ ap (λ (es : List Event). along null_by es (null_of i p)) x.is
     ∙ along_both null_by own x.more (null_of i p)
@@ -257,7 +257,7 @@ step_own : (w : World) (i : ℕ) (p : Past) → is_valid w.layout ≡ true → S
 step_own w i p v s h =
     let a = s.fits i in
     let now : Bool = along null_by (own_told (w.seat i).phase (counted (w.seat i).post) (finds w i)) (null_of i p) in
-    let q = after_seated (null_grows w.layout i now v) (w.seat i) (finds w i) (owed w.layout i v (w.seat i).phase (w.seat i).post (finds w i) (null_of i p) a.post a.phase h) in
+    let q = after_seated (null_grows w.layout i now v) (offered w i) (finds w i) (owed w.layout i v (w.seat i).phase (w.seat i).post (finds w i) (null_of i p) a.post a.phase h) in
     subst (λ (x : Bool). nulled ((step w i).seat i).phase x ≡ true) (sym (null_told w i p))
     (subst (λ (l : Local). nulled l.phase now ≡ true) (sym (seat_steps w i)) q.phase)
 

@@ -15,7 +15,7 @@ use Rattle.law_turns.specs.inv.model.Enqueue.{told_link}
 use Rattle.law_turns.specs.inv.model.Locals.{told_end, turn}
 use Rattle.law_turns.specs.inv.model.Memory.{upd}
 use Rattle.law_turns.specs.inv.model.Posts.{counted}
-use Rattle.law_turns.specs.inv.model.World.{World, finds, step, told_in}
+use Rattle.law_turns.specs.inv.model.World.{World, finds, offered, step, told_in}
 use Rattle.law_turns.specs.inv.model.Calls.{ChangeKept, EnqueueKept, LoadVersion, LoadCount, LoadKey, LoadValue, ExchangeRoot, LoadNumber, LoadNext, PassTail, ExchangeNext, ExchangeTail, LoadTail, SwingTail, TakeNumber, TakeValue, ExchangeHead, Getting, Changing, Enqueuing, Dequeuing, Keeping, Phase, Idle, Runs, Scans, Works, CallTurn, CallOutcome, GoesOn, Answers}
 use Rattle.law_turns.proofs.inv.model.Facts.{same_number, first_of, rest_of}
 use Rattle.law_places.proofs.inv.contents.Contents.Told.{booked_append}
@@ -224,7 +224,7 @@ end_plain post (Answers answer) = refl
 
 pub step_rowed : (w : World) (i : ℕ) (p : Past) → Rowed w.book p → Rowed (step w i).book (tells_of p i (told_in w i))
 step_rowed w i p g =
-    let t : CallTurn = turn (w.seat i) (finds w i) in
+    let t : CallTurn = turn (offered w i) (finds w i) in
     let first : List Event = ordered (w.seat i).phase (w.seat i).post (finds w i) in
     let o : InOrder first t.told = step_order w i in
     let front : Rowed (booked_all w.book first) (tells_of p i first) = first_rowed w.book p i (w.seat i).phase (w.seat i).post (finds w i) g in

@@ -29,7 +29,7 @@ use Rattle.law_turns.specs.inv.model.Phases.ProtectAt.{PublishEra, CheckClock, P
 use Rattle.law_turns.specs.inv.model.Phases.AllocateAt.{LoadBirth, ClaimSlot, StoreLife}
 use Rattle.law_turns.specs.inv.model.Phases.Base.{Begin, Protect, Reload, Clear, Allocate, Write}
 use Rattle.law_turns.specs.inv.model.Phases.Ending.{Done, Protected, Followed, Allocated, Retired, Clocked}
-use Rattle.law_turns.specs.inv.model.Calls.{Task, Next, Again, MakeRoom, Answering, Retiring, AfterScan, Answered, Repeated, Counted, Why, Opens, FollowsHead, Fills, ClearsNext, Clears, Finishes, GivesUp, Retires, Tidies, Advances, Releases, LetGo, Released, Rehold, Dropped, GiveBack, Runs, Scans, CallTurn, CallOutcome, GoesOn, Answers}
+use Rattle.law_turns.specs.inv.model.Calls.{Task, Next, Again, MakeRoom, Answering, Retiring, AfterScan, Answered, Repeated, Counted, Why, Opens, FollowsHead, Fills, ClearsNext, Clears, Finishes, GivesUp, Retires, Tidies, Advances, Releases, LetGo, Released, Rehold, Dropped, Parting, GiveBack, Runs, Scans, CallTurn, CallOutcome, GoesOn, Answers}
 use Rattle.law_turns.proofs.inv.model.Facts.{first_of, rest_of, false_not_true}
 use Rattle.law_places.proofs.inv.history.MayTell as may
 use Rattle.law_places.proofs.inv.history.MayTell.{concluded_told, Silent, Single, Takes, takes, shape_of, held_any}
@@ -134,7 +134,7 @@ pub end_settled : (post : Post) (outcome : CallOutcome) → all_of is_settled (t
 end_settled post (GoesOn phase) = refl
 end_settled post (Answers answer) = refl
 
-turn_settled : (own : List Event) (t : CallTurn) → t.told ≡ own → Settled own (told_by t)
+pub turn_settled : (own : List Event) (t : CallTurn) → t.told ≡ own → Settled own (told_by t)
 turn_settled own t e = record { more = told_end t.post t.outcome; is = ap (λ (es : List Event). es ++ told_end t.post t.outcome) e; calm = end_settled t.post t.outcome }
 
 given_up_told : (answer : Answer) (post : Post) (desk : Desk) (told : List Event) (x : Option ℕ) → (given_up answer post desk told x).told ≡ told
@@ -179,6 +179,7 @@ released_told : (let_go : LetGo) (post : Post) (desk : Desk) (told : List Event)
 released_told Released post desk told = refl
 released_told (Rehold key) post desk told = refl
 released_told (Dropped index) post desk told = refl
+released_told (Parting index) post desk told = refl
 
 abbrev is_shut : Why → Bool
 is_shut (Opens task) = false

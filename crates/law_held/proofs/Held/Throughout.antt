@@ -1,5 +1,5 @@
 -- What stands is held at each position of a history's record.
-use Rattle.std.proofs.Common.{ℕ, ◌≡◌, ◌-◌, ◌⊎◌, inl, inr, Bool, true, false, List, [], ◌∷◌, ◌++◌, Option, Some, None, refl, sym, ap, ◌∙◌, subst, arith}
+use Rattle.std.proofs.Common.{ℕ, ◌≡◌, ◌-◌, ◌⊎◌, inl, inr, Bool, true, false, List, [], ◌∷◌, ◌++◌, Option, Some, None, refl, sym, ap, ◌∙◌, subst, arith, drop}
 use Rattle.std.proofs.lemmas.Bool.Decides.{nat_tests}
 use Rattle.std.specs.List.{list_any, list_all}
 use Rattle.std.specs.Prelude.{◌==◌, ◌&&◌, ◌||◌, nat_lt, if◌then◌else◌}
@@ -8,7 +8,7 @@ use Rattle.law_turns.specs.inv.model.words.declared.config.Config.{Config}
 use Rattle.law_turns.specs.inv.model.words.declared.layout.Layout.{Layout}
 use Rattle.law_turns.specs.inv.model.defs.declared.event.Event.{Event}
 use Rattle.law_turns.specs.inv.model.defs.declared.event.Event.TheVariants as events
-use Rattle.law_turns.specs.inv.model.defs.declared.event.Guard.TheVariants.{Index}
+use Rattle.law_turns.specs.inv.model.defs.declared.event.Guard.TheVariants.{Index, Whole}
 use Rattle.law_turns.specs.inv.model.defs.declared.event.Root.{Root}
 use Rattle.law_turns.specs.inv.model.defs.declared.event.Root.TheVariants as roots
 use Rattle.law_turns.specs.inv.model.declared.post.Post.{Post}
@@ -16,14 +16,14 @@ use Rattle.law_turns.proofs.inv.model.Frames.{after_same}
 use Rattle.law_turns.specs.inv.model.Guards.{one_era}
 use Rattle.law_turns.specs.inv.model.Locals.{told_by, told_end, turn}
 use Rattle.law_turns.specs.inv.model.Memory.{bump}
-use Rattle.law_turns.specs.inv.model.Posts.{stands, counted, cleared}
+use Rattle.law_turns.specs.inv.model.Posts.{stands, counted, cleared, cleared_from, reserves_index}
 use Rattle.law_turns.specs.inv.model.Protect.{told_held}
 use Rattle.law_turns.specs.inv.model.Steps as steps
-use Rattle.law_turns.specs.inv.model.World.{World, finds, is_busy, told_in, step}
+use Rattle.law_turns.specs.inv.model.World.{World, finds, is_busy, offered, step, told_in}
 use Rattle.law_turns.specs.inv.model.Phases.{Aim, Base}
 use Rattle.law_turns.specs.inv.model.Phases.ProtectAt.{TakeAnswer}
 use Rattle.law_turns.specs.inv.model.Phases.Base.{Protect}
-use Rattle.law_turns.specs.inv.model.Calls.{ReadGuard, GiveBack, Why, Phase, Idle, Runs, Scans, Works, CallTurn, KeepAt, Loosens, LoadHeld, StoreHeld, Looks, Misses, Work, Getting, Changing, Enqueuing, Dequeuing, Keeping}
+use Rattle.law_turns.specs.inv.model.Calls.{ReadGuard, GiveBack, Why, Phase, Idle, Runs, Scans, Works, CallTurn, KeepAt, Loosens, LoadHeld, StoreHeld, Looks, Misses, HideSpan, MarkLeft, TakeList, MarkTaken, Work, Getting, Changing, Enqueuing, Dequeuing, Keeping}
 use Rattle.law_turns.specs.inv.model.Keep as keeps
 use Rattle.law_turns.specs.inv.model.Rounds.{let_index, scheme_of}
 use Rattle.law_turns.specs.inv.model.words.Schemes.{has_one_interval}
@@ -52,17 +52,17 @@ use Rattle.law_places.proofs.inv.ends.Told.Rows.{own_told, own_post, step_adds}
 use Rattle.law_places.proofs.inv.ends.Told.Turns.{Adds, is_later}
 use Rattle.law_held.specs.Records.{RecordsHoldThroughout}
 use Rattle.law_held.proofs.Held.Flat.{is_flat, is_settled, is_at, comes, settled_flat, all_flat, holds_ok, Good, late_each, take_each, copy_each, plain_each}
-use Rattle.law_held.proofs.Held.Forms.{Shape, Even, Late, end_settled, run_shape, back_shape}
+use Rattle.law_held.proofs.Held.Forms.{Shape, Even, Late, end_settled, run_shape, back_shape, turn_settled}
 use Rattle.law_held.proofs.Resting.Resting.{next_made}
 use Rattle.law_turns.specs.inv.model.defs.Events.{is_held as event_is_held}
 use Rattle.law_places.specs.inv.ends.Stands.{is_copied}
 use Rattle.law_places.proofs.inv.ends.Ends.Copied.{copy_stands}
 use Rattle.law_places.proofs.inv.history.Passes.{copied_told, keep_told}
-use Rattle.law_places.proofs.inv.ends.Told.Turns.{keep_just}
 use Rattle.law_places.proofs.inv.handover.Asks.{run_of}
 use Rattle.law_places.proofs.answers.AnswersTold.Owed.{append_none}
 use Rattle.law_places.proofs.answers.AnswersTold.Answering.{append_one}
-use Rattle.law_places.proofs.inv.history.MayTell.{takes}
+use Rattle.law_places.proofs.inv.history.MayTell.{takes, cleared_from_all}
+use Rattle.law_turns.specs.inv.model.Desks.{Desk}
 
 -- the ends of a step
 good_at : (layout : Layout) (path : List Item) (k j s : ℕ) → is_valid layout ≡ true → Good layout.config k j s (record_of layout path)
@@ -171,7 +171,7 @@ taking_each c k j s w i p why aim index root made link era q n e g =
     let event : Event = events.Reserve (Index (counted (w.seat i).post).seat index) (one_era era) in
     let more : List Event = told_held index root link (bump made) in
     let is : told_in w i ≡ event ∷ more =
-    ap (λ (x : Phase). told_by (steps.phase_turn x (counted (w.seat i).post) (w.seat i).desk (finds w i))) q ∙ append_none (event ∷ more) in
+    ap (λ (x : Phase). told_by (steps.phase_turn x (counted (w.seat i).post) (offered w i).desk (finds w i))) q ∙ append_none (event ∷ more) in
     let x = ends_as c k j s i p (told_in w i) (event ∷ more) is e in
     subst (λ (es : List Event). Each (holds_ok c k j s) (tells_of p i es)) (sym is)
     (take_each c k j s i index (Index (counted (w.seat i).post).seat index) (one_era era) more p (held_at index root link (bump made)) (λ h. none_here k j i index p n h) x.now x.last x.held g)
@@ -180,11 +180,11 @@ taking_each c k j s w i p why aim index root made link era q n e g =
 adds_each : (c : Config) (k j s : ℕ) (w : World) (i : ℕ) (p : Past) → Shape (own_told (w.seat i).phase (counted (w.seat i).post) (finds w i)) (told_in w i) → Ends c k j s i p (told_in w i) → Each (holds_ok c k j s) p → Each (holds_ok c k j s) (tells_of p i (told_in w i))
 adds_each c k j s w i p f e g =
     let own : List Event = own_told (w.seat i).phase (counted (w.seat i).post) (finds w i) in
-    let x : Adds (own_post (w.seat i).phase (counted (w.seat i).post) (finds w i)) own (turn (w.seat i) (finds w i)) = step_adds w i in
+    let x : Adds (own_post (w.seat i).phase (counted (w.seat i).post) (finds w i)) own (turn (offered w i) (finds w i)) = step_adds w i in
     shape_each c k j s i p own (told_in w i) x.more x.is x.later f e g
 
 abbrev ShapeIn : World → ℕ → Phase → Type 0
-ShapeIn w i phase = Shape (own_told phase (counted (w.seat i).post) (finds w i)) (told_by (steps.phase_turn phase (counted (w.seat i).post) (w.seat i).desk (finds w i)))
+ShapeIn w i phase = Shape (own_told phase (counted (w.seat i).post) (finds w i)) (told_by (steps.phase_turn phase (counted (w.seat i).post) (offered w i).desk (finds w i)))
 
 phase_as : (w : World) (i : ℕ) (phase : Phase) → (w.seat i).phase ≡ phase → ShapeIn w i phase → ShapeIn w i (w.seat i).phase
 phase_as w i phase q f = subst (ShapeIn w i) (sym q) f
@@ -193,7 +193,7 @@ not_taking_each : (c : Config) (k j s : ℕ) (w : World) (i : ℕ) (p : Past) (w
 not_taking_each c k j s w i p why base q t a e g =
     let post : Post = counted (w.seat i).post in
     let same = (after_same base post (finds w i)).layout ∙ (a.fits i).post.layout in
-    adds_each c k j s w i p (phase_as w i (Runs why base) q (run_shape w.layout why base (w.seat i).post post (w.seat i).desk (finds w i) same (run_of w i why base a q) t)) e g
+    adds_each c k j s w i p (phase_as w i (Runs why base) q (run_shape w.layout why base (w.seat i).post post (offered w i).desk (finds w i) same (run_of w i why base a q) t)) e g
 
 run_each : (c : Config) (k j s : ℕ) (w : World) (i : ℕ) (p : Past) (why : Why) (base : Base) → (w.seat i).phase ≡ Runs why base → Inv w → ((n : ℕ) → stood_at i n p ≡ stands (w.seat i).post n) → Ends c k j s i p (told_in w i) → Each (holds_ok c k j s) p → Each (holds_ok c k j s) (tells_of p i (told_in w i))
 run_each c k j s w i p why (Protect aim index root made (TakeAnswer link era)) q a t e g =
@@ -252,14 +252,26 @@ store_by c k j s i p post from index guard span (Some slot) more o m e g =
     any_later j s [] ys h = h
     any_later j s (event ∷ xs) ys h = or_more (comes j s event) (list_any (comes j s) (xs ++ ys)) (any_later j s xs ys h)
 
+copied_said : (from index : ℕ) (post : Post) (desk : Desk) (reserved : List Event) (x : Option ℕ) → (keeps.copied from index post desk reserved x).told ≡ copied_told from index post reserved x
+copied_said from index post desk reserved None = refl
+copied_said from index post desk reserved (Some slot) = refl
+
+-- where a seat leaves with its interval, rows are cleared, and last the interval is withdrawn
+hide_shape : (w : World) (i : ℕ) → ShapeIn w i (Works (Keeping HideSpan))
+hide_shape w i =
+    let post : Post = counted (w.seat i).post in
+    let first : List Event = cleared_from 2 (drop 2 post.standing) in
+    Late (record { first = first; event = events.Reserve (Whole post.seat) None; is = refl; clears = cleared_from_all is_clear 2 (drop 2 post.standing) (λ index slot. refl) })
+    (turn_settled (keep_told HideSpan post) (keeps.keep_turn HideSpan post (offered w i).desk (finds w i)) refl)
+
 store_each : (c : Config) (k j s : ℕ) (w : World) (i : ℕ) (p : Past) (from index era : ℕ) → (w.seat i).phase ≡ Works (Keeping (StoreHeld from index era)) → ((n : ℕ) → stood_at i n p ≡ stands (w.seat i).post n) → Ends c k j s i p (told_in w i) → Each (holds_ok c k j s) p → Each (holds_ok c k j s) (tells_of p i (told_in w i))
 store_each c k j s w i p from index era q o e g =
     let post : Post = counted (w.seat i).post in
     let at : KeepAt = StoreHeld from index era in
-    let t : CallTurn = keeps.keep_turn at post (w.seat i).desk (finds w i) in
+    let t : CallTurn = keeps.keep_turn at post (offered w i).desk (finds w i) in
     let more : List Event = told_end t.post t.outcome in
     let is : told_in w i ≡ keep_told at post ++ more =
-    ap (λ (x : Phase). told_by (steps.phase_turn x post (w.seat i).desk (finds w i))) q ∙ ap (λ (es : List Event). es ++ more) (keep_just at post (w.seat i).desk (finds w i)).told in
+    ap (λ (x : Phase). told_by (steps.phase_turn x post (offered w i).desk (finds w i))) q ∙ ap (λ (es : List Event). es ++ more) (copied_said from index post (offered w i).desk (reserves_index post index era) (stands post from)) in
     subst (λ (es : List Event). Each (holds_ok c k j s) (tells_of p i es)) (sym is)
     (store_by c k j s i p post from index (Index post.seat index) (one_era era) (stands post from) more (o index) (end_settled t.post t.outcome) (ends_as c k j s i p (told_in w i) (keep_told at post ++ more) is e) g)
 
@@ -269,6 +281,10 @@ work_each c k j s w i p (Keeping (LoadHeld from index)) q t e g = adds_each c k 
 work_each c k j s w i p (Keeping (Loosens let_go)) q t e g = adds_each c k j s w i p (phase_as w i (Works (Keeping (Loosens let_go))) q (Even (cleared_flat (let_index let_go) (stands (w.seat i).post (let_index let_go))))) e g
 work_each c k j s w i p (Keeping (Looks index key at)) q t e g = adds_each c k j s w i p (phase_as w i (Works (Keeping (Looks index key at))) q (Even refl)) e g
 work_each c k j s w i p (Keeping (Misses index)) q t e g = adds_each c k j s w i p (phase_as w i (Works (Keeping (Misses index))) q (Even refl)) e g
+work_each c k j s w i p (Keeping HideSpan) q t e g = adds_each c k j s w i p (phase_as w i (Works (Keeping HideSpan)) q (hide_shape w i)) e g
+work_each c k j s w i p (Keeping MarkLeft) q t e g = adds_each c k j s w i p (phase_as w i (Works (Keeping MarkLeft)) q (Even refl)) e g
+work_each c k j s w i p (Keeping (TakeList place)) q t e g = adds_each c k j s w i p (phase_as w i (Works (Keeping (TakeList place))) q (Even refl)) e g
+work_each c k j s w i p (Keeping (MarkTaken place count)) q t e g = adds_each c k j s w i p (phase_as w i (Works (Keeping (MarkTaken place count))) q (Even refl)) e g
 work_each c k j s w i p (Getting key at) q t e g = adds_each c k j s w i p (phase_as w i (Works (Getting key at)) q (Even refl)) e g
 work_each c k j s w i p (Changing kept at) q t e g = adds_each c k j s w i p (phase_as w i (Works (Changing kept at)) q (Even refl)) e g
 work_each c k j s w i p (Enqueuing kept at) q t e g = adds_each c k j s w i p (phase_as w i (Works (Enqueuing kept at)) q (Even refl)) e g
@@ -278,7 +294,7 @@ phase_each : (c : Config) (k j s : ℕ) (w : World) (i : ℕ) (p : Past) (phase 
 phase_each c k j s w i p Idle q a t e g = adds_each c k j s w i p (phase_as w i Idle q (Even refl)) e g
 phase_each c k j s w i p (Runs why base) q a t e g = run_each c k j s w i p why base q a t e g
 phase_each c k j s w i p (Scans later (ReadGuard number)) q a t e g = adds_each c k j s w i p (phase_as w i (Scans later (ReadGuard number)) q (Even refl)) e g
-phase_each c k j s w i p (Scans later (GiveBack place slot)) q a t e g = adds_each c k j s w i p (phase_as w i (Scans later (GiveBack place slot)) q (back_shape later place slot (counted (w.seat i).post) (w.seat i).desk (finds w i))) e g
+phase_each c k j s w i p (Scans later (GiveBack place slot)) q a t e g = adds_each c k j s w i p (phase_as w i (Scans later (GiveBack place slot)) q (back_shape later place slot (counted (w.seat i).post) (offered w i).desk (finds w i))) e g
 phase_each c k j s w i p (Works work) q a t e g = work_each c k j s w i p work q t e g
 
 -- along a history

@@ -1,5 +1,5 @@
 -- A protection ends only where nothing stands at its index, and so a copy is made.
-use Rattle.std.proofs.Common.{ℕ, ◌≡◌, Bool, true, false, List, [], ◌∷◌, ◌++◌, Option, None, refl, sym, ap, ◌∙◌, subst}
+use Rattle.std.proofs.Common.{ℕ, ◌≡◌, Bool, true, false, List, [], ◌∷◌, ◌++◌, Option, None, refl, sym, ap, ◌∙◌, subst, drop, ◌+◌}
 use Rattle.std.specs.Prelude.{◌==◌, ◌&&◌, ◌||◌, not, is_none, if◌then◌else◌, Some}
 use Rattle.law_turns.specs.inv.model.words.Place.{is_valid}
 use Rattle.law_turns.specs.inv.model.words.declared.config.SchemeKind.{SchemeKind}
@@ -7,16 +7,16 @@ use Rattle.law_turns.specs.inv.model.words.declared.layout.Layout.{Layout}
 use Rattle.law_turns.specs.inv.model.defs.declared.event.Event.{Event}
 use Rattle.law_turns.specs.inv.model.defs.declared.event.Event.TheVariants as events
 use Rattle.law_turns.specs.inv.model.declared.post.Post.{Post}
-use Rattle.law_turns.specs.inv.model.Calls.{Task, Gets, Changes, Holds, Enqueues, Dequeues, ReadGuard, GiveBack, Why, Opens, FollowsHead, Phase, Idle, Runs, Scans, Works, Work, Getting, Changing, Enqueuing, Dequeuing, Keeping, Loosens, LoadHeld, StoreHeld, Looks, Misses}
+use Rattle.law_turns.specs.inv.model.Calls.{Task, Gets, Changes, Holds, Enqueues, Dequeues, ReadGuard, GiveBack, Why, Opens, FollowsHead, Phase, Idle, Runs, Scans, Works, Work, Getting, Changing, Enqueuing, Dequeuing, Keeping, Loosens, LoadHeld, StoreHeld, Looks, Misses, HideSpan, MarkLeft, TakeList, MarkTaken}
 use Rattle.law_turns.specs.inv.model.Machine as machine
 use Rattle.law_turns.specs.inv.model.Memory.{bump}
 use Rattle.law_turns.specs.inv.model.Phases.{ProtectAt, Base}
 use Rattle.law_turns.specs.inv.model.Phases.ProtectAt.{CheckClock, TakeAnswer, CheckUpper}
 use Rattle.law_turns.specs.inv.model.Phases.Base.{Protect, Reload}
-use Rattle.law_turns.specs.inv.model.Posts.{stands, counted, cleared, reserves_index}
+use Rattle.law_turns.specs.inv.model.Posts.{stands, counted, cleared, reserves_index, cleared_from, reserves_span}
 use Rattle.law_turns.specs.inv.model.Rounds.{index_of, scheme_of, clear_told, let_index}
 use Rattle.law_turns.specs.inv.model.words.Schemes.{has_one_interval}
-use Rattle.law_turns.specs.inv.model.World.{World, finds, told_in}
+use Rattle.law_turns.specs.inv.model.World.{World, finds, offered, told_in}
 use Rattle.law_turns.proofs.inv.model.Facts.{same_number, first_of, rest_of, number_is}
 use Rattle.law_places.specs.inv.covers.Rests.{Vacant, bare, vacant, vacant_why}
 use Rattle.law_places.specs.inv.shapes.Seats.{Run, Seats, kind_of, suits, index_by}
@@ -155,6 +155,12 @@ load_alone : (j from index : ℕ) (post : Post) (one : Bool) → AloneAt j (if o
 load_alone j from index post true = copied_alone j from index post [] (stands post from) (λ y. refl) (λ y. tt)
 load_alone j from index post false = tt
 
+-- nor does one that lets go of all
+all_alone : (j index : ℕ) (rows : List (Option ℕ)) (x : Option ℕ) → AloneAt j (cleared_from index rows) x
+all_alone j index [] x = tt
+all_alone j index (row ∷ rows) x =
+    alone_along j (cleared index row) (cleared_from (index + 1) rows) x (cleared_alone j index row x) (all_alone j (index + 1) rows (stood j (cleared index row) x))
+
 work_alone : (j : ℕ) (work : Work) (post : Post) → AloneAt j (work_told work post) (stands post j)
 work_alone j (Getting key at) post = tt
 work_alone j (Changing kept at) post = tt
@@ -165,6 +171,10 @@ work_alone j (Keeping (LoadHeld from index)) post = load_alone j from index post
 work_alone j (Keeping (StoreHeld from index era)) post = copied_alone j from index post (reserves_index post index era) (stands post from) (λ y. refl) (λ y. (refl, tt))
 work_alone j (Keeping (Looks index key at)) post = tt
 work_alone j (Keeping (Misses index)) post = tt
+work_alone j (Keeping HideSpan) post = alone_along j (cleared_from 2 (drop 2 post.standing)) (reserves_span post None) (stands post j) (all_alone j 2 (drop 2 post.standing) (stands post j)) (refl, tt)
+work_alone j (Keeping MarkLeft) post = tt
+work_alone j (Keeping (TakeList place)) post = tt
+work_alone j (Keeping (MarkTaken place count)) post = tt
 
 -- a step
 phase_alone : (w : World) (i j : ℕ) (phase : Phase) → Seats w → (w.seat i).phase ≡ phase → Vacant (vacant phase) (w.seat i).post → First (λ post told. AloneAt j told (stands (w.seat i).post j)) phase (counted (w.seat i).post) (finds w i)
@@ -177,7 +187,7 @@ phase_alone w i j (Scans later (GiveBack place slot)) s e v = (refl, tt)
 phase_alone w i j (Works work) s e v = work_alone j work (counted (w.seat i).post)
 
 step_alone : (w : World) (i j : ℕ) → Seats w → Vacant (vacant (w.seat i).phase) (w.seat i).post → AloneAt j (told_in w i) (stands (w.seat i).post j)
-step_alone w i j s v = step_goes (λ post told. AloneAt j told (stands (w.seat i).post j)) (alone_closed j (stands (w.seat i).post j)) (w.seat i).phase (counted (w.seat i).post) (w.seat i).desk (finds w i) (phase_alone w i j (w.seat i).phase s refl v)
+step_alone w i j s v = step_goes (λ post told. AloneAt j told (stands (w.seat i).post j)) (alone_closed j (stands (w.seat i).post j)) (w.seat i).phase (counted (w.seat i).post) (offered w i).desk (finds w i) (phase_alone w i j (w.seat i).phase s refl v)
 
 -- the law of one index
 abbrev alone_at : ℕ → Past → ℕ → Event → Bool

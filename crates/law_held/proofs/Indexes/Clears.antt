@@ -1,5 +1,5 @@
 -- What a step clears stood where it is told, and so does what it copies.
-use Rattle.std.proofs.Common.{ℕ, ◌≡◌, ◌<◌, ◌+◌, ◌-◌, Bool, true, false, List, [], ◌∷◌, ◌++◌, length, Option, Some, None, refl, sym, ap, ◌∙◌, subst, arith}
+use Rattle.std.proofs.Common.{ℕ, ◌≡◌, ◌<◌, ◌+◌, ◌-◌, Bool, true, false, List, [], ◌∷◌, ◌++◌, length, Option, Some, None, refl, sym, ap, ◌∙◌, subst, arith, drop, get_or, suc, ◌≤◌}
 use Rattle.std.proofs.lemmas.Bool.Decides.{nat_tests}
 use Rattle.std.specs.List.{list_any}
 use Rattle.std.specs.Prelude.{◌==◌, ◌&&◌, ◌||◌, not, if◌then◌else◌}
@@ -15,16 +15,16 @@ use Rattle.law_turns.specs.inv.model.defs.declared.event.Event.TheVariants as ev
 use Rattle.law_turns.specs.inv.model.defs.declared.event.Root.{Root}
 use Rattle.law_turns.specs.inv.model.defs.declared.event.Root.TheVariants as roots
 use Rattle.law_turns.specs.inv.model.declared.post.Post.{Post}
-use Rattle.law_turns.specs.inv.model.Calls.{Why, Phase, Idle, Runs, Scans, Works, ScanAt, ReadGuard, GiveBack, Work, Getting, Changing, Enqueuing, Dequeuing, Keeping, Loosens, LoadHeld, StoreHeld, Looks, Misses}
+use Rattle.law_turns.specs.inv.model.Calls.{Why, Phase, Idle, Runs, Scans, Works, ScanAt, ReadGuard, GiveBack, Work, Getting, Changing, Enqueuing, Dequeuing, Keeping, Loosens, LoadHeld, StoreHeld, Looks, Misses, HideSpan, MarkLeft, TakeList, MarkTaken}
 use Rattle.law_turns.specs.inv.model.Machine as machine
 use Rattle.law_turns.specs.inv.model.Memory.{bump}
 use Rattle.law_turns.specs.inv.model.Phases.{ProtectAt, Base}
 use Rattle.law_turns.specs.inv.model.Phases.ProtectAt.{CheckClock, TakeAnswer, CheckUpper}
 use Rattle.law_turns.specs.inv.model.Phases.Base.{Begin, Protect, Reload, Clear, Finish, Release, Allocate, Write, GiveUp, Retire, Move}
-use Rattle.law_turns.specs.inv.model.Posts.{stands, counted, cleared, upper, reserves_index, reserves_span}
+use Rattle.law_turns.specs.inv.model.Posts.{stands, counted, cleared, upper, reserves_index, reserves_span, cleared_from}
 use Rattle.law_turns.specs.inv.model.Protect.{told_held}
 use Rattle.law_turns.specs.inv.model.Rounds.{scheme_of, clear_told, let_index}
-use Rattle.law_turns.specs.inv.model.World.{World, finds, told_in}
+use Rattle.law_turns.specs.inv.model.World.{World, finds, offered, told_in}
 use Rattle.law_turns.proofs.inv.model.Facts.{same_number, first_of, rest_of, and_right_false, below_length}
 use Rattle.law_places.specs.inv.covers.Held.{index_base}
 use Rattle.law_places.proofs.inv.ends.Ends.Tests.{Calm, at_shows, base_shows, base_any}
@@ -41,6 +41,8 @@ use Rattle.law_places.proofs.inv.history.Passes.{is_quiet, all_quiet, Closed, Fi
 use Rattle.law_held.specs.Records.{RecordsClearRows}
 use Rattle.law_held.proofs.Roots.Ways.{Along, record_each, answers_of}
 use Rattle.law_turns.proofs.inv.model.Lists.{or_left, or_right}
+use Rattle.law_places.specs.inv.covers.Rests.{Rests, Vacant, spare, vacant}
+use Rattle.std.proofs.lemmas.List.{get_or-drop}
 
 -- at one index: what is cleared there stood there, and what is copied from there stands there
 abbrev pub clear_right : ℕ → Event → Option ℕ → Bool
@@ -170,23 +172,28 @@ scan_cleared post (GiveBack place slot) found = record { follows = λ j. refl; r
 pub record Room (config : Config) (work : Work) (post : Post) : Type 0 where
   pub names : WorkIn config work
   pub below : copy_index work < length post.standing
+  pub bare : work ≡ Keeping HideSpan → Vacant spare post
 
 copy_in : (layout : Layout) (work : Work) → is_valid layout ≡ true → WorkIn layout.config work → copy_index work < layout.config.indexes
 copy_in layout (Keeping (LoadHeld from index)) d h = h.below
 copy_in layout (Keeping (StoreHeld from index era)) d h = h.below
 copy_in layout work d h = let m = (bounds_of layout d).indexes in omega (arith, m.0)
 
-pub work_room : (w : World) (i : ℕ) (work : Work) → is_valid w.layout ≡ true → Seats w → Slots w → (w.seat i).phase ≡ Works work → Room w.layout.config work (w.seat i).post
-work_room w i work d s t e =
+hides_bare : (w : World) (i : ℕ) → Rests w → (w.seat i).phase ≡ Works (Keeping HideSpan) → Vacant spare (w.seat i).post
+hides_bare w i r e = subst (λ (f : Phase). Vacant (vacant f) (w.seat i).post) e (r.vacant i)
+
+pub work_room : (w : World) (i : ℕ) (work : Work) → is_valid w.layout ≡ true → Seats w → Slots w → Rests w → (w.seat i).phase ≡ Works work → Room w.layout.config work (w.seat i).post
+work_room w i work d s t r e =
     let m = (bounds_of w.layout d).indexes in
     let k : WorkIn w.layout.config work = subst (PhaseIn w.layout (w.seat i).desk) e (t.seats i).phase in
-    record { names = k; below = below_length (copy_index work) w.layout.config.indexes (length (w.seat i).post.standing) (copy_in w.layout work d k) m.1 (s.fits i).post.standing }
+    record { names = k; bare = λ h. hides_bare w i r (e ∙ ap Works h); below = below_length (copy_index work) w.layout.config.indexes (length (w.seat i).post.standing) (copy_in w.layout work d k) m.1 (s.fits i).post.standing }
 
--- a copy leaves what it copies
+-- what is cleared at one index leaves what stands at the others
 pub away_stood : (j index : ℕ) (x y : Option ℕ) → (j == index) ≡ false → stood j (cleared index x) y ≡ y
 away_stood j index None y e = refl
 away_stood j index (Some slot) y e = rw e refl
 
+-- a copy leaves what it copies
 copied_there : (j from index slot : ℕ) (post : Post) (reserved : List Event) (same : Bool) → (j == from) ≡ same → from < index → stands post from ≡ Some slot → ((y : Option ℕ) → stood j reserved y ≡ y) → (not same || is_row slot (stood j (cleared index (stands post index) ++ reserved) (stands post j))) ≡ true
 copied_there j from index slot post reserved true e b h r =
     let q : j ≡ from = grind (arith, nat_tests) in
@@ -207,6 +214,38 @@ load_right : (j from index : ℕ) (post : Post) (one : Bool) → from < index �
 load_right j from index post true b = copied_right j from index post [] (stands post from) refl b (λ y. refl) (λ y. tt)
 load_right j from index post false b = tt
 
+-- a seat that leaves lets go of all that stands, one index after the other
+row_of_drop : (post : Post) (index j : ℕ) → index ≤ j → get_or (drop index post.standing) (j - index) None ≡ stands post j
+row_of_drop post index j l = let e : index + (j - index) ≡ j = omega arith in
+    get_or-drop index post.standing (j - index) None ∙ ap (λ (n : ℕ). get_or post.standing n None) e
+
+one_right : (j index : ℕ) (row y : Option ℕ) → ((j == index) ≡ true → y ≡ row) → RightAt j (cleared index row) y
+one_right j index None y h = tt
+one_right j index (Some slot) y h = (by (j == index) refl, tt)
+  where
+    by : (same : Bool) → (j == index) ≡ same → (not same || is_row slot y) ≡ true
+    by true e = row_there slot y (h e)
+    by false e = refl
+
+all_right : (j index : ℕ) (rows : List (Option ℕ)) (y : Option ℕ) → (index ≤ j → get_or rows (j - index) None ≡ y) → RightAt j (cleared_from index rows) y
+all_right j index [] y h = tt
+all_right j index (row ∷ rows) y h =
+    right_along j (cleared index row) (cleared_from (index + 1) rows) y (one_right j index row y own)
+    (all_right j (index + 1) rows (stood j (cleared index row) y) (λ l. rest l))
+  where
+    own : (j == index) ≡ true → y ≡ row
+    own e =
+        let q : j - index ≡ 0 = grind (arith, nat_tests) in
+        let l : index ≤ j = grind (arith, nat_tests) in
+        sym (h l) ∙ ap (λ (n : ℕ). get_or (row ∷ rows) n None) q
+
+    rest : index + 1 ≤ j → get_or rows (j - (index + 1)) None ≡ stood j (cleared index row) y
+    rest l =
+        let q : j - index ≡ suc (j - (index + 1)) = omega arith in
+        let other : (j == index) ≡ false = grind (arith, nat_tests) in
+        let low : index ≤ j = omega arith in
+        sym (ap (λ (n : ℕ). get_or (row ∷ rows) n None) q) ∙ h low ∙ sym (away_stood j index row y other)
+
 work_right : (config : Config) (j : ℕ) (work : Work) (post : Post) → WorkIn config work → RightAt j (work_told work post) (stands post j)
 work_right config j (Getting key at) post k = tt
 work_right config j (Changing kept at) post k = tt
@@ -217,21 +256,26 @@ work_right config j (Keeping (LoadHeld from index)) post k = load_right j from i
 work_right config j (Keeping (StoreHeld from index era)) post k = copied_right j from index post (reserves_index post index era) (stands post from) refl k.rises (λ y. refl) (λ y. (refl, tt))
 work_right config j (Keeping (Looks index key at)) post k = tt
 work_right config j (Keeping (Misses index)) post k = tt
+work_right config j (Keeping HideSpan) post k =
+    right_along j (cleared_from 2 (drop 2 post.standing)) (reserves_span post None) (stands post j) (all_right j 2 (drop 2 post.standing) (stands post j) (λ l. row_of_drop post 2 j l)) (refl, tt)
+work_right config j (Keeping MarkLeft) post k = tt
+work_right config j (Keeping (TakeList place)) post k = tt
+work_right config j (Keeping (MarkTaken place count)) post k = tt
 
 first_cleared : (config : Config) (phase : Phase) (post : Post) (found : ℕ) → ((why : Why) (base : Base) → phase ≡ Runs why base → index_base base < length post.standing) → ((work : Work) → phase ≡ Works work → Room config work post) → First (Cleared post) phase post found
 first_cleared config Idle post found h g = record { follows = λ j. refl; right = λ j. tt }
 first_cleared config (Runs why base) post found h g = record { follows = base_follows post base found (h why base refl); right = λ j. base_right base post found j }
 first_cleared config (Scans later at) post found h g = scan_cleared post at found
-first_cleared config (Works work) post found h g = let r = g work refl in record { follows = work_follows post work r.below; right = λ j. work_right config j work post r.names }
+first_cleared config (Works work) post found h g = let r = g work refl in record { follows = work_follows post work r.below r.bare; right = λ j. work_right config j work post r.names }
 
 -- counting a step changes nothing of it
 room_counted : (config : Config) (work : Work) (post : Post) → Room config work post → Room config work (counted post)
-room_counted config work post r = record { names = r.names; below = r.below }
+room_counted config work post r = record { names = r.names; below = r.below; bare = r.bare }
 
-step_right : (w : World) (i j : ℕ) → is_valid w.layout ≡ true → Seats w → Slots w → RightAt j (told_in w i) (stands (w.seat i).post j)
-step_right w i j d s t =
+step_right : (w : World) (i j : ℕ) → is_valid w.layout ≡ true → Seats w → Slots w → Rests w → RightAt j (told_in w i) (stands (w.seat i).post j)
+step_right w i j d s t r =
     let post : Post = counted (w.seat i).post in
-    let c = step_goes (Cleared post) (cleared_closed post) (w.seat i).phase post (w.seat i).desk (finds w i) (first_cleared w.layout.config (w.seat i).phase post (finds w i) (λ why base e. room_of w i why base d s t e) (λ work e. room_counted w.layout.config work (w.seat i).post (work_room w i work d s t e))) in
+    let c = step_goes (Cleared post) (cleared_closed post) (w.seat i).phase post (offered w i).desk (finds w i) (first_cleared w.layout.config (w.seat i).phase post (finds w i) (λ why base e. room_of w i why base d s t e) (λ work e. room_counted w.layout.config work (w.seat i).post (work_room w i work d s t r e))) in
     c.right j
 
 -- the law of one index
@@ -251,7 +295,7 @@ index_along layout j d = record {
   steps = λ path i t g.
       let w : World = world_of layout path in
       let k = (answers_of layout path d).known.known in
-      right_each i j (told_in w i) (record_of layout path) (subst (λ (x : Option ℕ). RightAt j (told_in w i) x) (sym (record_stands layout path i j d)) (step_right w i j k.valid k.seats k.slots)) g;
+      right_each i j (told_in w i) (record_of layout path) (subst (λ (x : Option ℕ). RightAt j (told_in w i) x) (sym (record_stands layout path i j d)) (step_right w i j k.valid k.seats k.slots k.rests)) g;
 }
 
 same_index : (j slot : ℕ) (x : Option ℕ) → (not (j == j) || is_row slot x) ≡ true → is_row slot x ≡ true

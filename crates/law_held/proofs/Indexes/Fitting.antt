@@ -1,7 +1,8 @@
 -- After its machine a step clears only at indexes of its call.
-use Rattle.std.proofs.Common.{ℕ, ◌≡◌, ◌≤◌, ◌<◌, arith, ◌+◌, ◌-◌, ◌%◌, Bool, true, false, List, [], ◌∷◌, ◌++◌, length, Option, Some, None, refl, sym, subst}
+use Rattle.std.proofs.Common.{ℕ, ◌≡◌, ◌≤◌, ◌<◌, arith, ◌+◌, ◌-◌, ◌%◌, Bool, true, false, List, [], ◌∷◌, ◌++◌, length, Option, Some, None, refl, sym, subst, drop}
 use Rattle.std.proofs.lemmas.Bool.Decides.{nat_tests}
 use Rattle.std.specs.Prelude.{◌==◌, ◌&&◌, nat_le, nat_lt, if◌then◌else◌}
+use Rattle.std.specs.List.{list_all, list_any}
 use Rattle.law_turns.specs.inv.model.words.declared.config.SchemeKind.{SchemeKind}
 use Rattle.law_turns.specs.inv.model.words.declared.config.SchemeKind.TheVariants.{He, Ibr, Wfe}
 use Rattle.law_turns.specs.inv.model.defs.declared.call.Answer.{Answer}
@@ -27,22 +28,25 @@ use Rattle.law_turns.specs.inv.model.Desks.{Desk, with_life}
 use Rattle.law_turns.specs.inv.model.Enqueue as enqueues
 use Rattle.law_turns.specs.inv.model.Get as gets
 use Rattle.law_turns.specs.inv.model.Keep as keeps
-use Rattle.law_turns.specs.inv.model.Posts.{stands, cleared, reserves_index}
+use Rattle.law_turns.specs.inv.model.Posts.{stands, cleared, reserves_index, cleared_from, reserves_span}
 use Rattle.law_turns.specs.inv.model.Steps as steps
 use Rattle.law_turns.specs.inv.model.Rounds.{scheme_of, bucket_of, index_of, taken_of, finish_base, clear_base, clear_post, clear_told, given_up, closed, finishing_by, finishing, clearing_by, clearing, clearing_next_by, clearing_next, let_index}
 use Rattle.law_turns.specs.inv.model.Phases.{Base, Ending, Outcome, Goes, Ends}
 use Rattle.law_turns.specs.inv.model.Phases.Ending.{Protected, Followed, Allocated, Retired, Clocked}
-use Rattle.law_turns.specs.inv.model.Calls.{Task, Gets, Changes, Holds, Enqueues, Dequeues, Next, Again, MakeRoom, Answering, Retiring, AfterScan, ChangeKept, EnqueueKept, GetAt, FindVersion, FindCount, FindKey, FindValue, ChangeAt, LoadVersion, LoadCount, LoadKey, LoadValue, ExchangeRoot, EnqueueAt, LoadNumber, LoadNext, PassTail, ExchangeNext, ExchangeTail, DequeueAt, SwingTail, ExchangeHead, Work, Getting, Changing, Enqueuing, Dequeuing, Keeping, KeepAt, Loosens, LoadHeld, StoreHeld, Looks, Misses, LetGo, Released, Rehold, Dropped, Why, Opens, FollowsHead, Fills, ClearsNext, Clears, Finishes, GivesUp, Retires, Tidies, Advances, Releases, CallTurn}
+use Rattle.law_turns.specs.inv.model.Calls.{Task, Gets, Changes, Holds, Enqueues, Dequeues, Next, Again, MakeRoom, Answering, Retiring, AfterScan, ChangeKept, EnqueueKept, GetAt, FindVersion, FindCount, FindKey, FindValue, ChangeAt, LoadVersion, LoadCount, LoadKey, LoadValue, ExchangeRoot, EnqueueAt, LoadNumber, LoadNext, PassTail, ExchangeNext, ExchangeTail, DequeueAt, SwingTail, ExchangeHead, Work, Getting, Changing, Enqueuing, Dequeuing, Keeping, KeepAt, Loosens, LoadHeld, StoreHeld, Looks, Misses, HideSpan, MarkLeft, TakeList, MarkTaken, LetGo, Released, Rehold, Dropped, Parting, Why, Opens, FollowsHead, Fills, ClearsNext, Clears, Finishes, GivesUp, Retires, Tidies, Advances, Releases, CallTurn}
 use Rattle.law_turns.specs.inv.model.words.Schemes.{has_one_interval}
 use Rattle.law_turns.specs.inv.model.words.declared.config.Config.{Config}
-use Rattle.law_turns.proofs.inv.model.Facts.{both, same_both, same_number}
+use Rattle.law_turns.proofs.inv.model.Facts.{both, same_both, same_number, false_not_true, first_of, rest_of}
 use Rattle.law_places.specs.inv.shapes.Slots.{CopyIn, KeepIn, KeptIn, WorkIn}
-use Rattle.law_places.proofs.inv.ends.Told.Turns.{keep_just}
+use Rattle.law_places.specs.inv.ends.Stands.{is_clear}
+use Rattle.law_places.proofs.inv.ends.Told.Turns.{keep_just, is_later}
 use Rattle.law_places.proofs.inv.history.Passes.{copied_told, keep_told}
 use Rattle.law_places.proofs.answers.AnswersTold.Owed.{call_for, TaskServes, FreeServes, KeepServes, WhyServes, WorkServes}
 use Rattle.law_places.proofs.inv.history.AllOf.{all_of, of_along}
 use Rattle.law_turns.specs.laws.HistoryHolds.{protects_at, clears_at}
 use Rattle.law_turns.specs.laws.Standing.{is_copy}
+use Rattle.law_turns.proofs.inv.model.Lists.{or_left, or_right}
+use Rattle.law_turns.specs.inv.model.Locals.{told_end}
 
 -- a copy from this index to that goes upwards, from an index from 2 on, to one of the table
 abbrev pub rises_to : (indexes from index : ℕ) → Bool
@@ -240,6 +244,10 @@ free_may config call (Dropped index) k s =
     let low : 2 ≤ index = k.kept in
     let kept : nat_le 2 index ≡ true = grind (arith, nat_tests) in
     subst (λ (x : Call). May x index) (sym s) (both (index == index) (nat_le 2 index) (same_number index) kept)
+free_may config call (Parting index) k s =
+    let low : 2 ≤ index = k.kept in
+    let kept : nat_le 2 index ≡ true = grind (arith, nat_tests) in
+    subst (λ (x : Call). May x index) (sym s) kept
 
 copy_may : (config : Config) (call : Call) (from index : ℕ) → CopyIn config from index → call ≡ names.Copy from index → May call index
 copy_may config call from index k s =
@@ -271,19 +279,60 @@ load_held_fit : (indexes : ℕ) (call : Call) (from index : ℕ) (post : Post) (
 load_held_fit indexes call from index post true m u = copied_fit indexes call from index post [] (stands post from) m u refl
 load_held_fit indexes call from index post false m u = refl
 
+-- a call by which the seat leaves lets go of all from index 2 on
+all_fit : (indexes : ℕ) (call : Call) (index : ℕ) (rows : List (Option ℕ)) → 2 ≤ index → call ≡ names.Leave → Fit indexes call (cleared_from index rows)
+all_fit indexes call index [] l s = refl
+all_fit indexes call index (row ∷ rows) l s =
+    let high : nat_le 2 index ≡ true = grind (arith, nat_tests) in
+    more_fit indexes call (cleared index row) (cleared_from (index + 1) rows) (cleared_fit indexes call index row (subst (λ (x : Call). May x index) (sym s) high)) (all_fit indexes call (index + 1) rows (omega (arith, l)) s)
+
 kept_fit : (config : Config) (call : Call) (at : KeepAt) (post : Post) → KeepServes call at → KeepIn config at → Fit config.indexes call (keep_told at post)
 kept_fit config call (Loosens let_go) post s k = cleared_fit config.indexes call (let_index let_go) (stands post (let_index let_go)) (free_may config call let_go k s)
 kept_fit config call (LoadHeld from index) post s k = load_held_fit config.indexes call from index post (has_one_interval (scheme_of post)) (copy_may config call from index k s) (up_may config call from index k s)
 kept_fit config call (StoreHeld from index era) post s k = copied_fit config.indexes call from index post (reserves_index post index era) (stands post from) (copy_may config call from index k s) (up_may config call from index k s) refl
 kept_fit config call (Looks index key at) post s k = refl
 kept_fit config call (Misses index) post s k = refl
+kept_fit config call HideSpan post s k = more_fit config.indexes call (cleared_from 2 (drop 2 post.standing)) (reserves_span post None) (all_fit config.indexes call 2 (drop 2 post.standing) (omega arith) s) refl
+kept_fit config call MarkLeft post s k = refl
+kept_fit config call (TakeList place) post s k = refl
+kept_fit config call (MarkTaken place count) post s k = refl
+
+-- and after it comes nothing of rows that stand
+later_fit : (indexes : ℕ) (call : Call) (told : List Event) → list_all is_later told ≡ true → ((j s : ℕ) → list_any (is_clear j s) told ≡ false) → Fit indexes call told
+later_fit indexes call [] l c = refl
+later_fit indexes call (event ∷ told) l c =
+    let a : is_later event ≡ true = grind (arith, nat_tests) in
+    let b : list_all is_later told ≡ true = grind (arith, nat_tests) in
+    both (fits indexes call event) (all_of (fits indexes call) told) (one event a (λ j s. or_left (is_clear j s event) (list_any (is_clear j s) told) (c j s)))
+    (later_fit indexes call told b (λ j s. or_right (is_clear j s event) (list_any (is_clear j s) told) (c j s)))
+  where
+    one : (event : Event) → is_later event ≡ true → ((j s : ℕ) → is_clear j s event ≡ false) → fits indexes call event ≡ true
+    one (events.Held index slot count) a c = absurd (cc)
+    one (events.Null index count) a c = absurd (cc)
+    one (events.Copied from index slot) a c = absurd (cc)
+    one (events.Clear index slot) a c = absurd (false_not_true (index == index && slot == slot) (c index slot) (same_both index slot))
+    one event a c = refl
+
+-- so it is with what comes before other events
+front_fit : (indexes : ℕ) (call : Call) (xs ys : List Event) → Fit indexes call (xs ++ ys) → Fit indexes call xs
+front_fit indexes call [] ys h = refl
+front_fit indexes call (event ∷ xs) ys h =
+    both (fits indexes call event) (all_of (fits indexes call) xs) (first_of (fits indexes call event) (all_of (fits indexes call) (xs ++ ys)) h)
+    (front_fit indexes call xs ys (rest_of (fits indexes call event) (all_of (fits indexes call) (xs ++ ys)) h))
+
+keep_fit : (config : Config) (call : Call) (at : KeepAt) (post : Post) (desk : Desk) (found : ℕ) → KeepServes call at → KeepIn config at → Left config.indexes call (keeps.keep_turn at post desk found)
+keep_fit config call at post desk found s k =
+    let t : CallTurn = keeps.keep_turn at post desk found in
+    let x = keep_just at post desk found in
+    front_fit config.indexes call t.told (told_end t.post t.outcome)
+    (subst (Fit config.indexes call) (sym x.told) (more_fit config.indexes call (keep_told at post) x.more (kept_fit config call at post s k) (later_fit config.indexes call x.more x.plain.later x.plain.clears)))
 
 pub work_fit : (config : Config) (call : Call) (work : Work) (post : Post) (desk : Desk) (found : ℕ) → WorkServes call work → WorkIn config work → Left config.indexes call (steps.work_turn work post desk found)
 work_fit config call (Getting key at) post desk found s k = get_fit config.indexes call key at post desk found (task_may call (Gets key) s)
 work_fit config call (Changing kept at) post desk found s k = change_fit config.indexes call kept at post desk found (task_may call (Changes kept) s)
 work_fit config call (Enqueuing kept at) post desk found s k = enqueue_fit config.indexes call kept at post desk found (task_may call (Enqueues kept) s)
 work_fit config call (Dequeuing at) post desk found s k = dequeue_fit config.indexes call at post desk found (dequeue_may call 0 s refl) (dequeue_may call 1 s refl)
-work_fit config call (Keeping at) post desk found s k = subst (Fit config.indexes call) (sym (keep_just at post desk found).told) (kept_fit config call at post s k)
+work_fit config call (Keeping at) post desk found s k = keep_fit config call at post desk found s k
 
 -- what comes after a machine
 opened_row_fit : (indexes : ℕ) (call : Call) (task : Task) (slot : ℕ) (post : Post) (desk : Desk) (told : List Event) → Fit indexes call told → Left indexes call (steps.opened_row task slot post desk told)
@@ -349,6 +398,7 @@ released_fit : (indexes : ℕ) (call : Call) (let_go : LetGo) (post : Post) (des
 released_fit indexes call Released post desk told h = h
 released_fit indexes call (Rehold key) post desk told h = h
 released_fit indexes call (Dropped index) post desk told h = h
+released_fit indexes call (Parting index) post desk told h = h
 
 resume_fit : (indexes : ℕ) (call : Call) (why : Why) (ending : Ending) (post : Post) (desk : Desk) (told : List Event) → WhyServes call why → Fit indexes call told → Left indexes call (steps.resume why ending post desk told)
 resume_fit indexes call (Opens task) ending post desk told s h = opened_fit indexes call task ending post desk told (task_may call task s) h

@@ -28,7 +28,7 @@ use Rattle.law_turns.specs.inv.model.Protect.{told_held}
 use Rattle.law_turns.specs.inv.model.Rounds.{index_of}
 use Rattle.law_turns.specs.inv.model.Scan as scan
 use Rattle.law_turns.specs.inv.model.Steps as steps
-use Rattle.law_turns.specs.inv.model.World.{World, finds, told_in}
+use Rattle.law_turns.specs.inv.model.World.{World, finds, offered, told_in}
 use Rattle.law_turns.proofs.inv.model.Facts.{both, first_of, rest_of, not_or_false, and_right_false}
 use Rattle.law_places.proofs.inv.ends.Ends.Tests.{Calm, at_shows, base_shows, base_any}
 use Rattle.law_places.specs.inv.shapes.Seats.{Seats, Shaped, suits, kind_of, protects, reloads, clears, releases, index_by}
@@ -170,8 +170,8 @@ end_fit indexes call post (Answers answer) = refl
 step_fit : (w : World) (i : ℕ) → Seats w → Slots w → Serves (w.seat i).call (w.seat i).phase → Fit w.layout.config.indexes (w.seat i).call (told_in w i)
 step_fit w i s l v =
     let call : Call = (w.seat i).call in
-    let t : CallTurn = turn (w.seat i) (finds w i) in
-    of_along (fits w.layout.config.indexes call) t.told (told_end t.post t.outcome) (phase_fit w i call (w.seat i).phase (counted (w.seat i).post) (w.seat i).desk (finds w i) s refl (l.seats i).phase v) (end_fit w.layout.config.indexes call t.post t.outcome)
+    let t : CallTurn = turn (offered w i) (finds w i) in
+    of_along (fits w.layout.config.indexes call) t.told (told_end t.post t.outcome) (phase_fit w i call (w.seat i).phase (counted (w.seat i).post) (offered w i).desk (finds w i) s refl (l.seats i).phase v) (end_fit w.layout.config.indexes call t.post t.outcome)
 
 -- the law along what a step tells
 fit_ok : (indexes : ℕ) (call : Call) (p : Past) (i : ℕ) (event : Event) → began_of i p ≡ Some call → fits indexes call event ≡ true → indexes_ok p i event ≡ true

@@ -16,8 +16,7 @@ use Rattle.law_turns.specs.inv.model.Posts.{upper}
 use Rattle.law_turns.specs.inv.model.Phases.{Aim, ProtectAt, Base}
 use Rattle.law_turns.specs.inv.model.Phases.Base.{Protect, Reload}
 use Rattle.law_turns.specs.inv.model.Calls.{Gets, Changes, Holds, Enqueues, Dequeues, Why, Opens, FollowsHead, Phase, Idle, Runs, Scans, Works}
-use Rattle.law_turns.specs.inv.model.Locals.{may_begin}
-use Rattle.law_turns.specs.inv.model.World.{World, finds, is_busy, told_in}
+use Rattle.law_turns.specs.inv.model.World.{World, finds, is_busy, told_in, may_start}
 use Rattle.law_turns.proofs.inv.model.Facts.{same_number, first_of, rest_of, or_more}
 use Rattle.law_places.specs.inv.shapes.Seats.{Seats, Run, root_by}
 use Rattle.law_places.specs.inv.history.History.{Item, Begins, Steps, Made, fits, done_if, made_of, first_made}
@@ -154,8 +153,8 @@ item_kept layout made item false f t g = g
 item_kept layout made (Begins i call) true f t g =
     let w : World = made.world in
     let k = g.known in
-    let b = begins_right i w.layout.config.seats (is_busy w i) (may_begin w.layout.config call) f in
-    let m = begins_within i w.layout.config.seats (is_busy w i) (may_begin w.layout.config call) f in
+    let b = begins_right i w.layout.config.seats (is_busy w i) (may_start w i call) f in
+    let m = begins_within i w.layout.config.seats (is_busy w i) (may_start w i call) f in
     let q = requests_begin w i call g.asked k.valid b k.seats k.requests in
     record {
       table = g.table;

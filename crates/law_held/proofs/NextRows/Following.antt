@@ -21,7 +21,7 @@ use Rattle.law_turns.specs.inv.model.Memory.{bump}
 use Rattle.law_turns.specs.inv.model.Posts.{stands, counted, cleared, upper, reserves_helper}
 use Rattle.law_turns.specs.inv.model.Protect.{held_post, told_held, concluded, protected, failed_once}
 use Rattle.law_turns.specs.inv.model.SlowPath.{own_request}
-use Rattle.law_turns.specs.inv.model.World.{World, finds, told_in}
+use Rattle.law_turns.specs.inv.model.World.{World, finds, offered, told_in}
 use Rattle.law_turns.specs.inv.model.Phases.{Aim, ProtectAt, Base, Turn, goes}
 use Rattle.law_turns.specs.inv.model.Phases.ProtectAt.{PublishEra, CheckClock, PublishHelper, CheckOwnClock, AnswerOwn, TakeAnswer, WithdrawHelper, CheckUpper, RaiseUpper}
 use Rattle.law_turns.specs.inv.model.Phases.Base.{Protect, Reload, Clear, Release}
@@ -148,7 +148,7 @@ one_free (event ∷ told) h =
     rw (a, b) refl
 
 pub work_one : (work : Work) (post : Post) → list_any is_one (work_told work post) ≡ false
-work_one work post = one_free (work_told work post) (work_all (λ (event : Event). not (is_one event)) (λ index slot. refl) (λ from index slot. refl) (λ seat index era. refl) work post)
+work_one work post = one_free (work_told work post) (work_all (λ (event : Event). not (is_one event)) (λ index slot. refl) (λ from index slot. refl) (λ seat index era. refl) (λ seat. refl) work post)
 
 null_each : (slots i index head n : ℕ) (q : Past) (null : Bool) → stood_at i 0 q ≡ Some head → (if null then held_since (begins i) (is_last slots head) q else true) ≡ true → Each (behind_ok slots) q → Each (behind_ok slots) (tells_of q i (if null then events.Null index n ∷ [] else []))
 null_each slots i index head n q true s h g = (or_more (not (index == 1)) (was_last slots i q (stood_at i 0 q)) (subst (λ (x : Option ℕ). was_last slots i q x ≡ true) (sym s) h), g)
@@ -228,7 +228,7 @@ own_each slots w i v l z p (Works work) q k g = other_each slots i (work_told wo
 step_nexts : (slots : ℕ) (w : World) (i : ℕ) (v : View) (l : Line) (z : Asked) (p : Past) → Sees slots w i v l z p → Each (behind_ok slots) p → Each (behind_ok slots) (tells_of p i (told_in w i))
 step_nexts slots w i v l z p k g =
     let own : List Event = own_told (w.seat i).phase (counted (w.seat i).post) (finds w i) in
-    let x : Adds (own_post (w.seat i).phase (counted (w.seat i).post) (finds w i)) own (turn (w.seat i) (finds w i)) = step_adds w i in
+    let x : Adds (own_post (w.seat i).phase (counted (w.seat i).post) (finds w i)) own (turn (offered w i) (finds w i)) = step_adds w i in
     let one : Each (behind_ok slots) (tells_of p i own) = own_each slots w i v l z p (w.seat i).phase refl k g in
     subst (λ (q : Past). Each (behind_ok slots) q) (sym (ap (tells_of p i) x.is ∙ tells_both i own x.more p)) (later_each slots i x.more (tells_of p i own) x.later one)
 

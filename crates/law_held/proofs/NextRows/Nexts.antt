@@ -3,7 +3,7 @@ use Rattle.std.proofs.Common.{ℕ, ◌≡◌, true, None, refl, sym, ap, ◌∙�
 use Rattle.law_turns.specs.inv.model.words.Place.{has}
 use Rattle.law_turns.specs.inv.model.words.Place.Place.{Row}
 use Rattle.law_turns.specs.inv.model.words.declared.layout.Layout.{Layout}
-use Rattle.law_turns.specs.inv.model.World.{World, start, step, finds, told_in}
+use Rattle.law_turns.specs.inv.model.World.{World, start, step, finds, told_in, list_in}
 use Rattle.law_turns.proofs.inv.model.Facts.{if_same}
 use Rattle.law_places.specs.inv.requests.Views.{View as Asked}
 use Rattle.law_places.specs.inv.rows.Agree.{first_rows, rows_after}
@@ -26,13 +26,13 @@ pub record Nexts (w : World) (v : View) (l : Line) (p : Past) : Type 0 where
 
 next_step : (w : World) (i : ℕ) (v : View) (l : Line) (z : Asked) (p : Past) (s : ℕ) → Known w v l z → Nexts w v l p → (l.lined s ≡ true) ⊎ Joining (w.seat i).phase (finds w i) s → word_of (next_at s (tells_of p i (told_in w i))) ≡ (step w i).mem (Row s 0)
 next_step w i v l z p s k g (inl h) =
-    ap word_of (next_comes w i p s) ∙ next_moved w.layout.config.slots i w.mem v l (w.seat i).phase (w.seat i).post (w.seat i).desk.list s (next_at s p) (here_of w i v l z k) h (g.next s h)
+    ap word_of (next_comes w i p s) ∙ next_moved w.layout.config.slots i w.mem v l (w.seat i).phase (w.seat i).post (list_in w i) s (next_at s p) (here_of w i v l z k) h (g.next s h)
 next_step w i v l z p s k g (inr j) =
     let here = here_of w i v l z k in
-    let null : w.mem (Row s 0) ≡ 0 = joins_null w.layout.config.slots i w.mem v l (w.seat i).phase (w.seat i).post (w.seat i).desk.list s j.kept here j.at in
+    let null : w.mem (Row s 0) ≡ 0 = joins_null w.layout.config.slots i w.mem v l (w.seat i).phase (w.seat i).post (list_in w i) s j.kept here j.at in
     let none : next_at s p ≡ None = g.fresh s (joins_new w i v l z s j.kept k j.at) in
     ap word_of (next_comes w i p s)
-    ∙ join_moved w.layout.config.slots i w.mem v l (w.seat i).phase (w.seat i).post (w.seat i).desk.list s (next_at s p) j.kept here j.at (ap word_of none ∙ sym null)
+    ∙ join_moved w.layout.config.slots i w.mem v l (w.seat i).phase (w.seat i).post (list_in w i) s (next_at s p) j.kept here j.at (ap word_of none ∙ sym null)
 
 pub nexts_step : (w : World) (i : ℕ) (v : View) (l : Line) (z : Asked) (p : Past) → Known w v l z → Nexts w v l p → Nexts (step w i) (rows_after w i v) (line_after w i l) (tells_of p i (told_in w i))
 nexts_step w i v l z p k g = record {

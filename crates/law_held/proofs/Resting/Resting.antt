@@ -26,7 +26,7 @@ use Rattle.law_turns.proofs.inv.model.Standing.{some_kept}
 use Rattle.law_turns.specs.inv.model.words.declared.config.Config.{Config}
 use Rattle.law_turns.specs.inv.model.defs.declared.call.Call.{Call}
 use Rattle.law_held.proofs.Indexes.Indexing.{record_high}
-use Rattle.law_turns.specs.inv.model.World.{World, finds, is_busy, told_in}
+use Rattle.law_turns.specs.inv.model.World.{World, finds, is_busy, offered, told_in}
 use Rattle.law_turns.proofs.inv.model.Facts.{first_of, rest_of}
 use Rattle.law_places.specs.inv.covers.Covers.{life_in, eras_shown, shown}
 use Rattle.law_places.proofs.inv.covers.Held.{stepped_phase}
@@ -243,7 +243,7 @@ step_each : (layout : Layout) (rests : ℕ → Past → Bool) (ok : Test) → Re
 step_each layout rests ok r path i d t g =
     let w : World = world_of layout path in
     let p : Past = record_of layout path in
-    let c : CallTurn = turn (w.seat i) (finds w i) in
+    let c : CallTurn = turn (offered w i) (finds w i) in
     let m : made_of layout (path ++ Steps i ∷ []) ≡ done (made_of layout path) (Steps i) = next_made layout path i t in
     let a : tells_of p i (told_by c) ≡ tells_of (tells_of p i c.told) i (told_end c.post c.outcome) = tells_both i c.told (told_end c.post c.outcome) p in
     let idle : busy_in (phase_left c.outcome) ≡ false → rests i (tells_of p i (told_by c)) ≡ true =

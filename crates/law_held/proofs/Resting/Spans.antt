@@ -18,12 +18,12 @@ use Rattle.law_turns.specs.inv.model.Links.{parent_of}
 use Rattle.law_turns.specs.inv.model.Locals.{Local, busy_in, begun_post, turn}
 use Rattle.law_turns.specs.inv.model.Machine.{after, begin_turn, protect_turn, retire_turn, move_turn}
 use Rattle.law_turns.specs.inv.model.Memory.{bump}
-use Rattle.law_turns.specs.inv.model.Posts.{stands, counted, with_row, upper, reserves_helper}
+use Rattle.law_turns.specs.inv.model.Posts.{counted, with_row, upper, reserves_helper}
 use Rattle.law_turns.specs.inv.model.Protect.{held_post, told_held, concluded, protected}
 use Rattle.law_turns.specs.inv.model.Rounds.{scheme_of, index_of}
 use Rattle.law_turns.specs.inv.model.SlowPath.{own_request}
 use Rattle.law_turns.specs.inv.model.Steps as steps
-use Rattle.law_turns.specs.inv.model.World.{World, begin, step, finds, is_busy}
+use Rattle.law_turns.specs.inv.model.World.{World, begin, finds, is_busy, offered, step}
 use Rattle.law_turns.specs.inv.model.Phases.{Aim, Alone, Follows, BeginAt, ProtectAt, RetireAt, Base, Ending, Outcome, Goes, Ends, Turn, goes, ends}
 use Rattle.law_turns.specs.inv.model.Phases.BeginAt.{LoadLower, PublishSpan}
 use Rattle.law_turns.specs.inv.model.Phases.ProtectAt.{CheckClock, CheckOwnClock, AnswerOwn, WithdrawHelper, CheckUpper}
@@ -167,17 +167,17 @@ run_out layout Advances base last post found r t l h = advances_out base post fo
 run_out layout (Releases let_go) base last post found r t l h = releases_out layout.config let_go base post found r.suited r.fits (ap (λ (x : Layout). x.config.scheme) t)
 
 -- a step
-turn_out : (w : World) (i : ℕ) (phase : Phase) → (w.seat i).phase ≡ phase → is_valid w.layout ≡ true → Seats w → Slots w → Spent (w.seat i).post phase → Spent (steps.phase_turn phase (counted (w.seat i).post) (w.seat i).desk (finds w i)).post (phase_left (steps.phase_turn phase (counted (w.seat i).post) (w.seat i).desk (finds w i)).outcome)
+turn_out : (w : World) (i : ℕ) (phase : Phase) → (w.seat i).phase ≡ phase → is_valid w.layout ≡ true → Seats w → Slots w → Spent (w.seat i).post phase → Spent (steps.phase_turn phase (counted (w.seat i).post) (offered w i).desk (finds w i)).post (phase_left (steps.phase_turn phase (counted (w.seat i).post) (offered w i).desk (finds w i)).outcome)
 turn_out w i Idle e d s l h = h
 turn_out w i (Runs why base) e d s l h =
     let t : Turn = after base (counted (w.seat i).post) (finds w i) in
     let f = (s.fits i).post in
-    resumed_spent why (w.seat i).desk t.post t.told t.outcome (run_out w.layout why base (w.seat i).post (counted (w.seat i).post) (finds w i) (run_of w i why base s e) f.layout f.standing h)
-turn_out w i (Scans later at) e d s l h = scan_spent later at (counted (w.seat i).post) (w.seat i).desk (finds w i) (h refl)
+    resumed_spent why (offered w i).desk t.post t.told t.outcome (run_out w.layout why base (w.seat i).post (counted (w.seat i).post) (finds w i) (run_of w i why base s e) f.layout f.standing h)
+turn_out w i (Scans later at) e d s l h = scan_spent later at (counted (w.seat i).post) (offered w i).desk (finds w i) (h refl)
 turn_out w i (Works work) e d s l h =
     let f = s.fits i in
     let m = (bounds_of w.layout d).indexes in
-    work_spent w.layout.config work (counted (w.seat i).post) (w.seat i).desk (finds w i)
+    work_spent w.layout.config work (counted (w.seat i).post) (offered w i).desk (finds w i)
     (work_counted work (w.seat i).post (subst (PhaseFits w.layout (w.seat i).post) e f.phase)) (subst (PhaseIn w.layout (w.seat i).desk) e (l.seats i).phase) (omega (m.1, f.post.standing, arith)) h
 
 abbrev pub SpentIn : World → ℕ → Type 0
@@ -185,7 +185,7 @@ SpentIn w k = Spent (w.seat k).post (w.seat k).phase
 
 step_own : (w : World) (i : ℕ) → is_valid w.layout ≡ true → Seats w → Slots w → SpentIn w i → SpentIn (step w i) i
 step_own w i d s l h =
-    let t : CallTurn = turn (w.seat i) (finds w i) in
+    let t : CallTurn = turn (offered w i) (finds w i) in
     let q : Spent t.post (phase_left t.outcome) = turn_out w i (w.seat i).phase refl d s l h in
     subst (λ (p : Post). Spent p ((step w i).seat i).phase) (sym (stepped_post w i))
     (subst (λ (p : Phase). Spent t.post p) (sym (stepped_phase w i)) q)

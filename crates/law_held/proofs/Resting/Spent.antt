@@ -1,6 +1,6 @@
 -- Under 2GE a seat whose round is over has no interval, unless a row stands at an index of it from 2 on.
-use Rattle.std.proofs.Common.{ℕ, ◌≡◌, ◌≤◌, ◌<◌, subst, arith, ◌-◌, ◌+◌, ◌%◌, Bool, true, false, List, [], ◌∷◌, ◌++◌, length, Option, Some, None, refl, ap}
-use Rattle.std.specs.Prelude.{◌==◌, is_some, nat_lt}
+use Rattle.std.proofs.Common.{ℕ, ◌≡◌, ◌≤◌, ◌<◌, subst, arith, ◌-◌, ◌+◌, ◌%◌, Bool, true, false, List, [], ◌∷◌, ◌++◌, length, Option, Some, None, refl, ap, drop}
+use Rattle.std.specs.Prelude.{◌==◌, is_some, nat_lt, if◌then◌else◌}
 use Rattle.law_turns.specs.inv.model.words.declared.config.SchemeKind.{SchemeKind}
 use Rattle.law_turns.specs.inv.model.words.declared.config.SchemeKind.TheVariants.{He, Ibr, Wfe}
 use Rattle.law_turns.specs.inv.model.defs.declared.call.Answer.{Answer}
@@ -24,7 +24,7 @@ use Rattle.law_turns.specs.inv.model.Enqueue as enqueues
 use Rattle.law_turns.specs.inv.model.Get as gets
 use Rattle.law_turns.specs.inv.model.Guards.{guards, guard_at, eras_in, published}
 use Rattle.law_turns.specs.inv.model.Keep as keeps
-use Rattle.law_turns.specs.inv.model.Posts.{cleared, reserves_index, stands, with_row, withdrawn}
+use Rattle.law_turns.specs.inv.model.Posts.{cleared, reserves_index, stands, with_row, withdrawn, standing_from}
 use Rattle.law_turns.proofs.inv.model.Standing.{none_kept, stands-with_row_same}
 use Rattle.law_turns.specs.inv.model.words.Schemes.{has_one_interval}
 use Rattle.law_turns.specs.inv.model.words.declared.config.Config.{Config}
@@ -33,11 +33,12 @@ use Rattle.law_turns.specs.inv.model.Scan as scan
 use Rattle.law_turns.specs.inv.model.Steps as steps
 use Rattle.law_turns.specs.inv.model.Phases.{Base, Ending, Outcome, Goes, Ends}
 use Rattle.law_turns.specs.inv.model.Phases.Ending.{Done, Protected, Followed, Allocated, Retired, Clocked}
-use Rattle.law_turns.specs.inv.model.Calls.{Task, Gets, Changes, Holds, Enqueues, Dequeues, Next, Again, MakeRoom, Answering, Retiring, AfterScan, Answered, Repeated, Counted, ChangeKept, EnqueueKept, GetAt, FindVersion, FindCount, FindKey, FindValue, ChangeAt, LoadVersion, LoadCount, LoadKey, LoadValue, ExchangeRoot, EnqueueAt, LoadNumber, LoadNext, PassTail, ExchangeNext, ExchangeTail, DequeueAt, SwingTail, ExchangeHead, Work, Getting, Changing, Enqueuing, Dequeuing, Keeping, KeepAt, Loosens, LoadHeld, StoreHeld, Looks, Misses, LetGo, Released, Rehold, Dropped, ScanAt, ReadGuard, GiveBack, Why, Opens, FollowsHead, Fills, ClearsNext, Clears, Finishes, GivesUp, Retires, Tidies, Advances, Releases, Phase, Idle, Runs, Scans, Works, CallTurn}
+use Rattle.law_turns.specs.inv.model.Calls.{Task, Gets, Changes, Holds, Enqueues, Dequeues, Next, Again, MakeRoom, Answering, Retiring, AfterScan, Answered, Repeated, Counted, ChangeKept, EnqueueKept, GetAt, FindVersion, FindCount, FindKey, FindValue, ChangeAt, LoadVersion, LoadCount, LoadKey, LoadValue, ExchangeRoot, EnqueueAt, LoadNumber, LoadNext, PassTail, ExchangeNext, ExchangeTail, DequeueAt, SwingTail, ExchangeHead, Work, Getting, Changing, Enqueuing, Dequeuing, Keeping, KeepAt, Loosens, LoadHeld, StoreHeld, Looks, Misses, HideSpan, MarkLeft, TakeList, MarkTaken, LetGo, Released, Rehold, Dropped, Parting, ScanAt, ReadGuard, GiveBack, Why, Opens, FollowsHead, Fills, ClearsNext, Clears, Finishes, GivesUp, Retires, Tidies, Advances, Releases, Phase, Idle, Runs, Scans, Works, CallTurn}
 use Rattle.law_turns.specs.inv.model.words.Schemes.{is_ibr}
 use Rattle.law_places.specs.inv.shapes.Frame.{KeepFits, WorkFits, phase_left}
 use Rattle.law_places.specs.inv.shapes.Slots.{KeepIn, WorkIn}
 use Rattle.law_turns.proofs.Counting.Fits.{is_hold}
+use Rattle.law_turns.specs.inv.model.defs.declared.lifetime.Interval.{Interval}
 
 -- under 2GE no interval stands where no row is kept
 abbrev pub Ended : Post → Type 0
@@ -208,10 +209,15 @@ dequeue_spent (ExchangeHead head next number value) post desk found = taken_spen
 dequeue_spent at post desk found = λ o. absurd (cc)
 
 -- something is let go, copied or looked at
+parting_spent : (post : Post) (x : Option ℕ) → Ended post → Spent post (keeps.parting_index x)
+parting_spent post None h = λ o. h
+parting_spent post (Some index) h = λ o. absurd (cc)
+
 released_spent : (let_go : LetGo) (post : Post) (desk : Desk) (told : List Event) → Ended post → Turned (keeps.released let_go post desk told)
 released_spent Released post desk told h = λ o. h
 released_spent (Rehold key) post desk told h = round_spent (Holds key) post
 released_spent (Dropped index) post desk told h = λ o. h
+released_spent (Parting index) post desk told h = parting_spent post (standing_from (index + 1) (drop (index + 1) post.standing)) h
 
 copied_spent : (from index : ℕ) (post : Post) (desk : Desk) (reserved : List Event) (x : Option ℕ) → 2 ≤ index → index < length post.standing → Ended post → Turned (keeps.copied from index post desk reserved x)
 copied_spent from index post desk reserved None low few h = λ o. h
@@ -235,6 +241,10 @@ look_spent index key (FindCount slot version) post desk found h = looking_spent 
 look_spent index key (FindKey slot version count pair) post desk found h = looked_key_spent index key slot version count pair post desk (found == key) h
 look_spent index key (FindValue slot version pair) post desk found h = λ o. h
 
+taking_spent : (place : ℕ) (post : Post) (desk : Desk) (left : Bool) (found : ℕ) → Ended post → Turned (keeps.taking place post desk left found)
+taking_spent place post desk true found h = λ o. h
+taking_spent place post desk false found h = λ o. h
+
 keep_spent : (config : Config) (at : KeepAt) (post : Post) (desk : Desk) (found : ℕ) → KeepFits post at → KeepIn config at → config.indexes ≤ length post.standing → Ended post → Turned (keeps.keep_turn at post desk found)
 keep_spent config (Loosens let_go) post desk found f k few h =
     released_spent let_go (withdrawn post (let_index let_go)) desk (cleared (let_index let_go) (stands post (let_index let_go))) (kept_ended (withdrawn post (let_index let_go)) f.kept)
@@ -244,6 +254,10 @@ keep_spent config (StoreHeld from index era) post desk found f k few h =
     copied_spent from index post desk (reserves_index post index era) (stands post from) (omega (arith, k.kept, k.rises)) (omega (arith, k.below, few)) h
 keep_spent config (Looks index key at) post desk found f k few h = look_spent index key at post desk found h
 keep_spent config (Misses index) post desk found f k few h = λ o. h
+keep_spent config HideSpan post desk found f k few h = λ o b n. refl
+keep_spent config MarkLeft post desk found f k few h = λ o. h
+keep_spent config (TakeList place) post desk found f k few h = taking_spent place post desk (found == 1) found h
+keep_spent config (MarkTaken place count) post desk found f k few h = λ o. h
 
 pub work_spent : (config : Config) (work : Work) (post : Post) (desk : Desk) (found : ℕ) → WorkFits post work → WorkIn config work → config.indexes ≤ length post.standing → (over_work work ≡ true → Ended post) → Turned (steps.work_turn work post desk found)
 work_spent config (Getting key at) post desk found f k few h = get_spent key at post desk found
@@ -423,6 +437,14 @@ looking_at_spent : (index key : ℕ) (post : Post) (o : Option ℕ) → Ended po
 looking_at_spent index key post None h = λ o. h
 looking_at_spent index key post (Some slot) h = λ o. h
 
+parting_span_spent : (post : Post) (x : Option Interval) → Ended post → Spent post (keeps.parting_span x)
+parting_span_spent post None h = λ o. h
+parting_span_spent post (Some span) h = λ o. h
+
+leaving_spent : (post : Post) (one : Bool) → Ended post → Spent post (if one then keeps.parting_span post.span else keeps.parting_from 2 post)
+leaving_spent post true h = parting_span_spent post post.span h
+leaving_spent post false h = parting_spent post (standing_from 2 (drop 2 post.standing)) h
+
 pub first_spent : (call : Call) (post : Post) → Ended post → Spent post (steps.first_phase call post)
 first_spent (names.Get key) post h = round_spent (Gets key) post
 first_spent (names.Put key value) post h = round_spent (Changes _) post
@@ -435,5 +457,7 @@ first_spent names.Release post h = release_spent Released post h
 first_spent (names.Copy from index) post h = copying_spent from index post (stands post from) h
 first_spent (names.DropIndex index) post h = release_spent (Dropped index) post h
 first_spent (names.Look index key) post h = looking_at_spent index key post (stands post index) h
+first_spent names.Leave post h = leaving_spent post (has_one_interval (scheme_of post)) h
+first_spent (names.Adopt place) post h = λ o. h
 first_spent names.Advance post h = λ o. h
 first_spent names.Scan post h = λ o. h

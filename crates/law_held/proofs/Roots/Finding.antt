@@ -13,7 +13,7 @@ use Rattle.law_turns.specs.inv.model.Calls.{Phase, Idle, Runs, Scans, Works, Cal
 use Rattle.law_turns.specs.inv.model.Desks.{Desk, noting}
 use Rattle.law_turns.specs.inv.model.Locals.{Local, busy_in, settled_by, begun, begun_post, told_by, told_end, rounds_told, turn}
 use Rattle.law_turns.specs.inv.model.Posts.{counted}
-use Rattle.law_turns.specs.inv.model.World.{World, begin, step, finds, is_busy, told_in}
+use Rattle.law_turns.specs.inv.model.World.{World, begin, finds, is_busy, offered, step, told_in}
 use Rattle.law_turns.proofs.inv.model.Facts.{first_of, rest_of, or_left_true, or_more}
 use Rattle.law_places.proofs.inv.ends.Ends.Tests.{Calm, step_any}
 use Rattle.law_places.specs.inv.shapes.Frame.{phase_left}
@@ -87,14 +87,14 @@ fate_by : (told : List Event) (t : CallTurn) (shows x : Bool) → all_of is_with
 fate_by told t shows x w e l (inl h) = absurd (cc)
 fate_by told t shows x w e l (inr h) = rooting_along told x w (e ∙ h)
 
-step_rooted : (w : World) (i : ℕ) (x : Bool) → Seats w → Serves (w.seat i).call (w.seat i).phase → has_root (Some (w.seat i).call) ≡ true → (is_early (w.seat i).phase ≡ false → x ≡ true) → is_early (phase_left (turn (w.seat i) (finds w i)).outcome) ≡ false → along rooted_by (told_in w i) x ≡ true
+step_rooted : (w : World) (i : ℕ) (x : Bool) → Seats w → Serves (w.seat i).call (w.seat i).phase → has_root (Some (w.seat i).call) ≡ true → (is_early (w.seat i).phase ≡ false → x ≡ true) → is_early (phase_left (turn (offered w i) (finds w i)).outcome) ≡ false → along rooted_by (told_in w i) x ≡ true
 step_rooted w i x s k h f l = by (is_early (w.seat i).phase) refl
   where
     by : (early : Bool) → is_early (w.seat i).phase ≡ early → along rooted_by (told_in w i) x ≡ true
     by false e = rooted_along (told_in w i) x (within_of w i) (f e)
     by true e =
-        fate_by (told_in w i) (turn (w.seat i) (finds w i)) _ x (within_of w i) (step_any is_rooting w i rooting_calm rooting_later) l
-        (phase_fate w.layout.config.buckets (w.seat i).call (w.seat i).phase (counted (w.seat i).post) (w.seat i).desk (finds w i) e (fits_by w i (w.seat i).phase s refl) k h)
+        fate_by (told_in w i) (turn (offered w i) (finds w i)) _ x (within_of w i) (step_any is_rooting w i rooting_calm rooting_later) l
+        (phase_fate w.layout.config.buckets (w.seat i).call (w.seat i).phase (counted (w.seat i).post) (offered w i).desk (finds w i) e (fits_by w i (w.seat i).phase s refl) k h)
 
 -- what is known of each seat
 abbrev Found : Local → Bool → Type 0
@@ -110,8 +110,8 @@ settled_found l post desk rounds (Answers answer) x f = λ b. absurd (cc)
 step_found : (w : World) (i k : ℕ) (p : Past) (same : Bool) → (k == i) ≡ same → Seats w → Serves (w.seat i).call (w.seat i).phase → is_busy w i ≡ true → AllFound w p → Found ((step w i).seat k) (rooted_of k (tells_of p i (told_in w i)))
 step_found w i k p true e s v b f =
     let one : k ≡ i = grind (arith, nat_tests) in
-    let t : CallTurn = turn (w.seat i) (finds w i) in
-    let here : Found (settled_by (w.seat i) t.post (noting t.desk (told_by t)) (rounds_told (w.seat i).rounds (told_by t)) t.outcome) (rooted_of i (tells_of p i (told_in w i))) =
+    let t : CallTurn = turn (offered w i) (finds w i) in
+    let here : Found (settled_by (offered w i) t.post (noting t.desk (told_by t)) (rounds_told (w.seat i).rounds (told_by t)) t.outcome) (rooted_of i (tells_of p i (told_in w i))) =
     settled_found (w.seat i) t.post (noting t.desk (told_by t)) (rounds_told (w.seat i).rounds (told_by t)) t.outcome (rooted_of i (tells_of p i (told_in w i)))
     (λ h l. seen_tells rooted_by false i (told_in w i) p ∙ step_rooted w i (rooted_of i p) s v h (f i b h) l) in
     subst (λ (m : ℕ). Found ((step w i).seat m) (rooted_of m (tells_of p i (told_in w i)))) (sym one)
@@ -173,7 +173,7 @@ end_each i call post (Answers answer) q b f g = (end_by (began_of i q) call (roo
 
 step_finds : (n : ℕ) (w : World) (i : ℕ) (p : Past) → answering.Keeps n (record { world = w; past = p }) → is_busy w i ≡ true → AllFound w p → Each finds_ok p → Each finds_ok (tells_of p i (told_in w i))
 step_finds n w i p a y f g =
-    let t : CallTurn = turn (w.seat i) (finds w i) in
+    let t : CallTurn = turn (offered w i) (finds w i) in
     let r = a.seats i in
     let o : Owes n (w.seat i).call (owed n (w.seat i).call (w.seat i).phase) t = owes_of n w i a.table a.known (r.serves y) in
     let q : Past = tells_of p i t.told in

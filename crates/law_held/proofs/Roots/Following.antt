@@ -20,7 +20,7 @@ use Rattle.law_turns.specs.inv.model.Phases.ProtectAt.{CheckClock, TakeAnswer, C
 use Rattle.law_turns.specs.inv.model.Phases.Base.{Protect, Reload, Clear, Release}
 use Rattle.law_turns.specs.inv.model.Posts.{stands, counted, upper}
 use Rattle.law_turns.specs.inv.model.Protect.{told_held}
-use Rattle.law_turns.specs.inv.model.World.{World, finds, told_in}
+use Rattle.law_turns.specs.inv.model.World.{World, finds, offered, told_in}
 use Rattle.law_turns.proofs.inv.model.Facts.{same_number, and_right_false, number_is, or_more}
 use Rattle.law_places.proofs.inv.history.Passes.{work_told}
 use Rattle.law_places.proofs.inv.ends.Ends.Tests.{at_shows, base_shows, base_any}
@@ -141,7 +141,7 @@ own_each buckets slots i mem (Works work) post p k g = other_each slots i (work_
 step_follows : (buckets slots : ℕ) (w : World) (i : ℕ) (p : Past) → Here buckets slots i w.mem (w.seat i).phase (w.seat i).post p → Each (follows_ok slots) p → Each (follows_ok slots) (tells_of p i (told_in w i))
 step_follows buckets slots w i p k g =
     let own : List Event = own_told (w.seat i).phase (counted (w.seat i).post) (finds w i) in
-    let x : Adds (own_post (w.seat i).phase (counted (w.seat i).post) (finds w i)) own (turn (w.seat i) (finds w i)) = step_adds w i in
+    let x : Adds (own_post (w.seat i).phase (counted (w.seat i).post) (finds w i)) own (turn (offered w i) (finds w i)) = step_adds w i in
     let one : Each (follows_ok slots) (tells_of p i own) = own_each buckets slots i w.mem (w.seat i).phase (w.seat i).post p k g in
     subst (λ (q : Past). Each (follows_ok slots) q) (sym (ap (tells_of p i) x.is ∙ tells_both i own x.more p)) (later_each slots i x.more (tells_of p i own) x.later one)
 

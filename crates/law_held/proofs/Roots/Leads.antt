@@ -4,8 +4,7 @@ use Rattle.law_turns.specs.inv.model.words.Place.{Place, is_valid}
 use Rattle.law_turns.specs.inv.model.words.Place.Place.{Head, Tail, Bucket}
 use Rattle.law_turns.specs.inv.model.words.declared.layout.Layout.{Layout}
 use Rattle.law_turns.specs.inv.model.defs.declared.call.Call.{Call}
-use Rattle.law_turns.specs.inv.model.Locals.{may_begin}
-use Rattle.law_turns.specs.inv.model.World.{World, is_busy, step, told_in}
+use Rattle.law_turns.specs.inv.model.World.{World, is_busy, step, told_in, list_in, may_start}
 use Rattle.law_places.specs.inv.history.History.{Item, Begins, Steps, Made, done, first_made, record_of, world_of}
 use Rattle.law_places.proofs.inv.history.Along.{Steady, items_keep}
 use Rattle.law_places.specs.inv.Known.{Known}
@@ -42,9 +41,9 @@ record LeadsKept (layout : Layout) (made : Made) : Type 0 where
 tail_step : (w : World) (i : ℕ) (v : View) (l : Line) (z : Asked) (p : Past) → Known w v l z → tail_at w.layout.config.slots p + 1 ≡ w.mem Tail → tail_at w.layout.config.slots (tells_of p i (told_in w i)) + 1 ≡ (step w i).mem Tail
 tail_step w i v l z p k h =
     ap (λ (n : ℕ). n + 1) (whole_comes tail_by (tail_at w.layout.config.slots) w i p (λ q event. refl) tail_still tail_end)
-    ∙ tail_moved w.layout.config.slots i w.mem v l (w.seat i).phase (w.seat i).post (w.seat i).desk.list (tail_at w.layout.config.slots p) (here_of w i v l z k) h
+    ∙ tail_moved w.layout.config.slots i w.mem v l (w.seat i).phase (w.seat i).post (list_in w i) (tail_at w.layout.config.slots p) (here_of w i v l z k) h
 
-begin_kept : (layout : Layout) (made : Made) (i : ℕ) (call : Call) → is_busy made.world i ≡ false → may_begin made.world.layout.config call ≡ true → LeadsKept layout made → LeadsKept layout (done made (Begins i call))
+begin_kept : (layout : Layout) (made : Made) (i : ℕ) (call : Call) → is_busy made.world i ≡ false → may_start made.world i call ≡ true → LeadsKept layout made → LeadsKept layout (done made (Begins i call))
 begin_kept layout made i call f m g =
     let k = g.known in
     let q = requests_begin made.world i call g.asked k.valid f k.seats k.requests in

@@ -17,7 +17,7 @@ use Rattle.law_turns.specs.inv.model.Change.{told_change, changed_bucket}
 use Rattle.law_turns.specs.inv.model.Enqueue.{told_link}
 use Rattle.law_turns.specs.inv.model.Locals.{told_end, turn}
 use Rattle.law_turns.specs.inv.model.Posts.{stands, counted}
-use Rattle.law_turns.specs.inv.model.World.{World, finds, told_in}
+use Rattle.law_turns.specs.inv.model.World.{World, finds, offered, told_in}
 use Rattle.law_turns.specs.inv.model.Calls.{ChangeKept, EnqueueKept, LoadVersion, LoadCount, LoadKey, LoadValue, ExchangeRoot, LoadNumber, LoadNext, PassTail, ExchangeNext, ExchangeTail, LoadTail, SwingTail, TakeNumber, TakeValue, ExchangeHead, Getting, Changing, Enqueuing, Dequeuing, Keeping, Phase, Idle, Runs, Scans, Works, CallTurn, CallOutcome, GoesOn, Answers}
 use Rattle.law_turns.proofs.inv.model.Facts.{same_number, both, first_of, rest_of, number_is, or_more}
 use Rattle.law_places.specs.inv.history.Record.{Past, Each, tells_of}
@@ -141,7 +141,7 @@ end_unlinked post (Answers answer) = refl
 
 step_links : (slots : ℕ) (w : World) (i : ℕ) (p : Past) → Before slots i w.mem (w.seat i).phase (w.seat i).post (w.seat i).call p → Each (links_ok slots) p → Each (links_ok slots) (tells_of p i (told_in w i))
 step_links slots w i p b g =
-    let t : CallTurn = turn (w.seat i) (finds w i) in
+    let t : CallTurn = turn (offered w i) (finds w i) in
     let first : List Event = ordered (w.seat i).phase (w.seat i).post (finds w i) in
     let o : InOrder first (tells w i) = step_order w i in
     let one : Each (links_ok slots) (tells_of p i first) = ordered_each slots i w.mem (w.seat i).phase (w.seat i).post (w.seat i).call p b g in

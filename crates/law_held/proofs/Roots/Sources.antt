@@ -18,14 +18,13 @@ use Rattle.law_turns.specs.inv.model.defs.declared.fold.Change.TheVariants as ch
 use Rattle.law_turns.specs.inv.model.declared.post.Post.{Post}
 use Rattle.law_turns.specs.inv.model.Calls.{Task, Gets, Changes, Holds, Enqueues, Dequeues, Why, Opens, FollowsHead, Phase, Idle, Runs, Scans, Works}
 use Rattle.law_turns.specs.inv.model.Links.{link_place}
-use Rattle.law_turns.specs.inv.model.Locals.{may_begin}
 use Rattle.law_turns.specs.inv.model.Memory.{bump}
 use Rattle.law_turns.specs.inv.model.Phases.{Aim, ProtectAt, Base}
 use Rattle.law_turns.specs.inv.model.Phases.ProtectAt.{CheckClock, TakeAnswer, CheckUpper}
 use Rattle.law_turns.specs.inv.model.Phases.Base.{Protect, Reload, Clear, Release}
 use Rattle.law_turns.specs.inv.model.Posts.{counted, cleared, stands, upper}
 use Rattle.law_turns.specs.inv.model.Protect.{told_held}
-use Rattle.law_turns.specs.inv.model.World.{World, finds, is_busy, told_in}
+use Rattle.law_turns.specs.inv.model.World.{World, finds, is_busy, told_in, may_start}
 use Rattle.law_turns.proofs.inv.model.Facts.{same_number, both, first_of, rest_of, true_of_not}
 use Rattle.law_places.proofs.inv.ends.Ends.Tests.{Calm, at_shows, base_shows, none_worked, phase_shows, step_any}
 use Rattle.law_places.specs.inv.shapes.Seats.{Seats, protects, kind_of, task_root}
@@ -140,8 +139,8 @@ item_kept layout made item false f l g = g
 item_kept layout made (Begins i call) true f l g =
     let w : World = made.world in
     let k = g.known in
-    let b = begins_right i w.layout.config.seats (is_busy w i) (may_begin w.layout.config call) f in
-    let m = begins_within i w.layout.config.seats (is_busy w i) (may_begin w.layout.config call) f in
+    let b = begins_right i w.layout.config.seats (is_busy w i) (may_start w i call) f in
+    let m = begins_within i w.layout.config.seats (is_busy w i) (may_start w i call) f in
     let q = requests_begin w i call g.asked k.valid b k.seats k.requests in
     record {
       table = g.table;

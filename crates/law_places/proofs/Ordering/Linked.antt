@@ -16,10 +16,10 @@ use Rattle.law_reuse.specs.inv.model.declared.post.Post.{Post}
 use Rattle.law_reuse.specs.inv.model.Change.{told_change, changed_bucket}
 use Rattle.law_reuse.specs.inv.model.Enqueue.{told_link}
 use Rattle.law_reuse.specs.inv.model.Memory.{written}
-use Rattle.law_reuse.specs.inv.model.Locals.{told_end, turn, may_begin}
+use Rattle.law_reuse.specs.inv.model.Locals.{told_end, turn}
 use Rattle.law_reuse.specs.inv.model.Posts.{counted}
 use Rattle.law_reuse.specs.inv.model.Steps.{phase_move}
-use Rattle.law_reuse.specs.inv.model.World.{World, step, finds, is_busy, told_in}
+use Rattle.law_reuse.specs.inv.model.World.{World, finds, is_busy, offered, step, told_in, may_start, list_in}
 use Rattle.law_reuse.specs.inv.model.Calls.{ChangeKept, EnqueueKept, LoadVersion, LoadCount, LoadKey, LoadValue, ExchangeRoot, LoadNumber, LoadNext, PassTail, ExchangeNext, ExchangeTail, LoadTail, SwingTail, TakeNumber, TakeValue, ExchangeHead, Getting, Changing, Enqueuing, Dequeuing, Keeping, ReadGuard, GiveBack, Phase, Idle, Runs, Scans, Works, CallTurn, CallOutcome, GoesOn, Answers}
 use Rattle.law_reuse.proofs.inv.model.Facts.{same_number, both, first_of, rest_of, none_by, if_same, unless_true, same_both, number_is}
 use Rattle.law_reuse.specs.inv.requests.Views.{View as Asked}
@@ -28,10 +28,10 @@ use Rattle.law_reuse.specs.inv.rows.Agree.{first_rows, rows_after}
 use Rattle.law_reuse.specs.inv.rows.Chain.{first_line, line_after}
 use Rattle.law_reuse.specs.inv.rows.Hands.{hand_in, holds_slot, is_right, row_move}
 use Rattle.law_reuse.specs.inv.rows.Queue.{Line, is_past, line_move, moved_line, Joins, Keeps}
-use Rattle.law_reuse.specs.inv.rows.Rows.{Status, Hand, View, RowMove, made, names, status_in, is_taken}
+use Rattle.law_reuse.specs.inv.rows.Rows.{Status, Hand, View, RowMove, made, names, status_in, is_taken, passed}
 use Rattle.law_reuse.specs.inv.rows.Rows.Hand.{Taken}
 use Rattle.law_reuse.specs.inv.rows.Rows.Status.{Free, Claimed, Born, Linked, InQueue, Cut, Sealed, Listed}
-use Rattle.law_reuse.specs.inv.rows.Rows.RowMove.{Stays, Claims, Bears, Drops, Links, Replaces, Appends, Pops, Reads, Seals, Lists, Returns}
+use Rattle.law_reuse.specs.inv.rows.Rows.RowMove.{Stays, Claims, Bears, Drops, Links, Replaces, Appends, Pops, Reads, Seals, Lists, Returns, Adopts}
 use Rattle.law_reuse.proofs.inv.rows.Fits.{MoveFits}
 use Rattle.law_reuse.proofs.inv.rows.Went.{WalksIn}
 use Rattle.law_reuse.proofs.inv.covers.Kept.{before_at}
@@ -59,6 +59,7 @@ use Rattle.law_places.proofs.Placing.Shapes.{Claiming, Shape}
 use Rattle.law_reuse.proofs.laws.Tells.{tells_both}
 use Rattle.law_reuse.proofs.inv.rows.Queued.{finds_phase}
 use Rattle.law_reuse.proofs.inv.Inv.Whole.{covers_of}
+use Rattle.law_reuse.proofs.inv.rows.Made.{passed_taken}
 use Rattle.law_reuse.proofs.inv.rows.Runs.{taken_slot}
 
 -- a row that is given and not linked
@@ -89,6 +90,17 @@ pub claimed_by : (x y : Status) (same : Bool) → is_new (if same then y else x)
 claimed_by x y true h = inl refl
 claimed_by x y false h = inr h
 
+-- rows of a list that is taken over are as new as before
+new_passed : (from to : ℕ) (x : Status) → is_new (passed from to x) ≡ is_new x
+new_passed from to Free = refl
+new_passed from to (Claimed by) = refl
+new_passed from to (Born by) = refl
+new_passed from to (Linked bucket) = refl
+new_passed from to InQueue = refl
+new_passed from to (Cut by) = refl
+new_passed from to (Sealed by retire) = refl
+new_passed from to (Listed by retire) = refl
+
 pub new_before : (i : ℕ) (v : View) (m : RowMove) (s : ℕ) → MoveFits i v m → is_new ((made i v m).status s) ≡ true → (claims m s ≡ true) ⊎ (is_new (v.status s) ≡ true)
 new_before i v Stays s f h = inr h
 new_before i v (Claims slot) s f h = claimed_by (v.status s) (Claimed i) (s == slot) h
@@ -102,6 +114,7 @@ new_before i v (Reads slot birth) s f h = inr h
 new_before i v (Seals slot birth retire) s f h = inr (new_by (v.status s) (Sealed i retire) (s == slot) refl h)
 new_before i v (Lists slot birth retire) s f h = inr (new_by (v.status s) (Listed i retire) (s == slot) refl h)
 new_before i v (Returns slot) s f h = inr (new_by (v.status s) Free (s == slot) refl h)
+new_before i v (Adopts from) s f h = inr (sym (new_passed from i (v.status s)) ∙ h)
 
 -- a row that is taken after a move is claimed by it, or was taken
 taken_still : (v : View) (s slot : ℕ) (y : Status) (same : Bool) → (s == slot) ≡ same → is_taken (v.status slot) ≡ true → is_taken (if s == slot then y else v.status s) ≡ true → is_taken (v.status s) ≡ true
@@ -133,6 +146,7 @@ taken_before i v (Reads slot birth) s f h = inr h
 taken_before i v (Seals slot birth retire) s f h = inr (taken_still v s slot (Sealed i retire) (s == slot) refl (ap is_taken f) h)
 taken_before i v (Lists slot birth retire) s f h = inr (taken_still v s slot (Listed i retire) (s == slot) refl (ap is_taken f) h)
 taken_before i v (Returns slot) s f h = inr (taken_by (v.status s) Free (s == slot) refl h)
+taken_before i v (Adopts from) s f h = inr (sym (passed_taken from i (v.status s)) ∙ h)
 
 -- a next link that leads nowhere stays so, unless a row is linked there
 pub rows_none : (s b : ℕ) (m : RowMove) → along (next_by s) (row_events b m) None ≡ None
@@ -152,6 +166,7 @@ rows_none s b (Reads slot birth) = refl
 rows_none s b (Seals slot birth retire) = refl
 rows_none s b (Lists slot birth retire) = refl
 rows_none s b (Returns slot) = refl
+rows_none s b (Adopts from) = refl
 
 pub queued_none : (kept : EnqueueKept) (slot s : ℕ) (same : Bool) → (s == kept.tail) ≡ false → along (next_by s) (queued_front kept slot same) None ≡ None
 queued_none kept slot s true e = rw e refl
@@ -212,7 +227,7 @@ pub record Nexts (slots : ℕ) (w : World) (v : View) (l : Line) (p : Past) : Ty
   pub fresh : (s : ℕ) → is_new (v.status s) ≡ true → next_at s p ≡ None
   pub given : (s : ℕ) → is_taken (v.status s) ≡ true → was_given slots s p ≡ true
 
-pub here_of : (w : World) (i : ℕ) (v : View) (l : Line) (z : Asked) → Known w v l z → Here w.layout.config.slots i w.mem v l (w.seat i).phase (w.seat i).post (w.seat i).desk.list
+pub here_of : (w : World) (i : ℕ) (v : View) (l : Line) (z : Asked) → Known w v l z → Here w.layout.config.slots i w.mem v l (w.seat i).phase (w.seat i).post (list_in w i)
 here_of w i v l z k =
     let a = agree_of w v l z k in
     record { good = a.good; plays = a.plays i; line = k.whole.both.queue.line; walks = k.whole.both.queue.walks i; fits = before_at w i v (covers_of w i v l z k) }
@@ -277,7 +292,7 @@ fresh_step w i v l z p s k f (inl c) =
 fresh_step w i v l z p s k f (inr n) =
     next_comes w i p s
     ∙ ap (along (next_by s) (marks (w.seat i).phase (w.seat i).post (finds w i))) (f s n)
-    ∙ none_moved (w.seat i).phase (w.seat i).post (finds w i) s (new_apart w.layout.config.slots i w.mem v l (w.seat i).phase (w.seat i).post (w.seat i).desk.list s (here_of w i v l z k) n)
+    ∙ none_moved (w.seat i).phase (w.seat i).post (finds w i) s (new_apart w.layout.config.slots i w.mem v l (w.seat i).phase (w.seat i).post (list_in w i) s (here_of w i v l z k) n)
 
 -- a row that joins the queue has a null link, by the record and by its word
 pub join_moved : (slots i : ℕ) (mem : Place → ℕ) (v : View) (l : Line) (phase : Phase) (post : Post) (list : List Lifetime) (s : ℕ) (x : Option ℕ) (kept : EnqueueKept) → Here slots i mem v l phase post list → phase ≡ Works (Enqueuing kept (ExchangeNext s)) → word_of x ≡ mem (Row s 0)
@@ -293,20 +308,20 @@ joins_null slots i mem v l phase post list s kept k e =
 pub joins_new : (w : World) (i : ℕ) (v : View) (l : Line) (z : Asked) (s : ℕ) (kept : EnqueueKept) → Known w v l z → (w.seat i).phase ≡ Works (Enqueuing kept (ExchangeNext s)) → is_new (v.status s) ≡ true
 joins_new w i v l z s kept k e =
     let a = agree_of w v l z k in
-    let right : holds_slot kept.taken s ≡ true = subst (λ (x : Phase). is_right x (w.seat i).desk.list ≡ true) e (a.plays i).right in
+    let right : holds_slot kept.taken s ≡ true = subst (λ (x : Phase). is_right x (list_in w i) ≡ true) e (a.plays i).right in
     let h : v.hand i ≡ Taken s = (a.plays i).hand ∙ ap hand_in e ∙ taken_slot kept.taken s right in
     let n : names (v.hand i) s ≡ true = ap (λ (x : Hand). names x s) h ∙ same_number s in
     ap is_new (a.good.hands i s n ∙ ap (status_in i) h)
 
 next_step : (w : World) (i : ℕ) (v : View) (l : Line) (z : Asked) (p : Past) (s : ℕ) → Known w v l z → Nexts w.layout.config.slots w v l p → (l.lined s ≡ true) ⊎ Joining (w.seat i).phase (finds w i) s → word_of (next_at s (tells_of p i (told_in w i))) ≡ (step w i).mem (Row s 0)
 next_step w i v l z p s k g (inl h) =
-    ap word_of (next_comes w i p s) ∙ next_moved w.layout.config.slots i w.mem v l (w.seat i).phase (w.seat i).post (w.seat i).desk.list s (next_at s p) (here_of w i v l z k) h (g.next s h)
+    ap word_of (next_comes w i p s) ∙ next_moved w.layout.config.slots i w.mem v l (w.seat i).phase (w.seat i).post (list_in w i) s (next_at s p) (here_of w i v l z k) h (g.next s h)
 next_step w i v l z p s k g (inr j) =
     let here = here_of w i v l z k in
-    let null : w.mem (Row s 0) ≡ 0 = joins_null w.layout.config.slots i w.mem v l (w.seat i).phase (w.seat i).post (w.seat i).desk.list s j.kept here j.at in
+    let null : w.mem (Row s 0) ≡ 0 = joins_null w.layout.config.slots i w.mem v l (w.seat i).phase (w.seat i).post (list_in w i) s j.kept here j.at in
     let none : next_at s p ≡ None = g.fresh s (joins_new w i v l z s j.kept k j.at) in
     ap word_of (next_comes w i p s)
-    ∙ join_moved w.layout.config.slots i w.mem v l (w.seat i).phase (w.seat i).post (w.seat i).desk.list s (next_at s p) j.kept here j.at (ap word_of none ∙ sym null)
+    ∙ join_moved w.layout.config.slots i w.mem v l (w.seat i).phase (w.seat i).post (list_in w i) s (next_at s p) j.kept here j.at (ap word_of none ∙ sym null)
 
 -- a row that is taken was given
 turned_given : (slots s slot birth : ℕ) (x : Bool) → (s == slot) ≡ true → along (was_given_by s) (events.Give slot birth ∷ []) x ≡ true
@@ -347,7 +362,7 @@ nexts_step : (w : World) (i : ℕ) (v : View) (l : Line) (z : Asked) (p : Past) 
 nexts_step w i v l z p k g = record {
   tail =
       ap (λ (n : ℕ). n + 1) (whole_comes tail_by (tail_at w.layout.config.slots) w i p (λ q event. refl) tail_still tail_end)
-      ∙ tail_moved w.layout.config.slots i w.mem v l (w.seat i).phase (w.seat i).post (w.seat i).desk.list (tail_at w.layout.config.slots p) (here_of w i v l z k) g.tail;
+      ∙ tail_moved w.layout.config.slots i w.mem v l (w.seat i).phase (w.seat i).post (list_in w i) (tail_at w.layout.config.slots p) (here_of w i v l z k) g.tail;
   next = λ s h. next_step w i v l z p s k g (lined_by (w.seat i).phase (finds w i) l s h);
   fresh = λ s h. fresh_step w i v l z p s k g.fresh (new_before i v (move_of w i) s ((here_of w i v l z k).fits) h);
   given = λ s h. given_step w.layout.config.slots w i v l z p s k g.given (taken_before i v (move_of w i) s ((here_of w i v l z k).fits) h);
@@ -461,10 +476,10 @@ end_none post (Answers answer) = refl
 
 step_law : (slots : ℕ) (w : World) (i : ℕ) (v : View) (l : Line) (z : Asked) (p : Past) → Known w v l z → Before slots i w.mem v l p → Each (nexts_ok slots) p → Each (nexts_ok slots) (tells_of p i (told_in w i))
 step_law slots w i v l z p k b g =
-    let t : CallTurn = turn (w.seat i) (finds w i) in
+    let t : CallTurn = turn (offered w i) (finds w i) in
     let first : List Event = ordered (w.seat i).phase (w.seat i).post (finds w i) in
     let o : InOrder first (tells w i) = step_order w i in
-    let one : Each (nexts_ok slots) (tells_of p i first) = ordered_each slots w.layout.config.slots i w.mem v l (w.seat i).phase (w.seat i).post (w.seat i).desk.list p (here_of w i v l z k) b g in
+    let one : Each (nexts_ok slots) (tells_of p i first) = ordered_each slots w.layout.config.slots i w.mem v l (w.seat i).phase (w.seat i).post (list_in w i) p (here_of w i v l z k) b g in
     let two : Each (nexts_ok slots) (tells_of (tells_of p i first) i o.rest) = none_each slots i o.rest (tells_of p i first) (of_weaker is_common links_none o.rest common_none o.calm) one in
     let three : Each (nexts_ok slots) (tells_of p i t.told) = subst (λ (q : Past). Each (nexts_ok slots) q) (sym (ap (tells_of p i) o.is ∙ tells_both i first o.rest p)) two in
     subst (λ (q : Past). Each (nexts_ok slots) q) (sym (tells_both i t.told (told_end t.post t.outcome) p)) (none_each slots i (told_end t.post t.outcome) (tells_of p i t.told) (end_none t.post t.outcome) three)
@@ -483,7 +498,7 @@ record LinksKept (layout : Layout) (made : Made) : Type 0 where
 begin_nexts : (slots : ℕ) (w u : World) (v : View) (l : Line) (p : Past) (i : ℕ) (call : Call) → u.mem Tail ≡ w.mem Tail → ((s : ℕ) → u.mem (Row s 0) ≡ w.mem (Row s 0)) → Nexts slots w v l p → Nexts slots u v l (Then p i (events.Begin call))
 begin_nexts slots w u v l p i call t n g = record { tail = g.tail ∙ sym t; next = λ s h. g.next s h ∙ sym (n s); fresh = g.fresh; given = g.given }
 
-begin_kept : (layout : Layout) (made : Made) (i : ℕ) (call : Call) → is_busy made.world i ≡ false → may_begin made.world.layout.config call ≡ true → LinksKept layout made → LinksKept layout (done made (Begins i call))
+begin_kept : (layout : Layout) (made : Made) (i : ℕ) (call : Call) → is_busy made.world i ≡ false → may_start made.world i call ≡ true → LinksKept layout made → LinksKept layout (done made (Begins i call))
 begin_kept layout made i call f n g =
     let k = g.known in
     let q = requests_begin made.world i call g.asked k.valid f k.seats k.requests in

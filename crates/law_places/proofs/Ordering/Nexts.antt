@@ -29,7 +29,7 @@ use Rattle.law_reuse.specs.inv.rows.Queue.{Line, is_past}
 use Rattle.law_reuse.specs.inv.rows.Rows.{Status, Hand, View, RowMove, Good, names, status_in}
 use Rattle.law_reuse.specs.inv.rows.Rows.Status.{Free, Born}
 use Rattle.law_reuse.specs.inv.rows.Rows.Hand.{Taken}
-use Rattle.law_reuse.specs.inv.rows.Rows.RowMove.{Stays, Claims, Bears, Drops, Links, Replaces, Appends, Pops, Reads, Seals, Lists, Returns}
+use Rattle.law_reuse.specs.inv.rows.Rows.RowMove.{Stays, Claims, Bears, Drops, Links, Replaces, Appends, Pops, Reads, Seals, Lists, Returns, Adopts}
 use Rattle.law_reuse.proofs.inv.rows.Fits.{MoveFits}
 use Rattle.law_reuse.proofs.inv.rows.Own.{unlinked_row, unlinked_tail, is_write, base_links}
 use Rattle.law_reuse.proofs.inv.rows.Went.{LineIn, WalksIn, born_unlined}
@@ -57,6 +57,7 @@ rows_next s b (Reads slot birth) x h = refl
 rows_next s b (Seals slot birth retire) x h = refl
 rows_next s b (Lists slot birth retire) x h = refl
 rows_next s b (Returns slot) x h = refl
+rows_next s b (Adopts from) x h = refl
 
 rows_tail : (b : ℕ) (m : RowMove) (x : ℕ) → along tail_by (row_events b m) x ≡ x
 rows_tail b Stays x = refl
@@ -71,6 +72,7 @@ rows_tail b (Reads slot birth) x = refl
 rows_tail b (Seals slot birth retire) x = refl
 rows_tail b (Lists slot birth retire) x = refl
 rows_tail b (Returns slot) x = refl
+rows_tail b (Adopts from) x = refl
 
 past_free : (x : Status) → x ≡ Free → is_past x ≡ true → false ≡ true
 past_free x e h = rw e at h

@@ -11,11 +11,11 @@ use Rattle.law_reuse.specs.inv.model.defs.declared.event.Event.TheVariants as ev
 use Rattle.law_reuse.specs.inv.model.defs.declared.event.Root.TheVariants as roots
 use Rattle.law_reuse.specs.inv.model.declared.post.Post.{Post}
 use Rattle.law_reuse.specs.inv.model.Calls.{Phase, Idle, Runs, Scans, Works, CallTurn, CallOutcome, GoesOn, Answers}
-use Rattle.law_reuse.specs.inv.model.Locals.{told_end, turn, may_begin}
+use Rattle.law_reuse.specs.inv.model.Locals.{told_end, turn}
 use Rattle.law_reuse.specs.inv.model.Memory as memory
 use Rattle.law_reuse.specs.inv.model.Memory.{upd}
 use Rattle.law_reuse.specs.inv.model.Steps.{phase_move}
-use Rattle.law_reuse.specs.inv.model.World.{World, finds, is_busy, told_in}
+use Rattle.law_reuse.specs.inv.model.World.{World, finds, is_busy, offered, told_in, may_start}
 use Rattle.law_reuse.proofs.inv.model.Facts.{same_number, both, first_of, rest_of}
 use Rattle.law_reuse.specs.inv.requests.Views.{View as Asked}
 use Rattle.law_reuse.proofs.inv.requests.Kept.{requests_begin, requests_start}
@@ -23,7 +23,7 @@ use Rattle.law_reuse.specs.inv.rows.Agree.{Agree, first_rows, rows_after}
 use Rattle.law_reuse.specs.inv.rows.Chain.{first_line, line_after}
 use Rattle.law_reuse.specs.inv.rows.Queue.{Line}
 use Rattle.law_reuse.specs.inv.rows.Rows.{RowMove, View, made}
-use Rattle.law_reuse.specs.inv.rows.Rows.RowMove.{Stays, Claims, Bears, Drops, Links, Replaces, Appends, Pops, Reads, Seals, Lists, Returns}
+use Rattle.law_reuse.specs.inv.rows.Rows.RowMove.{Stays, Claims, Bears, Drops, Links, Replaces, Appends, Pops, Reads, Seals, Lists, Returns, Adopts}
 use Rattle.law_reuse.specs.inv.history.Record.{Past, Each, tells_of}
 use Rattle.law_reuse.specs.inv.history.Record.Past.{Then}
 use Rattle.law_reuse.proofs.inv.history.Entries.{entries_of_each}
@@ -63,7 +63,7 @@ whole_tells next f i (event ∷ told) p q = whole_tells next f i told (Then p i 
 pub whole_comes : {X : Type 0} (next : Event → X → X) (f : Past → X) (w : World) (i : ℕ) (p : Past) → ((q : Past) (event : Event) → f (Then q i event) ≡ next event (f q)) → ((event : Event) (x : X) → is_marked event ≡ false → next event x ≡ x) → ((post : Post) (outcome : CallOutcome) (x : X) → along next (told_end post outcome) x ≡ x)
     → f (tells_of p i (told_in w i)) ≡ along next (marks (w.seat i).phase (w.seat i).post (finds w i)) (f p)
 whole_comes next f w i p h q e =
-    let t : CallTurn = turn (w.seat i) (finds w i) in
+    let t : CallTurn = turn (offered w i) (finds w i) in
     whole_tells next f i (told_in w i) p h
     ∙ along_both next t.told (told_end t.post t.outcome) (f p)
     ∙ e t.post t.outcome (along next t.told (f p))
@@ -129,6 +129,7 @@ buckets_moved phase post found i b v (Reads slot birth) told x s h = at_words b 
 buckets_moved phase post found i b v (Seals slot birth retire) told x s h = at_words b told _ x (v.root b) s h
 buckets_moved phase post found i b v (Lists slot birth retire) told x s h = at_words b told _ x (v.root b) s h
 buckets_moved phase post found i b v (Returns slot) told x s h = at_words b told _ x (v.root b) s h
+buckets_moved phase post found i b v (Adopts from) told x s h = at_words b told _ x (v.root b) s h
 
 at_head : (told other : List Event) (x head : ℕ) → told ≡ other → along head_by other x + 1 ≡ head → along head_by told x + 1 ≡ head
 at_head told other x head e h = ap (λ (es : List Event). along head_by es x + 1) e ∙ h
@@ -146,6 +147,7 @@ head_moved phase post found i v (Reads slot birth) told x s h = at_head told _ x
 head_moved phase post found i v (Seals slot birth retire) told x s h = at_head told _ x v.head s h
 head_moved phase post found i v (Lists slot birth retire) told x s h = at_head told _ x v.head s h
 head_moved phase post found i v (Returns slot) told x s h = at_head told _ x v.head s h
+head_moved phase post found i v (Adopts from) told x s h = at_head told _ x v.head s h
 
 pub roots_step : (slots : ℕ) (w : World) (i : ℕ) (v : View) (p : Past) → Agree w v → Roots slots v p → Roots slots (rows_after w i v) (tells_of p i (told_in w i))
 roots_step slots w i v p a r = record {
@@ -299,6 +301,7 @@ order_moved slots w i v (Reads slot birth) told p a s r g = at_told slots i told
 order_moved slots w i v (Seals slot birth retire) told p a s r g = at_told slots i told [] p s g
 order_moved slots w i v (Lists slot birth retire) told p a s r g = at_told slots i told _ p s (plain_settles slots i (events.Retire slot birth retire ∷ []) p refl g)
 order_moved slots w i v (Returns slot) told p a s r g = at_told slots i told _ p s (plain_settles slots i (events.Back slot ∷ []) p refl g)
+order_moved slots w i v (Adopts from) told p a s r g = at_told slots i told [] p s g
 
 first_settles : (slots : ℕ) (w : World) (i : ℕ) (v : View) (p : Past) (phase : Phase) → (w.seat i).phase ≡ phase → Agree w v → Roots slots v p → Settled slots p → Settled slots (tells_of p i (ordered phase (w.seat i).post (finds w i)))
 first_settles slots w i v p Idle e a r g = g
@@ -314,7 +317,7 @@ end_plain post (Answers answer) = refl
 
 step_settles : (slots : ℕ) (w : World) (i : ℕ) (v : View) (p : Past) → Agree w v → Roots slots v p → Settled slots p → Settled slots (tells_of p i (told_in w i))
 step_settles slots w i v p a r g =
-    let t : CallTurn = turn (w.seat i) (finds w i) in
+    let t : CallTurn = turn (offered w i) (finds w i) in
     let first : List Event = ordered (w.seat i).phase (w.seat i).post (finds w i) in
     let o : InOrder first (tells w i) = step_order w i in
     let one : Settled slots (tells_of p i first) = first_settles slots w i v p (w.seat i).phase refl a r g in
@@ -331,7 +334,7 @@ record Keeps (layout : Layout) (made : Made) : Type 0 where
   roots : Roots layout.config.slots rows made.past
   settled : Settled layout.config.slots made.past
 
-begin_keeps : (layout : Layout) (made : Made) (i : ℕ) (call : Call) → is_busy made.world i ≡ false → may_begin made.world.layout.config call ≡ true → Keeps layout made → Keeps layout (done made (Begins i call))
+begin_keeps : (layout : Layout) (made : Made) (i : ℕ) (call : Call) → is_busy made.world i ≡ false → may_start made.world i call ≡ true → Keeps layout made → Keeps layout (done made (Begins i call))
 begin_keeps layout made i call f n g =
     let k = g.known in
     let q = requests_begin made.world i call g.asked k.valid f k.seats k.requests in

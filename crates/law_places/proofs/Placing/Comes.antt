@@ -14,14 +14,14 @@ use Rattle.law_reuse.specs.inv.model.Locals.{busy_in, told_end, turn}
 use Rattle.law_reuse.specs.inv.model.Memory as memory
 use Rattle.law_reuse.specs.inv.model.Posts.{counted}
 use Rattle.law_reuse.specs.inv.model.Steps.{phase_move}
-use Rattle.law_reuse.specs.inv.model.World.{World, step, finds, is_busy, told_in}
+use Rattle.law_reuse.specs.inv.model.World.{World, finds, is_busy, offered, step, told_in, list_in}
 use Rattle.law_reuse.proofs.inv.covers.Held.{stepped_phase}
 use Rattle.law_reuse.specs.inv.shapes.Frame.{phase_left}
 use Rattle.law_reuse.specs.inv.requests.Views.{View as Asked}
 use Rattle.law_reuse.specs.inv.rows.Agree.{Agree, rows_after}
 use Rattle.law_reuse.specs.inv.rows.Queue.{Line}
 use Rattle.law_reuse.specs.inv.rows.Rows.{Hand, RowMove, View}
-use Rattle.law_reuse.specs.inv.rows.Rows.RowMove.{Stays, Claims, Bears, Drops, Links, Replaces, Appends, Pops, Reads, Seals, Lists, Returns}
+use Rattle.law_reuse.specs.inv.rows.Rows.RowMove.{Stays, Claims, Bears, Drops, Links, Replaces, Appends, Pops, Reads, Seals, Lists, Returns, Adopts}
 use Rattle.law_reuse.specs.inv.contents.Told.{NextChange, TellsRight, AllRight}
 use Rattle.law_reuse.specs.inv.history.Record.{Past, tells_of}
 use Rattle.law_reuse.specs.inv.Inv.{TellsRight as StepTells}
@@ -48,7 +48,7 @@ agrees_as h busy g1 g2 c1 c2 l1 l2 x1 x2 r1 r2 s1 s2 g c l x r s a = rw (g, c, l
 pub told_comes : {X : Type 0} (next : Event → X → X) (first : X) (w : World) (i : ℕ) (p : Past) → ((event : Event) (x : X) → is_marked event ≡ false → next event x ≡ x) → ((post : Post) (outcome : CallOutcome) (x : X) → along next (told_end post outcome) x ≡ x)
     → seen next first i (tells_of p i (told_in w i)) ≡ along next (marks (w.seat i).phase (w.seat i).post (finds w i)) (seen next first i p)
 told_comes next first w i p q e =
-    let t : CallTurn = turn (w.seat i) (finds w i) in
+    let t : CallTurn = turn (offered w i) (finds w i) in
     seen_tells next first i (told_in w i) p
     ∙ along_both next t.told (told_end t.post t.outcome) (seen next first i p)
     ∙ e t.post t.outcome (along next t.told (seen next first i p))
@@ -88,10 +88,10 @@ pub agree_of : (w : World) (v : View) (l : Line) (z : Asked) → Known w v l z �
 agree_of w v l z k = k.whole.both.rows
 
 pub shape_in : (w : World) (i : ℕ) (v : View) → Agree w v → Shape (w.seat i).phase (w.seat i).post (finds w i) (move_of w i) (marks (w.seat i).phase (w.seat i).post (finds w i))
-shape_in w i v a = shape_of (w.seat i).phase (w.seat i).post (finds w i) (w.seat i).desk.list (a.plays i).right
+shape_in w i v a = shape_of (w.seat i).phase (w.seat i).post (finds w i) (list_in w i) (a.plays i).right
 
 pub fits_in : (w : World) (i : ℕ) (v : View) → Agree w v → HandFits (move_of w i) (v.hand i)
-fits_in w i v a = subst (λ (h : Hand). HandFits (move_of w i) h) (sym (a.plays i).hand) (hand_fits (w.seat i).phase (w.seat i).post (finds w i) (w.seat i).desk.list (a.plays i).right)
+fits_in w i v a = subst (λ (h : Hand). HandFits (move_of w i) h) (sym (a.plays i).hand) (hand_fits (w.seat i).phase (w.seat i).post (finds w i) (list_in w i) (a.plays i).right)
 
 -- a root's word is found
 pub finds_bucket : (w : World) (i bucket : ℕ) (v : View) → Agree w v → FindsAt (phase_move (w.seat i).phase (w.seat i).post) (Bucket bucket) → finds w i ≡ v.root bucket
@@ -113,7 +113,7 @@ right_first n a (event ∷ xs) ys h = (h.0, right_first n a xs ys h.1)
 
 right_marks : (w : World) (i : ℕ) (v : View) (l : Line) (z : Asked) → Stepping w i v l z → AllRight w.layout.config.buckets w.book (marks (w.seat i).phase (w.seat i).post (finds w i))
 right_marks w i v l z s =
-    let t : CallTurn = turn (w.seat i) (finds w i) in
+    let t : CallTurn = turn (offered w i) (finds w i) in
     let m : StepTells w i = inv_tells w i s.seat (record { rows = v; line = l; asked = z; known = s.known }) in
     subst (λ (es : List Event). AllRight w.layout.config.buckets w.book es) (marks_told w i)
     (right_filter w.layout.config.buckets w.book is_marked t.told (right_first w.layout.config.buckets w.book t.told (told_end t.post t.outcome) m.map))
@@ -169,6 +169,7 @@ says_move w i v l z (Reads slot birth) told s h r = tt
 says_move w i v l z (Seals slot birth retire) told s h r = tt
 says_move w i v l z (Lists slot birth retire) told s h r = tt
 says_move w i v l z (Returns slot) told s h r = tt
+says_move w i v l z (Adopts from) told s h r = tt
 
 says_in : (w : World) (i : ℕ) (v : View) (l : Line) (z : Asked) → Stepping w i v l z → Says (move_of w i) (marks (w.seat i).phase (w.seat i).post (finds w i))
 says_in w i v l z s = says_move w i v l z (move_of w i) (marks (w.seat i).phase (w.seat i).post (finds w i)) s (shape_in w i v (agree_of w v l z s.known)) (right_marks w i v l z s)
@@ -181,8 +182,8 @@ drops_end : (w : World) (i : ℕ) (v : View) → Agree w v → (slot : ℕ) → 
 drops_end w i v a slot e =
     let h : Ending (w.seat i).phase (counted (w.seat i).post) (finds w i) slot (marks (w.seat i).phase (w.seat i).post (finds w i)) =
     subst (λ (m : RowMove). Shape (w.seat i).phase (w.seat i).post (finds w i) m (marks (w.seat i).phase (w.seat i).post (finds w i))) e (shape_in w i v a) in
-    let d = h.ends (w.seat i).desk in
-    ap busy_in (stepped_phase w i) ∙ ended_busy (turn (w.seat i) (finds w i)).outcome d.0 d.1
+    let d = h.ends (offered w i).desk in
+    ap busy_in (stepped_phase w i) ∙ ended_busy (turn (offered w i) (finds w i)).outcome d.0 d.1
 
 -- a step of the seat
 pub comes_own : (w : World) (i : ℕ) (v : View) (l : Line) (z : Asked) (p : Past) → Stepping w i v l z → ComesTo (v.hand i) true i p → ComesTo ((rows_after w i v).hand i) (is_busy (step w i) i) i (tells_of p i (told_in w i))

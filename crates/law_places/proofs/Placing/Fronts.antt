@@ -1,8 +1,8 @@
 -- What a step tells first: what its machine or scan tells, or what the call's own step links and changes. After it nothing comes
--- but what was got, what is cleared, what is copied with what is published for it, and the end.
+-- but what was got, what is cleared, what is published, what is copied, that a list is left or taken over, and the end.
 use Rattle.std.proofs.Common.{ℕ, ◌≡◌, ◌+◌, ◌-◌, ◌%◌, Bool, true, false, List, [], ◌∷◌, ◌++◌, length, Option, Some, None, refl, sym, ◌∙◌}
 use Rattle.std.proofs.lemmas.List.{append_assoc}
-use Rattle.std.specs.Prelude.{◌==◌, nat_lt}
+use Rattle.std.specs.Prelude.{◌==◌, drop, nat_lt}
 use Rattle.law_reuse.specs.inv.model.words.declared.config.SchemeKind.{SchemeKind}
 use Rattle.law_reuse.specs.inv.model.defs.declared.call.Answer.{Answer}
 use Rattle.law_reuse.specs.inv.model.defs.declared.call.Answer.TheVariants as the_answers
@@ -18,24 +18,24 @@ use Rattle.law_reuse.specs.inv.model.declared.ends.ProtectEnd.TheVariants as pro
 use Rattle.law_reuse.specs.inv.model.declared.post.Post.{Post}
 use Rattle.law_reuse.specs.inv.model.Change as alters
 use Rattle.law_reuse.specs.inv.model.Dequeue as dequeues
-use Rattle.law_reuse.specs.inv.model.Desks.{Desk, with_life}
+use Rattle.law_reuse.specs.inv.model.Desks.{Desk, with_gift, with_life}
 use Rattle.law_reuse.specs.inv.model.Enqueue as enqueues
 use Rattle.law_reuse.specs.inv.model.Get as gets
 use Rattle.law_reuse.specs.inv.model.Guards.{guards, guard_at, eras_in, published}
 use Rattle.law_reuse.specs.inv.model.Keep as keeps
 use Rattle.law_reuse.specs.inv.model.Machine as machine
-use Rattle.law_reuse.specs.inv.model.Posts.{cleared, reserves_index, stands, with_row, withdrawn}
+use Rattle.law_reuse.specs.inv.model.Posts.{cleared, cleared_from, reserves_index, reserves_span, stands, with_row, withdrawn, withdrawn_all}
 use Rattle.law_reuse.specs.inv.model.words.Schemes.{has_one_interval}
 use Rattle.law_reuse.specs.inv.model.Scan as scan
 use Rattle.law_reuse.specs.inv.model.Steps as steps
 use Rattle.law_reuse.specs.inv.model.Rounds.{scheme_of, bucket_of, index_of, taken_of, finish_base, clear_base, clear_post, clear_told, given_up, closed, finishing_by, finishing, clearing_by, clearing, clearing_next_by, clearing_next, let_index}
 use Rattle.law_reuse.specs.inv.model.Phases.{Base, Ending, Outcome, Goes, Ends}
 use Rattle.law_reuse.specs.inv.model.Phases.Ending.{Done, Protected, Followed, Allocated, Retired, Clocked}
-use Rattle.law_reuse.specs.inv.model.Calls.{Task, Gets, Changes, Holds, Enqueues, Dequeues, Next, Again, MakeRoom, Answering, Retiring, AfterScan, Answered, Repeated, Counted, ChangeKept, EnqueueKept, GetAt, FindVersion, FindCount, FindKey, FindValue, ChangeAt, LoadVersion, LoadCount, LoadKey, LoadValue, ExchangeRoot, EnqueueAt, LoadNumber, LoadNext, PassTail, ExchangeNext, ExchangeTail, DequeueAt, LoadTail, SwingTail, TakeNumber, TakeValue, ExchangeHead, Work, Getting, Changing, Enqueuing, Dequeuing, Keeping, KeepAt, Loosens, LoadHeld, StoreHeld, Looks, Misses, LetGo, Released, Rehold, Dropped, ScanAt, ReadGuard, GiveBack, Why, Opens, FollowsHead, Fills, ClearsNext, Clears, Finishes, GivesUp, Retires, Tidies, Advances, Releases, Phase, Idle, Runs, Scans, Works, CallTurn, CallOutcome}
+use Rattle.law_reuse.specs.inv.model.Calls.{Task, Gets, Changes, Holds, Enqueues, Dequeues, Next, Again, MakeRoom, Answering, Retiring, AfterScan, Answered, Repeated, Counted, ChangeKept, EnqueueKept, GetAt, FindVersion, FindCount, FindKey, FindValue, ChangeAt, LoadVersion, LoadCount, LoadKey, LoadValue, ExchangeRoot, EnqueueAt, LoadNumber, LoadNext, PassTail, ExchangeNext, ExchangeTail, DequeueAt, LoadTail, SwingTail, TakeNumber, TakeValue, ExchangeHead, Work, Getting, Changing, Enqueuing, Dequeuing, Keeping, KeepAt, Loosens, LoadHeld, StoreHeld, Looks, Misses, HideSpan, MarkLeft, TakeList, MarkTaken, LetGo, Released, Rehold, Dropped, Parting, ScanAt, ReadGuard, GiveBack, Why, Opens, FollowsHead, Fills, ClearsNext, Clears, Finishes, GivesUp, Retires, Tidies, Advances, Releases, Phase, Idle, Runs, Scans, Works, CallTurn, CallOutcome}
 use Rattle.law_reuse.proofs.inv.history.Passes.{scan_told}
 use Rattle.law_reuse.proofs.answers.AnswersTold.Owed.{append_none}
 use Rattle.law_reuse.proofs.inv.history.AllOf.{all_of, of_along}
-use Rattle.law_reuse.proofs.inv.history.MayTell.{clear_all, cleared_all}
+use Rattle.law_reuse.proofs.inv.history.MayTell.{clear_all, cleared_all, cleared_from_all}
 
 -- what comes after
 abbrev pub is_after : Event → Bool
@@ -43,6 +43,8 @@ is_after (events.Got bucket version key value) = true
 is_after (events.Clear index slot) = true
 is_after (events.Reserve guard span) = true
 is_after (events.Copied from index slot) = true
+is_after (events.Left count) = true
+is_after (events.Adopted place count) = true
 is_after event = false
 
 -- a turn tells these events, and then no others than those
@@ -220,6 +222,7 @@ released_starts : (let_go : LetGo) (post : Post) (desk : Desk) (told : List Even
 released_starts Released post desk told = here told post desk _
 released_starts (Rehold key) post desk told = here told post desk _
 released_starts (Dropped index) post desk told = here told post desk _
+released_starts (Parting index) post desk told = here told post desk _
 
 cleared_after : (index : ℕ) (o : Option ℕ) → all_of is_after (cleared index o) ≡ true
 cleared_after index o = cleared_all is_after index o (λ index slot. refl)
@@ -248,6 +251,11 @@ look_starts index key (FindCount slot version) post desk found = looking_starts 
 look_starts index key (FindKey slot version count pair) post desk found = looked_key_starts index key slot version count pair post desk (found == key)
 look_starts index key (FindValue slot version pair) post desk found = here [] post desk _
 
+-- a list is left, or taken over
+taking_starts : (place : ℕ) (post : Post) (desk : Desk) (left : Bool) (found : ℕ) → Starts [] (keeps.taking place post desk left found)
+taking_starts place post desk true found = later [] (events.Adopted place (length desk.gift) ∷ []) _ refl (here (events.Adopted place (length desk.gift) ∷ []) post (with_gift desk) _)
+taking_starts place post desk false found = here [] post desk _
+
 keep_starts : (at : KeepAt) (post : Post) (desk : Desk) (found : ℕ) → Starts [] (keeps.keep_turn at post desk found)
 keep_starts (Loosens let_go) post desk found =
     let told : List Event = cleared (let_index let_go) (stands post (let_index let_go)) in
@@ -256,6 +264,13 @@ keep_starts (LoadHeld from index) post desk found = load_starts from index post 
 keep_starts (StoreHeld from index era) post desk found = copied_starts from index post desk (reserves_index post index era) (stands post from) refl
 keep_starts (Looks index key at) post desk found = look_starts index key at post desk found
 keep_starts (Misses index) post desk found = here [] post desk _
+keep_starts HideSpan post desk found =
+    let rows : List Event = cleared_from 2 (drop 2 post.standing) in
+    let told : List Event = rows ++ reserves_span post None in
+    later [] told _ (of_along is_after rows (reserves_span post None) (cleared_from_all is_after 2 (drop 2 post.standing) (λ index slot. refl)) refl) (here told (withdrawn_all post) desk _)
+keep_starts MarkLeft post desk found = later [] (events.Left (length desk.list) ∷ []) _ refl (here (events.Left (length desk.list) ∷ []) post desk _)
+keep_starts (TakeList place) post desk found = taking_starts place post desk (found == 1) found
+keep_starts (MarkTaken place count) post desk found = here [] post desk _
 
 abbrev pub work_front : Work → Post → ℕ → List Event
 work_front (Getting key at) post found = []

@@ -10,8 +10,8 @@ use Rattle.law_reuse.specs.inv.model.defs.declared.event.Event.{Event}
 use Rattle.law_reuse.specs.inv.model.defs.declared.event.Event.TheVariants as events
 use Rattle.law_reuse.specs.inv.model.declared.post.Post.{Post}
 use Rattle.law_reuse.specs.inv.model.Calls.{CallTurn, CallOutcome, GoesOn, Answers}
-use Rattle.law_reuse.specs.inv.model.Locals.{Local, busy_in, may_begin, told_end, turn}
-use Rattle.law_reuse.specs.inv.model.World.{World, begin, step, finds, is_busy, told_in}
+use Rattle.law_reuse.specs.inv.model.Locals.{Local, busy_in, told_end, turn}
+use Rattle.law_reuse.specs.inv.model.World.{World, begin, finds, is_busy, offered, step, told_in, may_start}
 use Rattle.law_reuse.proofs.inv.model.Facts.{same_number, first_of, rest_of}
 use Rattle.law_reuse.proofs.inv.covers.Held.{stepped_phase}
 use Rattle.law_reuse.specs.inv.shapes.Frame.{phase_left}
@@ -79,20 +79,20 @@ open_right next right q (event ∷ told) x h = (q event x (first_of (is_open eve
 
 -- a step keeps a law, if what it tells is right and so is the end
 step_each : {X : Type 0} (next : Event → X → X) (first : X) (right : Event → X → Bool) (w : World) (i : ℕ) (p : Past) → AllRight next right (tells w i) (seen next first i p)
-    → ((answer : Answer) → (turn (w.seat i) (finds w i)).outcome ≡ Answers answer → right (events.End (turn (w.seat i) (finds w i)).post.steps answer) (seen next first i (tells_of p i (tells w i))) ≡ true)
+    → ((answer : Answer) → (turn (offered w i) (finds w i)).outcome ≡ Answers answer → right (events.End (turn (offered w i) (finds w i)).post.steps answer) (seen next first i (tells_of p i (tells w i))) ≡ true)
     → Each (λ q k event. right event (seen next first k q)) p → Each (λ q k event. right event (seen next first k q)) (tells_of p i (told_in w i))
 step_each next first right w i p h e g =
-    let t : CallTurn = turn (w.seat i) (finds w i) in
+    let t : CallTurn = turn (offered w i) (finds w i) in
     each_tells next first right i (told_in w i) p (right_both next right t.told (told_end t.post t.outcome) (seen next first i p) h (end_right t.outcome refl)) g
   where
-    end_right : (outcome : CallOutcome) → (turn (w.seat i) (finds w i)).outcome ≡ outcome → AllRight next right (told_end (turn (w.seat i) (finds w i)).post outcome) (along next (tells w i) (seen next first i p))
+    end_right : (outcome : CallOutcome) → (turn (offered w i) (finds w i)).outcome ≡ outcome → AllRight next right (told_end (turn (offered w i) (finds w i)).post outcome) (along next (tells w i) (seen next first i p))
     end_right (GoesOn phase) o = tt
-    end_right (Answers answer) o = (ap (right (events.End (turn (w.seat i) (finds w i)).post.steps answer)) (sym (seen_tells next first i (tells w i) p)) ∙ e answer o, tt)
+    end_right (Answers answer) o = (ap (right (events.End (turn (offered w i) (finds w i)).post.steps answer)) (sym (seen_tells next first i (tells w i) p)) ∙ e answer o, tt)
 
 -- the end of a call leaves what it has come to
 end_leaves : {X : Type 0} (next : Event → X → X) (first : X) (w : World) (i : ℕ) (p : Past) → ((post : Post) (outcome : CallOutcome) (x : X) → along next (told_end post outcome) x ≡ x) → seen next first i (tells_of p i (tells w i)) ≡ seen next first i (tells_of p i (told_in w i))
 end_leaves next first w i p e =
-    let t : CallTurn = turn (w.seat i) (finds w i) in
+    let t : CallTurn = turn (offered w i) (finds w i) in
     sym (seen_tells next first i (told_in w i) p ∙ along_both next t.told (told_end t.post t.outcome) (seen next first i p) ∙ e t.post t.outcome (along next t.told (seen next first i p)) ∙ sym (seen_tells next first i (tells w i) p))
 
 none_held : (given : Given) → in_hand_of given ≡ None → has_none given ≡ true
@@ -101,13 +101,13 @@ none_held (Given.InHand slot) e = absurd (cc)
 none_held Given.Placed e = refl
 
 -- where a step ends the call, the seat has nothing in hand
-ended_hand : (w : World) (i : ℕ) (v : View) (answer : Answer) → Agree (step w i) (rows_after w i v) → (turn (w.seat i) (finds w i)).outcome ≡ Answers answer → (rows_after w i v).hand i ≡ Empty
+ended_hand : (w : World) (i : ℕ) (v : View) (answer : Answer) → Agree (step w i) (rows_after w i v) → (turn (offered w i) (finds w i)).outcome ≡ Answers answer → (rows_after w i v).hand i ≡ Empty
 ended_hand w i v answer a o = (a.plays i).hand ∙ ap hand_in (stepped_phase w i ∙ ap phase_left o)
 
 -- and its answer is right
-ended_right : (n : ℕ) (w : World) (i : ℕ) (p : Past) (answer : Answer) → (turn (w.seat i) (finds w i)).outcome ≡ Answers answer → Each (answers_ok n) (tells_of p i (told_in w i)) → answers_ok n (tells_of p i (tells w i)) i (events.End (turn (w.seat i) (finds w i)).post.steps answer) ≡ true
+ended_right : (n : ℕ) (w : World) (i : ℕ) (p : Past) (answer : Answer) → (turn (offered w i) (finds w i)).outcome ≡ Answers answer → Each (answers_ok n) (tells_of p i (told_in w i)) → answers_ok n (tells_of p i (tells w i)) i (events.End (turn (offered w i) (finds w i)).post.steps answer) ≡ true
 ended_right n w i p answer o g =
-    let t : CallTurn = turn (w.seat i) (finds w i) in
+    let t : CallTurn = turn (offered w i) (finds w i) in
     let e : tells_of p i (told_in w i) ≡ Then (tells_of p i (tells w i)) i (events.End t.post.steps answer) =
     ap (λ (x : CallOutcome). tells_of p i (t.told ++ told_end t.post x)) o ∙ tells_both i t.told (events.End t.post.steps answer ∷ []) p in
     let there = subst (λ (r : Past). Each (answers_ok n) r) e g in
@@ -195,7 +195,7 @@ refuses_open event x h = refl
 told_open : (layout : Layout) (made : Made) (i : ℕ) (k : Keeps layout made) → Ready layout made i k → all_of is_open (tells made.world i) ≡ true
 told_open layout made i k r =
     let w : World = made.world in
-    let o : Owes layout.config.buckets (w.seat i).call (owed layout.config.buckets (w.seat i).call (w.seat i).phase) (turn (w.seat i) (finds w i)) =
+    let o : Owes layout.config.buckets (w.seat i).call (owed layout.config.buckets (w.seat i).call (w.seat i).phase) (turn (offered w i) (finds w i)) =
     owes_of layout.config.buckets w i k.answers.table k.answers.known ((k.answers.seats i).serves r.busy) in
     o.told.goes
 
@@ -299,7 +299,7 @@ begin_comes w i k v call p true e h c =
 begin_comes w i k v call p false e h c =
     subst (λ (b : Bool). ComesTo (v.hand k) b k (Then p i (events.Begin call))) (sym (ap (λ (l : Local). busy_in l.phase) (begin_stays w i k call e))) (begin_other k i (is_busy w k) (v.hand k) call p e c)
 
-begin_keeps : (layout : Layout) (made : Made) (i : ℕ) (call : Call) → is_busy made.world i ≡ false → may_begin made.world.layout.config call ≡ true → Keeps layout made → Keeps layout (done made (Begins i call))
+begin_keeps : (layout : Layout) (made : Made) (i : ℕ) (call : Call) → is_busy made.world i ≡ false → may_start made.world i call ≡ true → Keeps layout made → Keeps layout (done made (Begins i call))
 begin_keeps layout made i call f n g =
     let w : World = made.world in
     let k = g.known in

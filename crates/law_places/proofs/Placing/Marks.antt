@@ -17,7 +17,7 @@ use Rattle.law_reuse.specs.inv.model.Locals.{told_end, turn}
 use Rattle.law_reuse.specs.inv.model.Posts.{counted}
 use Rattle.law_reuse.specs.inv.model.Steps.{phase_turn}
 use Rattle.law_reuse.specs.inv.model.Calls.{ChangeKept, EnqueueKept, LoadVersion, LoadCount, LoadKey, LoadValue, ExchangeRoot, LoadNumber, LoadNext, PassTail, ExchangeNext, ExchangeTail, LoadTail, SwingTail, TakeNumber, TakeValue, ExchangeHead, Work, Getting, Changing, Enqueuing, Dequeuing, Keeping, Phase, Idle, Runs, Scans, Works, CallTurn, CallOutcome, GoesOn, Answers}
-use Rattle.law_reuse.specs.inv.model.World.{World, finds}
+use Rattle.law_reuse.specs.inv.model.World.{World, finds, offered}
 use Rattle.law_reuse.proofs.inv.model.Facts.{first_of, rest_of}
 use Rattle.law_reuse.specs.inv.rows.Hands.{row_move}
 use Rattle.law_reuse.specs.inv.model.defs.Events.{is_of_rows}
@@ -206,10 +206,10 @@ told_order (Works work) post desk found = front_order (work_front work (counted 
 
 -- what the step of a seat tells, but for the end of its call
 abbrev pub tells : World → ℕ → List Event
-tells w i = (turn (w.seat i) (finds w i)).told
+tells w i = (turn (offered w i) (finds w i)).told
 
 pub step_order : (w : World) (i : ℕ) → InOrder (ordered (w.seat i).phase (w.seat i).post (finds w i)) (tells w i)
-step_order w i = told_order (w.seat i).phase (w.seat i).post (w.seat i).desk (finds w i)
+step_order w i = told_order (w.seat i).phase (w.seat i).post (offered w i).desk (finds w i)
 
 work_marks : (work : Work) (post : Post) (t : CallTurn) (found : ℕ) → Starts (work_front work post found) t → filter is_marked t.told ≡ work_front work post found
 work_marks work post t found s =
@@ -221,7 +221,7 @@ work_marks work post t found s =
 
 told_rows : (w : World) (i : ℕ) → filter is_of_rows (tells w i) ≡ row_events (birth_in (w.seat i).phase) (move_of w i)
 told_rows w i =
-    let t : CallTurn = turn (w.seat i) (finds w i) in
+    let t : CallTurn = turn (offered w i) (finds w i) in
     sym (filter-append is_of_rows t.told (told_end t.post t.outcome)
     ∙ ap (λ (told : List Event). filter is_of_rows t.told ++ told) (end_rows t.post t.outcome)
     ∙ append_none (filter is_of_rows t.told))
@@ -243,8 +243,8 @@ marks_by w i Idle e = plain_marks w i Idle e refl
 marks_by w i (Runs why base) e = plain_marks w i (Runs why base) e refl
 marks_by w i (Scans later at) e = plain_marks w i (Scans later at) e refl
 marks_by w i (Works work) e =
-    ap (λ (x : Phase). filter is_marked (phase_turn x (counted (w.seat i).post) (w.seat i).desk (finds w i)).told) e
-    ∙ work_marks work (counted (w.seat i).post) (phase_turn (Works work) (counted (w.seat i).post) (w.seat i).desk (finds w i)) (finds w i) (turn_starts (Works work) (counted (w.seat i).post) (w.seat i).desk (finds w i))
+    ap (λ (x : Phase). filter is_marked (phase_turn x (counted (w.seat i).post) (offered w i).desk (finds w i)).told) e
+    ∙ work_marks work (counted (w.seat i).post) (phase_turn (Works work) (counted (w.seat i).post) (offered w i).desk (finds w i)) (finds w i) (turn_starts (Works work) (counted (w.seat i).post) (offered w i).desk (finds w i))
 
 pub marks_told : (w : World) (i : ℕ) → filter is_marked (tells w i) ≡ marks (w.seat i).phase (w.seat i).post (finds w i)
 marks_told w i = marks_by w i (w.seat i).phase refl

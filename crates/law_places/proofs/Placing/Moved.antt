@@ -11,7 +11,7 @@ use Rattle.law_reuse.specs.inv.model.Memory.{upd}
 use Rattle.law_reuse.proofs.inv.model.Facts.{same_number, first_of, rest_of}
 use Rattle.law_reuse.specs.inv.rows.Rows.{Hand, RowMove, View, made}
 use Rattle.law_reuse.specs.inv.rows.Rows.Hand.{Empty, New, Taken, Old, Known, Dated}
-use Rattle.law_reuse.specs.inv.rows.Rows.RowMove.{Stays, Claims, Bears, Drops, Links, Replaces, Appends, Pops, Reads, Seals, Lists, Returns}
+use Rattle.law_reuse.specs.inv.rows.Rows.RowMove.{Stays, Claims, Bears, Drops, Links, Replaces, Appends, Pops, Reads, Seals, Lists, Returns, Adopts}
 use Rattle.law_reuse.proofs.laws.Along.{along}
 use Rattle.law_reuse.proofs.inv.history.AllOf.{all_of}
 use Rattle.law_reuse.specs.laws.StateAt.{Given, Without, InHand, Placed, given_by, without_one, is_among, cuts_by, retires_by, changed_by}
@@ -34,6 +34,7 @@ hand_after (Reads slot birth) h = Known slot birth
 hand_after (Seals slot birth retire) h = Dated slot birth retire
 hand_after (Lists slot birth retire) h = Empty
 hand_after (Returns slot) h = h
+hand_after (Adopts from) h = h
 
 upd_here : (f : ℕ → Hand) (i : ℕ) (x : Hand) → upd f i x i ≡ x
 upd_here f i x = let e : (i == i) ≡ true = same_number i in rw e refl
@@ -51,6 +52,7 @@ hand_made i v (Reads slot birth) = upd_here v.hand i (Known slot birth)
 hand_made i v (Seals slot birth retire) = upd_here v.hand i (Dated slot birth retire)
 hand_made i v (Lists slot birth retire) = upd_here v.hand i Empty
 hand_made i v (Returns slot) = refl
+hand_made i v (Adopts from) = refl
 
 -- the row in hand that is not linked, and the row that was cut
 abbrev pub new_of : Hand → Option ℕ
@@ -292,6 +294,8 @@ agrees_moved phase post found (Lists slot birth retire) told h busy given change
     at_list Empty busy told _ given changed loud cuts retires said s (lists_agrees h busy given changed loud cuts retires said a slot birth retire f)
 agrees_moved phase post found (Returns slot) told h busy given changed loud cuts retires said s f y d a =
     at_list h busy told _ given changed loud cuts retires said s (same_row h busy given changed loud cuts retires said a h h refl refl refl)
+agrees_moved phase post found (Adopts from) told h busy given changed loud cuts retires said s f y d a =
+    at_list h busy told [] given changed loud cuts retires said s (same_row h busy given changed loud cuts retires said a h h refl refl refl)
 
 -- what a move tells is right
 without_placed : (given : Given) → in_hand_of given ≡ None → is_placed given ≡ false → is_without given ≡ true
@@ -335,6 +339,7 @@ places_moved phase post found (Reads slot birth) told h given s f a w = subst (�
 places_moved phase post found (Seals slot birth retire) told h given s f a w = subst (λ (x : List Event). AllRight given_by places_right x given) (sym s) tt
 places_moved phase post found (Lists slot birth retire) told h given s f a w = subst (λ (x : List Event). AllRight given_by places_right x given) (sym s) (refl, tt)
 places_moved phase post found (Returns slot) told h given s f a w = subst (λ (x : List Event). AllRight given_by places_right x given) (sym s) (refl, tt)
+places_moved phase post found (Adopts from) told h given s f a w = subst (λ (x : List Event). AllRight given_by places_right x given) (sym s) tt
 
 retires_passes : (event : Event) (x : List ℕ) → is_passing event ≡ true → retires_right event x ≡ true
 retires_passes (events.Link roots.Tail slot) x h = refl
@@ -364,3 +369,4 @@ retires_moved phase post found (Reads slot birth) told h cuts s f a = subst (λ 
 retires_moved phase post found (Seals slot birth retire) told h cuts s f a = subst (λ (x : List Event). AllRight cuts_by retires_right x cuts) (sym s) tt
 retires_moved phase post found (Lists slot birth retire) told h cuts s f a = subst (λ (x : List Event). AllRight cuts_by retires_right x cuts) (sym s) (has_alone slot cuts (a ∙ ap old_of f), tt)
 retires_moved phase post found (Returns slot) told h cuts s f a = subst (λ (x : List Event). AllRight cuts_by retires_right x cuts) (sym s) (refl, tt)
+retires_moved phase post found (Adopts from) told h cuts s f a = subst (λ (x : List Event). AllRight cuts_by retires_right x cuts) (sym s) tt

@@ -25,11 +25,11 @@ use Rattle.law_reuse.specs.inv.model.Phases.RetireAt.{LoadLife, LoadRetire, Stor
 use Rattle.law_reuse.specs.inv.model.Phases.Base.{Allocate, GiveUp, Retire}
 use Rattle.law_reuse.specs.inv.model.Posts.{counted}
 use Rattle.law_reuse.specs.inv.model.Steps.{phase_move, phase_turn}
-use Rattle.law_reuse.specs.inv.model.Calls.{Task, Gets, Changes, Holds, Enqueues, Dequeues, ChangeKept, EnqueueKept, LoadVersion, LoadCount, LoadKey, LoadValue, ExchangeRoot, LoadNumber, LoadNext, PassTail, ExchangeNext, ExchangeTail, LoadTail, SwingTail, TakeNumber, TakeValue, ExchangeHead, Getting, Changing, Enqueuing, Dequeuing, Keeping, ReadGuard, GiveBack, Why, Fills, GivesUp, Retires, Phase, Idle, Runs, Scans, Works, Answers}
-use Rattle.law_reuse.specs.inv.rows.Hands.{hand_of, hand_in, hand_why, hand_base, is_right, runs_right, is_plain, base_row, linked_row, row_move}
+use Rattle.law_reuse.specs.inv.model.Calls.{Task, Gets, Changes, Holds, Enqueues, Dequeues, ChangeKept, EnqueueKept, LoadVersion, LoadCount, LoadKey, LoadValue, ExchangeRoot, LoadNumber, LoadNext, PassTail, ExchangeNext, ExchangeTail, LoadTail, SwingTail, TakeNumber, TakeValue, ExchangeHead, Getting, Changing, Enqueuing, Dequeuing, Keeping, KeepAt, TakeList, ReadGuard, GiveBack, Why, Fills, GivesUp, Retires, Phase, Idle, Runs, Scans, Works, Answers}
+use Rattle.law_reuse.specs.inv.rows.Hands.{hand_of, hand_in, hand_why, hand_base, is_right, runs_right, is_plain, base_row, keep_row, linked_row, row_move}
 use Rattle.law_reuse.specs.inv.rows.Rows.{Hand, RowMove}
 use Rattle.law_reuse.specs.inv.rows.Rows.Hand.{Empty, New, Taken, Old, Known, Dated}
-use Rattle.law_reuse.specs.inv.rows.Rows.RowMove.{Stays, Claims, Bears, Drops, Links, Replaces, Appends, Pops, Reads, Seals, Lists, Returns}
+use Rattle.law_reuse.specs.inv.rows.Rows.RowMove.{Stays, Claims, Bears, Drops, Links, Replaces, Appends, Pops, Reads, Seals, Lists, Returns, Adopts}
 use Rattle.law_reuse.specs.inv.ends.Told.{row_events}
 use Rattle.law_reuse.proofs.answers.AnswersTold.Owed.{owed}
 use Rattle.law_reuse.proofs.inv.history.AllOf.{all_of}
@@ -51,6 +51,7 @@ HandFits (Reads slot birth) h = h ≡ Old slot
 HandFits (Seals slot birth retire) h = h ≡ Known slot birth
 HandFits (Lists slot birth retire) h = h ≡ Dated slot birth retire
 HandFits (Returns slot) h = Unit {0}
+HandFits (Adopts from) h = Unit {0}
 
 -- a machine that handles rows has its row in hand
 pub why_hand : (why : Why) (b : Base) → runs_right why b ≡ true → is_plain b ≡ false → hand_why why b ≡ hand_base b
@@ -88,13 +89,22 @@ pop_hand : (head next : ℕ) (same : Bool) → HandFits (if same then Pops head 
 pop_hand head next true = refl
 pop_hand head next false = tt
 
+-- a list that is taken over asks for nothing in hand
+adopts_hand : (place : ℕ) (h : Hand) (left : Bool) → HandFits (if left then Adopts place else Stays) h
+adopts_hand place h true = tt
+adopts_hand place h false = tt
+
+keep_hand : (at : KeepAt) (found : ℕ) (h : Hand) → HandFits (keep_row at found) h
+keep_hand (TakeList place) found h = adopts_hand place h (found == 1)
+keep_hand at found h = tt
+
 pub hand_fits : (phase : Phase) (post : Post) (found : ℕ) (list : List Lifetime) → is_right phase list ≡ true → HandFits (row_move phase post found) (hand_in phase)
 hand_fits Idle post found list r = tt
 hand_fits (Runs why b) post found list r = base_hand b found (hand_why why b) (why_hand why b r)
 hand_fits (Scans later (ReadGuard number)) post found list r = tt
 hand_fits (Scans later (GiveBack place slot)) post found list r = tt
 hand_fits (Works (Getting key at)) post found list r = tt
-hand_fits (Works (Keeping at)) post found list r = tt
+hand_fits (Works (Keeping at)) post found list r = keep_hand at found (hand_in (Works (Keeping at)))
 hand_fits (Works (Changing kept (LoadVersion slot))) post found list r = tt
 hand_fits (Works (Changing kept (LoadCount slot))) post found list r = tt
 hand_fits (Works (Changing kept (LoadKey slot count))) post found list r = tt
@@ -178,6 +188,7 @@ Shape phase post found (Reads slot birth) told = told ≡ []
 Shape phase post found (Seals slot birth retire) told = told ≡ []
 Shape phase post found (Lists slot birth retire) told = told ≡ events.Retire slot birth retire ∷ []
 Shape phase post found (Returns slot) told = told ≡ events.Back slot ∷ []
+Shape phase post found (Adopts from) told = told ≡ []
 
 claim_owes : (why : Why) (birth : ℕ) (walk : Walk) (n : ℕ) (call : Call) → runs_right why (Allocate (ClaimSlot birth walk)) ≡ true → owed n call (Runs why (Allocate (ClaimSlot birth walk))) ≡ []
 claim_owes (Fills task) birth walk n call r = refl
@@ -250,13 +261,21 @@ link_passing : (slot : ℕ) (same : Bool) → all_of is_passing (told_link roots
 link_passing slot true = refl
 link_passing slot false = refl
 
+adopts_shape : (place : ℕ) (post : Post) (found : ℕ) (left : Bool) → Shape (Works (Keeping (TakeList place))) post found (if left then Adopts place else Stays) []
+adopts_shape place post found true = refl
+adopts_shape place post found false = refl
+
+keep_shape : (at : KeepAt) (post : Post) (found : ℕ) → Shape (Works (Keeping at)) post found (keep_row at found) []
+keep_shape (TakeList place) post found = adopts_shape place post found (found == 1)
+keep_shape at post found = refl
+
 pub shape_of : (phase : Phase) (post : Post) (found : ℕ) (list : List Lifetime) → is_right phase list ≡ true → Shape phase post found (row_move phase post found) (marks phase post found)
 shape_of Idle post found list r = refl
 shape_of (Runs why b) post found list r = run_shape why b post found r
 shape_of (Scans later (ReadGuard number)) post found list r = refl
 shape_of (Scans later (GiveBack place slot)) post found list r = refl
 shape_of (Works (Getting key at)) post found list r = refl
-shape_of (Works (Keeping at)) post found list r = refl
+shape_of (Works (Keeping at)) post found list r = keep_shape at post found
 shape_of (Works (Changing kept (LoadVersion slot))) post found list r = refl
 shape_of (Works (Changing kept (LoadCount slot))) post found list r = refl
 shape_of (Works (Changing kept (LoadKey slot count))) post found list r = refl

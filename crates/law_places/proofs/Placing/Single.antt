@@ -8,10 +8,10 @@ use Rattle.law_reuse.specs.inv.model.defs.declared.call.Call.TheVariants as call
 use Rattle.law_reuse.specs.inv.model.defs.declared.event.Event.{Event}
 use Rattle.law_reuse.specs.inv.model.defs.declared.event.Event.TheVariants as events
 use Rattle.law_reuse.specs.inv.model.declared.post.Post.{Post}
-use Rattle.law_reuse.specs.inv.model.Calls.{Phase, Idle, Runs, Scans, Works, Why, Opens, FollowsHead, Fills, ClearsNext, Clears, Finishes, GivesUp, Retires, Tidies, Advances, Releases, Next, Again, MakeRoom, Answering, Retiring, AfterScan, Answered, Repeated, Counted, Getting, Changing, Enqueuing, Dequeuing, Keeping, EnqueueKept, EnqueueAt, LoadNumber, LoadNext, PassTail, ExchangeNext, ExchangeTail}
+use Rattle.law_reuse.specs.inv.model.Calls.{Phase, Idle, Runs, Scans, Works, Why, Opens, FollowsHead, Fills, ClearsNext, Clears, Finishes, GivesUp, Retires, Tidies, Advances, Releases, Next, Again, MakeRoom, Answering, Retiring, AfterScan, Answered, Repeated, Counted, Getting, Changing, Enqueuing, Dequeuing, Keeping, KeepAt, MarkTaken, EnqueueKept, EnqueueAt, LoadNumber, LoadNext, PassTail, ExchangeNext, ExchangeTail}
 use Rattle.law_reuse.proofs.inv.model.Facts.{first_of, rest_of, both}
 use Rattle.law_reuse.specs.inv.rows.Rows.{RowMove}
-use Rattle.law_reuse.specs.inv.rows.Rows.RowMove.{Stays, Claims, Bears, Drops, Links, Replaces, Appends, Pops, Reads, Seals, Lists, Returns}
+use Rattle.law_reuse.specs.inv.rows.Rows.RowMove.{Stays, Claims, Bears, Drops, Links, Replaces, Appends, Pops, Reads, Seals, Lists, Returns, Adopts}
 use Rattle.law_reuse.specs.inv.history.Record.{Past, Each}
 use Rattle.law_reuse.specs.inv.history.Record.Past.{Start, Then}
 use Rattle.law_reuse.proofs.inv.history.AllOf.{all_of, of_weaker}
@@ -20,7 +20,7 @@ use Rattle.law_reuse.proofs.laws.Tells.{AllRight, OfKind}
 use Rattle.law_reuse.specs.laws.HistoryAnswers.{owes}
 use Rattle.law_reuse.specs.laws.HistoryRows.{cuts_one, single_ok}
 use Rattle.law_reuse.specs.laws.StateAt.{began_by, began_of, retires_by, retires_of, seen}
-use Rattle.law_reuse.proofs.answers.AnswersTold.Owed.{owed, next_owed, later_owed, why_owed, enqueue_owed}
+use Rattle.law_reuse.proofs.answers.AnswersTold.Owed.{owed, next_owed, later_owed, why_owed, enqueue_owed, keep_owed}
 use Rattle.law_places.proofs.Placing.Marks.{is_marked}
 use Rattle.law_places.proofs.Placing.Moved.{said_by}
 use Rattle.law_places.proofs.Placing.Shapes.{Shape, is_change_of, is_passing}
@@ -128,6 +128,14 @@ copy_first : (n from index : ℕ) (answer : Answer) (retires : ℕ) → retires 
 copy_first n from index (answers.Copied slot) retires h = absurd (none_said retires h)
 copy_first n from index answer retires h = absurd (none_said retires h)
 
+leave_first : (n : ℕ) (answer : Answer) (retires : ℕ) → retires + 1 ≡ along said_by (owes n calls.Leave answer) 0 → RetiresFirst calls.Leave retires
+leave_first n (answers.Left count) retires h = absurd (none_said retires h)
+leave_first n answer retires h = absurd (none_said retires h)
+
+adopt_first : (n place : ℕ) (answer : Answer) (retires : ℕ) → retires + 1 ≡ along said_by (owes n (calls.Adopt place) answer) 0 → RetiresFirst (calls.Adopt place) retires
+adopt_first n place (answers.Adopted count) retires h = absurd (none_said retires h)
+adopt_first n place answer retires h = absurd (none_said retires h)
+
 put_if_first : (n key value wanted : ℕ) (answer : Answer) (retires : ℕ) → retires + 1 ≡ along said_by (owes n (calls.PutIf key value wanted) answer) 0 → RetiresFirst (calls.PutIf key value wanted) retires
 put_if_first n key value wanted (answers.Done version clock) retires h = (refl, some_said retires (nat_lt 1 version) h)
 put_if_first n key value wanted answer retires h = absurd (none_said retires h)
@@ -145,6 +153,8 @@ owes_first n calls.Scan answer retires h = absurd (none_said retires h)
 owes_first n (calls.Copy from index) answer retires h = copy_first n from index answer retires h
 owes_first n (calls.DropIndex index) answer retires h = absurd (none_said retires h)
 owes_first n (calls.Look index key) answer retires h = absurd (none_said retires h)
+owes_first n calls.Leave answer retires h = leave_first n answer retires h
+owes_first n (calls.Adopt place) answer retires h = adopt_first n place answer retires h
 owes_first n (calls.PutIf key value wanted) answer retires h = put_if_first n key value wanted answer retires h
 
 next_first : (n : ℕ) (call : Call) (next : Next) (retires : ℕ) → retires + 1 ≡ along said_by (next_owed n call next) 0 → RetiresFirst call retires
@@ -178,6 +188,10 @@ enqueue_first n call kept (PassTail next) retires h = absurd (none_said retires 
 enqueue_first n call kept (ExchangeNext slot) retires h = absurd (none_said retires h)
 enqueue_first n call kept (ExchangeTail slot) retires h = owes_first n call (answers.Queued (kept.number + 1)) retires h
 
+keep_first : (n : ℕ) (call : Call) (at : KeepAt) (retires : ℕ) → retires + 1 ≡ along said_by (keep_owed n call at) 0 → RetiresFirst call retires
+keep_first n call (MarkTaken place count) retires h = owes_first n call (answers.Adopted count) retires h
+keep_first n call at retires h = absurd (none_said retires h)
+
 pub phase_first : (n : ℕ) (call : Call) (phase : Phase) (retires : ℕ) → retires + 1 ≡ along said_by (owed n call phase) 0 → RetiresFirst call retires
 phase_first n call Idle retires h = absurd (none_said retires h)
 phase_first n call (Runs why base) retires h = why_first n call why retires h
@@ -186,7 +200,7 @@ phase_first n call (Works (Getting key at)) retires h = absurd (none_said retire
 phase_first n call (Works (Changing kept at)) retires h = absurd (none_said retires h)
 phase_first n call (Works (Enqueuing kept at)) retires h = enqueue_first n call kept at retires h
 phase_first n call (Works (Dequeuing at)) retires h = absurd (none_said retires h)
-phase_first n call (Works (Keeping at)) retires h = absurd (none_said retires h)
+phase_first n call (Works (Keeping at)) retires h = keep_first n call at retires h
 
 -- what a move of rows tells is right, where the one that retires is the call's first
 abbrev pub OnlyFirst : RowMove → Single → Type 0
@@ -206,3 +220,4 @@ single_moved phase post found (Reads slot birth) told x s f = all_calm told x (s
 single_moved phase post found (Seals slot birth retire) told x s f = all_calm told x (subst (λ (es : List Event). all_of is_calm es ≡ true) (sym s) refl)
 single_moved phase post found (Lists slot birth retire) told x s f = subst (λ (es : List Event). AllRight single_by single_right es x) (sym s) (f, tt)
 single_moved phase post found (Returns slot) told x s f = all_calm told x (subst (λ (es : List Event). all_of is_calm es ≡ true) (sym s) refl)
+single_moved phase post found (Adopts from) told x s f = all_calm told x (subst (λ (es : List Event). all_of is_calm es ≡ true) (sym s) refl)

@@ -94,6 +94,8 @@ said_one (events.Removed bucket version key) told = along_both said_by told (eve
 said_one (events.Queued number value) told = along_both said_by told (events.Queued number value ∷ []) 0
 said_one (events.Taken number value) told = along_both said_by told (events.Taken number value ∷ []) 0
 said_one (events.Copied from index slot) told = along_both said_by told (events.Copied from index slot ∷ []) 0
+said_one (events.Left count) told = along_both said_by told (events.Left count ∷ []) 0
+said_one (events.Adopted place count) told = along_both said_by told (events.Adopted place count ∷ []) 0
 said_one event told = refl
 
 loud_one : (event : Event) (told : List Event) → along loud_by (with_told event told) false ≡ loud_by event (along loud_by told false)
@@ -103,6 +105,8 @@ loud_one (events.Removed bucket version key) told = along_both loud_by told (eve
 loud_one (events.Queued number value) told = along_both loud_by told (events.Queued number value ∷ []) false
 loud_one (events.Taken number value) told = along_both loud_by told (events.Taken number value ∷ []) false
 loud_one (events.Copied from index slot) told = along_both loud_by told (events.Copied from index slot ∷ []) false
+loud_one (events.Left count) told = along_both loud_by told (events.Left count ∷ []) false
+loud_one (events.Adopted place count) told = along_both loud_by told (events.Adopted place count ∷ []) false
 loud_one event told = refl
 
 heard_by : {X : Type 0} (next : Event → X → X) (first x : X) (event : Event) (told : List Event) (same : Bool) → along next (with_told event told) first ≡ next event (along next told first) → x ≡ along next told first → (if same then next event x else x) ≡ along next (if same then with_told event told else told) first
@@ -133,6 +137,8 @@ said_same (events.Got b version key value) (events.Got b' version' key' value') 
 said_same (events.Queued number value) (events.Queued number' value') x h = refl
 said_same (events.Taken number value) (events.Taken number' value') x h = refl
 said_same (events.Copied from index slot) (events.Copied from' index' slot') x h = refl
+said_same (events.Left count) (events.Left count') x h = refl
+said_same (events.Adopted place count) (events.Adopted place' count') x h = refl
 said_same event other x h = absurd (cc)
 
 loud_same : (event other : Event) (x : Bool) → same_event event other ≡ true → loud_by event x ≡ loud_by other x
@@ -142,6 +148,8 @@ loud_same (events.Got b version key value) (events.Got b' version' key' value') 
 loud_same (events.Queued number value) (events.Queued number' value') x h = refl
 loud_same (events.Taken number value) (events.Taken number' value') x h = refl
 loud_same (events.Copied from index slot) (events.Copied from' index' slot') x h = refl
+loud_same (events.Left count) (events.Left count') x h = refl
+loud_same (events.Adopted place count) (events.Adopted place' count') x h = refl
 loud_same event other x h = absurd (cc)
 
 same_along : {X : Type 0} (next : Event → X → X) → ((event other : Event) (x : X) → same_event event other ≡ true → next event x ≡ next other x) → (told others : List Event) (x : X) → same_told told others ≡ true → along next told x ≡ along next others x
@@ -177,6 +185,10 @@ owes_said n (calls.Copy from index) answers.Nothing s = refl
 owes_said n (calls.DropIndex index) answers.Dropped s = refl
 owes_said n (calls.Look index key) (answers.Looked slot version value) s = refl
 owes_said n (calls.Look index key) answers.Nothing s = refl
+owes_said n calls.Leave (answers.Left count) s = refl
+owes_said n (calls.Adopt place) (answers.Adopted count) s = refl
+owes_said n (calls.Adopt place) answers.NotLeft s = refl
+owes_said n (calls.Adopt place) answers.AdoptedBefore s = refl
 owes_said n (calls.PutIf key value wanted) (answers.Done version clock) s = refl
 owes_said n (calls.PutIf key value wanted) (answers.Stale version) s = refl
 owes_said n (calls.PutIf key value wanted) answers.Full s = refl
@@ -209,6 +221,10 @@ owes_loud n (calls.Copy from index) answers.Nothing s = refl
 owes_loud n (calls.DropIndex index) answers.Dropped s = refl
 owes_loud n (calls.Look index key) (answers.Looked slot version value) s = refl
 owes_loud n (calls.Look index key) answers.Nothing s = refl
+owes_loud n calls.Leave (answers.Left count) s = refl
+owes_loud n (calls.Adopt place) (answers.Adopted count) s = refl
+owes_loud n (calls.Adopt place) answers.NotLeft s = refl
+owes_loud n (calls.Adopt place) answers.AdoptedBefore s = refl
 owes_loud n (calls.PutIf key value wanted) (answers.Done version clock) s = refl
 owes_loud n (calls.PutIf key value wanted) (answers.Stale version) s = refl
 owes_loud n (calls.PutIf key value wanted) answers.Full s = refl

@@ -16,9 +16,9 @@ use Rattle.law_scans.specs.inv.model.Steps as steps
 use Rattle.law_scans.specs.inv.model.Phases.AllocateAt.{ClaimSlot}
 use Rattle.law_scans.specs.inv.model.Phases.Base.{Allocate}
 use Rattle.law_scans.specs.inv.model.Calls.{AfterScan, Answered, Repeated, Counted, ScanAt, ReadGuard, GiveBack, Phase, Idle, Runs, Scans, Works, CallTurn, CallOutcome, GoesOn, Answers}
-use Rattle.law_scans.specs.inv.model.Locals.{Local, begun, begun_post, may_begin, told_end, turn}
+use Rattle.law_scans.specs.inv.model.Locals.{Local, begun, begun_post, told_end, turn}
 use Rattle.law_scans.specs.inv.model.Posts.{counted}
-use Rattle.law_scans.specs.inv.model.World.{World, begin, step, finds, is_busy, told_in}
+use Rattle.law_scans.specs.inv.model.World.{World, begin, finds, is_busy, offered, step, told_in, may_start, list_in}
 use Rattle.law_scans.proofs.inv.model.Facts.{both, first_of, rest_of, or_left_true, same_test, or_more}
 use Rattle.law_scans.proofs.inv.covers.Held.{stepped_phase}
 use Rattle.law_scans.specs.inv.shapes.Frame.{phase_left}
@@ -125,9 +125,9 @@ end_same : (post : Post) (outcome : CallOutcome) (x : Search) → along search_b
 end_same post (GoesOn phase) x = refl
 end_same post (Answers answer) x = refl
 
-told_search : (w : World) (i : ℕ) (p : Past) → search_of i (tells_of p i (turn (w.seat i) (finds w i)).told) ≡ along search_by (fronts w i) (search_of i p)
+told_search : (w : World) (i : ℕ) (p : Past) → search_of i (tells_of p i (turn (offered w i) (finds w i)).told) ≡ along search_by (fronts w i) (search_of i p)
 told_search w i p =
-    let t : CallTurn = turn (w.seat i) (finds w i) in
+    let t : CallTurn = turn (offered w i) (finds w i) in
     let x : Search = search_of i p in
     seen_tells search_by no_search i t.told p
     ∙ sym (end_same t.post t.outcome (along search_by t.told x))
@@ -210,14 +210,14 @@ phase_to c (Works work) x y e m n o f = phase_on c (Works work) x y (record { se
 
 -- a step
 unread_in : (w : World) (i : ℕ) → is_scanning (w.seat i).phase ≡ false → all_of is_unread (told_in w i) ≡ true
-unread_in w i n = told_unread (w.seat i).phase (counted (w.seat i).post) (w.seat i).desk (finds w i) n
+unread_in w i n = told_unread (w.seat i).phase (counted (w.seat i).post) (offered w i).desk (finds w i) n
 
-own_out : (layout : Layout) (made : Made) (i : ℕ) → i < made.world.layout.config.seats → is_busy made.world i ≡ true → Keeps layout made → OutFits made.world.layout.config (turn (made.world.seat i) (finds made.world i)).outcome (now_of made.world.layout.config i (tells_of made.past i (turn (made.world.seat i) (finds made.world i)).told))
+own_out : (layout : Layout) (made : Made) (i : ℕ) → i < made.world.layout.config.seats → is_busy made.world i ≡ true → Keeps layout made → OutFits made.world.layout.config (turn (offered made.world i) (finds made.world i)).outcome (now_of made.world.layout.config i (tells_of made.past i (turn (offered made.world i) (finds made.world i)).told))
 own_out layout made i b y k =
     let w : World = made.world in
     let c : Config = w.layout.config in
     let p : Past = made.past in
-    let own : Local = w.seat i in
+    let own : Local = offered w i in
     let t : CallTurn = turn own (finds w i) in
     let q : Past = tells_of p i t.told in
     let known = k.once.known in
@@ -225,7 +225,7 @@ own_out layout made i b y k =
     let unread : is_scanning own.phase ≡ false → all_of is_unread t.told ≡ true = λ n. first_all is_unread t.told (told_end t.post t.outcome) (unread_in w i n) in
     let z : Now = record { search = search_of i p; was = λ s. was_taken c.slots i s q; since = λ s. taken_since c.slots i s q; fits = lacks_row c i q (began_of i q) } in
     let a : own.post.layout ≡ w.layout = (known.seats.fits i).post.layout in
-    let r : PhaseRight own.phase (counted own.post) = phase_right w.layout own.phase own.post own.desk.list a (known.seats.fits i).phase (known.whole.both.rows.plays i).right in
+    let r : PhaseRight own.phase (counted own.post) = phase_right w.layout own.phase own.post (list_in w i) a (known.seats.fits i).phase (known.whole.both.rows.plays i).right in
     let f : PhaseFits c own.phase z = phase_to c own.phase (now_of c i p) z refl (λ s h. was_on c i s t.told p inside h) (λ n s h. since_on c i s t.told p (unread n) inside h) (λ h. lacks_on c i t.told p inside h) (k.seats i) in
     let g : FullSees c own.phase (counted own.post) (finds w i) z = full_sees layout made i t.told z k own.phase refl unread inside (λ s h. h) in
     let began : began_of i p ≡ Some own.call = (k.answers.seats i).began y in
@@ -259,7 +259,7 @@ step_fits : (layout : Layout) (made : Made) (i m : ℕ) (same : Bool) → (m == 
 step_fits layout made i m true e b y k =
     let w : World = made.world in
     let c : Config = w.layout.config in
-    let t : CallTurn = turn (w.seat i) (finds w i) in
+    let t : CallTurn = turn (offered w i) (finds w i) in
     let q : i ≡ m = grind (arith, nat_tests) in
     subst (λ (j : ℕ). PhaseFits c ((step w i).seat j).phase (now_of c j (tells_of made.past i (told_in w i)))) q
     (subst (λ (phase : Phase). PhaseFits c phase (now_of c i (tells_of made.past i (told_in w i)))) (sym (stepped_phase w i))
@@ -293,8 +293,8 @@ own_walks layout made i (Scans later at) e k g =
     let seen : ℕ → Bool = lates c (tells_of made.past i (told_in w i)) i in
     subst (λ (phase : Phase). WalkPhase c.slots seen phase) (sym (stepped_phase w i)) (by (w.seat i).phase e)
   where
-    by : (phase : Phase) → phase ≡ Scans later at → WalkPhase made.world.layout.config.slots (lates made.world.layout.config (tells_of made.past i (told_in made.world i)) i) (phase_left (steps.phase_turn phase (counted (made.world.seat i).post) (made.world.seat i).desk (finds made.world i)).outcome)
-    by phase e' = rw e' (scan_walks made.world.layout.config.slots (lates made.world.layout.config (tells_of made.past i (told_in made.world i)) i) later at (counted (made.world.seat i).post) (made.world.seat i).desk (finds made.world i))
+    by : (phase : Phase) → phase ≡ Scans later at → WalkPhase made.world.layout.config.slots (lates made.world.layout.config (tells_of made.past i (told_in made.world i)) i) (phase_left (steps.phase_turn phase (counted (made.world.seat i).post) (offered made.world i).desk (finds made.world i)).outcome)
+    by phase e' = rw e' (scan_walks made.world.layout.config.slots (lates made.world.layout.config (tells_of made.past i (told_in made.world i)) i) later at (counted (made.world.seat i).post) (offered made.world i).desk (finds made.world i))
 own_walks layout made i Idle e k g = quiet_walks layout made i (ap is_scanning e) k g
 own_walks layout made i (Runs why base) e k g = quiet_walks layout made i (ap is_scanning e) k g
 own_walks layout made i (Works work) e k g = quiet_walks layout made i (ap is_scanning e) k g
@@ -375,7 +375,7 @@ step_full layout made i s b y l k =
     let w : World = made.world in
     let c : Config = w.layout.config in
     let n : ℕ = c.buckets in
-    let t : CallTurn = turn (w.seat i) (finds w i) in
+    let t : CallTurn = turn (offered w i) (finds w i) in
     let o : Owes n (w.seat i).call (owed n (w.seat i).call (w.seat i).phase) t = owes_of n w i k.answers.table k.answers.known ((k.answers.seats i).serves y) in
     let q : Past = tells_of made.past i t.told in
     subst (λ (r : Past). Each (full_ok c s) r) (sym (tells_both i t.told (told_end t.post t.outcome) made.past))
@@ -403,7 +403,7 @@ step_lacks layout made i b y k =
     let w : World = made.world in
     let c : Config = w.layout.config in
     let n : ℕ = c.buckets in
-    let t : CallTurn = turn (w.seat i) (finds w i) in
+    let t : CallTurn = turn (offered w i) (finds w i) in
     let o : Owes n (w.seat i).call (owed n (w.seat i).call (w.seat i).phase) t = owes_of n w i k.answers.table k.answers.known ((k.answers.seats i).serves y) in
     let q : Past = tells_of made.past i t.told in
     subst (λ (r : Past). Each (lacks_ok c) r) (sym (tells_both i t.told (told_end t.post t.outcome) made.past)) (ends_lacks c i q t.post t.outcome (own_out layout made i b y k) (each_lacks c i t.told made.past o.told.goes k.lacks))
@@ -414,7 +414,7 @@ step_keeps layout made i b y k =
     let c : Config = w.layout.config in
     let g = walking_kept w i (lates c made.past) k.once.known.valid k.once.known.seats k.walking in
     record {
-      once = once.step_keeps layout made i b k.once;
+      once = once.step_keeps layout made i b y k.once;
       answers = answering.step_keeps c.buckets made i b y k.answers;
       sees = step_sees made i b k.sees;
       walking = record { walks = λ m. step_walks layout made i m (m == i) refl k g };
@@ -456,7 +456,7 @@ begin_walks w i m call p false e g =
     subst (λ (l : Local). WalkPhase c.slots (lates c r m) l.phase) (sym (begin_stays w i m call e))
     (walk_more c.slots (lates c p m) (lates c r m) (λ s h. lates_on c p r m s (o.since s) h) (w.seat m).phase (g.walks m))
 
-pub begin_keeps : (layout : Layout) (made : Made) (i : ℕ) (call : Call) → is_busy made.world i ≡ false → may_begin made.world.layout.config call ≡ true → Keeps layout made → Keeps layout (done made (Begins i call))
+pub begin_keeps : (layout : Layout) (made : Made) (i : ℕ) (call : Call) → is_busy made.world i ≡ false → may_start made.world i call ≡ true → Keeps layout made → Keeps layout (done made (Begins i call))
 begin_keeps layout made i call f m k = record {
   once = once.begin_keeps layout made i call f m k.once;
   answers = answering.begin_keeps made.world.layout.config.buckets made i call f m k.answers;

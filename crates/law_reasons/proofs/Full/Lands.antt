@@ -32,6 +32,7 @@ use Rattle.law_scans.specs.inv.model.Phases.AllocateAt.{LoadBirth, ClaimSlot, St
 use Rattle.law_scans.specs.inv.model.Phases.RetireAt.{LoadLife, LoadRetire, StoreRetired}
 use Rattle.law_scans.specs.inv.model.Phases.Base.{Allocate, Write, Retire, Move}
 use Rattle.law_scans.specs.inv.model.Phases.Ending.{Done, Protected, Followed, Allocated, Retired, Clocked}
+use Rattle.law_scans.proofs.Leaving.{parts_all}
 use Rattle.law_scans.specs.inv.model.Calls.{Task, Gets, Changes, Holds, Enqueues, Dequeues, Next, Again, MakeRoom, Answering, Retiring, AfterScan, Answered, Repeated, Counted, LoadNumber, LoadNext, PassTail, ExchangeNext, ExchangeTail, Work, Getting, Changing, Enqueuing, Dequeuing, Keeping, LetGo, Released, Rehold, Dropped, ScanAt, ReadGuard, GiveBack, Why, Opens, FollowsHead, Fills, ClearsNext, Clears, Finishes, GivesUp, Retires, Tidies, Advances, Releases, Phase, Idle, Runs, Scans, Works, CallOutcome, GoesOn, Answers}
 use Rattle.law_scans.specs.inv.shapes.Seats.{Kind, ToOpen, ToFollow, ToClear, ToFinish, ToRelease, ToGiveUp, ToFill, ToRetire, ToMove, kind_of, suits, fills, retires, scan_fits}
 use Rattle.law_scans.specs.inv.rows.Hands.{task_fills, runs_right}
@@ -40,7 +41,7 @@ use Rattle.law_scans.proofs.inv.history.Passes.{scan_told}
 use Rattle.law_scans.proofs.DueScans.Lands.{PhaseRight}
 use Rattle.law_scans.proofs.DueScans.Still.{claim_front, tick_front, base_front, front}
 use Rattle.law_scans.specs.laws.HistoryScans.{Search, search_by, seeks_row}
-use Rattle.law_reasons.proofs.Full.Ties.{Now, is_full, is_walked, reads_in, reads_at, OutcomeSure, WorkSure, TaskFits, WalkFits, RoomFits, FullFits, AnswerFits, NextFits, LaterFits, FillFits, WhyFits, WorkFits, PhaseFits, OutFits, other_task, round_fits, closed_fits, clearing_fits, work_fits, resumed_opens, resumed_follows, resumed_next, resumed_clears, resumed_finishes, resumed_gives, resumed_releases}
+use Rattle.law_reasons.proofs.Full.Ties.{Now, parts_fit, is_full, is_walked, reads_in, reads_at, OutcomeSure, WorkSure, TaskFits, WalkFits, RoomFits, FullFits, AnswerFits, NextFits, LaterFits, FillFits, WhyFits, WorkFits, PhaseFits, OutFits, other_task, round_fits, closed_fits, clearing_fits, work_fits, resumed_opens, resumed_follows, resumed_next, resumed_clears, resumed_finishes, resumed_gives, resumed_releases}
 
 -- a row is filled
 written_fits : (c : Config) (task : Task) (post : Post) (desk : Desk) (told : List Event) (z : Now) → TaskFits c task z → OutFits c (steps.written_row task post desk told).outcome z
@@ -370,6 +371,8 @@ first_fits c (names.Look index key) post was since fits = look_fits (stands post
     look_fits : (x : Option ℕ) → PhaseFits c (steps.looking_at index key x) (record { search = record { seeks = false; reads = 0 }; was = was; since = since; fits = fits })
     look_fits None = tt
     look_fits (Some slot) = tt
+first_fits c names.Leave post was since fits = let z : Now = record { search = record { seeks = false; reads = 0 }; was = was; since = since; fits = fits } in parts_all (λ (phase : Phase). PhaseFits c phase z) (parts_fit c z) post
+first_fits c (names.Adopt place) post was since fits = tt
 first_fits c (names.PutIf key value version) post was since fits = round_fits c _ post _ (record { seeks = λ h. refl; reads = λ h. refl })
 first_fits c names.Advance post was since fits = tt
 first_fits c names.Scan post was since fits = refl

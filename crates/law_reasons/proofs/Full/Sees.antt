@@ -5,8 +5,7 @@ use Rattle.law_scans.specs.inv.model.words.declared.layout.Layout.{Layout}
 use Rattle.law_scans.specs.inv.model.defs.declared.call.Call.{Call}
 use Rattle.law_scans.specs.inv.model.defs.declared.event.Event.TheVariants as events
 use Rattle.law_scans.specs.inv.model.Book.{booked_all}
-use Rattle.law_scans.specs.inv.model.Locals.{may_begin}
-use Rattle.law_scans.specs.inv.model.World.{World, start, begin, step, is_busy, told_in}
+use Rattle.law_scans.specs.inv.model.World.{World, start, begin, step, is_busy, told_in, may_start}
 use Rattle.law_scans.proofs.inv.requests.Kept.{requests_start, requests_begin}
 use Rattle.law_scans.specs.inv.requests.Views.{Deal, View as Asked}
 use Rattle.law_scans.specs.inv.requests.Views.Deal.{Quiet}
@@ -51,7 +50,7 @@ step_sees made i b g =
       agrees = m;
     }
 
-pub begin_sees : (made : Made) (i : ℕ) (call : Call) → is_busy made.world i ≡ false → may_begin made.world.layout.config call ≡ true → Sees made → Sees (done made (Begins i call))
+pub begin_sees : (made : Made) (i : ℕ) (call : Call) → is_busy made.world i ≡ false → may_start made.world i call ≡ true → Sees made → Sees (done made (Begins i call))
 begin_sees made i call f m g =
     let w : World = made.world in
     let p : Past = made.past in

@@ -11,6 +11,7 @@ use Rattle.law_scans.specs.inv.model.Desks.{Desk}
 use Rattle.law_scans.specs.inv.model.Phases.AllocateAt.{ClaimSlot}
 use Rattle.law_scans.specs.inv.model.Phases.Base.{Allocate, Clear}
 use Rattle.law_scans.specs.inv.model.Locals.{told_by}
+use Rattle.law_scans.proofs.Leaving.{parts_all}
 use Rattle.law_scans.specs.inv.model.Calls.{LetGo, Released, Rehold, Dropped, AfterScan, Answered, Repeated, Counted, ReadGuard, GiveBack, ScanAt, Holds, Task, Phase, Idle, Runs, Scans, Works}
 use Rattle.law_scans.specs.inv.model.Guards.{guards, guard_at, eras_in, published}
 use Rattle.law_scans.specs.inv.model.Posts.{stands, withdrawn}
@@ -150,6 +151,8 @@ first_walks slots seen names.Release post = release_walks slots seen Released po
 first_walks slots seen (names.Copy from index) post = copying_walks slots seen from index (stands post from)
 first_walks slots seen (names.DropIndex index) post = release_walks slots seen (Dropped index) post
 first_walks slots seen (names.Look index key) post = looking_walks slots seen index key (stands post index)
+first_walks slots seen names.Leave post = parts_all (λ (phase : Phase). WalkPhase slots seen phase) (record { clears = λ index. tt; hides = tt; marks = tt }) post
+first_walks slots seen (names.Adopt place) post = tt
 first_walks slots seen (names.PutIf key value version) post = round_walks slots seen _ post
 first_walks slots seen names.Advance post = tt
 first_walks slots seen names.Scan post = tt

@@ -30,7 +30,8 @@ use Rattle.law_scans.specs.inv.model.Phases.{Base, Ending, Outcome, Goes, Ends}
 use Rattle.law_scans.specs.inv.model.Phases.AllocateAt.{LoadBirth, ClaimSlot, StoreLife}
 use Rattle.law_scans.specs.inv.model.Phases.Base.{Allocate}
 use Rattle.law_scans.specs.inv.model.Phases.Ending.{Done, Protected, Followed, Allocated, Retired, Clocked}
-use Rattle.law_scans.specs.inv.model.Calls.{Task, Gets, Changes, Holds, Enqueues, Dequeues, Next, Again, MakeRoom, Answering, Retiring, AfterScan, Answered, Repeated, Counted, ChangeKept, EnqueueKept, GetAt, FindVersion, FindCount, FindKey, FindValue, ChangeAt, LoadVersion, LoadCount, LoadKey, LoadValue, ExchangeRoot, EnqueueAt, LoadNumber, LoadNext, PassTail, ExchangeNext, ExchangeTail, DequeueAt, SwingTail, ExchangeHead, Work, Getting, Changing, Enqueuing, Dequeuing, ScanAt, ReadGuard, GiveBack, Why, Opens, FollowsHead, Fills, ClearsNext, Clears, Finishes, GivesUp, Retires, Tidies, Advances, Releases, Phase, Idle, Runs, Scans, Works, CallOutcome, GoesOn, Answers, Keeping, KeepAt, Loosens, LoadHeld, StoreHeld, Looks, Misses, LetGo, Released, Rehold, Dropped}
+use Rattle.law_scans.proofs.Leaving.{Parts, parts_on, takes_on}
+use Rattle.law_scans.specs.inv.model.Calls.{Task, Gets, Changes, Holds, Enqueues, Dequeues, Next, Again, MakeRoom, Answering, Retiring, AfterScan, Answered, Repeated, Counted, ChangeKept, EnqueueKept, GetAt, FindVersion, FindCount, FindKey, FindValue, ChangeAt, LoadVersion, LoadCount, LoadKey, LoadValue, ExchangeRoot, EnqueueAt, LoadNumber, LoadNext, PassTail, ExchangeNext, ExchangeTail, DequeueAt, SwingTail, ExchangeHead, Work, Getting, Changing, Enqueuing, Dequeuing, ScanAt, ReadGuard, GiveBack, Why, Opens, FollowsHead, Fills, ClearsNext, Clears, Finishes, GivesUp, Retires, Tidies, Advances, Releases, Phase, Idle, Runs, Scans, Works, CallOutcome, GoesOn, Answers, Keeping, KeepAt, Loosens, LoadHeld, StoreHeld, Looks, Misses, HideSpan, MarkLeft, TakeList, MarkTaken, LetGo, Released, Rehold, Dropped, Parting}
 use Rattle.law_scans.specs.inv.rows.Hands.{holds_none}
 use Rattle.law_scans.specs.laws.HistoryScans.{Search}
 
@@ -367,11 +368,16 @@ dequeue_fits c (SwingTail head next) post desk found z = clearing_next_fits c Ag
 dequeue_fits c (ExchangeHead head next number value) post desk found z = taken_fits c head next number value post desk (found == head + 1) z
 dequeue_fits c at post desk found z = tt
 
+-- a seat that leaves
+pub parts_fit : (c : Config) (z : Now) → Parts (λ (phase : Phase). PhaseFits c phase z)
+parts_fit c z = record { clears = λ index. tt; hides = tt; marks = tt }
+
 -- what is kept
 released_fits : (c : Config) (let_go : LetGo) (post : Post) (desk : Desk) (told : List Event) (z : Now) → OutFits c (keeps.released let_go post desk told).outcome z
 released_fits c Released post desk told z = λ h. absurd (cc)
 released_fits c (Rehold key) post desk told z = round_fits c (Holds key) post z (other_task c (Holds key) z refl refl)
 released_fits c (Dropped index) post desk told z = λ h. absurd (cc)
+released_fits c (Parting index) post desk told z = parts_on (λ (phase : Phase). PhaseFits c phase z) (parts_fit c z) (index + 1) post
 
 copied_fits : (c : Config) (from index : ℕ) (post : Post) (desk : Desk) (reserved : List Event) (x : Option ℕ) (z : Now) → OutFits c (keeps.copied from index post desk reserved x).outcome z
 copied_fits c from index post desk reserved None z = λ h. absurd (cc)
@@ -401,6 +407,10 @@ keep_fits c (LoadHeld from index) post desk found z = load_held_fits c from inde
 keep_fits c (StoreHeld from index era) post desk found z = copied_fits c from index post desk (reserves_index post index era) (stands post from) z
 keep_fits c (Looks index key at) post desk found z = look_fits c index key at post desk found z
 keep_fits c (Misses index) post desk found z = λ h. absurd (cc)
+keep_fits c HideSpan post desk found z = tt
+keep_fits c MarkLeft post desk found z = λ h. absurd (cc)
+keep_fits c (TakeList place) post desk found z = takes_on (λ (outcome : CallOutcome). OutFits c outcome z) place (record { marks = λ count. tt; none = λ h. absurd (cc); late = λ h. absurd (cc) }) post desk (found == 1) found
+keep_fits c (MarkTaken place count) post desk found z = λ h. absurd (cc)
 
 pub work_fits : (c : Config) (work : Work) (post : Post) (desk : Desk) (found : ℕ) (z : Now) → WorkSure work post found z → WorkFits c work z → OutFits c (steps.work_turn work post desk found).outcome z
 work_fits c (Getting key at) post desk found z d f = get_fits c key at post desk found z

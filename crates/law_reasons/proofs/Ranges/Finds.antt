@@ -1,7 +1,7 @@
 -- The indexes and rows at which protections are told to end, and those that are cleared, are those of the table.
-use Rattle.std.proofs.Common.{ℕ, ◌≡◌, ◌≤◌, ◌+◌, ◌-◌, Bool, true, false, List, [], ◌∷◌, ◌++◌, Option, Some, None, refl, ap, ◌∙◌, subst}
+use Rattle.std.proofs.Common.{ℕ, ◌≡◌, ◌≤◌, ◌+◌, ◌-◌, Bool, true, false, List, [], ◌∷◌, ◌++◌, Option, Some, None, refl, sym, ap, ◌∙◌, subst}
 use Rattle.std.specs.List.{list_any}
-use Rattle.std.specs.Prelude.{◌==◌, ◌&&◌, not, nat_le, nat_lt, if◌then◌else◌}
+use Rattle.std.specs.Prelude.{◌==◌, ◌&&◌, drop, not, nat_le, nat_lt, if◌then◌else◌}
 use Rattle.law_scans.specs.inv.model.words.Place.{is_valid}
 use Rattle.law_scans.specs.inv.model.words.declared.config.Config.{Config}
 use Rattle.law_scans.specs.inv.model.words.declared.config.SchemeKind.{SchemeKind}
@@ -12,23 +12,26 @@ use Rattle.law_scans.specs.inv.model.defs.declared.event.Event.TheVariants as ev
 use Rattle.law_scans.specs.inv.model.defs.declared.event.Root.{Root}
 use Rattle.law_scans.specs.inv.model.defs.declared.event.Root.TheVariants as roots
 use Rattle.law_scans.specs.inv.model.declared.post.Post.{Post}
-use Rattle.law_scans.specs.inv.model.Calls.{Getting, Changing, Enqueuing, Dequeuing, Keeping, KeepAt, Loosens, LoadHeld, StoreHeld, Looks, Misses, Work, ReadGuard, GiveBack, Why, Phase, Idle, Runs, Scans, Works}
+use Rattle.law_scans.specs.inv.model.Calls.{Getting, Changing, Enqueuing, Dequeuing, Keeping, KeepAt, Loosens, LoadHeld, StoreHeld, Looks, Misses, HideSpan, MarkLeft, TakeList, MarkTaken, Work, ReadGuard, GiveBack, Why, Phase, Idle, Runs, Scans, Works}
 use Rattle.law_scans.specs.inv.model.Machine as machine
 use Rattle.law_scans.specs.inv.model.Memory.{bump, found, place_in}
 use Rattle.law_scans.specs.inv.model.Phases.{ProtectAt, Base}
 use Rattle.law_scans.specs.inv.model.Phases.ProtectAt.{CheckClock, TakeAnswer, CheckUpper}
 use Rattle.law_scans.specs.inv.model.Phases.Base.{Protect, Reload, Clear, Release}
-use Rattle.law_scans.specs.inv.model.Posts.{stands, counted, cleared, reserves_index, upper}
+use Rattle.law_scans.specs.inv.model.Posts.{stands, counted, cleared, cleared_from, reserves_index, reserves_span, upper}
 use Rattle.law_scans.specs.inv.model.words.Schemes.{has_one_interval}
 use Rattle.law_scans.specs.inv.model.Protect.{told_held}
 use Rattle.law_scans.specs.inv.model.Rounds.{scheme_of, let_index, clear_post, clear_told}
 use Rattle.law_scans.specs.inv.model.Steps.{phase_move}
-use Rattle.law_scans.specs.inv.model.World.{World, finds, told_in}
-use Rattle.law_scans.proofs.inv.model.Facts.{both, not_or_false, and_true, and_right_false, first_of, le_test, lt_test}
+use Rattle.law_scans.specs.inv.model.World.{World, finds, offered, told_in}
+use Rattle.law_scans.proofs.inv.model.Facts.{both, or_left_true, or_more, same_number, not_or_false, and_true, and_right_false, first_of, le_test, lt_test}
 use Rattle.law_scans.specs.inv.shapes.Eras.{Eras}
 use Rattle.law_scans.specs.inv.shapes.Seats.{PhaseFits, Run, Seats}
 use Rattle.law_scans.specs.inv.shapes.Slots.{BaseIn, CopyIn, KeepIn, PhaseIn, PostIn, ProtectIn, StandsIn, Slots, WhyIn, WorkIn}
 use Rattle.law_scans.proofs.inv.Inv.Shapes.{index_in}
+use Rattle.law_scans.specs.inv.ends.Stands.{is_clear}
+use Rattle.law_scans.proofs.inv.covers.Stands.{bare_stands}
+use Rattle.law_scans.proofs.inv.ends.Ends.Left.{left_stood}
 use Rattle.law_scans.proofs.inv.ends.Ends.Tests.{Calm, at_shows, base_shows, base_any}
 use Rattle.law_scans.proofs.inv.history.AllOf.{all_of, of_along, of_weaker}
 use Rattle.law_scans.proofs.inv.history.Passes.{is_quiet, Closed, First, copied_post, copied_told, keep_post, keep_told, step_goes, work_post, work_told}
@@ -141,12 +144,32 @@ load_in : (layout : Layout) (from index : ℕ) (post : Post) (one : Bool) → Co
 load_in layout from index post true k q = copied_in layout from index post [] (stands post from) k (q from) refl q
 load_in layout from index post false k q = (q, refl)
 
+-- all that stands at a seat that leaves
+clear_one : (layout : Layout) (index slot : ℕ) → StandsIn layout (Some slot) index → finds_in layout.config (events.Clear index slot) ≡ true
+clear_one layout index slot s = both (nat_lt index layout.config.indexes) (nat_le slot layout.config.slots) (lt_test index layout.config.indexes s.1) (le_test slot layout.config.slots s.0)
+
+left_all : (ok : Event → Bool) (index : ℕ) (rows : List (Option ℕ)) → ((j s : ℕ) → list_any (is_clear j s) (cleared_from index rows) ≡ true → ok (events.Clear j s) ≡ true) → all_of ok (cleared_from index rows) ≡ true
+left_all ok index [] f = refl
+left_all ok index (None ∷ rows) f = left_all ok (index + 1) rows f
+left_all ok index (Some slot ∷ rows) f =
+    let here : is_clear index slot (events.Clear index slot) ≡ true = both (index == index) (slot == slot) (same_number index) (same_number slot) in
+    both (ok (events.Clear index slot)) (all_of ok (cleared_from (index + 1) rows)) (f index slot (or_left_true (is_clear index slot (events.Clear index slot)) (list_any (is_clear index slot) (cleared_from (index + 1) rows)) here))
+    (left_all ok (index + 1) rows (λ j s h. f j s (or_more (is_clear j s (events.Clear index slot)) (list_any (is_clear j s) (cleared_from (index + 1) rows)) h)))
+
 keep_in : (layout : Layout) (at : KeepAt) (post : Post) → KeepIn layout.config at → PostIn layout post → StepIn layout (keep_post at post) (keep_told at post)
 keep_in layout (Loosens let_go) post k q = (withdrawn_slots layout post (let_index let_go) q, stood_in layout (let_index let_go) (stands post (let_index let_go)) (q (let_index let_go)))
 keep_in layout (LoadHeld from index) post k q = load_in layout from index post (has_one_interval (scheme_of post)) k q
 keep_in layout (StoreHeld from index era) post k q = copied_in layout from index post (reserves_index post index era) (stands post from) k (q from) refl q
 keep_in layout (Looks index key at) post k q = (q, refl)
 keep_in layout (Misses index) post k q = (q, refl)
+keep_in layout HideSpan post k q = (
+  λ j. subst (λ (x : Option ℕ). StandsIn layout x j) (sym (bare_stands post j)) tt,
+  of_along (finds_in layout.config) (cleared_from 2 (drop 2 post.standing)) (reserves_span post None)
+      (left_all (finds_in layout.config) 2 (drop 2 post.standing) (λ j s h. clear_one layout j s (subst (λ (x : Option ℕ). StandsIn layout x j) (left_stood post j s h) (q j)))) refl,
+)
+keep_in layout MarkLeft post k q = (q, refl)
+keep_in layout (TakeList place) post k q = (q, refl)
+keep_in layout (MarkTaken place count) post k q = (q, refl)
 
 work_in : (layout : Layout) (work : Work) (post : Post) → WorkIn layout.config work → PostIn layout post → StepIn layout (work_post work post) (work_told work post)
 work_in layout (Getting key at) post k q = (q, refl)
@@ -173,4 +196,4 @@ pub step_finds : (w : World) (i : ℕ) → is_valid w.layout ≡ true → Seats 
 step_finds w i d a e s =
     let there : First (StepIn w.layout) (w.seat i).phase (counted (w.seat i).post) (finds w i) =
     subst (λ (x : ℕ). First (StepIn w.layout) (w.seat i).phase (counted (w.seat i).post) x) (finds_counted w i) (phase_in w i (w.seat i).phase d e s (a.fits i).phase (s.seats i).phase) in
-    (step_goes (StepIn w.layout) (in_closed w.layout) (w.seat i).phase (counted (w.seat i).post) (w.seat i).desk (finds w i) there).1
+    (step_goes (StepIn w.layout) (in_closed w.layout) (w.seat i).phase (counted (w.seat i).post) (offered w i).desk (finds w i) there).1

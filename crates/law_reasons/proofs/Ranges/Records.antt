@@ -15,8 +15,8 @@ use Rattle.law_scans.specs.inv.model.defs.declared.event.Event.{Event}
 use Rattle.law_scans.specs.inv.model.defs.declared.event.Event.TheVariants as events
 use Rattle.law_scans.specs.inv.model.declared.post.Post.{Post}
 use Rattle.law_scans.specs.inv.model.Calls.{CallTurn, CallOutcome, GoesOn, Answers}
-use Rattle.law_scans.specs.inv.model.Locals.{may_begin, told_end, turn}
-use Rattle.law_scans.specs.inv.model.World.{World, finds, is_busy, told_in}
+use Rattle.law_scans.specs.inv.model.Locals.{told_end, turn}
+use Rattle.law_scans.specs.inv.model.World.{World, finds, is_busy, offered, told_in, may_start}
 use Rattle.law_scans.proofs.inv.model.Facts.{both, first_of, lt_test, number_is, rest_of}
 use Rattle.law_scans.proofs.inv.model.Ranges.{bounds_of}
 use Rattle.law_scans.proofs.inv.history.AllOf.{all_of, of_along, of_both}
@@ -35,18 +35,22 @@ use Rattle.law_scans.specs.laws.StateAt.{bucket_of, began_of, told_of, stood_by,
 use Rattle.law_scans.specs.laws.HistoryTable.{is_in_range, ranges_ok}
 use Rattle.law_reasons.specs.Records.{RecordsStayInRange}
 use Rattle.law_reasons.proofs.Ranges.Finds.{finds_in, step_finds}
+use Rattle.law_reasons.proofs.Ranges.Lists.{EachLow, adopted_answer, left_answer, lists_in, step_lists}
 use Rattle.law_reasons.proofs.Ranges.Rows.{rows_in, step_rows}
 use Rattle.law_reasons.proofs.Reasons.Keeps.{records_keep_reasons}
 
 -- what steps show by themselves
-abbrev step_in : Config → ℕ → Event → Bool
-step_in c i event = nat_lt i c.seats && (rows_in c event && finds_in c event)
+abbrev names_in : Config → Event → Bool
+names_in c event = finds_in c event && lists_in c event
 
-seated : (c : Config) (i : ℕ) (told : List Event) (p : Past) → nat_lt i c.seats ≡ true → all_of (λ event. rows_in c event && finds_in c event) told ≡ true → Each (λ q k event. step_in c k event) p → Each (λ q k event. step_in c k event) (tells_of p i told)
+abbrev step_in : Config → ℕ → Event → Bool
+step_in c i event = nat_lt i c.seats && (rows_in c event && names_in c event)
+
+seated : (c : Config) (i : ℕ) (told : List Event) (p : Past) → nat_lt i c.seats ≡ true → all_of (λ event. rows_in c event && names_in c event) told ≡ true → Each (λ q k event. step_in c k event) p → Each (λ q k event. step_in c k event) (tells_of p i told)
 seated c i [] p s h g = g
 seated c i (event ∷ told) p s h g =
-    seated c i told (Then p i event) s (rest_of (rows_in c event && finds_in c event) (all_of (λ e. rows_in c e && finds_in c e) told) h)
-    (both (nat_lt i c.seats) (rows_in c event && finds_in c event) s (first_of (rows_in c event && finds_in c event) (all_of (λ e. rows_in c e && finds_in c e) told) h), g)
+    seated c i told (Then p i event) s (rest_of (rows_in c event && names_in c event) (all_of (λ e. rows_in c e && names_in c e) told) h)
+    (both (nat_lt i c.seats) (rows_in c event && names_in c event) s (first_of (rows_in c event && names_in c event) (all_of (λ e. rows_in c e && names_in c e) told) h), g)
 
 end_rows : (c : Config) (post : Post) (outcome : CallOutcome) → all_of (rows_in c) (told_end post outcome) ≡ true
 end_rows c post (GoesOn phase) = refl
@@ -57,22 +61,22 @@ record Ranged (layout : Layout) (made : Made) : Type 0 where
   held : Held layout made
   law : Each (λ q k event. step_in layout.config k event) made.past
 
-begin_ranged : (layout : Layout) (made : Made) (i : ℕ) (call : Call) → i < made.world.layout.config.seats → is_busy made.world i ≡ false → may_begin made.world.layout.config call ≡ true → Ranged layout made → Ranged layout (done made (Begins i call))
+begin_ranged : (layout : Layout) (made : Made) (i : ℕ) (call : Call) → i < made.world.layout.config.seats → is_busy made.world i ≡ false → may_start made.world i call ≡ true → Ranged layout made → Ranged layout (done made (Begins i call))
 begin_ranged layout made i call b y m g = record {
   held = begin_held layout made i call y m g.held;
   law = (both (nat_lt i layout.config.seats) true (subst (λ (table : Layout). nat_lt i table.config.seats ≡ true) g.held.table (lt_test i made.world.layout.config.seats b)) refl, g.law);
 }
 
-step_ranges : (layout : Layout) (made : Made) (i : ℕ) → Held layout made → all_of (λ event. rows_in layout.config event && finds_in layout.config event) (told_in made.world i) ≡ true
+step_ranges : (layout : Layout) (made : Made) (i : ℕ) → Held layout made → all_of (λ event. rows_in layout.config event && names_in layout.config event) (told_in made.world i) ≡ true
 step_ranges layout made i h =
     let w : World = made.world in
     let k = h.known in
     let f = k.seats.fits i in
-    let t : CallTurn = turn (w.seat i) (finds w i) in
-    subst (λ (table : Layout). all_of (λ event. rows_in table.config event && finds_in table.config event) (told_in w i) ≡ true) h.table
-    (of_both (rows_in w.layout.config) (finds_in w.layout.config) (λ event. rows_in w.layout.config event && finds_in w.layout.config event) (told_in w i) (λ event a b. both (rows_in w.layout.config event) (finds_in w.layout.config event) a b)
+    let t : CallTurn = turn (offered w i) (finds w i) in
+    subst (λ (table : Layout). all_of (λ event. rows_in table.config event && names_in table.config event) (told_in w i) ≡ true) h.table
+    (of_both (rows_in w.layout.config) (names_in w.layout.config) (λ event. rows_in w.layout.config event && names_in w.layout.config event) (told_in w i) (λ event a b. both (rows_in w.layout.config event) (names_in w.layout.config event) a b)
     (of_along (rows_in w.layout.config) (step_tells w i) (told_end t.post t.outcome) (step_rows w i k.valid f.post.layout f.phase (k.slots.seats i).phase) (end_rows w.layout.config t.post t.outcome))
-    (step_finds w i k.valid k.seats k.eras k.slots))
+    (of_both (finds_in w.layout.config) (lists_in w.layout.config) (names_in w.layout.config) (told_in w i) (λ event a b. both (finds_in w.layout.config event) (lists_in w.layout.config event) a b) (step_finds w i k.valid k.seats k.eras k.slots) (step_lists w i h.rows k.whole.both.rows k.slots)))
 
 steady : (layout : Layout) → Steady (Ranged layout)
 steady layout = record {
@@ -106,7 +110,7 @@ stood_low : (c : Config) (k j : ℕ) (p : Past) → Each (λ q i event. step_in 
 stood_low c k j Start g = refl
 stood_low c k j (Then p i event) g =
     low_if c (k == i) (stood_by j event (stood_at k j p)) (stood_at k j p)
-    (low_by c j event (stood_at k j p) (rest_of (rows_in c event) (finds_in c event) (rest_of (nat_lt i c.seats) (rows_in c event && finds_in c event) g.0)) (stood_low c k j p g.1))
+    (low_by c j event (stood_at k j p) (first_of (finds_in c event) (lists_in c event) (rest_of (rows_in c event) (names_in c event) (rest_of (nat_lt i c.seats) (rows_in c event && names_in c event) g.0))) (stood_low c k j p g.1))
     (stood_low c k j p g.1)
 
 row_low : (c : Config) (slot : ℕ) (x : Option ℕ) → is_row slot x ≡ true → stands_low c x ≡ true → nat_le slot c.slots ≡ true
@@ -134,33 +138,41 @@ looked_low c i p None told slot version value a r l = absurd (cc)
 own_bucket : (c : Config) (bucket key : ℕ) → 1 ≤ c.buckets → (bucket == bucket_of c.buckets key) ≡ true → nat_lt bucket c.buckets ≡ true
 own_bucket c bucket key b h = let m : key % c.buckets < c.buckets = mod-lt key b in grind (arith, nat_tests)
 
+each_low : (c : Config) (p : Past) → Each (λ q i event. step_in c i event) p → EachLow c p
+each_low c Start g = tt
+each_low c (Then p i event) g = (rest_of (finds_in c event) (lists_in c event) (rest_of (rows_in c event) (names_in c event) (rest_of (nat_lt i c.seats) (rows_in c event && names_in c event) g.0)), each_low c p g.1)
+
 in_range : (c : Config) (p : Past) (i : ℕ) (event : Event) → 1 ≤ c.buckets → Each (λ q k e. step_in c k e) p → step_in c i event ≡ true → map_ok c.buckets p i event ≡ true
     → ((steps : ℕ) (answer : Answer) → event ≡ events.End steps answer → (answer_right c.buckets (began_of i p) (told_of i p) answer ≡ true) × (reason c i p (began_of i p) answer ≡ true)) → ranges_ok c p i event ≡ true
-in_range c p i event b g s m a = both (nat_lt i c.seats) (is_in_range c event) (first_of (nat_lt i c.seats) (rows_in c event && finds_in c event) s) (by event m a (first_of (rows_in c event) (finds_in c event) t) (rest_of (rows_in c event) (finds_in c event) t))
+in_range c p i event b g s m a = both (nat_lt i c.seats) (is_in_range c event) (first_of (nat_lt i c.seats) (rows_in c event && names_in c event) s) (by event m a (first_of (rows_in c event) (names_in c event) t) (first_of (finds_in c event) (lists_in c event) (rest_of (rows_in c event) (names_in c event) t)) (rest_of (finds_in c event) (lists_in c event) (rest_of (rows_in c event) (names_in c event) t)))
   where
-    t : (rows_in c event && finds_in c event) ≡ true
-    t = rest_of (nat_lt i c.seats) (rows_in c event && finds_in c event) s
+    t : (rows_in c event && names_in c event) ≡ true
+    t = rest_of (nat_lt i c.seats) (rows_in c event && names_in c event) s
 
-    by : (event : Event) → map_ok c.buckets p i event ≡ true → ((steps : ℕ) (answer : Answer) → event ≡ events.End steps answer → (answer_right c.buckets (began_of i p) (told_of i p) answer ≡ true) × (reason c i p (began_of i p) answer ≡ true)) → rows_in c event ≡ true → finds_in c event ≡ true → is_in_range c event ≡ true
-    by (events.End steps (answers.Holding slot)) m a r f = let q = a steps (answers.Holding slot) refl in held_low c i p (began_of i p) (told_of i p) slot q.0 q.1 (stood_low c i 2 p g)
-    by (events.End steps (answers.Copied slot)) m a r f = let q = a steps (answers.Copied slot) refl in copied_low c i p (began_of i p) (told_of i p) slot q.0 q.1 (λ j. stood_low c i j p g)
-    by (events.End steps (answers.Looked slot version value)) m a r f =
+    by : (event : Event) → map_ok c.buckets p i event ≡ true → ((steps : ℕ) (answer : Answer) → event ≡ events.End steps answer → (answer_right c.buckets (began_of i p) (told_of i p) answer ≡ true) × (reason c i p (began_of i p) answer ≡ true)) → rows_in c event ≡ true → finds_in c event ≡ true → lists_in c event ≡ true → is_in_range c event ≡ true
+    by (events.End steps (answers.Holding slot)) m a r f l = let q = a steps (answers.Holding slot) refl in held_low c i p (began_of i p) (told_of i p) slot q.0 q.1 (stood_low c i 2 p g)
+    by (events.End steps (answers.Copied slot)) m a r f l = let q = a steps (answers.Copied slot) refl in copied_low c i p (began_of i p) (told_of i p) slot q.0 q.1 (λ j. stood_low c i j p g)
+    by (events.End steps (answers.Looked slot version value)) m a r f l =
         let q = a steps (answers.Looked slot version value) refl in looked_low c i p (began_of i p) (told_of i p) slot version value q.0 q.1 (λ j. stood_low c i j p g)
-    by (events.End steps answer) m a r f = refl
-    by (events.Give slot birth) m a r f = r
-    by (events.Unused slot) m a r f = r
-    by (events.Link root slot) m a r f = r
-    by (events.Cut slot) m a r f = r
-    by (events.Retire slot birth retire) m a r f = r
-    by (events.Back slot) m a r f = r
-    by (events.Held index slot steps) m a r f = f
-    by (events.Null index steps) m a r f = f
-    by (events.Clear index slot) m a r f = f
-    by (events.Copied from index slot) m a r f = f
-    by (events.Put bucket version key value) m a r f = own_bucket c bucket key b (rest_of _ (bucket == bucket_of c.buckets key) m)
-    by (events.Removed bucket version key) m a r f = own_bucket c bucket key b (rest_of _ (bucket == bucket_of c.buckets key) m)
-    by (events.Got bucket version key value) m a r f = own_bucket c bucket key b (first_of (bucket == bucket_of c.buckets key) _ m)
-    by event m a r f = refl
+    by (events.End steps (answers.Left count)) m a r f l = let q = a steps (answers.Left count) refl in left_answer c i p (began_of i p) count q.0 (each_low c p g)
+    by (events.End steps (answers.Adopted count)) m a r f l = let q = a steps (answers.Adopted count) refl in adopted_answer c i p (began_of i p) count q.0 (each_low c p g)
+    by (events.End steps answer) m a r f l = refl
+    by (events.Left count) m a r f l = l
+    by (events.Adopted place count) m a r f l = l
+    by (events.Give slot birth) m a r f l = r
+    by (events.Unused slot) m a r f l = r
+    by (events.Link root slot) m a r f l = r
+    by (events.Cut slot) m a r f l = r
+    by (events.Retire slot birth retire) m a r f l = r
+    by (events.Back slot) m a r f l = r
+    by (events.Held index slot steps) m a r f l = f
+    by (events.Null index steps) m a r f l = f
+    by (events.Clear index slot) m a r f l = f
+    by (events.Copied from index slot) m a r f l = f
+    by (events.Put bucket version key value) m a r f l = own_bucket c bucket key b (rest_of _ (bucket == bucket_of c.buckets key) m)
+    by (events.Removed bucket version key) m a r f l = own_bucket c bucket key b (rest_of _ (bucket == bucket_of c.buckets key) m)
+    by (events.Got bucket version key value) m a r f l = own_bucket c bucket key b (first_of (bucket == bucket_of c.buckets key) _ m)
+    by event m a r f l = refl
 
 pub records_stay_in_range : RecordsStayInRange
 records_stay_in_range layout items d before i event later cut =

@@ -152,7 +152,7 @@ filtered_one : (ok kind : Event → Bool) (event : Event) (told : List Event) (l
 filtered_one ok kind event told true e q f h = both (ok event) (all_of ok told) (first_of (ok event) (all_of ok (filter kind told)) h) (f (rest_of (ok event) (all_of ok (filter kind told)) h))
 filtered_one ok kind event told false e q f h = both (ok event) (all_of ok told) (q event e) (f h)
 
-filtered_all : (ok kind : Event → Bool) → ((e : Event) → kind e ≡ false → ok e ≡ true) → (told : List Event) → all_of ok (filter kind told) ≡ true → all_of ok told ≡ true
+pub filtered_all : (ok kind : Event → Bool) → ((e : Event) → kind e ≡ false → ok e ≡ true) → (told : List Event) → all_of ok (filter kind told) ≡ true → all_of ok told ≡ true
 filtered_all ok kind q [] h = refl
 filtered_all ok kind q (event ∷ told) h = filtered_one ok kind event told (kind event) refl q (filtered_all ok kind q told) h
 

@@ -33,10 +33,10 @@ use Rattle.law_scans.specs.inv.model.Steps as steps
 use Rattle.law_scans.specs.inv.model.Phases.{Base, Ending, Outcome, Goes, Ends, Turn}
 use Rattle.law_scans.specs.inv.model.Phases.Ending.{Protected, Followed}
 use Rattle.law_scans.specs.inv.model.Phases.Base.{Clear, Release}
-use Rattle.law_scans.specs.inv.model.Calls.{Keeping, KeepAt, Loosens, LoadHeld, StoreHeld, Looks, Misses, LetGo, Released, Rehold, Dropped, GetAt, FindVersion, FindCount, FindKey, FindValue, CallOutcome, Answers, Task, Changes, Holds, ChangeKept, EnqueueKept, ChangeAt, LoadCount, LoadValue, EnqueueAt, LoadNext, Work, Changing, Enqueuing, Why, Opens, FollowsHead, Releases, Phase, Idle, Runs, Scans, Works}
-use Rattle.law_scans.specs.inv.model.World.{World, finds}
+use Rattle.law_scans.specs.inv.model.Calls.{Keeping, KeepAt, Loosens, LoadHeld, StoreHeld, Looks, Misses, HideSpan, MarkLeft, TakeList, MarkTaken, LetGo, Released, Rehold, Dropped, Parting, GetAt, FindVersion, FindCount, FindKey, FindValue, CallOutcome, Answers, Task, Changes, Holds, ChangeKept, EnqueueKept, ChangeAt, LoadCount, LoadValue, EnqueueAt, LoadNext, Work, Changing, Enqueuing, Why, Opens, FollowsHead, Releases, Phase, Idle, Runs, Scans, Works}
+use Rattle.law_scans.specs.inv.model.World.{World, finds, offered}
 use Rattle.law_scans.proofs.inv.model.Facts.{both, none_by, same_number}
-use Rattle.law_scans.proofs.answers.AnswersTold.Owed.{ChangeServes, FreeServes, KeepServes, MissServes, Serves, WhyServes, WorkServes}
+use Rattle.law_scans.proofs.answers.AnswersTold.Owed.{owed, ChangeServes, FreeServes, KeepServes, MissServes, Serves, WhyServes, WorkServes}
 use Rattle.law_scans.specs.inv.model.defs.Events.{is_null, is_held}
 use Rattle.law_scans.proofs.inv.shapes.Kept.{counted_fits, run_counted}
 use Rattle.law_scans.specs.inv.shapes.Seats.{PhaseFits, Run, Seats}
@@ -48,18 +48,18 @@ use Rattle.law_scans.proofs.inv.contents.Contents.Kept.{contents_looked}
 use Rattle.law_scans.proofs.inv.Inv.Whole.{contents_need}
 use Rattle.law_scans.specs.inv.shapes.Frame.{KeepFits, read_slot}
 use Rattle.law_scans.specs.inv.shapes.Slots.{CopyIn, KeepIn, PhaseIn, Slots}
-use Rattle.law_scans.specs.laws.StateAt.{queued_of, stood_at, is_row, begun_at, has_told, was_empty}
+use Rattle.law_scans.specs.laws.StateAt.{queued_of, stood_at, told_of, is_row, begun_at, has_told, was_empty}
 use Rattle.law_scans.proofs.inv.requests.Standings.{machine_stands}
 use Rattle.law_scans.specs.inv.requests.Parents.{OutcomeStands, base_stands, phase_stands}
 use Rattle.law_scans.specs.inv.requests.Views.{View as Asked}
 use Rattle.law_scans.specs.inv.rows.Queue.{Line}
 use Rattle.law_scans.specs.inv.rows.Rows.{View}
-use Rattle.law_scans.specs.laws.AnswerLaw.{enqueue_reason, shows_value, tells_none}
+use Rattle.law_scans.specs.laws.AnswerLaw.{adopt_reason, enqueue_reason, shows_value, tells_none}
 use Rattle.law_scans.specs.laws.StateAt.{RowShows, same_value, shows_of, times, value_at}
 use Rattle.law_scans.specs.laws.StateAt.RowShows.{ShowsVersion}
 use Rattle.law_reasons.proofs.Reasons.Missing.{MissesAt, is_any, is_copying, missed_none}
 use Rattle.law_reasons.proofs.Reasons.Shows.{Shows}
-use Rattle.law_scans.specs.laws.HistoryAnswers.{put_reason, put_if_reason, remove_reason, dequeue_reason, hold_reason, release_reason, copy_reason, drop_reason, look_reason, reason}
+use Rattle.law_scans.specs.laws.HistoryAnswers.{put_reason, put_if_reason, remove_reason, dequeue_reason, hold_reason, release_reason, copy_reason, drop_reason, leave_reason, look_reason, reason}
 use Rattle.law_reasons.proofs.Reasons.Later.{Later, Bounds, is_last, reason_lasts}
 use Rattle.law_reasons.proofs.Reasons.Deciding.{Sound, is_plain, ChangeDecides, EnqueueDecides, TaskDecides, FollowDecides, FreeDecides, WhyDecides, OutcomeDecides, AlterDecides, AppendDecides, KeepDecides, WorkDecides, PhaseDecides, PhaseKeeps, OutKeeps, keeps_on, turn_keeps}
 use Rattle.law_reasons.proofs.Reasons.Emptied.{Emptied, no_next_seen}
@@ -67,6 +67,11 @@ use Rattle.law_reasons.proofs.Reasons.Reading.{Shown, NumberAt, count_read, valu
 use Rattle.law_reasons.proofs.Reasons.Refusing.{ReadAt, some_is, change_refused, change_fits}
 use Rattle.law_reasons.proofs.Reasons.Saying.{RunSays}
 use Rattle.law_scans.proofs.inv.requests.Parents.{base_counted}
+use Rattle.law_scans.specs.answers.Records.{PlacesSay}
+use Rattle.law_scans.specs.inv.covers.Rests.{Vacant, vacant}
+use Rattle.law_scans.specs.inv.model.words.Place.Place.{PlaceOf}
+use Rattle.law_scans.proofs.inv.covers.Held.{finds_at}
+use Rattle.law_reasons.proofs.Reasons.Parting.{bare_all, untaken_reason, untaken_told}
 use Rattle.law_scans.proofs.inv.handover.Asks.{run_of}
 
 -- an answer that is decided has its reason, which lasts
@@ -126,6 +131,16 @@ look_clock i index key p (the_answers.Done version old) clock h = refl
 look_clock i index key p (the_answers.Taken number value old) clock h = refl
 look_clock i index key p answer clock h = h
 
+leave_clock : (n i : ℕ) (p : Past) (answer : Answer) (clock : ClockMove) → leave_reason n i p answer ≡ true → leave_reason n i p (with_clock answer clock) ≡ true
+leave_clock n i p (the_answers.Done version old) clock h = refl
+leave_clock n i p (the_answers.Taken number value old) clock h = refl
+leave_clock n i p answer clock h = h
+
+adopt_clock : (i place : ℕ) (p : Past) (answer : Answer) (clock : ClockMove) → adopt_reason i place p answer ≡ true → adopt_reason i place p (with_clock answer clock) ≡ true
+adopt_clock i place p (the_answers.Done version old) clock h = refl
+adopt_clock i place p (the_answers.Taken number value old) clock h = refl
+adopt_clock i place p answer clock h = h
+
 put_if_clock : (c : Config) (i b key wanted : ℕ) (p : Past) (answer : Answer) (clock : ClockMove) → put_if_reason c i b key wanted p answer ≡ true → put_if_reason c i b key wanted p (with_clock answer clock) ≡ true
 put_if_clock c i b key wanted p (the_answers.Done version old) clock h = h
 put_if_clock c i b key wanted p (the_answers.Taken number value old) clock h = refl
@@ -141,6 +156,8 @@ clock_right c i p names.Release answer clock h = release_clock i p answer clock 
 clock_right c i p (names.Copy from index) answer clock h = copy_clock i from index p answer clock h
 clock_right c i p (names.DropIndex index) answer clock h = drop_clock i index p answer clock h
 clock_right c i p (names.Look index key) answer clock h = look_clock i index key p answer clock h
+clock_right c i p names.Leave answer clock h = leave_clock c.indexes i p answer clock h
+clock_right c i p (names.Adopt place) answer clock h = adopt_clock i place p answer clock h
 clock_right c i p (names.PutIf key value wanted) answer clock h = put_if_clock c i (key % c.buckets) key wanted p answer clock h
 clock_right c i p call answer clock h = refl
 
@@ -194,6 +211,15 @@ look_plain i index key p (the_answers.Looked slot version value) h = absurd (cc)
 look_plain i index key p the_answers.Nothing h = absurd (cc)
 look_plain i index key p answer h = refl
 
+leave_plain : (n i : ℕ) (p : Past) (answer : Answer) → is_plain answer ≡ true → leave_reason n i p answer ≡ true
+leave_plain n i p (the_answers.Left count) h = absurd (cc)
+leave_plain n i p answer h = refl
+
+adopt_plain : (i place : ℕ) (p : Past) (answer : Answer) → is_plain answer ≡ true → adopt_reason i place p answer ≡ true
+adopt_plain i place p the_answers.NotLeft h = absurd (cc)
+adopt_plain i place p the_answers.AdoptedBefore h = absurd (cc)
+adopt_plain i place p answer h = refl
+
 put_if_plain : (c : Config) (i b key wanted : ℕ) (p : Past) (answer : Answer) → is_plain answer ≡ true → put_if_reason c i b key wanted p answer ≡ true
 put_if_plain c i b key wanted p (the_answers.Done version clock) h = absurd (cc)
 put_if_plain c i b key wanted p (the_answers.Stale version) h = absurd (cc)
@@ -211,6 +237,8 @@ plain_right c i p names.Release answer h = release_plain i p answer h
 plain_right c i p (names.Copy from index) answer h = copy_plain i from index p answer h
 plain_right c i p (names.DropIndex index) answer h = drop_plain i index p answer h
 plain_right c i p (names.Look index key) answer h = look_plain i index key p answer h
+plain_right c i p names.Leave answer h = leave_plain c.indexes i p answer h
+plain_right c i p (names.Adopt place) answer h = adopt_plain i place p answer h
 plain_right c i p (names.PutIf key value wanted) answer h = put_if_plain c i (key % c.buckets) key wanted p answer h
 plain_right c i p call answer h = refl
 
@@ -221,6 +249,9 @@ plain_last call (the_answers.Copied slot) h = absurd (cc)
 plain_last call the_answers.Dropped h = absurd (cc)
 plain_last call (the_answers.Looked slot version value) h = absurd (cc)
 plain_last call the_answers.Nothing h = absurd (cc)
+plain_last call (the_answers.Left count) h = absurd (cc)
+plain_last call the_answers.NotLeft h = absurd (cc)
+plain_last call the_answers.AdoptedBefore h = absurd (cc)
 plain_last call answer h = refl
 
 pub kept_sound : (c : Config) (i : ℕ) (p : Past) (call : Call) → Sound (Kept c i p call) (Right c i p call)
@@ -299,14 +330,16 @@ pub record Stepping (w : World) (i : ℕ) (v : View) (l : Line) (z : Asked) (p q
   pub below : i < w.layout.config.seats
   pub shown : Shown w v l z p
   pub later : Later i p q
-  pub is : q ≡ tells_of p i (turn (w.seat i) (finds w i)).told
+  pub is : q ≡ tells_of p i (turn (offered w i) (finds w i)).told
   pub bounds : Bounds w.layout.config q
   pub serves : Serves (w.seat i).call (w.seat i).phase
   pub emptied : Emptied (λ k. was_empty k p) w z
   pub says : (why : Why) (base : Base) → (w.seat i).phase ≡ Runs why base → RunSays i why (machine.after base (counted (w.seat i).post) (finds w i)).outcome q
-  pub stood : (j : ℕ) → stood_at i j q ≡ stands (turn (w.seat i) (finds w i)).post j
+  pub stood : (j : ℕ) → stood_at i j q ≡ stands (turn (offered w i) (finds w i)).post j
   pub shows : Shows w.book p
   pub missed : MissesAt (w.seat i) (times i is_any p)
+  pub placed : PlacesSay w.mem p
+  pub told : told_of i p ≡ owed w.layout.config.buckets (w.seat i).call (w.seat i).phase
 
 abbrev IsKept : World → ℕ → Past → Answer → Type 0
 IsKept w i q answer = Kept w.layout.config i q (w.seat i).call answer
@@ -330,10 +363,10 @@ machine_table w i base s = (after_same base (counted (w.seat i).post) (finds w i
 
 -- where the machine ends, what comes after it leaves this post
 ended_post : (w : World) (i : ℕ) (why : Why) (base : Base) (ending : Ending) → (w.seat i).phase ≡ Runs why base → (machine.after base (counted (w.seat i).post) (finds w i)).outcome ≡ Ends ending
-    → (turn (w.seat i) (finds w i)).post ≡ (steps.resume why ending (machine.after base (counted (w.seat i).post) (finds w i)).post (w.seat i).desk (machine.after base (counted (w.seat i).post) (finds w i)).told).post
+    → (turn (offered w i) (finds w i)).post ≡ (steps.resume why ending (machine.after base (counted (w.seat i).post) (finds w i)).post (offered w i).desk (machine.after base (counted (w.seat i).post) (finds w i)).told).post
 ended_post w i why base ending e o =
     let t : Turn = machine.after base (counted (w.seat i).post) (finds w i) in
-    ap (λ (x : Phase). (steps.phase_turn x (counted (w.seat i).post) (w.seat i).desk (finds w i)).post) e ∙ ap (λ (x : Outcome). (steps.resumed why (w.seat i).desk t.post t.told x).post) o
+    ap (λ (x : Phase). (steps.phase_turn x (counted (w.seat i).post) (offered w i).desk (finds w i)).post) e ∙ ap (λ (x : Outcome). (steps.resumed why (offered w i).desk t.post t.told x).post) o
 
 -- the row that a hold has protected stands at index 2
 held_stands : (w : World) (i : ℕ) (v : View) (l : Line) (z : Asked) (p q : Past) (key slot era : ℕ) (base : Base) → Stepping w i v l z p q → (w.seat i).phase ≡ Runs (Opens (Holds key)) base
@@ -393,6 +426,7 @@ released_post : (let_go : LetGo) (post : Post) (desk : Desk) (told : List Event)
 released_post Released post desk told = refl
 released_post (Rehold key) post desk told = refl
 released_post (Dropped index) post desk told = refl
+released_post (Parting index) post desk told = refl
 
 -- nothing stands there any more
 gone_stood : (w : World) (i : ℕ) (v : View) (l : Line) (z : Asked) (p q : Past) (let_go : LetGo) (base : Base) (ending : Ending) → Stepping w i v l z p q → (w.seat i).phase ≡ Runs (Releases let_go) base
@@ -401,13 +435,14 @@ gone_stood w i v l z p q let_go base ending g e o =
     let a = g.shown.known in
     let t : Turn = machine.after base (counted (w.seat i).post) (finds w i) in
     let gone = release_stands w.layout let_go base (counted (w.seat i).post) (finds w i) (run_counted w.layout (Releases let_go) base (w.seat i).post (run_of w i (Releases let_go) base a.seats e)) in
-    g.stood (let_index let_go) ∙ ap (λ (x : Post). stands x (let_index let_go)) (ended_post w i (Releases let_go) base ending e o ∙ released_post let_go t.post (w.seat i).desk t.told) ∙ gone
+    g.stood (let_index let_go) ∙ ap (λ (x : Post). stands x (let_index let_go)) (ended_post w i (Releases let_go) base ending e o ∙ released_post let_go t.post (offered w i).desk t.told) ∙ gone
 
 -- the answer of what is let go
 let_go_right : (c : Config) (i : ℕ) (q : Past) (call : Call) (let_go : LetGo) → FreeServes call let_go → stood_at i (let_index let_go) q ≡ None → FreeDecides (Right c i q call) let_go
 let_go_right c i q call Released s n = subst (λ (x : Call). Right c i q x the_answers.Released) (sym s) (none_by (stood_at i 2 q) n)
 let_go_right c i q call (Rehold key) s n = tt
 let_go_right c i q call (Dropped index) s n = subst (λ (x : Call). Right c i q x the_answers.Dropped) (sym s) (none_by (stood_at i index q) n)
+let_go_right c i q call (Parting index) s n = tt
 
 -- by what comes after the machine
 task_decides : (w : World) (i : ℕ) (v : View) (l : Line) (z : Asked) (p q : Past) (task : Task) (base : Base) (ending : Ending) → Stepping w i v l z p q → (w.seat i).phase ≡ Runs (Opens task) base
@@ -453,8 +488,8 @@ append_decides w i v l z p q kept LoadNext g e =
 append_decides w i v l z p q kept at g e = tt
 
 -- a step on what is kept leaves this post, and tells this
-keep_post_left : (w : World) (i : ℕ) (at : KeepAt) → (w.seat i).phase ≡ Works (Keeping at) → (turn (w.seat i) (finds w i)).post ≡ keep_post at (counted (w.seat i).post)
-keep_post_left w i at e = ap (λ (x : Phase). (steps.phase_turn x (counted (w.seat i).post) (w.seat i).desk (finds w i)).post) e ∙ (keep_just at (counted (w.seat i).post) (w.seat i).desk (finds w i)).post
+keep_post_left : (w : World) (i : ℕ) (at : KeepAt) → (w.seat i).phase ≡ Works (Keeping at) → (turn (offered w i) (finds w i)).post ≡ keep_post at (counted (w.seat i).post)
+keep_post_left w i at e = ap (λ (x : Phase). (steps.phase_turn x (counted (w.seat i).post) (offered w i).desk (finds w i)).post) e ∙ (keep_just at (counted (w.seat i).post) (offered w i).desk (finds w i)).post
 
 answer_is : (x y : Answer) → ◌≡◌ {A = CallOutcome} (Answers x) (Answers y) → x ≡ y
 answer_is x y h = cc
@@ -466,6 +501,7 @@ loosen_by : (R : Answer → Type 0) (let_go : LetGo) (post : Post) (desk : Desk)
 loosen_by R Released post desk told d answer o = subst R (answer_is the_answers.Released answer o) d
 loosen_by R (Rehold key) post desk told d answer o = absurd (cc)
 loosen_by R (Dropped index) post desk told d answer o = subst R (answer_is the_answers.Dropped answer o) d
+loosen_by R (Parting index) post desk told d answer o = absurd (cc)
 
 -- a copy
 copied_by : (R : Answer → Type 0) (from index : ℕ) (post : Post) (desk : Desk) (reserved : List Event) (x : Option ℕ) → is_some x ≡ true → ((slot : ℕ) → x ≡ Some slot → R (the_answers.Copied slot)) → (answer : Answer) → (keeps.copied from index post desk reserved x).outcome ≡ Answers answer → R answer
@@ -478,7 +514,7 @@ load_by R from index post desk found false s d answer o = absurd (cc)
 
 -- the row stands at both indexes
 copied_right : (w : World) (i : ℕ) (v : View) (l : Line) (z : Asked) (p q : Past) (from index slot : ℕ) → Stepping w i v l z p q → (w.seat i).call ≡ names.Copy from index → CopyIn w.layout.config from index → stands (w.seat i).post from ≡ Some slot
-    → (turn (w.seat i) (finds w i)).post ≡ with_row (counted (w.seat i).post) index slot → IsRight w i q (the_answers.Copied slot)
+    → (turn (offered w i) (finds w i)).post ≡ with_row (counted (w.seat i).post) index slot → IsRight w i q (the_answers.Copied slot)
 copied_right w i v l z p q from index slot g s k r e =
     let a = g.shown.known in
     let m = (bounds_of w.layout a.valid).indexes in
@@ -510,6 +546,21 @@ look_by index key (FindCount slot version) post desk found answer o = record { v
 look_by index key (FindKey slot version count pair) post desk found answer o = record { version = version; value = None; is = looked_key_by index key slot version count pair post desk (found == key) answer o }
 look_by index key (FindValue slot version pair) post desk found answer o = record { version = version; value = Some found; is = sym (answer_is (the_answers.Looked slot version (Some found)) answer o) }
 
+-- it tells nothing
+looking_told : (index key slot version count : ℕ) (post : Post) (desk : Desk) (more : Bool) (pair : ℕ) → (keeps.looking index key slot version count post desk more pair).told ≡ []
+looking_told index key slot version count post desk true pair = refl
+looking_told index key slot version count post desk false pair = refl
+
+looked_key_told : (index key slot version count pair : ℕ) (post : Post) (desk : Desk) (own : Bool) → (keeps.looked_key index key slot version count pair post desk own).told ≡ []
+looked_key_told index key slot version count pair post desk true = refl
+looked_key_told index key slot version count pair post desk false = looking_told index key slot version count post desk (nat_lt (pair + 1) count) (pair + 1)
+
+look_told : (index key : ℕ) (at : GetAt) (post : Post) (desk : Desk) (found : ℕ) → (keeps.look_turn index key at post desk found).told ≡ []
+look_told index key (FindVersion slot) post desk found = refl
+look_told index key (FindCount slot version) post desk found = looking_told index key slot version found post desk (nat_lt 0 found) 0
+look_told index key (FindKey slot version count pair) post desk found = looked_key_told index key slot version count pair post desk (found == key)
+look_told index key (FindValue slot version pair) post desk found = refl
+
 same_self : (x : Option ℕ) → same_value x x ≡ true
 same_self None = refl
 same_self (Some n) = same_number n
@@ -524,13 +575,13 @@ shows_right w v l z p slot version key value h s r =
     subst (λ (x : RowShows). shows_value version key value p x ≡ true) (sym is) both_same
 
 looked_right : (w : World) (i : ℕ) (v : View) (l : Line) (z : Asked) (p q : Past) (index key : ℕ) (at : GetAt) (answer : Answer) → Stepping w i v l z p q → (w.seat i).phase ≡ Works (Keeping (Looks index key at)) → stands (w.seat i).post index ≡ Some (read_slot at)
-    → (turn (w.seat i) (finds w i)).outcome ≡ Answers answer → Looked at answer → IsRight w i q answer
+    → (turn (offered w i) (finds w i)).outcome ≡ Answers answer → Looked at answer → IsRight w i q answer
 looked_right w i v l z p q index key at answer g e r o x =
     let a = g.shown.known in
     let slot : ℕ = read_slot at in
     let call : (w.seat i).call ≡ names.Look index key = keep_call w i (Looks index key at) g.serves e in
     let right : LookRight w.book slot x.version key x.value = contents_looked w i v index key at slot x.version x.value (contents_need w i v l z g.below a) a.contents e (o ∙ ap Answers x.is) in
-    let none : (turn (w.seat i) (finds w i)).told ≡ [] = ap (λ (y : Phase). (steps.phase_turn y (counted (w.seat i).post) (w.seat i).desk (finds w i)).told) e ∙ (keep_just (Looks index key at) (counted (w.seat i).post) (w.seat i).desk (finds w i)).told in
+    let none : (turn (offered w i) (finds w i)).told ≡ [] = ap (λ (y : Phase). (steps.phase_turn y (counted (w.seat i).post) (offered w i).desk (finds w i)).told) e ∙ look_told index key at (counted (w.seat i).post) (offered w i).desk (finds w i) in
     let still : stood_at i index q ≡ Some slot = g.stood index ∙ ap (λ (y : Post). stands y index) (keep_post_left w i (Looks index key at) e) ∙ r in
     let shows : shows_value x.version key x.value q (shows_of slot q) ≡ true = subst (λ (y : Past). shows_value x.version key x.value y (shows_of slot y) ≡ true) (sym (g.is ∙ ap (tells_of p i) none)) (shows_right w v l z p slot x.version key x.value g.shown g.shows right) in
     subst (λ (y : Answer). IsRight w i q y) (sym x.is) (subst (λ (y : Call). Right w.layout.config i q y (the_answers.Looked slot x.version x.value)) (sym call)
@@ -547,7 +598,7 @@ miss_right c i index q call s n t = absurd (s)
 
 missed_right : (w : World) (i : ℕ) (v : View) (l : Line) (z : Asked) (p q : Past) (index : ℕ) (answer : Answer) → Stepping w i v l z p q → (w.seat i).phase ≡ Works (Keeping (Misses index)) → stands (w.seat i).post index ≡ None → IsRight w i q the_answers.Nothing
 missed_right w i v l z p q index answer g e r =
-    let none : (turn (w.seat i) (finds w i)).told ≡ [] = ap (λ (y : Phase). (steps.phase_turn y (counted (w.seat i).post) (w.seat i).desk (finds w i)).told) e in
+    let none : (turn (offered w i) (finds w i)).told ≡ [] = ap (λ (y : Phase). (steps.phase_turn y (counted (w.seat i).post) (offered w i).desk (finds w i)).told) e in
     let still : stood_at i index q ≡ None = g.stood index ∙ ap (λ (y : Post). stands y index) (keep_post_left w i (Misses index) e) ∙ r in
     miss_right w.layout.config i index q (w.seat i).call (keep_call w i (Misses index) g.serves e) still
     (λ c. subst (λ (y : Past). tells_none i y ≡ true) (sym (g.is ∙ ap (tells_of p i) none)) (missed_none (w.seat i) i p index c e g.missed))
@@ -558,39 +609,72 @@ keep_fits_of w i at s e = subst (PhaseFits w.layout (w.seat i).post) e (s.fits i
 keep_in_of : (w : World) (i : ℕ) (at : KeepAt) → Slots w → (w.seat i).phase ≡ Works (Keeping at) → KeepIn w.layout.config at
 keep_in_of w i at s e = subst (PhaseIn w.layout (w.seat i).desk) e (s.seats i).phase
 
-keep_decides : (w : World) (i : ℕ) (v : View) (l : Line) (z : Asked) (p q : Past) (at : KeepAt) → Stepping w i v l z p q → (w.seat i).phase ≡ Works (Keeping at) → KeepDecides (IsRight w i q) at (counted (w.seat i).post) (w.seat i).desk (finds w i)
+-- nothing stands at a seat that leaves
+left_right : (w : World) (i : ℕ) (v : View) (l : Line) (z : Asked) (p q : Past) (count : ℕ) → Stepping w i v l z p q → (w.seat i).phase ≡ Works (Keeping MarkLeft) → IsRight w i q (the_answers.Left count)
+left_right w i v l z p q count g e =
+    let call : (w.seat i).call ≡ names.Leave = keep_call w i MarkLeft g.serves e in
+    let none : Vacant (vacant (Works (Keeping MarkLeft))) (w.seat i).post = subst (λ (x : Phase). Vacant (vacant x) (w.seat i).post) e (g.shown.known.rests.vacant i) in
+    let bare : (j : ℕ) → stood_at i j q ≡ None = λ j. g.stood j ∙ ap (λ (y : Post). stands y j) (keep_post_left w i MarkLeft e) ∙ none j refl in
+    subst (λ (x : Call). Right w.layout.config i q x (the_answers.Left count)) (sym call) (bare_all w.layout.config.indexes i q bare)
+
+-- a list that is not taken over was not left, or another call has taken it over: by its place's word, as it is found
+untaken_by : (R : Answer → Type 0) (place : ℕ) (post : Post) (desk : Desk) (found : ℕ) → ((found == 1) ≡ false → R (keeps.not_taken found)) → (answer : Answer) → (keeps.taking place post desk (found == 1) found).outcome ≡ Answers answer → R answer
+untaken_by R place post desk found d answer o = by (found == 1) d o
+  where
+    by : (left : Bool) → (left ≡ false → R (keeps.not_taken found)) → (keeps.taking place post desk left found).outcome ≡ Answers answer → R answer
+    by true d o = absurd (cc)
+    by false d o = subst R (answer_is (keeps.not_taken found) answer o) (d refl)
+
+found_right : (w : World) (i : ℕ) (v : View) (l : Line) (z : Asked) (p q : Past) (place : ℕ) → Stepping w i v l z p q → (w.seat i).phase ≡ Works (Keeping (TakeList place)) → (finds w i == 1) ≡ false → IsRight w i q (keeps.not_taken (finds w i))
+found_right w i v l z p q place g e n =
+    let call : (w.seat i).call ≡ names.Adopt place = keep_call w i (TakeList place) g.serves e in
+    let found : finds w i ≡ w.mem (PlaceOf place) = finds_at w i (Works (Keeping (TakeList place))) e in
+    let word : (w.mem (PlaceOf place) == 1) ≡ false = subst (λ (x : ℕ). (x == 1) ≡ false) found n in
+    let none : (turn (offered w i) (finds w i)).told ≡ [] = ap (λ (y : Phase). (steps.phase_turn y (counted (w.seat i).post) (offered w i).desk (finds w i)).told) e ∙ untaken_told place (counted (w.seat i).post) (offered w i).desk (finds w i) n in
+    let silent : told_of i p ≡ [] = g.told ∙ ap (owed w.layout.config.buckets (w.seat i).call) e in
+    subst (λ (x : Call). Right w.layout.config i q x (keeps.not_taken (finds w i))) (sym call)
+    (subst (λ (y : Past). adopt_reason i place y (keeps.not_taken (finds w i)) ≡ true) (sym (g.is ∙ ap (tells_of p i) none))
+    (subst (λ (x : ℕ). adopt_reason i place p (keeps.not_taken x) ≡ true) (sym found) (untaken_reason i place (w.mem (PlaceOf place)) p word (g.placed.left place) (g.placed.adopted place) silent)))
+
+keep_decides : (w : World) (i : ℕ) (v : View) (l : Line) (z : Asked) (p q : Past) (at : KeepAt) → Stepping w i v l z p q → (w.seat i).phase ≡ Works (Keeping at) → KeepDecides (IsRight w i q) at (counted (w.seat i).post) (offered w i).desk (finds w i)
 keep_decides w i v l z p q (Loosens let_go) g e =
     let post : Post = counted (w.seat i).post in
     let gone : stood_at i (let_index let_go) q ≡ None = g.stood (let_index let_go) ∙ ap (λ (y : Post). stands y (let_index let_go)) (keep_post_left w i (Loosens let_go) e) ∙ stands-withdrawn_same post (let_index let_go) in
-    loosen_by (IsRight w i q) let_go (withdrawn post (let_index let_go)) (w.seat i).desk (cleared (let_index let_go) (stands post (let_index let_go))) (let_go_right w.layout.config i q (w.seat i).call let_go (keep_call w i (Loosens let_go) g.serves e) gone)
+    loosen_by (IsRight w i q) let_go (withdrawn post (let_index let_go)) (offered w i).desk (cleared (let_index let_go) (stands post (let_index let_go))) (let_go_right w.layout.config i q (w.seat i).call let_go (keep_call w i (Loosens let_go) g.serves e) gone)
 keep_decides w i v l z p q (LoadHeld from index) g e =
     let a = g.shown.known in
     let post : Post = counted (w.seat i).post in
-    load_by (IsRight w i q) from index post (w.seat i).desk (finds w i) (has_one_interval (scheme_of post)) (keep_fits_of w i (LoadHeld from index) a.seats e)
+    load_by (IsRight w i q) from index post (offered w i).desk (finds w i) (has_one_interval (scheme_of post)) (keep_fits_of w i (LoadHeld from index) a.seats e)
     (λ one slot r. copied_right w i v l z p q from index slot g (keep_call w i (LoadHeld from index) g.serves e) (keep_in_of w i (LoadHeld from index) a.slots e) r
     (keep_post_left w i (LoadHeld from index) e ∙ rw (one, r) refl))
 keep_decides w i v l z p q (StoreHeld from index era) g e =
     let a = g.shown.known in
     let post : Post = counted (w.seat i).post in
     let f = keep_fits_of w i (StoreHeld from index era) a.seats e in
-    copied_by (IsRight w i q) from index post (w.seat i).desk (reserves_index post index era) (stands post from) f.kept
+    copied_by (IsRight w i q) from index post (offered w i).desk (reserves_index post index era) (stands post from) f.kept
     (λ slot r. copied_right w i v l z p q from index slot g (keep_call w i (StoreHeld from index era) g.serves e) (keep_in_of w i (StoreHeld from index era) a.slots e) r
     (keep_post_left w i (StoreHeld from index era) e ∙ rw r refl))
 keep_decides w i v l z p q (Looks index key at) g e = λ answer o.
     let a = g.shown.known in
-    let out : (turn (w.seat i) (finds w i)).outcome ≡ Answers answer = ap (λ (x : Phase). (steps.phase_turn x (counted (w.seat i).post) (w.seat i).desk (finds w i)).outcome) e ∙ o in
-    looked_right w i v l z p q index key at answer g e (keep_fits_of w i (Looks index key at) a.seats e) out (look_by index key at (counted (w.seat i).post) (w.seat i).desk (finds w i) answer o)
+    let out : (turn (offered w i) (finds w i)).outcome ≡ Answers answer = ap (λ (x : Phase). (steps.phase_turn x (counted (w.seat i).post) (offered w i).desk (finds w i)).outcome) e ∙ o in
+    looked_right w i v l z p q index key at answer g e (keep_fits_of w i (Looks index key at) a.seats e) out (look_by index key at (counted (w.seat i).post) (offered w i).desk (finds w i) answer o)
 keep_decides w i v l z p q (Misses index) g e = λ answer o.
     let a = g.shown.known in
     subst (λ (x : Answer). IsRight w i q x) (answer_is the_answers.Nothing answer o) (missed_right w i v l z p q index answer g e (keep_fits_of w i (Misses index) a.seats e))
+keep_decides w i v l z p q HideSpan g e = λ answer o. absurd (cc)
+keep_decides w i v l z p q MarkLeft g e = λ answer o. subst (λ (x : Answer). IsRight w i q x) (answer_is (the_answers.Left (length (offered w i).desk.list)) answer o) (left_right w i v l z p q (length (offered w i).desk.list) g e)
+keep_decides w i v l z p q (TakeList place) g e = untaken_by (IsRight w i q) place (counted (w.seat i).post) (offered w i).desk (finds w i) (found_right w i v l z p q place g e)
+keep_decides w i v l z p q (MarkTaken place count) g e = λ answer o.
+    let call : (w.seat i).call ≡ names.Adopt place = keep_call w i (MarkTaken place count) g.serves e in
+    subst (λ (x : Answer). IsRight w i q x) (answer_is (the_answers.Adopted count) answer o) (subst (λ (x : Call). Right w.layout.config i q x (the_answers.Adopted count)) (sym call) refl)
 
-work_decides : (w : World) (i : ℕ) (v : View) (l : Line) (z : Asked) (p q : Past) (work : Work) → Stepping w i v l z p q → (w.seat i).phase ≡ Works work → WorkDecides (IsKept w i q) (IsRight w i q) work (counted (w.seat i).post) (w.seat i).desk (finds w i)
+work_decides : (w : World) (i : ℕ) (v : View) (l : Line) (z : Asked) (p q : Past) (work : Work) → Stepping w i v l z p q → (w.seat i).phase ≡ Works work → WorkDecides (IsKept w i q) (IsRight w i q) work (counted (w.seat i).post) (offered w i).desk (finds w i)
 work_decides w i v l z p q (Changing kept at) g e = alter_decides w i v l z p q kept at g e
 work_decides w i v l z p q (Enqueuing kept at) g e = append_decides w i v l z p q kept at g e
 work_decides w i v l z p q (Keeping at) g e = keep_decides w i v l z p q at g e
 work_decides w i v l z p q work g e = tt
 
-phase_decides : (w : World) (i : ℕ) (v : View) (l : Line) (z : Asked) (p q : Past) (phase : Phase) → Stepping w i v l z p q → (w.seat i).phase ≡ phase → PhaseDecides (IsKept w i q) (IsRight w i q) phase (counted (w.seat i).post) (w.seat i).desk (finds w i)
+phase_decides : (w : World) (i : ℕ) (v : View) (l : Line) (z : Asked) (p q : Past) (phase : Phase) → Stepping w i v l z p q → (w.seat i).phase ≡ phase → PhaseDecides (IsKept w i q) (IsRight w i q) phase (counted (w.seat i).post) (offered w i).desk (finds w i)
 phase_decides w i v l z p q Idle g e = tt
 phase_decides w i v l z p q (Runs why base) g e = outcome_decides w i v l z p q why base (machine.after base (counted (w.seat i).post) (finds w i)).outcome g e refl
 phase_decides w i v l z p q (Scans later at) g e = tt
@@ -598,8 +682,8 @@ phase_decides w i v l z p q (Works work) g e = work_decides w i v l z p q work g
 
 -- so what a step leaves decided has its reason, and so has its answer
 pub step_decides : (w : World) (i : ℕ) (v : View) (l : Line) (z : Asked) (p q : Past) → Stepping w i v l z p q → PhaseKeeps (Kept w.layout.config i p (w.seat i).call) (w.seat i).phase
-    → OutKeeps (Kept w.layout.config i q (w.seat i).call) (Right w.layout.config i q (w.seat i).call) (turn (w.seat i) (finds w i)).outcome
+    → OutKeeps (Kept w.layout.config i q (w.seat i).call) (Right w.layout.config i q (w.seat i).call) (turn (offered w i) (finds w i)).outcome
 step_decides w i v l z p q g h =
-    turn_keeps (IsKept w i q) (IsRight w i q) (kept_sound w.layout.config i q (w.seat i).call) (w.seat i).phase (counted (w.seat i).post) (w.seat i).desk (finds w i)
+    turn_keeps (IsKept w i q) (IsRight w i q) (kept_sound w.layout.config i q (w.seat i).call) (w.seat i).phase (counted (w.seat i).post) (offered w i).desk (finds w i)
     (keeps_on (Kept w.layout.config i p (w.seat i).call) (IsKept w i q) (w.seat i).phase (λ answer k. kept_lasts w.layout.config i p q (w.seat i).call answer g.later g.bounds k) h)
     (phase_decides w i v l z p q (w.seat i).phase g refl)

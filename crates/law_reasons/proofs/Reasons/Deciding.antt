@@ -31,7 +31,8 @@ use Rattle.law_scans.specs.inv.model.Steps as steps
 use Rattle.law_scans.specs.inv.model.Rounds.{scheme_of, taken_of, index_of, bucket_of, begin_base, finish_base, clear_base, given_up, round, round_by, closed, finishing_by, finishing, clearing_by, clearing, clearing_next_by, clearing_next, let_index, letting, letting_by, release_base, with_clock}
 use Rattle.law_scans.specs.inv.model.Phases.{Base, Ending, Outcome, Goes, Ends}
 use Rattle.law_scans.specs.inv.model.Phases.Ending.{Done, Protected, Followed, Allocated, Retired, Clocked}
-use Rattle.law_scans.specs.inv.model.Calls.{Keeping, KeepAt, Loosens, LoadHeld, StoreHeld, Looks, Misses, LetGo, Released, Rehold, Dropped, Task, Gets, Changes, Holds, Enqueues, Dequeues, Next, Again, MakeRoom, Answering, Retiring, AfterScan, Answered, Repeated, Counted, ChangeKept, EnqueueKept, GetAt, FindVersion, FindCount, FindKey, FindValue, ChangeAt, LoadVersion, LoadCount, LoadKey, LoadValue, ExchangeRoot, EnqueueAt, LoadNumber, LoadNext, PassTail, ExchangeNext, ExchangeTail, DequeueAt, SwingTail, ExchangeHead, Work, Getting, Changing, Enqueuing, Dequeuing, ScanAt, ReadGuard, GiveBack, Why, Opens, FollowsHead, Fills, ClearsNext, Clears, Finishes, GivesUp, Retires, Tidies, Advances, Releases, Phase, Idle, Runs, Scans, Works, CallOutcome, GoesOn, Answers}
+use Rattle.law_scans.proofs.Leaving.{Parts, parts_all, parts_on, takes_on}
+use Rattle.law_scans.specs.inv.model.Calls.{Keeping, KeepAt, Loosens, LoadHeld, StoreHeld, Looks, Misses, HideSpan, MarkLeft, TakeList, MarkTaken, LetGo, Released, Rehold, Dropped, Parting, Task, Gets, Changes, Holds, Enqueues, Dequeues, Next, Again, MakeRoom, Answering, Retiring, AfterScan, Answered, Repeated, Counted, ChangeKept, EnqueueKept, GetAt, FindVersion, FindCount, FindKey, FindValue, ChangeAt, LoadVersion, LoadCount, LoadKey, LoadValue, ExchangeRoot, EnqueueAt, LoadNumber, LoadNext, PassTail, ExchangeNext, ExchangeTail, DequeueAt, SwingTail, ExchangeHead, Work, Getting, Changing, Enqueuing, Dequeuing, ScanAt, ReadGuard, GiveBack, Why, Opens, FollowsHead, Fills, ClearsNext, Clears, Finishes, GivesUp, Retires, Tidies, Advances, Releases, Phase, Idle, Runs, Scans, Works, CallOutcome, GoesOn, Answers}
 
 -- a change that fills a row answers with the version after the one that it read, and an enqueue with the number after it
 abbrev pub change_done : ChangeKept → Answer
@@ -189,6 +190,7 @@ abbrev pub FreeDecides : (Answer → Type 0) → LetGo → Type 0
 FreeDecides R Released = R the_answers.Released
 FreeDecides R (Rehold key) = Unit {0}
 FreeDecides R (Dropped index) = R the_answers.Dropped
+FreeDecides R (Parting index) = Unit {0}
 
 abbrev pub WhyDecides : (K R : Answer → Type 0) → Why → Ending → Post → Type 0
 WhyDecides K R (Opens task) ending post = TaskDecides K R task ending post
@@ -361,10 +363,15 @@ abbrev NextRight : (Answer → Type 0) → CallOutcome → Type 0
 NextRight K (GoesOn phase) = PhaseKeeps K phase
 NextRight K (Answers answer) = Unit {0}
 
+-- a seat that leaves has decided nothing
+parts_keep : (K : Answer → Type 0) → Parts (PhaseKeeps K)
+parts_keep K = record { clears = λ index. tt; hides = tt; marks = tt }
+
 let_go_next : (K : Answer → Type 0) (let_go : LetGo) (post : Post) (desk : Desk) (told : List Event) → NextRight K (keeps.released let_go post desk told).outcome
 let_go_next K Released post desk told = tt
 let_go_next K (Rehold key) post desk told = round_keeps K (Holds key) post
 let_go_next K (Dropped index) post desk told = tt
+let_go_next K (Parting index) post desk told = parts_on (PhaseKeeps K) (parts_keep K) (index + 1) post
 
 copied_next : (K : Answer → Type 0) (from index : ℕ) (post : Post) (desk : Desk) (reserved : List Event) (x : Option ℕ) → NextRight K (keeps.copied from index post desk reserved x).outcome
 copied_next K from index post desk reserved None = tt
@@ -394,6 +401,10 @@ keep_next K (LoadHeld from index) post desk found = load_next K from index post 
 keep_next K (StoreHeld from index era) post desk found = copied_next K from index post desk (reserves_index post index era) (stands post from)
 keep_next K (Looks index key at) post desk found = look_next K index key at post desk found
 keep_next K (Misses index) post desk found = tt
+keep_next K HideSpan post desk found = tt
+keep_next K MarkLeft post desk found = tt
+keep_next K (TakeList place) post desk found = takes_on (NextRight K) place (record { marks = λ count. tt; none = tt; late = tt }) post desk (found == 1) found
+keep_next K (MarkTaken place count) post desk found = tt
 
 kept_keeps : (K R : Answer → Type 0) (outcome : CallOutcome) → NextRight K outcome → ((answer : Answer) → outcome ≡ Answers answer → R answer) → OutKeeps K R outcome
 kept_keeps K R (GoesOn phase) n d = n
@@ -515,6 +526,7 @@ released_keeps : (K R : Answer → Type 0) → (let_go : LetGo) (post : Post) (d
 released_keeps K R Released post desk told d = d
 released_keeps K R (Rehold key) post desk told d = round_keeps K (Holds key) post
 released_keeps K R (Dropped index) post desk told d = d
+released_keeps K R (Parting index) post desk told d = parts_on (PhaseKeeps K) (parts_keep K) (index + 1) post
 
 resume_keeps : (K R : Answer → Type 0) → Sound K R → (why : Why) (ending : Ending) (post : Post) (desk : Desk) (told : List Event) → WhyKeeps K why → WhyDecides K R why ending post → OutKeeps K R (steps.resume why ending post desk told).outcome
 resume_keeps K R s (Opens task) ending post desk told h d = opened_keeps K R s task ending post desk told d
@@ -571,6 +583,8 @@ first_keeps K names.Release post = letting_keeps K Released post
 first_keeps K (names.Copy from index) post = copying_keeps K from index (stands post from)
 first_keeps K (names.DropIndex index) post = letting_keeps K (Dropped index) post
 first_keeps K (names.Look index key) post = looking_at_keeps K index key (stands post index)
+first_keeps K names.Leave post = parts_all (PhaseKeeps K) (parts_keep K) post
+first_keeps K (names.Adopt place) post = tt
 first_keeps K (names.PutIf key value version) post = round_keeps K _ post
 first_keeps K names.Advance post = tt
 first_keeps K names.Scan post = tt

@@ -12,10 +12,10 @@ use Rattle.law_scans.specs.inv.model.declared.post.Post.{Post}
 use Rattle.law_scans.specs.inv.model.Desks.{Desk, noting}
 use Rattle.law_scans.specs.inv.model.Book.{booked_all}
 use Rattle.law_scans.specs.inv.model.Calls.{CallTurn, CallOutcome, GoesOn, Answers}
-use Rattle.law_scans.specs.inv.model.Locals.{Local, begun_post, may_begin, rounds_told, settled_by, told_by, told_end, turn}
+use Rattle.law_scans.specs.inv.model.Locals.{Local, begun_post, rounds_told, settled_by, told_by, told_end, turn}
 use Rattle.law_scans.specs.inv.model.Posts.{stands}
 use Rattle.law_scans.specs.inv.model.Steps.{first_phase}
-use Rattle.law_scans.specs.inv.model.World.{World, start, begin, step, finds, is_busy, told_in}
+use Rattle.law_scans.specs.inv.model.World.{World, begin, finds, is_busy, offered, start, step, told_in, may_start}
 use Rattle.law_scans.proofs.inv.model.Facts.{first_of, rest_of}
 use Rattle.law_scans.proofs.inv.covers.Begun.{first_begins}
 use Rattle.law_scans.proofs.inv.covers.Held.{stepped_post}
@@ -49,6 +49,8 @@ use Rattle.law_scans.proofs.answers.Lawful.Queues.{Agrees, told_agrees}
 use Rattle.law_scans.proofs.answers.AnswersTold.Answering as answering
 use Rattle.law_scans.proofs.answers.AnswersTold.Answering.{first_all, owes_of, began_along}
 use Rattle.law_scans.proofs.answers.AnswersTold.Owed.{is_open, Owes, owed}
+use Rattle.law_scans.proofs.answers.Leaving.Records.{record_places}
+use Rattle.law_scans.specs.answers.Records.{PlacesSay}
 use Rattle.law_scans.proofs.places.BareEnds.{end_stood}
 use Rattle.law_scans.specs.laws.HistoryAnswers.{reason, reasons_ok}
 use Rattle.law_reasons.specs.Records.{RecordsKeepReasons}
@@ -133,14 +135,14 @@ settled_seat c k l post desk rounds (Answers answer) p h s = record { decided = 
 
 -- what a step of seat i leaves decided and said, before its End
 record Went (w : World) (i : ℕ) (q : Past) : Type 0 where
-  decided : OutKeeps (Kept w.layout.config i q (w.seat i).call) (Right w.layout.config i q (w.seat i).call) (turn (w.seat i) (finds w i)).outcome
-  says : PhaseSays i (phase_left (turn (w.seat i) (finds w i)).outcome) q
+  decided : OutKeeps (Kept w.layout.config i q (w.seat i).call) (Right w.layout.config i q (w.seat i).call) (turn (offered w i) (finds w i)).outcome
+  says : PhaseSays i (phase_left (turn (offered w i) (finds w i)).outcome) q
 
 went_of : (w : World) (i : ℕ) (v : View) (l : Line) (z : Asked) (p : Past) → i < w.layout.config.seats → is_busy w i ≡ true → Shown w v l z p → answering.Right w.layout.config.buckets (w.seat i) (began_of i p) (told_of i p) → Emptied (λ k. was_empty k p) w z
-    → Seat w.layout.config i (w.seat i) p → Bounds w.layout.config (tells_of p i (told_in w i)) → ((j : ℕ) → stood_at i j (tells_of p i (told_in w i)) ≡ stands ((step w i).seat i).post j) → Shows w.book p → MissesAt (w.seat i) (times i is_any p)
-    → Went w i (tells_of p i (turn (w.seat i) (finds w i)).told)
-went_of w i v l z p b y h r e s n stood shows missed =
-    let t : CallTurn = turn (w.seat i) (finds w i) in
+    → Seat w.layout.config i (w.seat i) p → Bounds w.layout.config (tells_of p i (told_in w i)) → ((j : ℕ) → stood_at i j (tells_of p i (told_in w i)) ≡ stands ((step w i).seat i).post j) → Shows w.book p → MissesAt (w.seat i) (times i is_any p) → PlacesSay w.mem p
+    → Went w i (tells_of p i (turn (offered w i) (finds w i)).told)
+went_of w i v l z p b y h r e s n stood shows missed placed =
+    let t : CallTurn = turn (offered w i) (finds w i) in
     let q : Past = tells_of p i t.told in
     let within : all_of is_within t.told ≡ true = first_all is_within t.told (told_end t.post t.outcome) (within_of w i) in
     let later : Later i p q = later_all i i p p t.told within (later_same i p) in
@@ -161,25 +163,27 @@ went_of w i v l z p b y h r e s n stood shows missed =
             stood = λ j. sym (before_stood i j t.post t.outcome q) ∙ sym (ap (λ (x : Past). stood_at i j x) along) ∙ stood j ∙ ap (λ (x : Post). stands x j) (stepped_post w i);
             shows = shows;
             missed = missed;
+            placed = placed;
+            told = r.told y;
           })
           s.decided;
       says = turn_says w i q h.known.seats tells said;
     }
 
-own_seat : (w : World) (i : ℕ) (p : Past) → Went w i (tells_of p i (turn (w.seat i) (finds w i)).told) → Seat w.layout.config i ((step w i).seat i) (tells_of p i (told_in w i))
+own_seat : (w : World) (i : ℕ) (p : Past) → Went w i (tells_of p i (turn (offered w i) (finds w i)).told) → Seat w.layout.config i ((step w i).seat i) (tells_of p i (told_in w i))
 own_seat w i p g =
-    let t : CallTurn = turn (w.seat i) (finds w i) in
+    let t : CallTurn = turn (offered w i) (finds w i) in
     let q : Past = tells_of p i t.told in
     let along : tells_of p i (told_by t) ≡ tells_of q i (told_end t.post t.outcome) = tells_both i t.told (told_end t.post t.outcome) p in
     subst (λ (x : Local). Seat w.layout.config i x (tells_of p i (told_in w i))) (sym (seat_steps w i))
-    (subst (λ (x : Past). Seat w.layout.config i (settled_by (w.seat i) t.post (noting t.desk (told_by t)) (rounds_told (w.seat i).rounds (told_by t)) t.outcome) x) (sym along)
-    (settled_seat w.layout.config i (w.seat i) t.post (noting t.desk (told_by t)) (rounds_told (w.seat i).rounds (told_by t)) t.outcome (tells_of q i (told_end t.post t.outcome))
+    (subst (λ (x : Past). Seat w.layout.config i (settled_by (offered w i) t.post (noting t.desk (told_by t)) (rounds_told (w.seat i).rounds (told_by t)) t.outcome) x) (sym along)
+    (settled_seat w.layout.config i (offered w i) t.post (noting t.desk (told_by t)) (rounds_told (w.seat i).rounds (told_by t)) t.outcome (tells_of q i (told_end t.post t.outcome))
     (left_keeps w.layout.config i (w.seat i).call q t.post t.outcome g.decided) (left_says i q t.post t.outcome g.says)))
 
 other_seat : (c : Config) (k : ℕ) (l : Local) (p q : Past) → Later k p q → Bounds c q → Seat c k l p → Seat c k l q
 other_seat c k l p q h n s = record { decided = keeps_on (Kept c k p l.call) (Kept c k q l.call) l.phase (λ answer g. kept_lasts c k p q l.call answer h n g) s.decided; says = says_lasts k l.phase p q h s.says }
 
-step_seat : (w : World) (i k : ℕ) (p : Past) (same : Bool) → (k == i) ≡ same → Bounds w.layout.config (tells_of p i (told_in w i)) → Went w i (tells_of p i (turn (w.seat i) (finds w i)).told) → ((m : ℕ) → Seat w.layout.config m (w.seat m) p) → Seat w.layout.config k ((step w i).seat k) (tells_of p i (told_in w i))
+step_seat : (w : World) (i k : ℕ) (p : Past) (same : Bool) → (k == i) ≡ same → Bounds w.layout.config (tells_of p i (told_in w i)) → Went w i (tells_of p i (turn (offered w i) (finds w i)).told) → ((m : ℕ) → Seat w.layout.config m (w.seat m) p) → Seat w.layout.config k ((step w i).seat k) (tells_of p i (told_in w i))
 step_seat w i k p true e n g s =
     let one : k ≡ i = grind (arith, nat_tests) in
     subst (λ (m : ℕ). Seat w.layout.config m ((step w i).seat m) (tells_of p i (told_in w i))) (sym one) (own_seat w i p g)
@@ -187,9 +191,9 @@ step_seat w i k p false e n g s =
     subst (λ (x : Local). Seat w.layout.config k x (tells_of p i (told_in w i))) (sym (seat_stays w i k e))
     (other_seat w.layout.config k (w.seat k) p (tells_of p i (told_in w i)) (later_all k i p p (told_in w i) (within_of w i) (later_same k p)) n (s k))
 
-step_law : (w : World) (i : ℕ) (p : Past) → began_of i p ≡ Some (w.seat i).call → all_of is_open (turn (w.seat i) (finds w i)).told ≡ true → Went w i (tells_of p i (turn (w.seat i) (finds w i)).told) → Each (reasons_ok w.layout.config) p → Each (reasons_ok w.layout.config) (tells_of p i (told_in w i))
+step_law : (w : World) (i : ℕ) (p : Past) → began_of i p ≡ Some (w.seat i).call → all_of is_open (turn (offered w i) (finds w i)).told ≡ true → Went w i (tells_of p i (turn (offered w i) (finds w i)).told) → Each (reasons_ok w.layout.config) p → Each (reasons_ok w.layout.config) (tells_of p i (told_in w i))
 step_law w i p e o g h =
-    let t : CallTurn = turn (w.seat i) (finds w i) in
+    let t : CallTurn = turn (offered w i) (finds w i) in
     let q : Past = tells_of p i t.told in
     let within : all_of is_within t.told ≡ true = first_all is_within t.told (told_end t.post t.outcome) (within_of w i) in
     subst (Each (reasons_ok w.layout.config)) (sym (tells_both i t.told (told_end t.post t.outcome) p))
@@ -223,11 +227,11 @@ Stood made = (k j : ℕ) → stood_at k j made.past ≡ stands (made.world.seat 
 -- a copy that finds nothing has told nothing
 step_missed : (w : World) (i k : ℕ) (p : Past) (same : Bool) → (k == i) ≡ same → ((m : ℕ) → MissesAt (w.seat m) (times m is_any p)) → MissesAt ((step w i).seat k) (times k is_any (tells_of p i (told_in w i)))
 step_missed w i k p true e h =
-    let t : CallTurn = turn (w.seat i) (finds w i) in
+    let t : CallTurn = turn (offered w i) (finds w i) in
     let one : k ≡ i = grind (arith, nat_tests) in
     subst (λ (m : ℕ). MissesAt ((step w i).seat m) (times m is_any (tells_of p i (told_in w i)))) (sym one)
     (subst (λ (x : Local). MissesAt x (times i is_any (tells_of p i (told_in w i)))) (sym (seat_steps w i))
-    (step_misses (w.seat i) t.post (noting t.desk (told_by t)) (rounds_told (w.seat i).rounds (told_by t)) (finds w i) (times i is_any p) (times i is_any (tells_of p i (told_in w i))) (h i)))
+    (step_misses (offered w i) t.post (noting t.desk (told_by t)) (rounds_told (w.seat i).rounds (told_by t)) (finds w i) (times i is_any p) (times i is_any (tells_of p i (told_in w i))) (h i)))
 step_missed w i k p false e h =
     subst (λ (x : Local). MissesAt x (times k is_any (tells_of p i (told_in w i)))) (sym (seat_stays w i k e)) (other_misses (w.seat k) k i (told_in w i) p e (h k))
 
@@ -239,8 +243,8 @@ begin_missed w i k call p true e h =
 begin_missed w i k call p false e h =
     subst (λ (x : Local). MissesAt x (times k is_any (Then p i (events.Begin call)))) (sym (begin_stays w i k call e)) (other_misses (w.seat k) k i (events.Begin call ∷ []) p e (h k))
 
-step_keeps : (layout : Layout) (made : Made) (i : ℕ) → i < made.world.layout.config.seats → is_busy made.world i ≡ true → Stood (done made (Steps i)) → Keeps layout made → Keeps layout (done made (Steps i))
-step_keeps layout made i b y stood g =
+step_keeps : (layout : Layout) (made : Made) (i : ℕ) → i < made.world.layout.config.seats → is_busy made.world i ≡ true → Stood (done made (Steps i)) → PlacesSay made.world.mem made.past → Keeps layout made → Keeps layout (done made (Steps i))
+step_keeps layout made i b y stood placed g =
     let w : World = made.world in
     let p : Past = made.past in
     let n : ℕ = w.layout.config.buckets in
@@ -248,8 +252,8 @@ step_keeps layout made i b y stood g =
     let shown = step_shown w i g.rows g.line g.asked next.0 p b next.1.deal next.1.facts g.agrees g.shown in
     let bounds : Bounds w.layout.config (tells_of p i (told_in w i)) = bounds_of (step w i) (rows_after w i g.rows) (line_after w i g.line) next.0 (tells_of p i (told_in w i)) shown in
     let r = g.answers.seats i in
-    let o : Owes n (w.seat i).call (owed n (w.seat i).call (w.seat i).phase) (turn (w.seat i) (finds w i)) = owes_of n w i g.answers.table g.answers.known (r.serves y) in
-    let went : Went w i (tells_of p i (turn (w.seat i) (finds w i)).told) = went_of w i g.rows g.line g.asked p b y g.shown r g.emptied (g.seats i) bounds (stood i) g.shows (g.misses i) in
+    let o : Owes n (w.seat i).call (owed n (w.seat i).call (w.seat i).phase) (turn (offered w i) (finds w i)) = owes_of n w i g.answers.table g.answers.known (r.serves y) in
+    let went : Went w i (tells_of p i (turn (offered w i) (finds w i)).told) = went_of w i g.rows g.line g.asked p b y g.shown r g.emptied (g.seats i) bounds (stood i) g.shows (g.misses i) placed in
     record {
       table = g.table;
       answers = answering.step_keeps n made i b y g.answers;
@@ -282,7 +286,7 @@ begun_seat w i k call p false e n s =
     subst (λ (x : Local). Seat w.layout.config k x (Then p i (events.Begin call))) (sym (begin_stays w i k call e))
     (other_seat w.layout.config k (w.seat k) p (Then p i (events.Begin call)) (begin_later i k call p e) (record { versions = n.versions; numbers = n.numbers }) (s k))
 
-begin_keeps : (layout : Layout) (made : Made) (i : ℕ) (call : Call) → is_busy made.world i ≡ false → may_begin made.world.layout.config call ≡ true → Keeps layout made → Keeps layout (done made (Begins i call))
+begin_keeps : (layout : Layout) (made : Made) (i : ℕ) (call : Call) → is_busy made.world i ≡ false → may_start made.world i call ≡ true → Keeps layout made → Keeps layout (done made (Begins i call))
 begin_keeps layout made i call f m g =
     let w : World = made.world in
     let p : Past = made.past in
@@ -334,21 +338,25 @@ start_keeps layout d =
       law = tt;
     }
 
-item_keeps : (layout : Layout) (made : Made) (item : Item) (fit : Bool) → fits made.world item ≡ fit → Stood (done_if made item fit) → Keeps layout made → Keeps layout (done_if made item fit)
-item_keeps layout made item false f s g = g
-item_keeps layout made (Begins i call) true f s g = begin_keeps layout made i call (begins_right i made.world.layout.config.seats (is_busy made.world i) (may_begin made.world.layout.config call) f) (begins_within i made.world.layout.config.seats (is_busy made.world i) (may_begin made.world.layout.config call) f) g
-item_keeps layout made (Steps i) true f s g =
-    step_keeps layout made i (low_seat i made.world.layout.config.seats (is_busy made.world i) f) (rest_of (nat_lt i made.world.layout.config.seats) (is_busy made.world i) f) s g
+item_keeps : (layout : Layout) (made : Made) (item : Item) (fit : Bool) → fits made.world item ≡ fit → Stood (done_if made item fit) → PlacesSay made.world.mem made.past → Keeps layout made → Keeps layout (done_if made item fit)
+item_keeps layout made item false f s a g = g
+item_keeps layout made (Begins i call) true f s a g = begin_keeps layout made i call (begins_right i made.world.layout.config.seats (is_busy made.world i) (may_start made.world i call) f) (begins_within i made.world.layout.config.seats (is_busy made.world i) (may_start made.world i call) f) g
+item_keeps layout made (Steps i) true f s a g =
+    step_keeps layout made i (low_seat i made.world.layout.config.seats (is_busy made.world i) f) (rest_of (nat_lt i made.world.layout.config.seats) (is_busy made.world i) f) s a g
 
 -- the record of a history says what stands
 stood_of : (layout : Layout) (path : List Item) (made : Made) → is_valid layout ≡ true → made ≡ made_of layout path → Stood made
 stood_of layout path made d e = subst Stood (sym e) (λ k j. record_stands layout path k j d)
 
+-- and who has left and whose lists are taken over
+placed_of : (layout : Layout) (path : List Item) (made : Made) → is_valid layout ≡ true → made ≡ made_of layout path → PlacesSay made.world.mem made.past
+placed_of layout path made d e = subst (λ (m : Made). PlacesSay m.world.mem m.past) (sym e) (record_places layout path d)
+
 items_keep : (layout : Layout) (items path : List Item) (made : Made) → is_valid layout ≡ true → made ≡ made_of layout path → Keeps layout made → Keeps layout (made_from made items)
 items_keep layout [] path made d e g = g
 items_keep layout (item ∷ items) path made d e g =
     let q : did made item ≡ made_of layout (path ++ item ∷ []) = ap (λ (m : Made). did m item) e ∙ sym (made_snoc (first_made layout) path item) in
-    items_keep layout items (path ++ item ∷ []) (did made item) d q (item_keeps layout made item (fits made.world item) refl (stood_of layout (path ++ item ∷ []) (did made item) d q) g)
+    items_keep layout items (path ++ item ∷ []) (did made item) d q (item_keeps layout made item (fits made.world item) refl (stood_of layout (path ++ item ∷ []) (did made item) d q) (placed_of layout path made d e) g)
 
 pub records_keep_reasons : RecordsKeepReasons
 records_keep_reasons layout items d =

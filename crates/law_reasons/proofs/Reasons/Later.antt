@@ -20,8 +20,8 @@ use Rattle.law_scans.specs.inv.history.Record.Past.{Then}
 use Rattle.law_scans.proofs.inv.history.AllOf.{all_of}
 use Rattle.law_scans.proofs.inv.Machines.{is_within, within_begins}
 use Rattle.law_scans.specs.inv.model.defs.Events.{is_null}
-use Rattle.law_scans.specs.laws.AnswerLaw.{enqueue_reason}
-use Rattle.law_scans.specs.laws.HistoryAnswers.{put_reason, put_if_reason, remove_reason, dequeue_reason, hold_reason, release_reason, copy_reason, drop_reason, look_reason, reason}
+use Rattle.law_scans.specs.laws.AnswerLaw.{adopt_reason, enqueue_reason}
+use Rattle.law_scans.specs.laws.HistoryAnswers.{put_reason, put_if_reason, remove_reason, dequeue_reason, hold_reason, release_reason, copy_reason, drop_reason, leave_reason, look_reason, reason}
 
 -- q comes after p in the same call of seat i
 pub record Later (i : ℕ) (p q : Past) : Type 0 where
@@ -120,13 +120,16 @@ had_of i b version p h = rest_of (nat_le (begun_at i b p) version) (had_version 
 stays_last : (n count more last : ℕ) → count ≤ more → more ≤ last → (n == last && n == count) ≡ true → (n == last && n == more) ≡ true
 stays_last n count more last a b h = grind (arith, nat_tests)
 
--- the answers that are right only where the call ends, for what stands then
+-- the answers that are right only where the call ends, for what stands then, or that are decided only there
 abbrev pub is_last : Call → Answer → Bool
 is_last call (answers.Holding slot) = true
 is_last call answers.Released = true
 is_last call (answers.Copied slot) = true
 is_last call answers.Dropped = true
 is_last call (answers.Looked slot version value) = true
+is_last call (answers.Left count) = true
+is_last call answers.NotLeft = true
+is_last call answers.AdoptedBefore = true
 is_last (calls.Hold key) answers.Nothing = false
 is_last call answers.Nothing = true
 is_last call answer = false
@@ -220,6 +223,15 @@ look_lasts i index key p q (answers.Looked slot version value) f = absurd (cc)
 look_lasts i index key p q answers.Nothing f = absurd (cc)
 look_lasts i index key p q answer f = refl
 
+leave_lasts : (n i : ℕ) (q : Past) (answer : Answer) → is_last calls.Leave answer ≡ false → leave_reason n i q answer ≡ true
+leave_lasts n i q (answers.Left count) f = absurd (cc)
+leave_lasts n i q answer f = refl
+
+adopt_lasts : (i place : ℕ) (q : Past) (answer : Answer) → is_last (calls.Adopt place) answer ≡ false → adopt_reason i place q answer ≡ true
+adopt_lasts i place q answers.NotLeft f = absurd (cc)
+adopt_lasts i place q answers.AdoptedBefore f = absurd (cc)
+adopt_lasts i place q answer f = refl
+
 -- and of a put that names a version
 both_last : (a b d : Bool) → (b ≡ true → d ≡ true) → (a && b) ≡ true → (a && d) ≡ true
 both_last true b d f h = f h
@@ -246,5 +258,7 @@ reason_lasts c i p q calls.Release answer l n f h = release_lasts i p q answer f
 reason_lasts c i p q (calls.Copy from index) answer l n f h = copy_lasts i from index p q answer f
 reason_lasts c i p q (calls.DropIndex index) answer l n f h = drop_lasts i index p q answer f
 reason_lasts c i p q (calls.Look index key) answer l n f h = look_lasts i index key p q answer f
+reason_lasts c i p q calls.Leave answer l n f h = leave_lasts c.indexes i q answer f
+reason_lasts c i p q (calls.Adopt place) answer l n f h = adopt_lasts i place q answer f
 reason_lasts c i p q (calls.PutIf key value wanted) answer l n f h = put_if_lasts c i (bucket_of c.buckets key) key wanted p q answer l n h
 reason_lasts c i p q call answer l n f h = refl

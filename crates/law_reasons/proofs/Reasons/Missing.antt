@@ -6,7 +6,7 @@ use Rattle.law_scans.specs.inv.model.defs.declared.call.Call.TheVariants as name
 use Rattle.law_scans.specs.inv.model.defs.declared.event.Event.{Event}
 use Rattle.law_scans.specs.inv.model.defs.declared.event.Event.TheVariants as events
 use Rattle.law_scans.specs.inv.model.declared.post.Post.{Post}
-use Rattle.law_scans.specs.inv.model.Calls.{Keeping, KeepAt, Loosens, LoadHeld, StoreHeld, Looks, Misses, Work, Phase, Idle, Runs, Scans, Works, CallOutcome, GoesOn, Answers}
+use Rattle.law_scans.specs.inv.model.Calls.{Keeping, KeepAt, Loosens, LoadHeld, StoreHeld, Looks, Misses, HideSpan, MarkLeft, TakeList, MarkTaken, Work, Phase, Idle, Runs, Scans, Works, CallOutcome, GoesOn, Answers}
 use Rattle.law_scans.specs.inv.model.Desks.{Desk}
 use Rattle.law_scans.specs.inv.model.Keep as keeps
 use Rattle.law_scans.specs.inv.model.Locals.{Local, begun, settled_by, turn}
@@ -105,6 +105,10 @@ keep_goes (LoadHeld from index) post desk found was t h = load_goes from index p
 keep_goes (StoreHeld from index era) post desk found was t h = copied_goes from index post desk (reserves_index post index era) (stands post from) t
 keep_goes (Looks index key at) post desk found was t h = absurd (cc)
 keep_goes (Misses index) post desk found was t h = refl
+keep_goes HideSpan post desk found was t h = absurd (cc)
+keep_goes MarkLeft post desk found was t h = absurd (cc)
+keep_goes (TakeList place) post desk found was t h = absurd (cc)
+keep_goes (MarkTaken place count) post desk found was t h = absurd (cc)
 
 work_goes : (work : Work) (post : Post) (desk : Desk) (found was t : ℕ) → copy_work work was ≡ true → copy_phase (phase_left (steps.work_turn work post desk found).outcome) t ≡ true
 work_goes (Keeping at) post desk found was t h = keep_goes at post desk found was t h

@@ -30,8 +30,8 @@ use Rattle.law_scans.specs.inv.model.Phases.{Aim, Alone, Follows, Tries, Endless
 use Rattle.law_scans.specs.inv.model.Phases.Ending.{Done, Protected, Followed, Allocated, Retired, Clocked}
 use Rattle.law_scans.specs.inv.model.Phases.ProtectAt.{PublishEra, LoadLink, CheckClock, PublishRequest, CheckOwnClock, AnswerOwn, LoadAnswer, TakeAnswer, WithdrawRequest, WithdrawHelper, CheckUpper}
 use Rattle.law_scans.specs.inv.model.Phases.Base.{Protect, Move}
-use Rattle.law_scans.specs.inv.model.Calls.{Getting, Changing, Enqueuing, Dequeuing, Keeping, KeepAt, Loosens, LoadHeld, StoreHeld, Looks, Misses, Work, Task, Why, Opens, FollowsHead, Phase, Idle, Runs, Scans, Works, CallTurn, CallOutcome, GoesOn, Answers}
-use Rattle.law_scans.specs.inv.model.World.{World, finds, told_in}
+use Rattle.law_scans.specs.inv.model.Calls.{Getting, Changing, Enqueuing, Dequeuing, Keeping, KeepAt, Loosens, LoadHeld, StoreHeld, Looks, Misses, HideSpan, MarkLeft, TakeList, MarkTaken, Work, Task, Why, Opens, FollowsHead, Phase, Idle, Runs, Scans, Works, CallTurn, CallOutcome, GoesOn, Answers}
+use Rattle.law_scans.specs.inv.model.World.{World, finds, offered, told_in}
 use Rattle.law_scans.proofs.inv.model.Facts.{same_number, both, first_of, rest_of, is_one_more}
 use Rattle.law_scans.specs.inv.shapes.Frame.{phase_left}
 use Rattle.law_scans.specs.inv.shapes.Seats.{Aimed, Run, Seats, task_root}
@@ -288,11 +288,11 @@ before_end kind (event ∷ told) post outcome f h = by_one (kind event) (λ k. b
 
 -- where the step has told so much of its call, besides End
 abbrev pub Tells : World → ℕ → Past → Type 0
-Tells w i q = (kind : Event → Bool) → list_any kind (turn (w.seat i) (finds w i)).told ≡ true → has_told i kind q ≡ true
+Tells w i q = (kind : Event → Bool) → list_any kind (turn (offered w i) (finds w i)).told ≡ true → has_told i kind q ≡ true
 
 step_tells : (w : World) (i : ℕ) (q : Past) (kind : Event → Bool) → Tells w i q → ((steps : ℕ) (answer : Answer) → kind (events.End steps answer) ≡ false) → list_any kind (told_in w i) ≡ true → has_told i kind q ≡ true
 step_tells w i q kind t f h =
-    let made : CallTurn = turn (w.seat i) (finds w i) in
+    let made : CallTurn = turn (offered w i) (finds w i) in
     t kind (before_end kind made.told made.post made.outcome f h)
 
 now_of : (w : World) (i : ℕ) (why : Why) (base : Base) (q : Past) → (w.seat i).phase ≡ Runs why base → Tells w i q → Now i (w.seat i).post base (finds w i) q
@@ -325,6 +325,10 @@ keep_says i (LoadHeld from index) post desk found q = load_says i from index pos
 keep_says i (StoreHeld from index era) post desk found q = copied_says i from index post desk (reserves_index post index era) (stands post from) q
 keep_says i (Looks index key at) post desk found q = start_says i _ q (work_fresh (Keeping (Looks index key at)) post desk found refl).starts
 keep_says i (Misses index) post desk found q = tt
+keep_says i HideSpan post desk found q = tt
+keep_says i MarkLeft post desk found q = tt
+keep_says i (TakeList place) post desk found q = start_says i _ q (work_fresh (Keeping (TakeList place)) post desk found refl).starts
+keep_says i (MarkTaken place count) post desk found q = tt
 
 work_says : (i : ℕ) (work : Work) (post : Post) (desk : Desk) (found : ℕ) (q : Past) → PhaseSays i (phase_left (steps.work_turn work post desk found).outcome) q
 work_says i (Getting key at) post desk found q = start_says i _ q (work_fresh (Getting key at) post desk found refl).starts
@@ -333,11 +337,11 @@ work_says i (Enqueuing kept at) post desk found q = start_says i _ q (work_fresh
 work_says i (Dequeuing at) post desk found q = start_says i _ q (work_fresh (Dequeuing at) post desk found refl).starts
 work_says i (Keeping at) post desk found q = keep_says i at post desk found q
 
-phase_says : (w : World) (i : ℕ) (phase : Phase) (q : Past) → Seats w → (w.seat i).phase ≡ phase → Tells w i q → PhaseSays i (w.seat i).phase q → PhaseSays i (phase_left (steps.phase_turn phase (counted (w.seat i).post) (w.seat i).desk (finds w i)).outcome) q
+phase_says : (w : World) (i : ℕ) (phase : Phase) (q : Past) → Seats w → (w.seat i).phase ≡ phase → Tells w i q → PhaseSays i (w.seat i).phase q → PhaseSays i (phase_left (steps.phase_turn phase (counted (w.seat i).post) (offered w i).desk (finds w i)).outcome) q
 phase_says w i Idle q s e t h = tt
-phase_says w i (Runs why base) q s e t h = resumed_says i why (w.seat i).desk _ _ (machine.after base (counted (w.seat i).post) (finds w i)).outcome q (ends_say w i why base q s e t h)
-phase_says w i (Scans later at) q s e t h = start_says i _ q (scan_starts later at (counted (w.seat i).post) (w.seat i).desk (finds w i))
-phase_says w i (Works work) q s e t h = work_says i work (counted (w.seat i).post) (w.seat i).desk (finds w i) q
+phase_says w i (Runs why base) q s e t h = resumed_says i why (offered w i).desk _ _ (machine.after base (counted (w.seat i).post) (finds w i)).outcome q (ends_say w i why base q s e t h)
+phase_says w i (Scans later at) q s e t h = start_says i _ q (scan_starts later at (counted (w.seat i).post) (offered w i).desk (finds w i))
+phase_says w i (Works work) q s e t h = work_says i work (counted (w.seat i).post) (offered w i).desk (finds w i) q
 
-pub turn_says : (w : World) (i : ℕ) (q : Past) → Seats w → Tells w i q → PhaseSays i (w.seat i).phase q → PhaseSays i (phase_left (turn (w.seat i) (finds w i)).outcome) q
+pub turn_says : (w : World) (i : ℕ) (q : Past) → Seats w → Tells w i q → PhaseSays i (w.seat i).phase q → PhaseSays i (phase_left (turn (offered w i) (finds w i)).outcome) q
 turn_says w i q s t h = phase_says w i (w.seat i).phase q s refl t h

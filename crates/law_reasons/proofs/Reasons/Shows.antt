@@ -15,7 +15,7 @@ use Rattle.law_scans.specs.inv.model.Enqueue.{told_link}
 use Rattle.law_scans.specs.inv.model.Locals.{told_end, turn}
 use Rattle.law_scans.specs.inv.model.Memory.{upd}
 use Rattle.law_scans.specs.inv.model.Posts.{counted}
-use Rattle.law_scans.specs.inv.model.World.{World, finds, step, told_in}
+use Rattle.law_scans.specs.inv.model.World.{World, finds, offered, step, told_in}
 use Rattle.law_scans.specs.inv.model.Calls.{ChangeKept, EnqueueKept, LoadVersion, LoadCount, LoadKey, LoadValue, ExchangeRoot, LoadNumber, LoadNext, PassTail, ExchangeNext, ExchangeTail, LoadTail, SwingTail, TakeNumber, TakeValue, ExchangeHead, Getting, Changing, Enqueuing, Dequeuing, Keeping, Phase, Idle, Runs, Scans, Works, CallTurn, CallOutcome, GoesOn, Answers}
 use Rattle.law_scans.proofs.inv.model.Facts.{same_number, first_of, rest_of}
 use Rattle.law_scans.proofs.inv.contents.Contents.Told.{booked_append}
@@ -200,7 +200,7 @@ end_plain post (Answers answer) = refl
 pub step_shows : (w : World) (i : ℕ) (p : Past) → AllRight w.layout.config.buckets w.book (told_in w i) → Shows w.book p → Shows (step w i).book (tells_of p i (told_in w i))
 step_shows w i p r g =
     let n : ℕ = w.layout.config.buckets in
-    let t : CallTurn = turn (w.seat i) (finds w i) in
+    let t : CallTurn = turn (offered w i) (finds w i) in
     let first : List Event = ordered (w.seat i).phase (w.seat i).post (finds w i) in
     let o : InOrder first t.told = step_order w i in
     let right : AllRight n w.book first = right_first n w.book first o.rest (subst (AllRight n w.book) o.is (right_first n w.book t.told (told_end t.post t.outcome) r)) in

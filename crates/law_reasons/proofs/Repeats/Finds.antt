@@ -138,7 +138,7 @@ first_finds : (phase : Phase) (post : Post) (found : ℕ) → First (Finds (phas
 first_finds Idle post found = plain_finds [] 0 refl
 first_finds (Runs why base) post found = base_finds base post found
 first_finds (Scans later at) post found = plain_finds (scan_told at post found) 0 (scan_plain at post found)
-first_finds (Works work) post found = plain_finds (work_told work post) 0 (work_all is_plain (λ index slot. refl) (λ from index slot. refl) (λ seat index era. refl) work post)
+first_finds (Works work) post found = plain_finds (work_told work post) 0 (work_all is_plain (λ index slot. refl) (λ from index slot. refl) (λ seat index era. refl) (λ seat. refl) work post)
 
 pub step_finds : (phase : Phase) (post : Post) (desk : Desk) (found : ℕ) → finds_in (told_by (steps.phase_turn phase post desk found)) ≤ phase_top phase
 step_finds phase post desk found = step_goes (Finds (phase_top phase)) (finds_closed (phase_top phase)) phase post desk found (first_finds phase post found)

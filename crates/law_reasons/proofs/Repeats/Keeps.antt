@@ -20,8 +20,8 @@ use Rattle.law_scans.specs.inv.model.Rest.{is_told, lost_by}
 use Rattle.law_scans.specs.inv.model.Rounds.{index_of, key_of}
 use Rattle.law_scans.specs.inv.model.Calls.{Task, Gets, Changes, Holds, Enqueues, Dequeues, Why, Opens, Phase, Idle, Runs, Scans, Works, CallTurn, CallOutcome, GoesOn, Answers}
 use Rattle.law_scans.specs.inv.model.Desks.{noting}
-use Rattle.law_scans.specs.inv.model.Locals.{Local, may_begin, rounds_told, settled_by, told_by, told_end, turn}
-use Rattle.law_scans.specs.inv.model.World.{World, start, begin, step, finds, is_busy, told_in}
+use Rattle.law_scans.specs.inv.model.Locals.{Local, rounds_told, settled_by, told_by, told_end, turn}
+use Rattle.law_scans.specs.inv.model.World.{World, begin, finds, is_busy, offered, start, step, told_in, may_start}
 use Rattle.law_scans.proofs.inv.model.Facts.{same_number, first_of, rest_of}
 use Rattle.law_scans.specs.inv.shapes.Seats.{Run}
 use Rattle.law_scans.proofs.inv.shapes.Frame.{seat_stays, seat_steps, begin_stays, begin_begins}
@@ -227,11 +227,11 @@ own_may layout made i told k (Runs why base) e y n f =
     own_runs layout made i told k why base e y n (omega (arith, a, f))
 
 in_top : (w : World) (i : ℕ) → finds_in (told_in w i) ≤ phase_top (w.seat i).phase
-in_top w i = step_finds (w.seat i).phase (counted (w.seat i).post) (w.seat i).desk (finds w i)
+in_top w i = step_finds (w.seat i).phase (counted (w.seat i).post) (offered w i).desk (finds w i)
 
-told_top : (w : World) (i : ℕ) → finds_in (turn (w.seat i) (finds w i)).told ≤ phase_top (w.seat i).phase
+told_top : (w : World) (i : ℕ) → finds_in (turn (offered w i) (finds w i)).told ≤ phase_top (w.seat i).phase
 told_top w i =
-    let t : CallTurn = turn (w.seat i) (finds w i) in
+    let t : CallTurn = turn (offered w i) (finds w i) in
     let a = in_top w i in let b = both_finds t.told (told_end t.post t.outcome) in omega (arith, a, b)
 
 -- of other seats nothing is found, and more may be
@@ -260,7 +260,7 @@ settled_rounds l t rounds (Answers answer) = refl
 step_found : (layout : Layout) (made : Made) (i m : ℕ) (same : Bool) → (m == i) ≡ same → Keeps layout made → finds_of m (tells_of made.past i (told_in made.world i)) ≡ ((step made.world i).seat m).rounds
 step_found layout made i m true e k =
     let w : World = made.world in
-    let t : CallTurn = turn (w.seat i) (finds w i) in
+    let t : CallTurn = turn (offered w i) (finds w i) in
     let q : i ≡ m = grind (arith, nat_tests) in
     subst (λ (j : ℕ). finds_of j (tells_of made.past i (told_in w i)) ≡ ((step w i).seat j).rounds) q
     (finds_tells i (told_in w i) made.past (within_of w i) ∙ ap (λ (n : ℕ). rounds_told n (told_in w i)) (k.found i)
@@ -322,7 +322,7 @@ step_law layout made i y k =
     let w : World = made.world in
     let c : Config = w.layout.config in
     let n : ℕ = c.buckets in
-    let t : CallTurn = turn (w.seat i) (finds w i) in
+    let t : CallTurn = turn (offered w i) (finds w i) in
     let a = k.full.answers in
     let o : Owes n (w.seat i).call (owed n (w.seat i).call (w.seat i).phase) t = owes_of n w i a.table a.known ((a.seats i).serves y) in
     let q : Past = tells_of made.past i t.told in
@@ -394,6 +394,8 @@ counted_by t calls.Scan n e = tt
 counted_by t (calls.Copy from index) n e = tt
 counted_by t (calls.DropIndex index) n e = tt
 counted_by t (calls.Look index key) n e = tt
+counted_by t calls.Leave n e = tt
+counted_by t (calls.Adopt place) n e = tt
 
 finds_now : (i : ℕ) (call : Call) (p : Past) → finds_of i (Then p i (events.Begin call)) ≡ 0
 finds_now i call p = rw (same_number i) refl
@@ -423,7 +425,7 @@ begin_may c i m call p false e g =
     let x : whole_scan (guards c) (search_of m (Then p i (events.Begin call))) ≡ whole_scan (guards c) (search_of m p) = ap (whole_scan (guards c)) (seen_stays search_by no_search m i (events.Begin call ∷ []) p e) in
     omega (arith, r, a, b, s, x)
 
-begin_keeps : (layout : Layout) (made : Made) (i : ℕ) (call : Call) → is_busy made.world i ≡ false → may_begin made.world.layout.config call ≡ true → Keeps layout made → Keeps layout (done made (Begins i call))
+begin_keeps : (layout : Layout) (made : Made) (i : ℕ) (call : Call) → is_busy made.world i ≡ false → may_start made.world i call ≡ true → Keeps layout made → Keeps layout (done made (Begins i call))
 begin_keeps layout made i call f m k =
     let w : World = made.world in
     let c : Config = w.layout.config in

@@ -6,7 +6,7 @@ use Rattle.law_scans.specs.inv.model.defs.declared.call.Call.TheVariants as name
 use Rattle.law_scans.specs.inv.model.Phases.{Base}
 use Rattle.law_scans.specs.inv.model.Rest.{is_told, lost_by, rounds_most}
 use Rattle.law_scans.specs.inv.model.Rounds.{key_of}
-use Rattle.law_scans.specs.inv.model.Calls.{ChangeKept, EnqueueKept, Task, Gets, Changes, Holds, Enqueues, Dequeues, Next, Again, MakeRoom, Answering, Retiring, AfterScan, Answered, Repeated, Counted, Why, Opens, FollowsHead, Fills, ClearsNext, Clears, Finishes, Tidies, Releases, EnqueueAt, ExchangeTail, DequeueAt, LoadTail, Work, Getting, Changing, Enqueuing, Dequeuing, Keeping, KeepAt, Loosens, LoadHeld, StoreHeld, Looks, Misses, LetGo, Released, Rehold, Dropped, Phase, Idle, Runs, Scans, Works}
+use Rattle.law_scans.specs.inv.model.Calls.{ChangeKept, EnqueueKept, Task, Gets, Changes, Holds, Enqueues, Dequeues, Next, Again, MakeRoom, Answering, Retiring, AfterScan, Answered, Repeated, Counted, Why, Opens, FollowsHead, Fills, ClearsNext, Clears, Finishes, Tidies, Releases, EnqueueAt, ExchangeTail, DequeueAt, LoadTail, Work, Getting, Changing, Enqueuing, Dequeuing, Keeping, KeepAt, Loosens, LoadHeld, StoreHeld, Looks, Misses, HideSpan, MarkLeft, TakeList, MarkTaken, LetGo, Released, Rehold, Dropped, Parting, Phase, Idle, Runs, Scans, Works}
 use Rattle.law_scans.specs.inv.model.Locals.{busy_in}
 use Rattle.law_reasons.proofs.Repeats.Records.{is_counted}
 use Rattle.law_scans.proofs.answers.AnswersTold.Owed.{Serves, WhyServes, WorkServes, LaterServes, TaskServes, FreeServes, KeepServes, MissServes}
@@ -96,6 +96,7 @@ free_uncounted : (call : Call) (let_go : LetGo) → FreeServes call let_go → i
 free_uncounted call Released s = ap is_counted s
 free_uncounted call (Rehold key) s = ap is_counted s
 free_uncounted call (Dropped index) s = ap is_counted s
+free_uncounted call (Parting index) s = ap is_counted s
 
 miss_uncounted : (call : Call) (index : ℕ) → MissServes call index → is_counted call ≡ false
 miss_uncounted (names.Copy from other) index s = refl
@@ -108,6 +109,10 @@ keep_uncounted call (LoadHeld from index) s = ap is_counted s
 keep_uncounted call (StoreHeld from index era) s = ap is_counted s
 keep_uncounted call (Looks index key at) s = ap is_counted s
 keep_uncounted call (Misses index) s = miss_uncounted call index s
+keep_uncounted call HideSpan s = ap is_counted s
+keep_uncounted call MarkLeft s = ap is_counted s
+keep_uncounted call (TakeList place) s = ap is_counted s
+keep_uncounted call (MarkTaken place count) s = ap is_counted s
 
 releases_more : (c : Config) (t : Tally) (call : Call) (rounds n : ℕ) (let_go : LetGo) → Counts c t call n → FreeServes call let_go → rounds ≡ 0 → rounds + n ≡ 0
 releases_more c t call rounds n let_go k s h = none_more c (λ r. r ≡ 0) rounds n (k.zero (free_uncounted call let_go s)) h

@@ -7,6 +7,7 @@ use Rattle.law_scans.specs.inv.model.words.Place.Place.{Tail}
 use Rattle.law_scans.specs.inv.model.defs.declared.call.Call.{Call}
 use Rattle.law_scans.specs.inv.model.defs.declared.call.Call.TheVariants as names
 use Rattle.law_scans.specs.inv.model.declared.post.Post.{Post}
+use Rattle.law_scans.proofs.Leaving.{parts_all}
 use Rattle.law_scans.specs.inv.model.Calls.{Gets, Changes, Holds, Enqueues, Dequeues, LetGo, Released, Rehold, Dropped}
 use Rattle.law_scans.specs.inv.model.Locals.{Local, begun_post, busy_in}
 use Rattle.law_scans.specs.inv.model.Posts.{stands}
@@ -111,6 +112,8 @@ first_paced t names.Release n post h = letting_paced t n Released post
 first_paced t (names.Copy from index) n post h = copying_paced t n from index (stands post from)
 first_paced t (names.DropIndex index) n post h = letting_paced t n (Dropped index) post
 first_paced t (names.Look index key) n post h = looking_paced t n index key (stands post index)
+first_paced t names.Leave n post h = parts_all (phase_paced t n) (record { clears = λ index. tt; hides = tt; marks = tt }) post
+first_paced t (names.Adopt place) n post h = tt
 first_paced t (names.PutIf key value version) n post h = round_paced t n (Changes _) post (no_more n (t.count (key % t.buckets)) h)
 first_paced t names.Advance n post h = tt
 first_paced t names.Scan n post h = tt

@@ -10,7 +10,7 @@ use Rattle.law_scans.specs.inv.model.Posts.{upper}
 use Rattle.law_scans.specs.inv.model.words.Place.Place.{Clock}
 use Rattle.law_scans.specs.inv.model.Locals.{Local, round_told, rounds_told, settled, settled_by, told_by, turn}
 use Rattle.law_scans.specs.inv.model.declared.post.Post.{Post}
-use Rattle.law_scans.specs.inv.model.World.{World, step, finds}
+use Rattle.law_scans.specs.inv.model.World.{World, finds, offered, step}
 use Rattle.law_scans.specs.inv.shapes.Eras.{Eras}
 use Rattle.law_scans.specs.inv.shapes.Seats.{Seats}
 use Rattle.law_scans.proofs.inv.shapes.Frame.{seat_stays, seat_steps}
@@ -45,7 +45,7 @@ shifted_requests w n z r = record { words = r.words; locals = record { tags = r.
 
 shifted_both : (w : World) (n : ℕ → ℕ) (v : View) (l : Line) → Both w v l → Both (shifted w n) v l
 shifted_both w n v l b = record {
-  rows = record { good = b.rows.good; words = b.rows.words; plays = b.rows.plays };
+  rows = record { good = b.rows.good; words = b.rows.words; numbers = b.rows.numbers; plays = b.rows.plays; present = b.rows.present };
   queue = record { line = b.queue.line; walks = b.queue.walks };
 }
 
@@ -97,7 +97,7 @@ settled_alike l n post desk told (Answers answer) = record { phase = refl; post 
 alike_by : (w : World) (i k : ℕ) (n : ℕ → ℕ) (same : Bool) → (k == i) ≡ same → Alike ((step (shifted w n) i).seat k) (more_rounds ((step w i).seat k) (n k))
 alike_by w i k n true e =
     let q : i ≡ k = grind (arith, nat_tests) in
-    let t = turn (w.seat i) (finds w i) in
+    let t = turn (offered w i) (finds w i) in
     subst (λ (j : ℕ). Alike ((step (shifted w n) i).seat j) (more_rounds ((step w i).seat j) (n j))) q
     (subst (λ (l : Local). Alike l (more_rounds ((step w i).seat i) (n i))) (sym (seat_steps (shifted w n) i))
     (subst (λ (l : Local). Alike (settled (more_rounds (w.seat i) (n i)) t) (more_rounds l (n i))) (sym (seat_steps w i)) (settled_alike (w.seat i) (n i) t.post (noting t.desk (told_by t)) (told_by t) t.outcome)))

@@ -19,11 +19,11 @@ use Rattle.law_scans.specs.inv.model.Memory as memory
 use Rattle.law_scans.specs.inv.model.Memory.{written}
 use Rattle.law_scans.specs.inv.model.Posts.{counted}
 use Rattle.law_scans.specs.inv.model.Steps.{phase_move}
-use Rattle.law_scans.specs.inv.model.Calls.{ChangeKept, EnqueueKept, LoadVersion, LoadCount, LoadKey, LoadValue, ExchangeRoot, LoadNumber, LoadNext, PassTail, ExchangeNext, ExchangeTail, LoadTail, SwingTail, TakeNumber, TakeValue, ExchangeHead, Getting, Changing, Enqueuing, Dequeuing, Keeping, KeepAt, Loosens, LoadHeld, StoreHeld, Looks, Misses, GetAt, FindVersion, FindCount, FindKey, FindValue, ReadGuard, GiveBack, Phase, Idle, Runs, Scans, Works, CallOutcome, GoesOn, Answers}
+use Rattle.law_scans.specs.inv.model.Calls.{ChangeKept, EnqueueKept, LoadVersion, LoadCount, LoadKey, LoadValue, ExchangeRoot, LoadNumber, LoadNext, PassTail, ExchangeNext, ExchangeTail, LoadTail, SwingTail, TakeNumber, TakeValue, ExchangeHead, Getting, Changing, Enqueuing, Dequeuing, Keeping, KeepAt, Loosens, LoadHeld, StoreHeld, Looks, Misses, HideSpan, MarkLeft, TakeList, MarkTaken, GetAt, FindVersion, FindCount, FindKey, FindValue, ReadGuard, GiveBack, Phase, Idle, Runs, Scans, Works, CallOutcome, GoesOn, Answers}
 use Rattle.law_scans.specs.inv.rows.Hands.{row_move, hand_in, is_right}
 use Rattle.law_scans.specs.inv.rows.Queue.{Line, line_move, moved_line}
 use Rattle.law_scans.specs.inv.rows.Rows.{View, RowMove}
-use Rattle.law_scans.specs.inv.rows.Rows.RowMove.{Stays, Claims, Bears, Drops, Links, Replaces, Appends, Pops, Reads, Seals, Lists, Returns}
+use Rattle.law_scans.specs.inv.rows.Rows.RowMove.{Stays, Claims, Bears, Drops, Links, Replaces, Appends, Pops, Reads, Seals, Lists, Returns, Adopts}
 use Rattle.law_scans.proofs.inv.rows.Own.{unlinked_tail}
 use Rattle.law_scans.proofs.inv.rows.Went.{born_unlined}
 use Rattle.law_scans.proofs.inv.rows.Words.{missed}
@@ -34,7 +34,7 @@ use Rattle.law_scans.proofs.places.Placing.Fronts.{linked_front, queued_front, t
 use Rattle.law_scans.proofs.places.Placing.Marks.{is_marked, marks}
 use Rattle.law_scans.proofs.places.Ordering.Ordered.{whole_comes}
 use Rattle.law_scans.specs.inv.model.Locals.{told_end}
-use Rattle.law_scans.specs.inv.model.World.{World, step, told_in}
+use Rattle.law_scans.specs.inv.model.World.{World, step, told_in, list_in}
 use Rattle.law_scans.specs.inv.Known.{Known}
 use Rattle.law_scans.specs.inv.requests.Views.{View as Asked}
 use Rattle.law_scans.proofs.inv.rows.Steps.{of_taken}
@@ -60,6 +60,7 @@ rows_tail b (Reads slot birth) x = refl
 rows_tail b (Seals slot birth retire) x = refl
 rows_tail b (Lists slot birth retire) x = refl
 rows_tail b (Returns slot) x = refl
+rows_tail b (Adopts from) x = refl
 
 swung_tail : (mem : Place → ℕ) (l : Line) (slot row new n : ℕ) (same : Bool) → (mem Tail == row + 1) ≡ same → ((mem Tail == row + 1) ≡ true → l.number (new - 1) ≡ l.number row + 1) → n ≡ l.number (mem Tail - 1)
     → along tails_by (told_link roots.Tail slot same) n ≡ l.number (written mem (memory.Cas Tail (row + 1) new) Tail - 1)
@@ -105,6 +106,10 @@ keep_tail mem (LoadHeld from index) post = refl
 keep_tail mem (StoreHeld from index era) post = refl
 keep_tail mem (Looks index key at) post = look_tail mem at
 keep_tail mem (Misses index) post = refl
+keep_tail mem HideSpan post = refl
+keep_tail mem MarkLeft post = refl
+keep_tail mem (TakeList place) post = refl
+keep_tail mem (MarkTaken place count) post = refl
 
 pub tail_moved : (slots i : ℕ) (mem : Place → ℕ) (v : View) (l : Line) (phase : Phase) (post : Post) (list : List Lifetime) (n : ℕ) → Here slots i mem v l phase post list → ((kept : EnqueueKept) (slot : ℕ) → phase ≡ Works (Enqueuing kept (ExchangeNext slot)) → l.lined slot ≡ false) → n ≡ l.number (mem Tail - 1)
     → along tails_by (marks phase post (finds_phase mem phase post)) n ≡ (moved_line l (line_move phase (finds_phase mem phase post))).number (written mem (phase_move phase post) Tail - 1)
@@ -151,11 +156,11 @@ unlined : (w : World) (i : ℕ) (v : View) (l : Line) (z : Asked) → Known w v 
 unlined w i v l z k kept slot e =
     let b = k.whole.both in
     let p = b.rows.plays i in
-    let r : is_right (Works (Enqueuing kept (ExchangeNext slot))) (w.seat i).desk.list ≡ true = subst (λ (f : Phase). is_right f (w.seat i).desk.list ≡ true) e p.right in
+    let r : is_right (Works (Enqueuing kept (ExchangeNext slot))) (list_in w i) ≡ true = subst (λ (f : Phase). is_right f (list_in w i) ≡ true) e p.right in
     let h : v.hand i ≡ hand_in (Works (Enqueuing kept (ExchangeNext slot))) = p.hand ∙ ap (λ (f : Phase). hand_in f) e in
     born_unlined i v l w.mem slot b.queue.line (of_taken w.layout.config.slots v i slot b.rows.good (h ∙ taken_slot kept.taken slot r))
 
 pub tails_step : (w : World) (i : ℕ) (v : View) (l : Line) (z : Asked) (p : Past) → Known w v l z → tails_of p ≡ l.number (w.mem Tail - 1) → tails_of (tells_of p i (told_in w i)) ≡ (line_after w i l).number ((step w i).mem Tail - 1)
 tails_step w i v l z p k h =
     whole_comes tails_by tails_of w i p (λ q event. refl) tail_still tail_end
-    ∙ tail_moved w.layout.config.slots i w.mem v l (w.seat i).phase (w.seat i).post (w.seat i).desk.list (tails_of p) (here_of w i v l z k) (unlined w i v l z k) h
+    ∙ tail_moved w.layout.config.slots i w.mem v l (w.seat i).phase (w.seat i).post (list_in w i) (tails_of p) (here_of w i v l z k) (unlined w i v l z k) h

@@ -7,7 +7,7 @@ use Rattle.law_answers.specs.inv.model.defs.declared.event.Event.{Event}
 use Rattle.law_answers.specs.inv.model.defs.declared.event.Event.TheVariants as events
 use Rattle.law_answers.specs.inv.model.defs.declared.lifetime.Lifetime.{Lifetime}
 use Rattle.law_answers.specs.inv.model.declared.post.Post.{Post}
-use Rattle.law_answers.specs.inv.model.Calls.{Why, Work, Runs, Works, Retires}
+use Rattle.law_answers.specs.inv.model.Calls.{Why, Work, Runs, Works, Retires, KeepAt, TakeList, Keeping}
 use Rattle.law_answers.specs.inv.model.Desks.{Desk}
 use Rattle.law_answers.specs.inv.model.Guards.{guards}
 use Rattle.law_answers.specs.inv.model.Machine.{after}
@@ -22,11 +22,12 @@ use Rattle.law_answers.specs.inv.history.Record.{Past, Each, tells_of}
 use Rattle.law_answers.specs.inv.history.Record.Past.{Then}
 use Rattle.law_answers.specs.laws.StateAt.{list_of, read_by, read_of, is_scan, scans_of}
 use Rattle.law_reuse.proofs.Once.Calm.{is_unread}
-use Rattle.law_reuse.proofs.Once.Desks.{left_desk, left_at, resumed_desk, work_desk}
+use Rattle.law_reuse.proofs.Once.Desks.{left_desk, left_at, resumed_desk, work_desk, takes_list}
 use Rattle.law_answers.specs.laws.ScanLaw.{is_over, scan_by, scan_ok}
 use Rattle.law_reuse.proofs.Blocks.Placed.{Rests}
 use Rattle.law_answers.proofs.inv.history.AllOf.{all_of}
 use Rattle.law_answers.proofs.inv.covers.Kept.{resumed_fresh}
+use Rattle.law_answers.specs.inv.model.Keep.{taking}
 
 pub read_own : (all i : ℕ) (event : Event) (p : Past) → read_of all i (Then p i event) ≡ read_by all event (read_of all i p)
 read_own all i event p = rw (same_number i) refl
@@ -110,8 +111,20 @@ pub run_report : (why : Why) (base : Base) (post : Post) (desk : Desk) (found : 
 run_report why base post desk found =
     ap (λ (d : Desk). d.report) (resumed_desk why desk (after base post found).post (after base post found).told (after base post found).outcome) ∙ left_report why (after base post found).outcome desk
 
+taking_report : (place : ℕ) (post : Post) (desk : Desk) (left : Bool) (found : ℕ) → (taking place post desk left found).desk.report ≡ desk.report
+taking_report place post desk true found = refl
+taking_report place post desk false found = refl
+
+plain_report : (work : Work) (post : Post) (desk : Desk) (found : ℕ) → takes_list (Works work) found ≡ false → (phase_turn (Works work) post desk found).desk.report ≡ desk.report
+plain_report work post desk found n = ap (λ (d : Desk). d.report) (work_desk work post desk found n)
+
+keep_report : (at : KeepAt) (post : Post) (desk : Desk) (found : ℕ) → (phase_turn (Works (Keeping at)) post desk found).desk.report ≡ desk.report
+keep_report (TakeList place) post desk found = taking_report place post desk (found == 1) found
+keep_report at post desk found = plain_report (Keeping at) post desk found refl
+
 pub work_report : (work : Work) (post : Post) (desk : Desk) (found : ℕ) → (phase_turn (Works work) post desk found).desk.report ≡ desk.report
-work_report work post desk found = ap (λ (d : Desk). d.report) (work_desk work post desk found)
+work_report (Keeping at) post desk found = keep_report at post desk found
+work_report work post desk found = plain_report work post desk found refl
 
 pub run_fresh : (why : Why) (base : Base) (post : Post) (desk : Desk) (found : ℕ) → is_fresh (phase_left (phase_turn (Runs why base) post desk found).outcome) ≡ true
 run_fresh why base post desk found = resumed_fresh why desk (after base post found).post (after base post found).told (after base post found).outcome

@@ -15,11 +15,11 @@ use Rattle.law_answers.specs.inv.model.declared.post.Post.{Post}
 use Rattle.law_answers.specs.inv.model.Calls.{AfterScan, Counted, ScanAt, ReadGuard, GiveBack, Phase, Idle, Runs, Scans, Works, CallTurn, CallOutcome, GoesOn, Answers}
 use Rattle.law_answers.specs.inv.model.Desks.{Desk, Report, noting}
 use Rattle.law_answers.specs.inv.model.Guards.{guards, guard_at, eras_in, published}
-use Rattle.law_answers.specs.inv.model.Locals.{Local, after, begun, settled, rounds_told, told_by, told_end, turn, may_begin}
+use Rattle.law_answers.specs.inv.model.Locals.{Local, after, begun, settled, rounds_told, told_by, told_end, turn}
 use Rattle.law_answers.specs.inv.model.Posts.{counted}
 use Rattle.law_answers.specs.inv.model.Scan.{Entry, giving_back, reading, with_read, with_back, unmet_from, scan_turn}
 use Rattle.law_answers.specs.inv.model.Steps.{phase_turn}
-use Rattle.law_answers.specs.inv.model.World.{World, begin, step, finds, is_busy, told_in}
+use Rattle.law_answers.specs.inv.model.World.{World, begin, finds, is_busy, offered, step, told_in, may_start}
 use Rattle.law_answers.proofs.inv.model.Facts.{same_number, both, first_of, rest_of}
 use Rattle.law_answers.specs.inv.covers.Covers.{upto_at}
 use Rattle.law_answers.proofs.inv.covers.Held.{settled_phase}
@@ -35,7 +35,7 @@ use Rattle.law_answers.proofs.inv.history.Along.{Steady, items_keep}
 use Rattle.law_answers.specs.inv.rows.Hands.{each_once, is_right, scans_right}
 use Rattle.law_answers.proofs.laws.Along.{list_own}
 use Rattle.law_reuse.proofs.Once.Calm.{is_calm, run_calm, work_calm}
-use Rattle.law_reuse.proofs.Once.Keeps.{Keeps, first_keeps, begin_keeps, step_keeps, settled_list}
+use Rattle.law_reuse.proofs.Once.Keeps.{Keeps, first_keeps, begin_keeps, step_keeps}
 use Rattle.law_reuse.proofs.Once.Moves.{removed}
 use Rattle.law_answers.specs.laws.HistoryScans.{answers_scan, count_ok}
 use Rattle.law_answers.specs.laws.ScanLaw.{is_scan_call}
@@ -45,6 +45,8 @@ use Rattle.law_reuse.proofs.Blocks.Placed.{scan_event, scan_tells}
 use Rattle.law_answers.proofs.inv.history.AllOf.{all_of, of_along}
 use Rattle.law_answers.proofs.inv.Machines.{is_within}
 use Rattle.law_answers.proofs.inv.Inv.Whole.{covers_of}
+use Rattle.law_answers.proofs.inv.rows.Kept.{busy_plays}
+use Rattle.law_reuse.proofs.Once.Lists.{busy_list, settled_list}
 
 calm_within : (told : List Event) → all_of is_calm told ≡ true → all_of is_within told ≡ true
 calm_within [] h = refl
@@ -159,12 +161,12 @@ scan_counts i (ReadGuard n) post desk found p f r b l d s =
     let event : Event = events.Read seen.0 (eras_in seen.0 found) in
     let m : n < guards config = grind (arith, nat_tests) in
     reading_counts config i n post (with_read desk n seen) (event ∷ []) (nat_lt (n + 1) (guards config)) (Then p i event) refl m
-    (times_read i is_read event p refl refl ∙ ap (λ (x : ℕ). x + 1) r) (times_quiet i is_back event p refl refl ∙ b) refl (list_own i event p ∙ l)
+    (times_read i is_read event p refl refl ∙ ap (λ (x : ℕ). x + 1) r) (times_quiet i is_back event p refl refl ∙ b) refl (list_own i event p refl ∙ l)
 scan_counts i (GiveBack place slot) post desk found p f r b l d s =
     let event : Event = events.Back slot in
     giving_counts post.layout.config i post (with_back desk place) (event ∷ []) (unmet_from (with_back desk place) place) (Then p i event)
     (times_quiet i is_read event p refl refl ∙ r) (times_read i is_back event p refl refl ∙ ap (λ (x : ℕ). x + 1) b)
-    (list_own i event p ∙ ap (without slot) l ∙ sym (removed desk.list place slot d s))
+    (list_own i event p refl ∙ ap (without slot) l ∙ sym (removed desk.list place slot d s))
 
 -- what a turn of the seat leaves
 record OwnCounts (config : Config) (i : ℕ) (t : CallTurn) (p : Past) : Type 0 where
@@ -265,20 +267,21 @@ record CountsScans (layout : Layout) (made : Made) : Type 0 where
   seats : (k : ℕ) → SeatCounts (guards layout.config) k (made.world.seat k) made.past
   law : Each (count_ok layout.config) made.past
 
-own_counts : (layout : Layout) (made : Made) (i : ℕ) → CountsScans layout made → OwnCounts layout.config i (turn (made.world.seat i) (finds made.world i)) made.past
-own_counts layout made i g =
+own_counts : (layout : Layout) (made : Made) (i : ℕ) → is_busy made.world i ≡ true → CountsScans layout made → OwnCounts layout.config i (turn (offered made.world i) (finds made.world i)) made.past
+own_counts layout made i y g =
     let w : World = made.world in
     let k = g.base.known in
-    let own : Local = w.seat i in
+    let own : Local = offered w i in
     let n = covers_of w i g.base.rows g.base.line g.base.asked k in
+    let plays = busy_plays w i g.base.rows y n.rows in
     let a : own.post.layout ≡ layout = (k.seats.fits i).post.layout ∙ g.base.table in
     let f : ScanFits own.post.layout.config own.phase = subst (λ (x : Layout). ScanFits x.config own.phase) (sym (k.seats.fits i).post.layout) (scans_fit w.layout own.post own.phase (k.seats.fits i).phase) in
     let c : is_scan_call (call_of i made.past) ≡ true → Counting (guards own.post.layout.config) i own.phase own.desk.report made.past =
     subst (λ (x : Layout). is_scan_call (call_of i made.past) ≡ true → Counting (guards x.config) i own.phase own.desk.report made.past) (sym a) (g.seats i) in
     subst (λ (x : Layout). OwnCounts x.config i (turn own (finds w i)) made.past) a
-    (phase_counts i own.phase (counted own.post) own.desk (finds w i) made.past f c (g.base.shows.lists i) (n.rows.plays i).once (n.rows.plays i).right)
+    (phase_counts i own.phase (counted own.post) own.desk (finds w i) made.past f c (g.base.shows.lists i ∙ busy_list w i g.base.rows y n.rows) plays.once plays.right)
 
-step_seats : (all : ℕ) (w : World) (i k : ℕ) (p : Past) (same : Bool) → (k == i) ≡ same → ((j : ℕ) → SeatCounts all j (w.seat j) p) → SeatCounts all i (after (w.seat i) (finds w i)) (tells_of p i (told_in w i)) → SeatCounts all k ((step w i).seat k) (tells_of p i (told_in w i))
+step_seats : (all : ℕ) (w : World) (i k : ℕ) (p : Past) (same : Bool) → (k == i) ≡ same → ((j : ℕ) → SeatCounts all j (w.seat j) p) → SeatCounts all i (after (offered w i) (finds w i)) (tells_of p i (told_in w i)) → SeatCounts all k ((step w i).seat k) (tells_of p i (told_in w i))
 step_seats all w i k p true e h x =
     let q : i ≡ k = grind (arith, nat_tests) in
     subst (λ (j : ℕ). SeatCounts all j ((step w i).seat j) (tells_of p i (told_in w i))) q (subst (λ (l : Local). SeatCounts all i l (tells_of p i (told_in w i))) (sym (seat_steps w i)) x)
@@ -306,6 +309,8 @@ begun_by all i l names.Advance p h = absurd (cc)
 begun_by all i l (names.Copy from index) p h = absurd (cc)
 begun_by all i l (names.DropIndex index) p h = absurd (cc)
 begun_by all i l (names.Look index key) p h = absurd (cc)
+begun_by all i l names.Leave p h = absurd (cc)
+begun_by all i l (names.Adopt place) p h = absurd (cc)
 begun_by all i l (names.PutIf key value version) p h = absurd (cc)
 begun_by all i l names.Scan p h = record { at = ReadGuard 0; stands = refl; reads = none_told i is_read names.Scan p; backs = none_told i is_back names.Scan p }
 
@@ -319,25 +324,25 @@ begin_seats all w i k call p false e h =
     let c = h k (sym (ap is_scan_call (call_other k i (events.Begin call ∷ []) p e)) ∙ y) in
     record { at = c.at; stands = c.stands; reads = times_other k i is_read (events.Begin call ∷ []) p e ∙ c.reads; backs = times_other k i is_back (events.Begin call ∷ []) p e ∙ c.backs })
 
-begin_item : (layout : Layout) (made : Made) (i : ℕ) (call : Call) → is_busy made.world i ≡ false → may_begin made.world.layout.config call ≡ true → CountsScans layout made → CountsScans layout (done made (Begins i call))
+begin_item : (layout : Layout) (made : Made) (i : ℕ) (call : Call) → is_busy made.world i ≡ false → may_start made.world i call ≡ true → CountsScans layout made → CountsScans layout (done made (Begins i call))
 begin_item layout made i call f m g = record {
   base = begin_keeps layout made i call f m g.base;
   seats = λ k. begin_seats (guards layout.config) made.world i k call made.past (k == i) refl g.seats;
   law = (refl, g.law);
 }
 
-step_item : (layout : Layout) (made : Made) (i : ℕ) → i < made.world.layout.config.seats → CountsScans layout made → CountsScans layout (done made (Steps i))
-step_item layout made i b g =
+step_item : (layout : Layout) (made : Made) (i : ℕ) → i < made.world.layout.config.seats → is_busy made.world i ≡ true → CountsScans layout made → CountsScans layout (done made (Steps i))
+step_item layout made i b y g =
     let w : World = made.world in
-    let t = own_counts layout made i g in
+    let t = own_counts layout made i y g in
     record {
-      base = step_keeps layout made i b g.base;
-      seats = λ k. step_seats (guards layout.config) w i k made.past (k == i) refl g.seats (settled_counts (guards layout.config) i (w.seat i) (turn (w.seat i) (finds w i)) (tells_of made.past i (told_in w i)) t.later);
+      base = step_keeps layout made i b y g.base;
+      seats = λ k. step_seats (guards layout.config) w i k made.past (k == i) refl g.seats (settled_counts (guards layout.config) i (offered w i) (turn (offered w i) (finds w i)) (tells_of made.past i (told_in w i)) t.later);
       law = t.each g.law;
     }
 
 steady : (layout : Layout) → Steady (CountsScans layout)
-steady layout = record { begins = λ made i call b y m g. begin_item layout made i call y m g; steps = λ made i b y g. step_item layout made i b g }
+steady layout = record { begins = λ made i call b y m g. begin_item layout made i call y m g; steps = λ made i b y g. step_item layout made i b y g }
 
 pub records_count_scans : RecordsCountScans
 records_count_scans layout items d =

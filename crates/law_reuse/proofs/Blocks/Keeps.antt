@@ -14,11 +14,11 @@ use Rattle.law_answers.specs.inv.model.declared.post.Post.{Post}
 use Rattle.law_answers.specs.inv.model.Calls.{AfterScan, ScanAt, Phase, Idle, Runs, Scans, Works, CallTurn, CallOutcome, GoesOn, Answers}
 use Rattle.law_answers.specs.inv.model.Desks.{Desk, Report, noting}
 use Rattle.law_answers.specs.inv.model.Guards.{guards}
-use Rattle.law_answers.specs.inv.model.Locals.{Local, after, begun, begun_post, busy_in, settled, rounds_told, told_by, told_end, turn, may_begin}
+use Rattle.law_answers.specs.inv.model.Locals.{Local, after, begun, begun_post, busy_in, settled, rounds_told, told_by, told_end, turn}
 use Rattle.law_answers.specs.inv.model.Posts.{counted}
 use Rattle.law_answers.specs.inv.model.Scan.{scan_turn}
 use Rattle.law_answers.specs.inv.model.Steps.{phase_turn}
-use Rattle.law_answers.specs.inv.model.World.{World, begin, step, finds, is_busy, told_in}
+use Rattle.law_answers.specs.inv.model.World.{World, begin, finds, is_busy, offered, step, told_in, may_start}
 use Rattle.law_answers.specs.inv.covers.Covers.{is_fresh}
 use Rattle.law_answers.proofs.inv.covers.Fresh.{first_begins}
 use Rattle.law_answers.proofs.inv.covers.Held.{settled_phase}
@@ -32,12 +32,14 @@ use Rattle.law_answers.specs.inv.history.History.{Begins, Steps, Made, done, fir
 use Rattle.law_answers.proofs.inv.history.Along.{Steady, items_keep}
 use Rattle.law_answers.specs.laws.StateAt.{list_of, read_by, read_of, is_scan, scans_of}
 use Rattle.law_reuse.proofs.Once.Calm.{is_unread, run_unread, work_unread}
-use Rattle.law_reuse.proofs.Once.Keeps.{Keeps, first_keeps, begin_keeps, step_keeps, settled_list}
+use Rattle.law_reuse.proofs.Once.Keeps.{Keeps, first_keeps, begin_keeps, step_keeps}
 use Rattle.law_answers.specs.laws.ScanLaw.{scan_by, scan_ok}
 use Rattle.law_reuse.specs.Records.{RecordsKeepScans}
 use Rattle.law_reuse.proofs.Blocks.Calm.{read_own, scans_own, read_other, scans_other, RestsAt, told_same, told_rests, one_allowed, told_each, unread_rests, unread_same, run_report, work_report, run_fresh, works_fresh}
 use Rattle.law_reuse.proofs.Blocks.Placed.{Rests, PlacedAt, Placed, fresh_placed, TurnPlaced, scan_event, scan_placed, scan_tells, scan_reads, scan_allowed}
 use Rattle.law_answers.proofs.inv.history.AllOf.{all_of}
+use Rattle.law_reuse.proofs.Once.Lists.{settled_list, begins_own, busy_list, stepped_own}
+use Rattle.law_answers.proofs.laws.Along.{list_own}
 
 -- what the record says of a seat's scan is so
 abbrev pub SeatPlaced : ℕ → ℕ → Local → Past → Type 0
@@ -154,9 +156,9 @@ settled_placed all i l t p h =
 pub after_desk : (l : Local) (found : ℕ) → (after l found).desk ≡ noting (turn l found).desk (told_by (turn l found))
 after_desk l found = let t : CallTurn = turn l found in settled_list l t.post (noting t.desk (told_by t)) (rounds_told l.rounds (told_by t)) t.outcome
 
-own_told : (layout : Layout) (w : World) (i : ℕ) (p : Past) → w.layout ≡ layout → Seats w → Tied (guards layout.config) w p → list_of i p ≡ (w.seat i).desk.list → list_of i (tells_of p i (told_in w i)) ≡ ((step w i).seat i).desk.list → Told layout.config i (turn (w.seat i) (finds w i)) p
+own_told : (layout : Layout) (w : World) (i : ℕ) (p : Past) → w.layout ≡ layout → Seats w → Tied (guards layout.config) w p → list_of i p ≡ (w.seat i).desk.list → list_of i (tells_of p i (told_in w i)) ≡ ((step w i).seat i).desk.list → Told layout.config i (turn (offered w i) (finds w i)) p
 own_told layout w i p e s h l q =
-    let own : Local = w.seat i in
+    let own : Local = offered w i in
     let a : own.post.layout ≡ layout = (s.fits i).post.layout ∙ e in
     let g : ScanFits own.post.layout.config own.phase = subst (λ (x : Layout). ScanFits x.config own.phase) (sym (s.fits i).post.layout) (scans_fit w.layout own.post own.phase (s.fits i).phase) in
     let r : read_of (guards own.post.layout.config) i p ≡ own.desk.report.read = subst (λ (x : Layout). read_of (guards x.config) i p ≡ own.desk.report.read) (sym a) (h.reads i) in
@@ -164,14 +166,14 @@ own_told layout w i p e s h l q =
     let z : ((step w i).seat i).desk.list ≡ (turn own (finds w i)).desk.list = ap (λ (x : Local). x.desk.list) (seat_steps w i) ∙ ap (λ (d : Desk). d.list) (after_desk own (finds w i)) in
     subst (λ (x : Layout). Told x.config i (turn own (finds w i)) p) a (phase_told i own.phase (counted own.post) own.desk (finds w i) p g r l y (q ∙ z))
 
-step_reads : (all : ℕ) (w : World) (i k : ℕ) (p : Past) (same : Bool) → (k == i) ≡ same → Tied all w p → read_of all i (tells_of p i (told_in w i)) ≡ (turn (w.seat i) (finds w i)).desk.report.read → read_of all k (tells_of p i (told_in w i)) ≡ ((step w i).seat k).desk.report.read
+step_reads : (all : ℕ) (w : World) (i k : ℕ) (p : Past) (same : Bool) → (k == i) ≡ same → Tied all w p → read_of all i (tells_of p i (told_in w i)) ≡ (turn (offered w i) (finds w i)).desk.report.read → read_of all k (tells_of p i (told_in w i)) ≡ ((step w i).seat k).desk.report.read
 step_reads all w i k p true e h r =
     let q : i ≡ k = grind (arith, nat_tests) in
-    let d : ((step w i).seat i).desk.report.read ≡ (turn (w.seat i) (finds w i)).desk.report.read = ap (λ (x : Local). x.desk.report.read) (seat_steps w i) ∙ ap (λ (d : Desk). d.report.read) (after_desk (w.seat i) (finds w i)) in
+    let d : ((step w i).seat i).desk.report.read ≡ (turn (offered w i) (finds w i)).desk.report.read = ap (λ (x : Local). x.desk.report.read) (seat_steps w i) ∙ ap (λ (d : Desk). d.report.read) (after_desk (offered w i) (finds w i)) in
     subst (λ (j : ℕ). read_of all j (tells_of p i (told_in w i)) ≡ ((step w i).seat j).desk.report.read) q (r ∙ sym d)
 step_reads all w i k p false e h r = read_other all k i (told_in w i) p e ∙ h.reads k ∙ sym (ap (λ (x : Local). x.desk.report.read) (seat_stays w i k e))
 
-step_places : (all : ℕ) (w : World) (i k : ℕ) (p : Past) (same : Bool) → (k == i) ≡ same → Tied all w p → SeatPlaced all i (after (w.seat i) (finds w i)) (tells_of p i (told_in w i)) → SeatPlaced all k ((step w i).seat k) (tells_of p i (told_in w i))
+step_places : (all : ℕ) (w : World) (i k : ℕ) (p : Past) (same : Bool) → (k == i) ≡ same → Tied all w p → SeatPlaced all i (after (offered w i) (finds w i)) (tells_of p i (told_in w i)) → SeatPlaced all k ((step w i).seat k) (tells_of p i (told_in w i))
 step_places all w i k p true e h x =
     let q : i ≡ k = grind (arith, nat_tests) in
     subst (λ (j : ℕ). SeatPlaced all j ((step w i).seat j) (tells_of p i (told_in w i))) q (subst (λ (l : Local). SeatPlaced all i l (tells_of p i (told_in w i))) (sym (seat_steps w i)) x)
@@ -212,12 +214,12 @@ pub record Scanned (layout : Layout) (made : Made) : Type 0 where
   pub tied : Tied (guards layout.config) made.world made.past
   pub law : Each (scan_ok layout.config) made.past
 
-begin_scanned : (layout : Layout) (made : Made) (i : ℕ) (call : Call) → is_busy made.world i ≡ false → may_begin made.world.layout.config call ≡ true → Scanned layout made → Scanned layout (done made (Begins i call))
+begin_scanned : (layout : Layout) (made : Made) (i : ℕ) (call : Call) → is_busy made.world i ≡ false → may_start made.world i call ≡ true → Scanned layout made → Scanned layout (done made (Begins i call))
 begin_scanned layout made i call f m g =
     let all : ℕ = guards layout.config in
     let later = begin_keeps layout made i call f m g.base in
-    let l : list_of i made.past ≡ (made.world.seat i).desk.list = g.base.shows.lists i in
-    let q : list_of i (Then made.past i (events.Begin call)) ≡ (made.world.seat i).desk.list = later.shows.lists i ∙ ap (λ (x : Local). x.desk.list) (begin_begins made.world i call) in
+    let l : list_of i made.past ≡ (made.world.seat i).desk.list = g.base.shows.lists i ∙ begins_own made.world i call m in
+    let q : list_of i (Then made.past i (events.Begin call)) ≡ (made.world.seat i).desk.list = list_own i (events.Begin call) made.past refl ∙ l in
     record {
       base = later;
       tied = record {
@@ -227,25 +229,25 @@ begin_scanned layout made i call f m g =
       law = (one_allowed layout.config i (events.Begin call) made.past refl (begin_rests all made.world i made.past f g.tied l), g.law);
     }
 
-step_scanned : (layout : Layout) (made : Made) (i : ℕ) → i < made.world.layout.config.seats → Scanned layout made → Scanned layout (done made (Steps i))
-step_scanned layout made i b g =
+step_scanned : (layout : Layout) (made : Made) (i : ℕ) → i < made.world.layout.config.seats → is_busy made.world i ≡ true → Scanned layout made → Scanned layout (done made (Steps i))
+step_scanned layout made i b y g =
     let all : ℕ = guards layout.config in
     let w : World = made.world in
-    let later = step_keeps layout made i b g.base in
-    let q : list_of i (tells_of made.past i (told_in w i)) ≡ ((step w i).seat i).desk.list = later.shows.lists i in
-    let z : ((step w i).seat i).desk.list ≡ (turn (w.seat i) (finds w i)).desk.list = ap (λ (x : Local). x.desk.list) (seat_steps w i) ∙ ap (λ (d : Desk). d.list) (after_desk (w.seat i) (finds w i)) in
-    let t = own_told layout w i made.past g.base.table g.base.known.seats g.tied (g.base.shows.lists i) q in
+    let later = step_keeps layout made i b y g.base in
+    let q : list_of i (tells_of made.past i (told_in w i)) ≡ ((step w i).seat i).desk.list = later.shows.lists i ∙ stepped_own w i g.base.rows made.past y g.base.known.whole.both.rows g.base.shows in
+    let z : ((step w i).seat i).desk.list ≡ (turn (offered w i) (finds w i)).desk.list = ap (λ (x : Local). x.desk.list) (seat_steps w i) ∙ ap (λ (d : Desk). d.list) (after_desk (offered w i) (finds w i)) in
+    let t = own_told layout w i made.past g.base.table g.base.known.seats g.tied (g.base.shows.lists i ∙ busy_list w i g.base.rows y g.base.known.whole.both.rows) q in
     record {
       base = later;
       tied = record {
         reads = λ k. step_reads all w i k made.past (k == i) refl g.tied t.reads;
-        places = λ k. step_places all w i k made.past (k == i) refl g.tied (settled_placed all i (w.seat i) (turn (w.seat i) (finds w i)) (tells_of made.past i (told_in w i)) (t.places (q ∙ z)));
+        places = λ k. step_places all w i k made.past (k == i) refl g.tied (settled_placed all i (w.seat i) (turn (offered w i) (finds w i)) (tells_of made.past i (told_in w i)) (t.places (q ∙ z)));
       };
       law = t.each g.law;
     }
 
 steady : (layout : Layout) → Steady (Scanned layout)
-steady layout = record { begins = λ made i call b y m g. begin_scanned layout made i call y m g; steps = λ made i b y g. step_scanned layout made i b g }
+steady layout = record { begins = λ made i call b y m g. begin_scanned layout made i call y m g; steps = λ made i b y g. step_scanned layout made i b y g }
 
 first_scanned : (layout : Layout) → is_valid layout ≡ true → Scanned layout (first_made layout)
 first_scanned layout d = record {

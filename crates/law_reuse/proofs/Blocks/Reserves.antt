@@ -1,6 +1,6 @@
 -- What a step tells of guards is what it makes them publish.
 use Rattle.std.proofs.Common.{ℕ, ◌≡◌, ◌≤◌, ◌<◌, ◌+◌, Bool, true, false, List, [], ◌∷◌, ◌++◌, Option, Some, None, refl, ap, ◌∙◌, arith, sym, subst}
-use Rattle.std.specs.Prelude.{◌==◌, if◌then◌else◌, not, is_some}
+use Rattle.std.specs.Prelude.{◌==◌, if◌then◌else◌, not, is_some, drop}
 use Rattle.std.specs.List.{filter}
 use Rattle.law_answers.specs.inv.model.words.Packed.{reservation_word}
 use Rattle.law_answers.specs.inv.model.words.Place.{Place, has}
@@ -10,7 +10,7 @@ use Rattle.law_answers.specs.inv.model.defs.declared.event.Guard.{Guard}
 use Rattle.law_answers.specs.inv.model.defs.declared.event.Guard.TheVariants.{Helper, Index, Whole}
 use Rattle.law_answers.specs.inv.model.defs.declared.event.Root.{Root}
 use Rattle.law_answers.specs.inv.model.declared.post.Post.{Post}
-use Rattle.law_answers.specs.inv.model.Calls.{ReadGuard, GiveBack, Phase, Idle, Runs, Scans, Works, LoadVersion, LoadNumber, LoadTail, FindVersion, Work, Getting, Changing, Enqueuing, Dequeuing, Why, Keeping, Loosens, LoadHeld, StoreHeld, Looks, Misses}
+use Rattle.law_answers.specs.inv.model.Calls.{ReadGuard, GiveBack, Phase, Idle, Runs, Scans, Works, LoadVersion, LoadNumber, LoadTail, FindVersion, Work, Getting, Changing, Enqueuing, Dequeuing, Why, Keeping, Loosens, LoadHeld, StoreHeld, Looks, Misses, HideSpan, MarkLeft, TakeList, MarkTaken}
 use Rattle.law_answers.specs.inv.model.Guards.{guard_place, eras_in, one_era, from_to}
 use Rattle.law_answers.specs.inv.model.Machine as machine
 use Rattle.law_answers.specs.inv.model.Memory as memory
@@ -23,7 +23,7 @@ use Rattle.law_answers.specs.inv.model.Phases.AllocateAt.{LoadBirth}
 use Rattle.law_answers.specs.inv.model.Phases.RetireAt.{LoadLife}
 use Rattle.law_answers.specs.inv.model.Phases.MoveAt.{ShowEra, HandOver, HideEra, HideLate}
 use Rattle.law_answers.specs.inv.model.Phases.Base.{Begin, Protect, Clear, Finish, Release, Allocate, Retire}
-use Rattle.law_answers.specs.inv.model.Posts.{stands, cleared, counted, lower, upper, tag_of, reserves_helper, index_word}
+use Rattle.law_answers.specs.inv.model.Posts.{stands, cleared, counted, lower, upper, tag_of, reserves_helper, index_word, cleared_from}
 use Rattle.law_answers.specs.inv.model.Steps.{phase_move, work_move}
 use Rattle.law_answers.proofs.inv.ends.Told.Rows.{own_told, step_filter}
 use Rattle.law_answers.proofs.laws.Along.{along, along_kind}
@@ -165,8 +165,12 @@ load_none : (from index : ℕ) (post : Post) (one : Bool) → of_guards (if one 
 load_none from index post true = copied_none from index post (stands post from)
 load_none from index post false = refl
 
--- a call's own steps write no guard's word, but for the second step of a copy
-work_leaves : (work : Work) (post : Post) → stores_held work ≡ false → leaves (work_move work post) ≡ true
+-- a call's own steps write no guard's word, but for the second step of a copy and that which withdraws an interval
+abbrev shows_guard : Work → Bool
+shows_guard (Keeping HideSpan) = true
+shows_guard work = stores_held work
+
+work_leaves : (work : Work) (post : Post) → shows_guard work ≡ false → leaves (work_move work post) ≡ true
 work_leaves (Getting key (FindVersion slot)) post n = refl
 work_leaves (Getting key at) post n = refl
 work_leaves (Changing kept (LoadVersion slot)) post n = refl
@@ -178,23 +182,35 @@ work_leaves (Dequeuing at) post n = refl
 work_leaves (Keeping (StoreHeld from index era)) post n = absurd (cc)
 work_leaves (Keeping (Looks index key (FindVersion slot))) post n = refl
 work_leaves (Keeping (Looks index key at)) post n = refl
+work_leaves (Keeping HideSpan) post n = absurd (cc)
 work_leaves (Keeping at) post n = refl
 
-work_quiet : (work : Work) (post : Post) → stores_held work ≡ false → of_guards (work_told work post) ≡ []
+work_quiet : (work : Work) (post : Post) → shows_guard work ≡ false → of_guards (work_told work post) ≡ []
 work_quiet (Keeping (Loosens let_go)) post n = cleared_none (let_index let_go) (stands post (let_index let_go))
 work_quiet (Keeping (LoadHeld from index)) post n = load_none from index post (has_one_interval (scheme_of post))
 work_quiet (Keeping (StoreHeld from index era)) post n = absurd (cc)
 work_quiet (Keeping (Looks index key at)) post n = refl
 work_quiet (Keeping (Misses index)) post n = refl
+work_quiet (Keeping HideSpan) post n = absurd (cc)
+work_quiet (Keeping MarkLeft) post n = refl
+work_quiet (Keeping (TakeList place)) post n = refl
+work_quiet (Keeping (MarkTaken place count)) post n = refl
 work_quiet (Getting key at) post n = refl
 work_quiet (Changing kept at) post n = refl
 work_quiet (Enqueuing kept at) post n = refl
 work_quiet (Dequeuing at) post n = refl
 
+hidden_none : (index : ℕ) (rows : List (Option ℕ)) → of_guards (cleared_from index rows) ≡ []
+hidden_none index [] = refl
+hidden_none index (row ∷ rows) = filter-append is_guard (cleared index row) (cleared_from (index + 1) rows) ∙ rw (cleared_none index row) (hidden_none (index + 1) rows)
+
+hidden_one : (index : ℕ) (rows : List (Option ℕ)) (event : Event) → is_guard event ≡ true → of_guards (cleared_from index rows ++ event ∷ []) ≡ event ∷ []
+hidden_one index rows event h = filter-append is_guard (cleared_from index rows) (event ∷ []) ∙ rw (hidden_none index rows, h) refl
+
 abbrev WorkShows : Guard → (Place → ℕ) → Work → Post → Type 0
 WorkShows guard mem work post = Publishes guard mem (work_move work post) (of_guards (work_told work (counted post)))
 
-plain_shows : (guard : Guard) (mem : Place → ℕ) (work : Work) (post : Post) → stores_held work ≡ false → WorkShows guard mem work post
+plain_shows : (guard : Guard) (mem : Place → ℕ) (work : Work) (post : Post) → shows_guard work ≡ false → WorkShows guard mem work post
 plain_shows guard mem work post n = none_published guard mem (work_move work post) (of_guards (work_told work (counted post))) (work_leaves work post n) (work_quiet work (counted post) n)
 
 work_shows : (guard : Guard) (mem : Place → ℕ) (work : Work) (post : Post) → WorkWords work post → WorkShows guard mem work post
@@ -205,6 +221,11 @@ work_shows guard mem (Keeping (Loosens let_go)) post h = plain_shows guard mem (
 work_shows guard mem (Keeping (LoadHeld from index)) post h = plain_shows guard mem (Keeping (LoadHeld from index)) post refl
 work_shows guard mem (Keeping (Looks index key at)) post h = plain_shows guard mem (Keeping (Looks index key at)) post refl
 work_shows guard mem (Keeping (Misses index)) post h = plain_shows guard mem (Keeping (Misses index)) post refl
+work_shows guard mem (Keeping HideSpan) post h =
+    put_published guard (Whole post.seat) mem 0 None (of_guards (work_told (Keeping HideSpan) (counted post))) (nothing_shown (Whole post.seat)) (hidden_one 2 (drop 2 (counted post).standing) (events.Reserve (Whole post.seat) None) refl)
+work_shows guard mem (Keeping MarkLeft) post h = plain_shows guard mem (Keeping MarkLeft) post refl
+work_shows guard mem (Keeping (TakeList place)) post h = plain_shows guard mem (Keeping (TakeList place)) post refl
+work_shows guard mem (Keeping (MarkTaken place count)) post h = plain_shows guard mem (Keeping (MarkTaken place count)) post refl
 work_shows guard mem (Getting key at) post h = plain_shows guard mem (Getting key at) post refl
 work_shows guard mem (Changing kept at) post h = plain_shows guard mem (Changing kept at) post refl
 work_shows guard mem (Enqueuing kept at) post h = plain_shows guard mem (Enqueuing kept at) post refl

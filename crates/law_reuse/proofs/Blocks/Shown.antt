@@ -12,12 +12,12 @@ use Rattle.law_answers.specs.inv.model.declared.post.Post.{Post}
 use Rattle.law_answers.specs.inv.model.Calls.{AfterScan, ScanAt, ReadGuard, GiveBack, Phase, Idle, Runs, Scans, Works, CallTurn, CallOutcome, GoesOn, Answers}
 use Rattle.law_answers.specs.inv.model.Desks.{Desk}
 use Rattle.law_answers.specs.inv.model.Guards.{guard_at, guard_place, eras_in}
-use Rattle.law_answers.specs.inv.model.Locals.{told_by, told_end, may_begin}
+use Rattle.law_answers.specs.inv.model.Locals.{told_by, told_end}
 use Rattle.law_answers.specs.inv.model.Memory.{found, place_in}
 use Rattle.law_answers.specs.inv.model.Posts.{counted}
 use Rattle.law_answers.specs.inv.model.Scan.{scan_turn}
 use Rattle.law_answers.specs.inv.model.Steps.{phase_move, phase_turn}
-use Rattle.law_answers.specs.inv.model.World.{World, is_busy}
+use Rattle.law_answers.specs.inv.model.World.{World, is_busy, may_start, offered}
 use Rattle.law_answers.proofs.inv.model.Facts.{first_of, rest_of}
 use Rattle.law_answers.specs.inv.covers.Covers.{eras_shown}
 use Rattle.law_answers.specs.inv.shapes.Eras.{ErasNeeds}
@@ -95,18 +95,18 @@ words_of layout made i b =
     let n : ErasNeeds w i = eras_need w i b.rows b.asked k.valid k.seats k.whole.both.rows k.requests in
     phase_words w.layout (w.mem Place.Clock) (w.seat i).phase (w.seat i).post n.tags (clock_small w k.valid k.eras) (k.eras.seats i).post.span (k.seats.fits i).post.layout (k.seats.fits i).phase (k.eras.seats i).phase
 
-begin_read : (layout : Layout) (made : Made) (i : ℕ) (call : Call) → is_busy made.world i ≡ false → may_begin made.world.layout.config call ≡ true → Read layout made → Read layout (done made (Begins i call))
+begin_read : (layout : Layout) (made : Made) (i : ℕ) (call : Call) → is_busy made.world i ≡ false → may_start made.world i call ≡ true → Read layout made → Read layout (done made (Begins i call))
 begin_read layout made i call f m g = record { base = begin_keeps layout made i call f m g.base; shows = g.shows; law = (refl, g.law) }
 
-step_read : (layout : Layout) (made : Made) (i : ℕ) → i < made.world.layout.config.seats → Read layout made → Read layout (done made (Steps i))
-step_read layout made i b g = record {
-  base = step_keeps layout made i b g.base;
+step_read : (layout : Layout) (made : Made) (i : ℕ) → i < made.world.layout.config.seats → is_busy made.world i ≡ true → Read layout made → Read layout (done made (Steps i))
+step_read layout made i b y g = record {
+  base = step_keeps layout made i b y g.base;
   shows = λ guard. step_shown made.world i made.past guard (words_of layout made i g.base) (g.shows guard);
-  law = phase_each i (made.world.seat i).phase (made.world.seat i).post (made.world.seat i).desk made.world.mem made.past g.shows g.law;
+  law = phase_each i (made.world.seat i).phase (made.world.seat i).post (offered made.world i).desk made.world.mem made.past g.shows g.law;
 }
 
 steady : (layout : Layout) → Steady (Read layout)
-steady layout = record { begins = λ made i call b y m g. begin_read layout made i call y m g; steps = λ made i b y g. step_read layout made i b g }
+steady layout = record { begins = λ made i call b y m g. begin_read layout made i call y m g; steps = λ made i b y g. step_read layout made i b y g }
 
 pub records_read_guards : RecordsReadGuards
 records_read_guards layout items d =

@@ -16,7 +16,7 @@ use Rattle.law_answers.specs.inv.model.Calls.{Why, Runs}
 use Rattle.law_answers.specs.inv.model.Guards.{own_guard}
 use Rattle.law_answers.specs.inv.model.Phases.{Base}
 use Rattle.law_answers.specs.inv.model.Posts.{stands}
-use Rattle.law_answers.specs.inv.model.World.{World, start, step, is_busy, told_in}
+use Rattle.law_answers.specs.inv.model.World.{World, is_busy, start, step, told_in, may_start}
 use Rattle.law_answers.proofs.inv.model.Facts.{both}
 use Rattle.law_answers.specs.inv.requests.Views.{View as Asked}
 use Rattle.law_answers.specs.inv.rows.Agree.{first_rows, rows_after}
@@ -54,7 +54,6 @@ use Rattle.law_reuse.proofs.Holding.Lives.{retire_tells, retire_quiet, birth_tel
 use Rattle.law_reuse.proofs.Holding.Values.{Ranges}
 use Rattle.law_reuse.proofs.Blocks.Reserves.{PhaseWords, phase_words, step_shown, start_shown}
 use Rattle.law_answers.proofs.inv.handover.Asks.{run_of}
-use Rattle.law_answers.specs.inv.model.Locals.{may_begin}
 
 -- what a record says of guards and lives is so
 pub record Tied (w : World) (v : View) (p : Past) (births : ℕ → ℕ) : Type 0 where
@@ -128,7 +127,7 @@ pub record Held (layout : Layout) (made : Made) : Type 0 where
   pub births : ℕ → ℕ
   pub tied : Tied made.world rows made.past births
 
-pub begin_held : (layout : Layout) (made : Made) (i : ℕ) (call : Call) → is_busy made.world i ≡ false → may_begin made.world.layout.config call ≡ true → Held layout made → Held layout (done made (Begins i call))
+pub begin_held : (layout : Layout) (made : Made) (i : ℕ) (call : Call) → is_busy made.world i ≡ false → may_start made.world i call ≡ true → Held layout made → Held layout (done made (Begins i call))
 begin_held layout made i call f m g =
     let k = g.known in
     let q = requests_begin made.world i call g.asked k.valid f k.seats k.requests in

@@ -1,11 +1,11 @@
 -- The life of a row by the record is that of the row.
-use Rattle.std.proofs.Common.{ℕ, ◌≡◌, Bool, true, false, List, [], ◌∷◌, refl, ap, ◌∙◌}
+use Rattle.std.proofs.Common.{ℕ, ◌≡◌, Bool, true, false, List, [], ◌∷◌, refl, ap, ◌∙◌, sym}
 use Rattle.std.specs.Prelude.{◌==◌, if◌then◌else◌}
 use Rattle.law_answers.specs.inv.model.defs.declared.event.Event.{Event}
 use Rattle.law_answers.specs.inv.model.defs.declared.event.Event.TheVariants as events
 use Rattle.law_answers.specs.inv.rows.Rows.{Status, View, RowMove, made, is_taken, retire_in}
 use Rattle.law_answers.specs.inv.rows.Rows.Status.{Free, Claimed, Born, Linked, InQueue, Cut, Sealed, Listed}
-use Rattle.law_answers.specs.inv.rows.Rows.RowMove.{Stays, Claims, Bears, Drops, Links, Replaces, Appends, Pops, Reads, Seals, Lists, Returns}
+use Rattle.law_answers.specs.inv.rows.Rows.RowMove.{Stays, Claims, Bears, Drops, Links, Replaces, Appends, Pops, Reads, Seals, Lists, Returns, Adopts}
 use Rattle.law_answers.proofs.inv.rows.Fits.{MoveFits}
 use Rattle.law_answers.specs.inv.ends.Births.{given_by, given_all}
 use Rattle.law_answers.specs.inv.model.defs.Events.{is_of_rows}
@@ -15,6 +15,7 @@ use Rattle.law_answers.specs.inv.history.Record.Past.{Then}
 use Rattle.law_answers.proofs.laws.Along.{along}
 use Rattle.law_answers.specs.laws.StateAt.{born_by, birth_of, ended_by, retire_of}
 use Rattle.law_answers.proofs.inv.model.Facts.{number_is}
+use Rattle.law_answers.proofs.inv.rows.Made.{passed_taken, passed_retire}
 
 -- the record after all that is told
 pub retire_tells : (s i : ℕ) (told : List Event) (p : Past) → retire_of s (tells_of p i told) ≡ along (ended_by s) told (retire_of s p)
@@ -69,3 +70,4 @@ retire_made i v (Reads slot born) birth s x f h t = h t
 retire_made i v (Seals slot born retire) birth s x f h t = same_by v s slot x (Sealed i retire) (Cut i) (s == slot) refl f refl refl h t
 retire_made i v (Lists slot born retire) birth s x f h t = sets_by v s slot x retire (Listed i retire) (s == slot) refl refl h t
 retire_made i v (Returns slot) birth s x f h t = frees_by v s slot x (s == slot) refl h t
+retire_made i v (Adopts from) birth s x f h t = h (sym (passed_taken from i (v.status s)) ∙ t) ∙ sym (passed_retire from i (v.status s))

@@ -8,7 +8,7 @@ use Rattle.law_answers.specs.inv.model.words.declared.layout.Layout.{Layout}
 use Rattle.law_answers.specs.inv.model.defs.declared.call.Call.{Call}
 use Rattle.law_answers.specs.inv.model.defs.declared.event.Event.{Event}
 use Rattle.law_answers.specs.inv.model.defs.declared.event.Event.TheVariants as events
-use Rattle.law_answers.specs.inv.model.World.{World, step, is_busy, told_in}
+use Rattle.law_answers.specs.inv.model.World.{World, step, is_busy, told_in, may_start}
 use Rattle.law_answers.specs.inv.requests.Views.{View as Asked}
 use Rattle.law_answers.proofs.inv.requests.Kept.{requests_begin, requests_start}
 use Rattle.law_answers.specs.inv.rows.Chain.{first_line, line_after}
@@ -18,7 +18,7 @@ use Rattle.law_answers.proofs.inv.Inv.Begun.{known_start, known_begin}
 use Rattle.law_answers.proofs.inv.Inv.Kept.{known_kept, asked_next}
 use Rattle.law_answers.specs.inv.rows.Agree.{first_rows, rows_after}
 use Rattle.law_answers.specs.inv.rows.Rows.{View, RowMove}
-use Rattle.law_answers.specs.inv.rows.Rows.RowMove.{Stays, Claims, Bears, Drops, Links, Replaces, Appends, Pops, Reads, Seals, Lists, Returns}
+use Rattle.law_answers.specs.inv.rows.Rows.RowMove.{Stays, Claims, Bears, Drops, Links, Replaces, Appends, Pops, Reads, Seals, Lists, Returns, Adopts}
 use Rattle.law_answers.specs.inv.history.Record.{Past, Each, tells_of}
 use Rattle.law_answers.specs.inv.history.Record.Past.{Then}
 use Rattle.law_answers.proofs.inv.history.Entries.{entries_of_each}
@@ -34,7 +34,6 @@ use Rattle.law_answers.specs.laws.HistoryEras.{birth_ok}
 use Rattle.law_reuse.specs.Records.{RecordsKeepBirths}
 use Rattle.law_answers.proofs.laws.Along.{Single, OfKind, single_each}
 use Rattle.law_reuse.proofs.Holding.Holds.{given_need}
-use Rattle.law_answers.specs.inv.model.Locals.{may_begin}
 
 -- what is told of births
 one_born : (event : Event) (given : ℕ → ℕ) (s : ℕ) (x : ℕ) → x ≡ given s → born_by s event x ≡ given_by event given s
@@ -84,6 +83,7 @@ birth_move i birth p (Reads slot born) h = tt
 birth_move i birth p (Seals slot born retire) h = tt
 birth_move i birth p (Lists slot born retire) h = same_birth born (birth_of slot p) (h slot born retire refl)
 birth_move i birth p (Returns slot) h = refl
+birth_move i birth p (Adopts from) h = tt
 
 -- what a history keeps
 record BirthsKept (layout : Layout) (made : Made) : Type 0 where
@@ -94,7 +94,7 @@ record BirthsKept (layout : Layout) (made : Made) : Type 0 where
   given : Given made.world rows (λ s. birth_of s made.past)
   law : Each birth_ok made.past
 
-begin_births : (layout : Layout) (made : Made) (i : ℕ) (call : Call) → is_busy made.world i ≡ false → may_begin made.world.layout.config call ≡ true → BirthsKept layout made → BirthsKept layout (done made (Begins i call))
+begin_births : (layout : Layout) (made : Made) (i : ℕ) (call : Call) → is_busy made.world i ≡ false → may_start made.world i call ≡ true → BirthsKept layout made → BirthsKept layout (done made (Begins i call))
 begin_births layout made i call f m g =
     let k = g.known in
     let q = requests_begin made.world i call g.asked k.valid f k.seats k.requests in

@@ -66,7 +66,7 @@ pub run_calm : (why : Why) (base : Base) (post : Post) (desk : Desk) (found : �
 run_calm why base post desk found = step_all is_calm passes (Runs why base) post desk found (base_all is_calm base post found (tells_calm base post found))
 
 pub work_calm : (work : Work) (post : Post) (desk : Desk) (found : ℕ) → All (told_by (steps.phase_turn (Works work) post desk found))
-work_calm work post desk found = step_all is_calm passes (Works work) post desk found (work_all is_calm (λ index slot. refl) (λ from index slot. refl) (λ seat index era. refl) work post)
+work_calm work post desk found = step_all is_calm passes (Works work) post desk found (work_all is_calm (λ index slot. refl) (λ from index slot. refl) (λ seat index era. refl) (λ seat. refl) work post)
 
 calm_unread : (event : Event) → is_calm event ≡ true → is_unread event ≡ true
 calm_unread (events.Read guard span) h = absurd (cc)

@@ -16,7 +16,7 @@ use Rattle.law_answers.specs.inv.model.declared.post.Post.{Post}
 use Rattle.law_answers.specs.inv.model.Desks.{Desk, with_life}
 use Rattle.law_answers.specs.inv.model.Phases.{Base, Ending, Outcome, Goes, Ends}
 use Rattle.law_answers.specs.inv.model.Phases.Ending.{Protected, Followed, Allocated, Retired, Clocked}
-use Rattle.law_answers.specs.inv.model.Calls.{ChangeKept, EnqueueKept, Task, Gets, Changes, Holds, Enqueues, Dequeues, Next, Again, MakeRoom, Answering, Retiring, AfterScan, Why, Opens, FollowsHead, Fills, ClearsNext, Clears, Finishes, GivesUp, Retires, Tidies, Advances, Releases, GetAt, FindVersion, FindCount, FindKey, FindValue, ChangeAt, LoadVersion, LoadCount, LoadKey, LoadValue, ExchangeRoot, EnqueueAt, LoadNumber, LoadNext, PassTail, ExchangeNext, ExchangeTail, DequeueAt, SwingTail, ExchangeHead, Work, Getting, Changing, Enqueuing, Dequeuing, LetGo, Released, Rehold, Dropped, KeepAt, Loosens, LoadHeld, StoreHeld, Looks, Misses, Keeping}
+use Rattle.law_answers.specs.inv.model.Calls.{ChangeKept, EnqueueKept, Task, Gets, Changes, Holds, Enqueues, Dequeues, Next, Again, MakeRoom, Answering, Retiring, AfterScan, Why, Opens, FollowsHead, Fills, ClearsNext, Clears, Finishes, GivesUp, Retires, Tidies, Advances, Releases, GetAt, FindVersion, FindCount, FindKey, FindValue, ChangeAt, LoadVersion, LoadCount, LoadKey, LoadValue, ExchangeRoot, EnqueueAt, LoadNumber, LoadNext, PassTail, ExchangeNext, ExchangeTail, DequeueAt, SwingTail, ExchangeHead, Work, Getting, Changing, Enqueuing, Dequeuing, LetGo, Released, Rehold, Dropped, Parting, KeepAt, Loosens, LoadHeld, StoreHeld, Looks, Misses, HideSpan, MarkLeft, TakeList, MarkTaken, Keeping, Phase, Works}
 use Rattle.law_answers.specs.inv.model.Rounds.{scheme_of, clear_post, closed, finishing_by, finishing, clearing_by, clearing, clearing_next_by, clearing_next, given_up, let_index}
 use Rattle.law_answers.specs.inv.model.Rounds as rounds
 use Rattle.law_answers.specs.inv.model.Get.{got, finding, found_key, get_turn}
@@ -25,7 +25,7 @@ use Rattle.law_answers.specs.inv.model.Enqueue.{told_link, item_walked, appendin
 use Rattle.law_answers.specs.inv.model.Dequeue.{followed_row, followed, taken, dequeue_turn}
 use Rattle.law_answers.specs.inv.model.Steps.{opened_row, opened_null, opened, filled_by, written_row, filled, followed_by, tidying, retired_by, tidied, advanced, resume, resumed, work_turn}
 use Rattle.law_answers.specs.inv.model.Posts.{withdrawn}
-use Rattle.law_answers.specs.inv.model.Keep.{copied, load_held, looking, looked_key, look_turn, keep_turn, released}
+use Rattle.law_answers.specs.inv.model.Keep.{copied, load_held, looking, looked_key, look_turn, keep_turn, released, taking}
 
 given_up_desk : (answer : Answer) (post : Post) (desk : Desk) (told : List Event) (o : Option ℕ) → (given_up answer post desk told o).desk ≡ desk
 given_up_desk answer post desk told None = refl
@@ -154,6 +154,7 @@ released_desk : (let_go : LetGo) (post : Post) (desk : Desk) (told : List Event)
 released_desk Released post desk told = refl
 released_desk (Rehold key) post desk told = refl
 released_desk (Dropped index) post desk told = refl
+released_desk (Parting index) post desk told = refl
 
 copied_desk : (from index : ℕ) (post : Post) (desk : Desk) (reserved : List Event) (o : Option ℕ) → (copied from index post desk reserved o).desk ≡ desk
 copied_desk from index post desk reserved None = refl
@@ -177,19 +178,32 @@ look_desk index key (FindCount slot version) post desk found = looking_desk inde
 look_desk index key (FindKey slot version count pair) post desk found = looked_key_desk index key slot version count pair post desk _
 look_desk index key (FindValue slot version pair) post desk found = refl
 
-keep_desk : (at : KeepAt) (post : Post) (desk : Desk) (found : ℕ) → (keep_turn at post desk found).desk ≡ desk
-keep_desk (Loosens let_go) post desk found = released_desk let_go (withdrawn post (let_index let_go)) desk _
-keep_desk (LoadHeld from index) post desk found = load_held_desk from index post desk found _
-keep_desk (StoreHeld from index era) post desk found = copied_desk from index post desk _ _
-keep_desk (Looks index key at) post desk found = look_desk index key at post desk found
-keep_desk (Misses index) post desk found = refl
+-- a list that was left is taken over
+abbrev pub takes_list : Phase → (found : ℕ) → Bool
+takes_list (Works (Keeping (TakeList place))) found = found == 1
+takes_list phase found = false
 
-pub work_desk : (work : Work) (post : Post) (desk : Desk) (found : ℕ) → (work_turn work post desk found).desk ≡ desk
-work_desk (Getting key at) post desk found = get_desk key at post desk found
-work_desk (Changing kept at) post desk found = change_desk kept at post desk found
-work_desk (Enqueuing kept at) post desk found = enqueue_desk kept at post desk found
-work_desk (Dequeuing at) post desk found = dequeue_desk at post desk found
-work_desk (Keeping at) post desk found = keep_desk at post desk found
+taking_desk : (place : ℕ) (post : Post) (desk : Desk) (left : Bool) (found : ℕ) → left ≡ false → (taking place post desk left found).desk ≡ desk
+taking_desk place post desk true found n = absurd (cc)
+taking_desk place post desk false found n = refl
+
+keep_desk : (at : KeepAt) (post : Post) (desk : Desk) (found : ℕ) → takes_list (Works (Keeping at)) found ≡ false → (keep_turn at post desk found).desk ≡ desk
+keep_desk (Loosens let_go) post desk found n = released_desk let_go (withdrawn post (let_index let_go)) desk _
+keep_desk (LoadHeld from index) post desk found n = load_held_desk from index post desk found _
+keep_desk (StoreHeld from index era) post desk found n = copied_desk from index post desk _ _
+keep_desk (Looks index key at) post desk found n = look_desk index key at post desk found
+keep_desk (Misses index) post desk found n = refl
+keep_desk HideSpan post desk found n = refl
+keep_desk MarkLeft post desk found n = refl
+keep_desk (TakeList place) post desk found n = taking_desk place post desk (found == 1) found n
+keep_desk (MarkTaken place count) post desk found n = refl
+
+pub work_desk : (work : Work) (post : Post) (desk : Desk) (found : ℕ) → takes_list (Works work) found ≡ false → (work_turn work post desk found).desk ≡ desk
+work_desk (Getting key at) post desk found n = get_desk key at post desk found
+work_desk (Changing kept at) post desk found n = change_desk kept at post desk found
+work_desk (Enqueuing kept at) post desk found n = enqueue_desk kept at post desk found
+work_desk (Dequeuing at) post desk found n = dequeue_desk at post desk found
+work_desk (Keeping at) post desk found n = keep_desk at post desk found n
 
 opened_row_desk : (task : Task) (slot : ℕ) (post : Post) (desk : Desk) (told : List Event) → (opened_row task slot post desk told).desk ≡ desk
 opened_row_desk (Gets key) slot post desk told = refl

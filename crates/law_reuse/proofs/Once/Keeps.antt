@@ -1,7 +1,7 @@
 -- A history's record says of the rows what is so, and so each of its entries keeps the laws.
-use Rattle.std.proofs.Common.{ℕ, ◌≡◌, ◌<◌, Bool, true, false, List, refl, sym, ap, ◌∙◌, subst, arith}
+use Rattle.std.proofs.Common.{ℕ, ◌≡◌, ◌<◌, Bool, true, false, List, refl, sym, ap, ◌∙◌, subst, arith, [], ◌∷◌, ◌++◌}
 use Rattle.std.proofs.lemmas.Bool.Decides.{nat_tests}
-use Rattle.std.specs.Prelude.{◌==◌, ◌&&◌, ◌||◌, not, if◌then◌else◌}
+use Rattle.std.specs.Prelude.{◌==◌, ◌||◌, not, if◌then◌else◌, nat_lt}
 use Rattle.std.specs.List.{list_any}
 use Rattle.law_answers.specs.inv.model.words.Place.{is_valid}
 use Rattle.law_answers.specs.inv.model.words.declared.layout.Layout.{Layout}
@@ -9,13 +9,9 @@ use Rattle.law_answers.specs.inv.model.defs.declared.call.Call.{Call}
 use Rattle.law_answers.specs.inv.model.defs.declared.event.Event.{Event}
 use Rattle.law_answers.specs.inv.model.defs.declared.event.Event.TheVariants as events
 use Rattle.law_answers.specs.inv.model.defs.declared.lifetime.Lifetime.{Lifetime}
-use Rattle.law_answers.specs.inv.model.declared.post.Post.{Post}
-use Rattle.law_answers.specs.inv.model.Calls.{CallTurn, CallOutcome, GoesOn, Answers}
-use Rattle.law_answers.specs.inv.model.Desks.{Desk, noting}
-use Rattle.law_answers.specs.inv.model.Locals.{Local, after, settled_by, rounds_told, told_by, turn, may_begin}
 use Rattle.law_answers.specs.inv.model.Posts.{counted}
-use Rattle.law_answers.specs.inv.model.World.{World, start, begin, step, finds, is_busy, told_in}
-use Rattle.law_answers.proofs.inv.model.Facts.{both, same_number}
+use Rattle.law_answers.specs.inv.model.World.{World, begin, finds, is_busy, offered, start, step, told_in, may_start, list_in}
+use Rattle.law_answers.proofs.inv.model.Facts.{both, same_number, first_of, rest_of}
 use Rattle.law_answers.specs.inv.requests.Views.{View as Asked}
 use Rattle.law_answers.proofs.inv.requests.Kept.{requests_begin, requests_start}
 use Rattle.law_answers.specs.inv.rows.Agree.{first_rows, rows_after}
@@ -23,11 +19,10 @@ use Rattle.law_answers.specs.inv.rows.Chain.{first_line, line_after}
 use Rattle.law_answers.specs.inv.rows.Queue.{Line}
 use Rattle.law_answers.specs.inv.rows.Rows.{View, RowMove, made, is_taken}
 use Rattle.law_answers.specs.inv.rows.Rows.Status.{Free, InQueue, Listed}
-use Rattle.law_answers.specs.inv.rows.Rows.RowMove.{Stays, Claims, Bears, Drops, Links, Replaces, Appends, Pops, Reads, Seals, Lists, Returns}
+use Rattle.law_answers.specs.inv.rows.Rows.RowMove.{Stays, Claims, Bears, Drops, Links, Replaces, Appends, Pops, Reads, Seals, Lists, Returns, Adopts}
 use Rattle.law_answers.proofs.inv.rows.Fits.{MoveFits}
 use Rattle.law_answers.specs.inv.covers.Covers.{CoversNeeds}
 use Rattle.law_answers.proofs.inv.covers.Kept.{before_at}
-use Rattle.law_answers.proofs.inv.shapes.Frame.{seat_stays, seat_steps}
 use Rattle.law_answers.specs.inv.history.Record.{Past, Each, tells_of}
 use Rattle.law_answers.specs.inv.history.Record.Past.{Start, Then}
 use Rattle.law_answers.proofs.inv.history.Entries.{entries_of_each}
@@ -41,13 +36,17 @@ use Rattle.law_answers.specs.inv.ends.Told.{of_rows, row_events, birth_in, move_
 use Rattle.law_answers.proofs.inv.ends.Told.Rows.{rows_told}
 use Rattle.law_answers.specs.laws.HistoryRows.{once_ok, back_ok}
 use Rattle.law_reuse.specs.Records.{RecordsKeepOnce, RecordsGoBackOnce}
-use Rattle.law_answers.specs.laws.StateAt.{taken_by, taken_at, retired_by, retired_at, list_by, list_of, has_slot, cut_by, cut_at}
+use Rattle.law_answers.specs.laws.StateAt.{taken_by, taken_at, retired_by, retired_at, list_of, has_slot, cut_by, cut_at, gained_by, is_handed}
 use Rattle.law_reuse.specs.Rows.{is_listed, is_cut, Shows, RecordShows}
-use Rattle.law_answers.proofs.laws.Along.{along, along_kind, taken_tells, retired_tells, list_tells, list_stays, cut_tells, cut_stays, taken_quiet, retired_quiet, list_quiet, Single, OfKind, single_each}
-use Rattle.law_reuse.proofs.Once.Moves.{taken_made, retired_made, cuts, CutBefore, cut_made, moved_list, list_moved, in_has}
-use Rattle.law_reuse.proofs.Once.Steps.{phase_list, phase_cuts, told_retires, cut_of, cut_along}
+use Rattle.law_answers.proofs.laws.Along.{along, along_kind, taken_tells, retired_tells, cut_tells, cut_stays, taken_quiet, retired_quiet, list_quiet, Single, OfKind, single_each}
+use Rattle.law_reuse.proofs.Once.Moves.{taken_made, retired_made, cuts, CutBefore, cut_made, in_has}
+use Rattle.law_reuse.proofs.Once.Steps.{phase_cuts, told_retires, cut_of, cut_along}
 use Rattle.law_answers.proofs.inv.Inv.Whole.{covers_of}
 use Rattle.law_reuse.proofs.Holding.Holds.{first_taken}
+use Rattle.law_answers.specs.inv.model.words.Place.Place.{PlaceOf}
+use Rattle.law_answers.proofs.inv.rows.Kept.{own_list}
+use Rattle.law_reuse.proofs.Once.Lists.{step_list}
+use Rattle.law_answers.proofs.Leaving.Words.{first_placed, step_placed}
 
 start_listed : (slots s : ℕ) (same : Bool) → (s == slots) ≡ same → false ≡ is_listed (if s == slots then InQueue else Free)
 start_listed slots s true e = rw e refl
@@ -57,17 +56,22 @@ start_cut : (k slots s : ℕ) (same : Bool) → (s == slots) ≡ same → is_cut
 start_cut k slots s true e = rw e refl
 start_cut k slots s false e = rw e refl
 
+same_list : (left : Bool) (list : List Lifetime) → (if left then list else list) ≡ list
+same_list true list = refl
+same_list false list = refl
+
 shows_start : (layout : Layout) → Shows (start layout) (first_rows layout) Start
 shows_start layout = record {
   taken = λ s. first_taken layout.config.slots s (s == layout.config.slots) refl;
   retired = λ s. start_listed layout.config.slots s (s == layout.config.slots) refl;
-  lists = λ k. refl;
+  lists = λ k. sym (same_list (nat_lt 1 ((start layout).mem (PlaceOf k))) []);
+  places = first_placed layout;
   cuts = λ k s h. let n = start_cut k layout.config.slots s (s == layout.config.slots) refl in absurd (cc);
 }
 
 -- a beginning of a call changes nothing of it
-begin_list : (w : World) (i k : ℕ) (call : Call) (p : Past) (same : Bool) → (k == i) ≡ same → list_of k p ≡ (w.seat k).desk.list → list_of k (Then p i (events.Begin call)) ≡ ((begin w i call).seat k).desk.list
-begin_list w i k call p true e h = let q : k ≡ i = grind (arith, nat_tests) in rw e (h ∙ ap (λ (j : ℕ). (w.seat j).desk.list) q)
+begin_list : (w : World) (i k : ℕ) (call : Call) (p : Past) (same : Bool) → (k == i) ≡ same → list_of k p ≡ list_in w k → list_of k (Then p i (events.Begin call)) ≡ list_in (begin w i call) k
+begin_list w i k call p true e h = let q : k ≡ i = grind (arith, nat_tests) in rw e (h ∙ ap (λ (j : ℕ). own_list (w.mem (PlaceOf k)) (w.seat j).desk.list) q)
 begin_list w i k call p false e h = rw e h
 
 begin_cut : (k i s : ℕ) (call : Call) (p : Past) (same : Bool) → (k == i) ≡ same → cut_at k s (Then p i (events.Begin call)) ≡ cut_at k s p
@@ -79,31 +83,11 @@ shows_begin w i call v p h = record {
   taken = h.taken;
   retired = h.retired;
   lists = λ k. begin_list w i k call p (k == i) refl (h.lists k);
+  places = record { left = h.places.left; adopted = h.places.adopted };
   cuts = λ k s c. begin_cut k i s call p (k == i) refl ∙ h.cuts k s c;
 }
 
--- a step
-pub settled_list : (l : Local) (post : Post) (desk : Desk) (rounds : ℕ) (outcome : CallOutcome) → (settled_by l post desk rounds outcome).desk ≡ desk
-settled_list l post desk rounds (GoesOn phase) = refl
-settled_list l post desk rounds (Answers answer) = refl
-
-after_list : (l : Local) (found : ℕ) → (after l found).desk.list ≡ (turn l found).desk.list
-after_list l found = let t : CallTurn = turn l found in ap (λ (d : Desk). d.list) (settled_list l t.post (noting t.desk (told_by t)) (rounds_told l.rounds (told_by t)) t.outcome)
-
-step_list : (w : World) (i k : ℕ) (v : View) (p : Past) (same : Bool) → (k == i) ≡ same → CoversNeeds w i v → Shows w v p → list_of k (tells_of p i (told_in w i)) ≡ ((step w i).seat k).desk.list
-step_list w i k v p true e n h =
-    let q : i ≡ k = grind (arith, nat_tests) in
-    let l : Local = w.seat i in
-    let m : RowMove = move_of w i in
-    let a : list_of i (tells_of p i (told_in w i)) ≡ along list_by (told_in w i) (list_of i p) = list_tells i (told_in w i) p in
-    let b : along list_by (told_in w i) (list_of i p) ≡ moved_list m (list_of i p) =
-    along_kind list_by is_of_rows list_quiet (told_in w i) (list_of i p) ∙ ap (λ (es : List Event). along list_by es (list_of i p)) (rows_told w i) ∙ list_moved (birth_in l.phase) m (list_of i p) in
-    let c : (turn l (finds w i)).desk.list ≡ moved_list m l.desk.list = phase_list l.phase l.post (counted l.post) l.desk (finds w i) (n.rows.plays i).right (n.rows.plays i).once in
-    let d : ((step w i).seat i).desk.list ≡ (turn l (finds w i)).desk.list = ap (λ (x : Local). x.desk.list) (seat_steps w i) ∙ after_list l (finds w i) in
-    subst (λ (j : ℕ). list_of j (tells_of p i (told_in w i)) ≡ ((step w i).seat j).desk.list) q (a ∙ b ∙ ap (moved_list m) (h.lists i) ∙ sym c ∙ sym d)
-step_list w i k v p false e n h = list_stays k i (told_in w i) p e ∙ h.lists k ∙ sym (ap (λ (x : Local). x.desk.list) (seat_stays w i k e))
-
--- what was cut before, or is now
+-- a step: what was cut before, or is now
 cut_own : (w : World) (i s : ℕ) (v : View) (p : Past) (now : Bool) → cuts (move_of w i) s ≡ now → CutBefore i i v (move_of w i) s → Shows w v p → cut_at i s (tells_of p i (told_in w i)) ≡ true
 cut_own w i s v p now e c h =
     let r = told_retires s (birth_in (w.seat i).phase) (move_of w i) (told_in w i) (rows_told w i) ∙ c.stays in
@@ -118,7 +102,7 @@ cut_own w i s v p now e c h =
     later false b x = x
 
     by : (now : Bool) → cuts (move_of w i) s ≡ now → (list_any (cut_of s) (told_in w i) || cut_at i s p) ≡ true
-    by true e = either (list_any (cut_of s) (told_in w i)) (cut_at i s p) (phase_cuts s (w.seat i).phase (w.seat i).post (counted (w.seat i).post) (w.seat i).desk (finds w i) e)
+    by true e = either (list_any (cut_of s) (told_in w i)) (cut_at i s p) (phase_cuts s (w.seat i).phase (w.seat i).post (counted (w.seat i).post) (offered w i).desk (finds w i) e)
     by false e = later (list_any (cut_of s) (told_in w i)) (cut_at i s p) (h.cuts i s (c.before e))
 
 not_now : (i k s : ℕ) (v : View) (m : RowMove) (now : Bool) → cuts m s ≡ now → (k == i) ≡ false → CutBefore i k v m s → is_cut k (v.status s) ≡ true
@@ -132,8 +116,8 @@ step_cut w i k s v p true e f h c =
 step_cut w i k s v p false e f h c =
     cut_stays k i s (told_in w i) p e ∙ h.cuts k s (not_now i k s v (move_of w i) (cuts (move_of w i) s) refl e (cut_made i k v (move_of w i) s f c))
 
-shows_step : (w : World) (i : ℕ) (v : View) (p : Past) → CoversNeeds w i v → Shows w v p → Shows (step w i) (rows_after w i v) (tells_of p i (told_in w i))
-shows_step w i v p n h =
+shows_step : (w : World) (i : ℕ) (v : View) (p : Past) → is_busy w i ≡ true → CoversNeeds w i v → Shows w v p → Shows (step w i) (rows_after w i v) (tells_of p i (told_in w i))
+shows_step w i v p b n h =
     let f : MoveFits i v (move_of w i) = before_at w i v n in
     let slots : ℕ = w.layout.config.slots in
     let birth : ℕ = birth_in (w.seat i).phase in
@@ -146,17 +130,31 @@ shows_step w i v p n h =
           retired_tells s i (told_in w i) p ∙ along_kind (retired_by s) is_of_rows (retired_quiet s) (told_in w i) (retired_at s p)
           ∙ ap (λ (es : List Event). along (retired_by s) es (retired_at s p)) (rows_told w i)
           ∙ ap (along (retired_by s) (row_events birth (move_of w i))) (h.retired s) ∙ retired_made i v (move_of w i) birth s f;
-      lists = λ k. step_list w i k v p (k == i) refl n h;
+      lists = λ k. step_list w i k v p (k == i) refl b n.rows h;
+      places = step_placed w i v p b n.rows h.places;
       cuts = λ k s c. step_cut w i k s v p (k == i) refl f h c;
     }
 
 -- the laws
-list_still : (i k : ℕ) (event : Event) (p : Past) → is_of_rows event ≡ false → list_of k (Then p i event) ≡ list_of k p
-list_still i k event p h = by (k == i)
+gained_quiet : (event : Event) (other : ℕ → List Lifetime) (list : List Lifetime) → is_handed event ≡ false → is_of_rows event ≡ false → gained_by event other list ≡ list
+gained_quiet (events.Adopted place count) other list n h = absurd (cc)
+gained_quiet event other list n h = list_quiet event list h
+
+-- a list that a seat takes over makes its own only longer
+has_more : (slot : ℕ) (list more : List Lifetime) → has_slot slot list ≡ true → has_slot slot (list ++ more) ≡ true
+has_more slot [] more h = absurd (cc)
+has_more slot (life ∷ lives) more h = by (life.slot == slot) (has_more slot lives more) h
   where
-    by : (same : Bool) → (if same then list_by event (list_of k p) else list_of k p) ≡ list_of k p
-    by true = list_quiet event (list_of k p) h
-    by false = refl
+    by : (same : Bool) → (has_slot slot lives ≡ true → has_slot slot (lives ++ more) ≡ true) → (same || has_slot slot lives) ≡ true → (same || has_slot slot (lives ++ more)) ≡ true
+    by true f h = refl
+    by false f h = f h
+
+gained_has : (slot : ℕ) (event : Event) (other : ℕ → List Lifetime) (list : List Lifetime) → is_of_rows event ≡ false → has_slot slot list ≡ true → has_slot slot (gained_by event other list) ≡ true
+gained_has slot (events.Adopted place count) other list q h = has_more slot list (other place) h
+gained_has slot event other list q h = ap (has_slot slot) (gained_quiet event other list refl q) ∙ h
+
+list_still : (i slot : ℕ) (event : Event) (p : Past) → is_of_rows event ≡ false → has_slot slot (list_of i p) ≡ true → has_slot slot (list_of i (Then p i event)) ≡ true
+list_still i slot event p q h = rw (same_number i) (gained_has slot event (λ (place : ℕ). list_of place p) (list_of i p) q h)
 
 cut_quiet : (s : ℕ) (event : Event) (x : Bool) → is_of_rows event ≡ false → x ≡ true → cut_by s event x ≡ true
 cut_quiet s (events.Retire slot birth retire) x h c = absurd (cc)
@@ -185,7 +183,9 @@ once_still : (slots : ℕ) (p : Past) (i : ℕ) (event other : Event) → is_of_
 once_still slots p i event (events.Give slot birth) h c = ap not (taken_quiet slot event (taken_at slots slot p) h) ∙ c
 once_still slots p i event (events.Unused slot) h c = taken_quiet slot event (taken_at slots slot p) h ∙ c
 once_still slots p i event (events.Back slot) h c =
-    ap (λ (x : Bool). x && has_slot slot (list_of i (Then p i event))) (taken_quiet slot event (taken_at slots slot p) h) ∙ ap (λ (x : List Lifetime). taken_at slots slot p && has_slot slot x) (list_still i i event p h) ∙ c
+    both (taken_by slot event (taken_at slots slot p)) (has_slot slot (list_of i (Then p i event)))
+    (taken_quiet slot event (taken_at slots slot p) h ∙ first_of (taken_at slots slot p) (has_slot slot (list_of i p)) c)
+    (list_still i slot event p h (rest_of (taken_at slots slot p) (has_slot slot (list_of i p)) c))
 once_still slots p i event (events.Retire slot birth retire) h c = cut_still i i slot event p h c
 once_still slots p i event other h c = c
 
@@ -203,9 +203,9 @@ back_still p i event other h c = c
 back_kind : OfKind is_of_rows back_ok
 back_kind = record { quiet = back_quiet; still = back_still }
 
-in_own : (w : World) (i slot retire : ℕ) (v : View) → CoversNeeds w i v → v.status slot ≡ Listed i retire → has_slot slot (w.seat i).desk.list ≡ true
+in_own : (w : World) (i slot retire : ℕ) (v : View) → CoversNeeds w i v → v.status slot ≡ Listed i retire → has_slot slot (list_in w i) ≡ true
 in_own w i slot retire v n e =
-    in_has (w.seat i).desk.list slot (v.birth slot) retire (sym ((n.rows.plays i).lists slot (v.birth slot) retire) ∙ n.rows.good.lists i slot retire e)
+    in_has (list_in w i) slot (v.birth slot) retire (sym ((n.rows.plays i).lists slot (v.birth slot) retire) ∙ n.rows.good.lists i slot retire e)
 
 once_move : (w : World) (i birth : ℕ) (v : View) (p : Past) (m : RowMove) → CoversNeeds w i v → MoveFits i v m → Shows w v p → Single (once_ok w.layout.config.slots) p i (row_events birth m)
 once_move w i birth v p Stays n f h = tt
@@ -221,6 +221,7 @@ once_move w i birth v p (Seals slot born retire) n f h = tt
 once_move w i birth v p (Lists slot born retire) n f h = h.cuts i slot (ap (is_cut i) f ∙ same_number i)
 once_move w i birth v p (Returns slot) n f h =
     both (taken_at w.layout.config.slots slot p) (has_slot slot (list_of i p)) (h.taken slot ∙ ap is_taken f.1) (ap (has_slot slot) (h.lists i) ∙ in_own w i slot f.0 v n f.1)
+once_move w i birth v p (Adopts from) n f h = tt
 
 back_move : (w : World) (i birth : ℕ) (v : View) (p : Past) (m : RowMove) → MoveFits i v m → Shows w v p → Single back_ok p i (row_events birth m)
 back_move w i birth v p Stays f h = tt
@@ -235,6 +236,7 @@ back_move w i birth v p (Reads slot born) f h = tt
 back_move w i birth v p (Seals slot born retire) f h = tt
 back_move w i birth v p (Lists slot born retire) f h = refl
 back_move w i birth v p (Returns slot) f h = h.retired slot ∙ ap is_listed f.1
+back_move w i birth v p (Adopts from) f h = tt
 
 -- what a history keeps
 pub record Keeps (layout : Layout) (made : Made) : Type 0 where
@@ -261,7 +263,7 @@ step_back w i v p n h t =
     let s : Single back_ok p i (row_events b (move_of w i)) = back_move w i b v p (move_of w i) (before_at w i v n) h in
     single_each is_of_rows back_ok back_kind i (told_in w i) p (subst (λ (es : List Event). Single back_ok p i es) (sym (rows_told w i)) s) t
 
-pub begin_keeps : (layout : Layout) (made : Made) (i : ℕ) (call : Call) → is_busy made.world i ≡ false → may_begin made.world.layout.config call ≡ true → Keeps layout made → Keeps layout (done made (Begins i call))
+pub begin_keeps : (layout : Layout) (made : Made) (i : ℕ) (call : Call) → is_busy made.world i ≡ false → may_start made.world i call ≡ true → Keeps layout made → Keeps layout (done made (Begins i call))
 begin_keeps layout made i call f m g =
     let k = g.known in
     let q = requests_begin made.world i call g.asked k.valid f k.seats k.requests in
@@ -276,8 +278,8 @@ begin_keeps layout made i call f m g =
       backs = (refl, g.backs);
     }
 
-pub step_keeps : (layout : Layout) (made : Made) (i : ℕ) → i < made.world.layout.config.seats → Keeps layout made → Keeps layout (done made (Steps i))
-step_keeps layout made i b g =
+pub step_keeps : (layout : Layout) (made : Made) (i : ℕ) → i < made.world.layout.config.seats → is_busy made.world i ≡ true → Keeps layout made → Keeps layout (done made (Steps i))
+step_keeps layout made i b y g =
     let k = g.known in
     let q = asked_next made.world i g.rows g.line g.asked b k in
     let n = covers_of made.world i g.rows g.line g.asked k in
@@ -287,13 +289,13 @@ step_keeps layout made i b g =
       line = line_after made.world i g.line;
       asked = q.0;
       known = known_kept made.world i g.rows g.line g.asked q.0 b k q.1.facts q.1.deal;
-      shows = shows_step made.world i g.rows made.past n g.shows;
+      shows = shows_step made.world i g.rows made.past y n g.shows;
       once = step_once made.world i g.rows made.past layout g.table n g.shows g.once;
       backs = step_back made.world i g.rows made.past n g.shows g.backs;
     }
 
 steady : (layout : Layout) → Steady (Keeps layout)
-steady layout = record { begins = λ made i call b y m g. begin_keeps layout made i call y m g; steps = λ made i b y g. step_keeps layout made i b g }
+steady layout = record { begins = λ made i call b y m g. begin_keeps layout made i call y m g; steps = λ made i b y g. step_keeps layout made i b y g }
 
 pub first_keeps : (layout : Layout) → is_valid layout ≡ true → Keeps layout (first_made layout)
 first_keeps layout d =

@@ -5,14 +5,36 @@ use Rattle.std.specs.Prelude.{◌==◌, if◌then◌else◌}
 use Rattle.std.specs.List.{remove}
 use Rattle.law_answers.specs.inv.model.defs.declared.lifetime.Lifetime.{Lifetime}
 use Rattle.law_answers.specs.inv.rows.Hands.{no_entry, each_once, in_list, stands_at}
-use Rattle.law_answers.specs.inv.rows.Rows.{Status, View, RowMove, made, is_taken}
+use Rattle.law_answers.specs.inv.rows.Rows.{Status, View, RowMove, made, is_taken, passed}
 use Rattle.law_answers.specs.inv.rows.Rows.Status.{Free, Claimed, Born, Linked, InQueue, Cut, Sealed, Listed}
-use Rattle.law_answers.specs.inv.rows.Rows.RowMove.{Stays, Claims, Bears, Drops, Links, Replaces, Appends, Pops, Reads, Seals, Lists, Returns}
+use Rattle.law_answers.specs.inv.rows.Rows.RowMove.{Stays, Claims, Bears, Drops, Links, Replaces, Appends, Pops, Reads, Seals, Lists, Returns, Adopts}
 use Rattle.law_answers.proofs.inv.rows.Fits.{MoveFits}
+use Rattle.law_answers.proofs.inv.rows.Made.{passed_taken}
 use Rattle.law_answers.specs.inv.ends.Told.{row_events}
 use Rattle.law_answers.specs.laws.StateAt.{taken_by, retired_by, list_by, without, has_slot}
 use Rattle.law_reuse.specs.Rows.{is_listed, is_cut}
 use Rattle.law_answers.proofs.laws.Along.{along}
+
+-- a row in a list that is taken over stays one
+passed_listed : (from to : ℕ) (x : Status) → is_listed (passed from to x) ≡ is_listed x
+passed_listed from to Free = refl
+passed_listed from to (Claimed by) = refl
+passed_listed from to (Born by) = refl
+passed_listed from to (Linked bucket) = refl
+passed_listed from to InQueue = refl
+passed_listed from to (Cut by) = refl
+passed_listed from to (Sealed by retire) = refl
+passed_listed from to (Listed by retire) = refl
+
+passed_cut : (k from to : ℕ) (x : Status) → is_cut k (passed from to x) ≡ is_cut k x
+passed_cut k from to Free = refl
+passed_cut k from to (Claimed by) = refl
+passed_cut k from to (Born by) = refl
+passed_cut k from to (Linked bucket) = refl
+passed_cut k from to InQueue = refl
+passed_cut k from to (Cut by) = refl
+passed_cut k from to (Sealed by retire) = refl
+passed_cut k from to (Listed by retire) = refl
 
 -- where a move changes one row
 here : (s slot : ℕ) → (s == slot) ≡ true → slot ≡ s
@@ -47,6 +69,7 @@ taken_made i v (Reads slot born) birth s f = refl
 taken_made i v (Seals slot born retire) birth s f = keeps_by is_taken v s slot (Cut i) (Sealed i retire) (s == slot) refl f refl
 taken_made i v (Lists slot born retire) birth s f = keeps_by is_taken v s slot (Sealed i retire) (Listed i retire) (s == slot) refl f refl
 taken_made i v (Returns slot) birth s f = turns_by is_taken v s slot Free false (s == slot) refl refl
+taken_made i v (Adopts from) birth s f = sym (passed_taken from i (v.status s))
 
 pub retired_made : (i : ℕ) (v : View) (m : RowMove) (birth s : ℕ) → MoveFits i v m → along (retired_by s) (row_events birth m) (is_listed (v.status s)) ≡ is_listed ((made i v m).status s)
 retired_made i v Stays birth s f = refl
@@ -61,6 +84,7 @@ retired_made i v (Reads slot born) birth s f = refl
 retired_made i v (Seals slot born retire) birth s f = keeps_by is_listed v s slot (Cut i) (Sealed i retire) (s == slot) refl f refl
 retired_made i v (Lists slot born retire) birth s f = turns_by is_listed v s slot (Listed i retire) true (s == slot) refl refl
 retired_made i v (Returns slot) birth s f = turns_by is_listed v s slot Free false (s == slot) refl refl
+retired_made i v (Adopts from) birth s f = sym (passed_listed from i (v.status s))
 
 -- the row that a move cuts, and the one that it puts on the list
 abbrev pub cuts : RowMove → ℕ → Bool
@@ -76,6 +100,7 @@ cuts (Reads slot birth) s = false
 cuts (Seals slot birth retire) s = false
 cuts (Lists slot birth retire) s = false
 cuts (Returns slot) s = false
+cuts (Adopts from) s = false
 
 abbrev pub retires : RowMove → ℕ → Bool
 retires Stays s = false
@@ -90,6 +115,7 @@ retires (Reads slot birth) s = false
 retires (Seals slot birth retire) s = false
 retires (Lists slot birth retire) s = s == slot
 retires (Returns slot) s = false
+retires (Adopts from) s = false
 
 -- a row that a seat has cut and not retired was so before, or is cut just now by this seat, and none is retired just now
 pub record CutBefore (i k : ℕ) (v : View) (m : RowMove) (s : ℕ) : Type 0 where
@@ -135,8 +161,9 @@ cut_made i k v (Reads slot birth) s f h = cut_same i k v (Reads slot birth) s re
 cut_made i k v (Seals slot birth retire) s f h = cut_seal i k v s slot birth retire (s == slot) refl f h
 cut_made i k v (Lists slot birth retire) s f h = let r = cut_no k v s slot (Listed i retire) (s == slot) refl refl h in cut_same i k v (Lists slot birth retire) s refl r.0 r.1
 cut_made i k v (Returns slot) s f h = cut_same i k v (Returns slot) s refl refl (cut_no k v s slot Free (s == slot) refl refl h).1
+cut_made i k v (Adopts from) s f h = cut_same i k v (Adopts from) s refl refl (sym (passed_cut k from i (v.status s)) ∙ h)
 
--- a seat's list after a move of the seat
+-- a seat's list after a move of the seat, but for a list that it takes over
 abbrev pub moved_list : RowMove → List Lifetime → List Lifetime
 moved_list Stays list = list
 moved_list (Claims slot) list = list
@@ -150,6 +177,7 @@ moved_list (Reads slot birth) list = list
 moved_list (Seals slot birth retire) list = list
 moved_list (Lists slot birth retire) list = list ++ record { slot = slot; birth = birth; retire = retire } ∷ []
 moved_list (Returns slot) list = without slot list
+moved_list (Adopts from) list = list
 
 pub list_moved : (birth : ℕ) (m : RowMove) (list : List Lifetime) → along list_by (row_events birth m) list ≡ moved_list m list
 list_moved birth Stays list = refl
@@ -164,6 +192,7 @@ list_moved birth (Reads slot born) list = refl
 list_moved birth (Seals slot born retire) list = refl
 list_moved birth (Lists slot born retire) list = refl
 list_moved birth (Returns slot) list = refl
+list_moved birth (Adopts from) list = refl
 
 -- the entry at a place is the only one of its slot
 none_without : (slot : ℕ) (list : List Lifetime) → no_entry slot list ≡ true → without slot list ≡ list

@@ -14,7 +14,7 @@ use Rattle.law_answers.specs.inv.model.defs.declared.event.Root.TheVariants as r
 use Rattle.law_answers.specs.inv.model.defs.declared.lifetime.Lifetime.{Lifetime}
 use Rattle.law_answers.specs.inv.model.declared.post.Post.{Post}
 use Rattle.law_answers.specs.inv.model.Allocate.{is_claimed}
-use Rattle.law_answers.specs.inv.model.Calls.{ChangeKept, Task, Changes, Dequeues, Next, Again, MakeRoom, Answering, Retiring, AfterScan, Answered, Repeated, Counted, Why, Fills, Retires, ReadGuard, GiveBack, LoadVersion, LoadCount, LoadKey, LoadValue, ExchangeRoot, LoadNumber, LoadNext, PassTail, ExchangeNext, ExchangeTail, LoadTail, SwingTail, TakeNumber, TakeValue, ExchangeHead, Work, Getting, Changing, Enqueuing, Dequeuing, Phase, Idle, Runs, Scans, Works, CallTurn, Keeping}
+use Rattle.law_answers.specs.inv.model.Calls.{ChangeKept, Task, Changes, Dequeues, Next, Again, MakeRoom, Answering, Retiring, AfterScan, Answered, Repeated, Counted, Why, Fills, Retires, ReadGuard, GiveBack, LoadVersion, LoadCount, LoadKey, LoadValue, ExchangeRoot, LoadNumber, LoadNext, PassTail, ExchangeNext, ExchangeTail, LoadTail, SwingTail, TakeNumber, TakeValue, ExchangeHead, Work, Getting, Changing, Enqueuing, Dequeuing, Phase, Idle, Runs, Scans, Works, CallTurn, KeepAt, Loosens, LoadHeld, StoreHeld, Looks, Misses, HideSpan, MarkLeft, TakeList, MarkTaken, Keeping}
 use Rattle.law_answers.specs.inv.model.Change.{told_linked, told_change, changed_bucket, answer_done}
 use Rattle.law_answers.specs.inv.model.Desks.{Desk}
 use Rattle.law_answers.specs.inv.model.Guards.{guards, guard_at, eras_in, published}
@@ -28,15 +28,15 @@ use Rattle.law_answers.specs.inv.model.Phases.Ending.{Done, Protected, Followed,
 use Rattle.law_answers.specs.inv.model.Rounds.{scheme_of, index_of, taken_of, finish_base, clear_base, clear_post, clear_told, given_up, closed, finishing_by, finishing, clearing_by, clearing, clearing_next_by}
 use Rattle.law_answers.specs.inv.model.Scan as scan
 use Rattle.law_answers.specs.inv.model.Steps.{phase_turn, work_turn}
-use Rattle.law_answers.specs.inv.rows.Hands.{task_fills, each_once, is_right, base_row, work_row, row_move, linked_row}
+use Rattle.law_answers.specs.inv.rows.Hands.{task_fills, each_once, is_right, base_row, keep_row, work_row, row_move, linked_row}
 use Rattle.law_answers.specs.inv.rows.Rows.{RowMove}
-use Rattle.law_answers.specs.inv.rows.Rows.RowMove.{Stays, Claims, Bears, Drops, Links, Replaces, Appends, Pops, Reads, Seals, Lists, Returns}
+use Rattle.law_answers.specs.inv.rows.Rows.RowMove.{Stays, Claims, Bears, Drops, Links, Replaces, Appends, Pops, Reads, Seals, Lists, Returns, Adopts}
 use Rattle.law_answers.specs.inv.model.defs.Events.{is_of_rows}
 use Rattle.law_answers.specs.inv.ends.Told.{row_events}
 use Rattle.law_answers.specs.laws.StateAt.{cut_by}
 use Rattle.law_answers.proofs.laws.Along.{along}
 use Rattle.law_reuse.proofs.Once.Calm.{keeps_list, ends_life, base_keeps}
-use Rattle.law_reuse.proofs.Once.Desks.{left_at, resumed_desk, work_desk}
+use Rattle.law_reuse.proofs.Once.Desks.{left_at, resumed_desk, takes_list, work_desk}
 use Rattle.law_reuse.proofs.Once.Moves.{cuts, retires, moved_list, removed}
 
 -- a machine that ends with no life leaves the list
@@ -79,6 +79,21 @@ pop_list : (head next : ℕ) (same : Bool) (list : List Lifetime) → moved_list
 pop_list head next true list = refl
 pop_list head next false list = refl
 
+adopt_list : (place : ℕ) (same : Bool) (list : List Lifetime) → moved_list (if same then Adopts place else Stays) list ≡ list
+adopt_list place true list = refl
+adopt_list place false list = refl
+
+keep_list : (at : KeepAt) (found : ℕ) (list : List Lifetime) → moved_list (keep_row at found) list ≡ list
+keep_list (TakeList place) found list = adopt_list place (found == 1) list
+keep_list (Loosens let_go) found list = refl
+keep_list (LoadHeld from index) found list = refl
+keep_list (StoreHeld from index era) found list = refl
+keep_list (Looks index key at) found list = refl
+keep_list (Misses index) found list = refl
+keep_list HideSpan found list = refl
+keep_list MarkLeft found list = refl
+keep_list (MarkTaken place count) found list = refl
+
 work_list : (work : Work) (post : Post) (found : ℕ) (list : List Lifetime) → moved_list (work_row work post found) list ≡ list
 work_list (Getting key at) post found list = refl
 work_list (Changing kept (LoadVersion slot)) post found list = refl
@@ -96,7 +111,7 @@ work_list (Dequeuing (SwingTail head next)) post found list = refl
 work_list (Dequeuing (TakeNumber head next)) post found list = refl
 work_list (Dequeuing (TakeValue head next number)) post found list = refl
 work_list (Dequeuing (ExchangeHead head next number value)) post found list = pop_list head next (found == head + 1) list
-work_list (Keeping at) post found list = refl
+work_list (Keeping at) post found list = keep_list at found list
 
 -- a scan
 scanned_list : (later : AfterScan) (post : Post) (desk : Desk) (told : List Event) → (scan.scanned later post desk told).desk ≡ desk
@@ -145,15 +160,15 @@ run_list why (Retire (LoadRetire slot birth)) last post desk found h = calm_list
 run_list why (Retire (StoreRetired slot birth retire)) last post desk found h = store_list why slot birth retire last post desk found h
 run_list why (Move at) last post desk found h = calm_list why (Move at) post desk found refl
 
-pub phase_list : (phase : Phase) (last post : Post) (desk : Desk) (found : ℕ) → is_right phase desk.list ≡ true → each_once desk.list ≡ true → (phase_turn phase post desk found).desk.list ≡ moved_list (row_move phase last found) desk.list
-phase_list Idle last post desk found h d = refl
-phase_list (Runs why base) last post desk found h d = run_list why base last post desk found h
-phase_list (Scans later (ReadGuard number)) last post desk found h d =
+pub phase_list : (phase : Phase) (last post : Post) (desk : Desk) (found : ℕ) → takes_list phase found ≡ false → is_right phase desk.list ≡ true → each_once desk.list ≡ true → (phase_turn phase post desk found).desk.list ≡ moved_list (row_move phase last found) desk.list
+phase_list Idle last post desk found n h d = refl
+phase_list (Runs why base) last post desk found n h d = run_list why base last post desk found h
+phase_list (Scans later (ReadGuard number)) last post desk found n h d =
     let seen : Seen = (guard_at post.layout.config number, published (guard_at post.layout.config number) found) in
     reading_list later number post (scan.with_read desk number seen) (events.Read seen.0 (eras_in seen.0 found) ∷ []) (nat_lt (number + 1) (guards post.layout.config))
-phase_list (Scans later (GiveBack place slot)) last post desk found h d =
+phase_list (Scans later (GiveBack place slot)) last post desk found n h d =
     giving_list later post (scan.with_back desk place) (events.Back slot ∷ []) (scan.unmet_from (scan.with_back desk place) place) ∙ removed desk.list place slot d h
-phase_list (Works work) last post desk found h d = ap (λ (d : Desk). d.list) (work_desk work post desk found) ∙ sym (work_list work last found desk.list)
+phase_list (Works work) last post desk found n h d = ap (λ (d : Desk). d.list) (work_desk work post desk found n) ∙ sym (work_list work last found desk.list)
 
 -- the row is cut, or retired
 abbrev pub cut_of : ℕ → Event → Bool
@@ -221,6 +236,21 @@ append_cuts : (s slot : ℕ) (same : Bool) → cuts (if same then Appends slot e
 append_cuts s slot true h = h
 append_cuts s slot false h = h
 
+adopt_cuts : (s place : ℕ) (same : Bool) → cuts (if same then Adopts place else Stays) s ≡ true → false ≡ true
+adopt_cuts s place true h = h
+adopt_cuts s place false h = h
+
+keep_cuts : (s : ℕ) (at : KeepAt) (found : ℕ) → cuts (keep_row at found) s ≡ true → false ≡ true
+keep_cuts s (TakeList place) found h = adopt_cuts s place (found == 1) h
+keep_cuts s (Loosens let_go) found h = h
+keep_cuts s (LoadHeld from index) found h = h
+keep_cuts s (StoreHeld from index era) found h = h
+keep_cuts s (Looks index key at) found h = h
+keep_cuts s (Misses index) found h = h
+keep_cuts s HideSpan found h = h
+keep_cuts s MarkLeft found h = h
+keep_cuts s (MarkTaken place count) found h = h
+
 work_has : (s : ℕ) (work : Work) (last post : Post) (desk : Desk) (found : ℕ) → cuts (work_row work last found) s ≡ true → Has s (work_turn work post desk found)
 work_has s (Getting key at) last post desk found h = absurd (cc)
 work_has s (Changing kept (LoadVersion slot)) last post desk found h = absurd (cc)
@@ -238,7 +268,7 @@ work_has s (Dequeuing (SwingTail head next)) last post desk found h = absurd (cc
 work_has s (Dequeuing (TakeNumber head next)) last post desk found h = absurd (cc)
 work_has s (Dequeuing (TakeValue head next number)) last post desk found h = absurd (cc)
 work_has s (Dequeuing (ExchangeHead head next number value)) last post desk found h = pop_has s head next number value post desk found (found == head + 1) refl h
-work_has s (Keeping at) last post desk found h = absurd (cc)
+work_has s (Keeping at) last post desk found h = let x = keep_cuts s at found h in absurd (cc)
 
 -- no machine cuts a row
 claim_cuts : (s slot : ℕ) (taken : Bool) → cuts (if taken then Stays else Claims slot) s ≡ true → false ≡ true
@@ -285,6 +315,7 @@ events_retire s birth (Reads slot born) = refl
 events_retire s birth (Seals slot born retire) = refl
 events_retire s birth (Lists slot born retire) = grind (arith, nat_tests)
 events_retire s birth (Returns slot) = refl
+events_retire s birth (Adopts from) = refl
 
 pub told_retires : (s birth : ℕ) (m : RowMove) (told : List Event) → filter is_of_rows told ≡ row_events birth m → list_any (retire_of s) told ≡ retires m s
 told_retires s birth m told e = any_kind (retire_of s) is_of_rows (retire_rows s) told ∙ ap (list_any (retire_of s)) e ∙ events_retire s birth m

@@ -1,7 +1,8 @@
 -- What stands in a post is what its seat told to hold and not to clear.
+use Rattle.law_answers.specs.inv.ends.Stands as ends
 use Rattle.std.proofs.Common.{ℕ, ◌≡◌, ◌<◌, ◌+◌, ◌-◌, Bool, true, false, List, [], ◌∷◌, ◌++◌, length, Option, Some, None, refl, sym, ap, ◌∙◌, subst, arith}
 use Rattle.std.proofs.lemmas.Bool.Decides.{nat_tests}
-use Rattle.std.specs.Prelude.{◌==◌, if◌then◌else◌}
+use Rattle.std.specs.Prelude.{◌==◌, if◌then◌else◌, drop}
 use Rattle.law_answers.specs.inv.model.words.declared.config.SchemeKind.{SchemeKind}
 use Rattle.law_answers.specs.inv.model.words.declared.config.SchemeKind.TheVariants.{He, Ibr, Wfe}
 use Rattle.law_answers.specs.inv.model.words.Packed.{reservation_word, read_reservation}
@@ -14,7 +15,7 @@ use Rattle.law_answers.specs.inv.model.Allocate as allocates
 use Rattle.law_answers.specs.inv.model.Machine as machine
 use Rattle.law_answers.specs.inv.model.Memory.{bump}
 use Rattle.law_answers.specs.inv.model.MoveClock as movers
-use Rattle.law_answers.specs.inv.model.Posts.{stands, cleared, reserves_helper, with_row, with_tag, withdrawn, tag_of, upper, reserves_index}
+use Rattle.law_answers.specs.inv.model.Posts.{stands, cleared, reserves_helper, with_row, with_tag, withdrawn, tag_of, upper, reserves_index, cleared_from, reserves_span, withdrawn_all}
 use Rattle.law_answers.specs.inv.model.Protect as protects
 use Rattle.law_answers.specs.inv.model.Rounds.{scheme_of, clear_post, clear_told, let_index}
 use Rattle.law_answers.specs.inv.model.Phases.{Aim, Alone, Follows, BeginAt, ProtectAt, AllocateAt, RetireAt, MoveAt, Walk, Base, Turn, RowOf, Tries}
@@ -34,8 +35,10 @@ use Rattle.law_answers.specs.inv.model.defs.declared.event.Guard.TheVariants as 
 use Rattle.law_answers.specs.inv.model.Guards.{one_era}
 use Rattle.law_answers.proofs.inv.model.Facts.{first_of, rest_of, number_is}
 use Rattle.law_answers.proofs.inv.model.Standing.{stands-withdrawn_same, stands-with_row_same, stands-withdrawn_other, stands-with_row_other}
-use Rattle.law_answers.specs.inv.model.Calls.{Work, Getting, Changing, Enqueuing, Dequeuing, Keeping, Loosens, LoadHeld, StoreHeld, Looks, Misses}
+use Rattle.law_answers.specs.inv.model.Calls.{Work, Getting, Changing, Enqueuing, Dequeuing, Keeping, Loosens, LoadHeld, StoreHeld, Looks, Misses, HideSpan, MarkLeft, TakeList, MarkTaken}
 use Rattle.law_answers.specs.inv.model.words.Schemes.{has_one_interval}
+use Rattle.law_answers.specs.inv.covers.Rests.{Vacant, spare}
+use Rattle.law_answers.proofs.inv.ends.Ends.Left.{hidden_stood}
 
 -- what these events make of what stood
 abbrev pub stood : ℕ → List Event → Option ℕ → Option ℕ
@@ -255,13 +258,34 @@ load_follows : (post : Post) (from index : ℕ) (one : Bool) → index < length 
 load_follows post from index true h = copied_follows post from index [] (stands post from) (λ j y. refl) h
 load_follows post from index false h = λ j. refl
 
-pub work_follows : (post : Post) (work : Work) → copy_index work < length post.standing → Follow post (work_post work post) (work_told work post)
-work_follows post (Getting key at) h = λ j. refl
-work_follows post (Changing kept at) h = λ j. refl
-work_follows post (Enqueuing kept at) h = λ j. refl
-work_follows post (Dequeuing at) h = λ j. refl
-work_follows post (Keeping (Loosens let_go)) h = cleared_follows post (let_index let_go) (stands post (let_index let_go)) refl
-work_follows post (Keeping (LoadHeld from index)) h = load_follows post from index (has_one_interval (scheme_of post)) h
-work_follows post (Keeping (StoreHeld from index era)) h = copied_follows post from index (reserves_index post index era) (stands post from) (λ j y. refl) h
-work_follows post (Keeping (Looks index key at)) h = λ j. refl
-work_follows post (Keeping (Misses index)) h = λ j. refl
+same_either : (a b : ℕ) → (a == b) ≡ (b == a)
+same_either a b = grind (arith, nat_tests)
+
+-- a seat that leaves with its interval lets go of all that stands
+same_one : (event : Event) (x : Option ℕ) (j : ℕ) → ends.stood_by event x j ≡ stood_by j event x
+same_one (events.Held index slot steps) x j = ap (λ (same : Bool). if same then Some slot else x) (same_either index j)
+same_one (events.Copied from index slot) x j = ap (λ (same : Bool). if same then Some slot else x) (same_either index j)
+same_one (events.Clear index slot) x j = ap (λ (same : Bool). if same then None else x) (same_either index j)
+same_one event x j = refl
+
+same_stood : (told : List Event) (x : Option ℕ) (j : ℕ) → ends.stood told x j ≡ stood j told x
+same_stood [] x j = refl
+same_stood (event ∷ told) x j = same_stood told (ends.stood_by event x j) j ∙ ap (stood j told) (same_one event x j)
+
+hidden_follows : (post : Post) → Vacant spare post → Follow post (withdrawn_all post) (cleared_from 2 (drop 2 post.standing) ++ reserves_span post None)
+hidden_follows post n j = sym (hidden_stood post j n ∙ same_stood (cleared_from 2 (drop 2 post.standing) ++ reserves_span post None) (stands post j) j)
+
+pub work_follows : (post : Post) (work : Work) → copy_index work < length post.standing → (work ≡ Keeping HideSpan → Vacant spare post) → Follow post (work_post work post) (work_told work post)
+work_follows post (Getting key at) h n = λ j. refl
+work_follows post (Changing kept at) h n = λ j. refl
+work_follows post (Enqueuing kept at) h n = λ j. refl
+work_follows post (Dequeuing at) h n = λ j. refl
+work_follows post (Keeping (Loosens let_go)) h n = cleared_follows post (let_index let_go) (stands post (let_index let_go)) refl
+work_follows post (Keeping (LoadHeld from index)) h n = load_follows post from index (has_one_interval (scheme_of post)) h
+work_follows post (Keeping (StoreHeld from index era)) h n = copied_follows post from index (reserves_index post index era) (stands post from) (λ j y. refl) h
+work_follows post (Keeping (Looks index key at)) h n = λ j. refl
+work_follows post (Keeping (Misses index)) h n = λ j. refl
+work_follows post (Keeping HideSpan) h n = hidden_follows post (n refl)
+work_follows post (Keeping MarkLeft) h n = λ j. refl
+work_follows post (Keeping (TakeList place)) h n = λ j. refl
+work_follows post (Keeping (MarkTaken place count)) h n = λ j. refl

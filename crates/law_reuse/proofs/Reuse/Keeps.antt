@@ -8,13 +8,13 @@ use Rattle.law_answers.specs.inv.model.defs.declared.call.Call.{Call}
 use Rattle.law_answers.specs.inv.model.defs.declared.event.Event.{Event}
 use Rattle.law_answers.specs.inv.model.defs.declared.event.Event.TheVariants as events
 use Rattle.law_answers.specs.inv.model.declared.post.Post.{Post}
-use Rattle.law_answers.specs.inv.model.Locals.{Local, may_begin}
+use Rattle.law_answers.specs.inv.model.Locals.{Local}
 use Rattle.law_answers.specs.inv.model.Posts.{stands, counted}
 use Rattle.law_answers.specs.inv.model.Phases.{Base}
 use Rattle.law_answers.specs.inv.model.Phases.Base.{Begin, Protect, Reload, Clear, Finish, Release, Allocate, Write, GiveUp, Retire, Move}
-use Rattle.law_answers.specs.inv.model.Calls.{Why, ScanAt, ReadGuard, GiveBack, Phase, Idle, Runs, Scans, Works, Work, Getting, Changing, Enqueuing, Dequeuing, Keeping, LoadHeld, StoreHeld}
+use Rattle.law_answers.specs.inv.model.Calls.{Why, ScanAt, ReadGuard, GiveBack, Phase, Idle, Runs, Scans, Works, Work, Getting, Changing, Enqueuing, Dequeuing, Keeping, LoadHeld, StoreHeld, KeepAt, TakeList, HideSpan}
 use Rattle.law_answers.proofs.inv.model.Ranges.{bounds_of}
-use Rattle.law_answers.specs.inv.model.World.{World, start, begin, step, finds, told_in, is_busy}
+use Rattle.law_answers.specs.inv.model.World.{World, begin, finds, is_busy, offered, start, step, told_in, may_start}
 use Rattle.law_answers.proofs.inv.model.Facts.{first_of, rest_of, and_false, not_of_false, below_length}
 use Rattle.law_answers.specs.inv.shapes.Seats.{Seats}
 use Rattle.law_answers.proofs.inv.shapes.Frame.{seat_stays, begin_stays, begin_begins}
@@ -23,7 +23,7 @@ use Rattle.law_answers.specs.inv.history.Record.Past.{Then}
 use Rattle.law_answers.specs.inv.history.History.{Item, Begins, Steps, Made, done, first_made, made_of, record_of}
 use Rattle.law_answers.proofs.inv.history.Along.{Steady, items_keep}
 use Rattle.law_answers.proofs.inv.history.Entries.{entries_of_each}
-use Rattle.law_answers.specs.inv.rows.Hands.{row_move}
+use Rattle.law_answers.specs.inv.rows.Hands.{row_move, keep_row}
 use Rattle.law_answers.specs.inv.covers.Covers.{takes_or_frees}
 use Rattle.law_answers.specs.inv.covers.Held.{index_base}
 use Rattle.law_answers.specs.inv.Inv.{Inv}
@@ -45,17 +45,19 @@ use Rattle.law_answers.proofs.inv.handover.Asks.{run_of}
 use Rattle.law_answers.proofs.inv.covers.Held.{stepped_post}
 use Rattle.law_answers.proofs.inv.model.Lists.{or_left, or_right}
 use Rattle.law_answers.specs.inv.shapes.Slots.{Slots, PhaseIn, WorkIn}
+use Rattle.law_answers.specs.inv.rows.Rows.RowMove.{Stays, Adopts}
+use Rattle.law_answers.specs.inv.covers.Rests.{Rests, Vacant, spare, vacant}
 
 -- a step leaves of what stands what it tells
 scan_follows : (post : Post) (at : ScanAt) (found : ℕ) → Follow post post (scan_told at post found)
 scan_follows post (ReadGuard number) found j = refl
 scan_follows post (GiveBack place slot) found j = refl
 
-first_follows : (phase : Phase) (post : Post) (found : ℕ) → ((why : Why) (base : Base) → phase ≡ Runs why base → index_base base < length post.standing) → ((work : Work) → phase ≡ Works work → copy_index work < length post.standing) → First (Follow post) phase post found
-first_follows Idle post found h c = λ j. refl
-first_follows (Runs why base) post found h c = base_follows post base found (h why base refl)
-first_follows (Scans later at) post found h c = scan_follows post at found
-first_follows (Works work) post found h c = work_follows post work (c work refl)
+first_follows : (phase : Phase) (post : Post) (found : ℕ) → ((why : Why) (base : Base) → phase ≡ Runs why base → index_base base < length post.standing) → ((work : Work) → phase ≡ Works work → copy_index work < length post.standing) → (phase ≡ Works (Keeping HideSpan) → Vacant spare post) → First (Follow post) phase post found
+first_follows Idle post found h c n = λ j. refl
+first_follows (Runs why base) post found h c n = base_follows post base found (h why base refl)
+first_follows (Scans later at) post found h c n = scan_follows post at found
+first_follows (Works work) post found h c n = work_follows post work (c work refl) (λ e. n (ap Works e))
 
 pub room_of : (w : World) (i : ℕ) (why : Why) (base : Base) → is_valid w.layout ≡ true → Seats w → Slots w → (w.seat i).phase ≡ Runs why base → index_base base < length (w.seat i).post.standing
 room_of w i why base d s t e =
@@ -73,11 +75,14 @@ copy_room w i work d s t e =
     below_length (copy_index work) w.layout.config.indexes (length (w.seat i).post.standing)
     (copy_in w.layout work d (subst (PhaseIn w.layout (w.seat i).desk) e (t.seats i).phase)) m.1 (s.fits i).post.standing
 
+hides_bare : (w : World) (i : ℕ) → Rests w → (w.seat i).phase ≡ Works (Keeping HideSpan) → Vacant spare (counted (w.seat i).post)
+hides_bare w i r e = subst (λ (f : Phase). Vacant (vacant f) (w.seat i).post) e (r.vacant i)
+
 -- what stands in a seat's post after its step is what it told
-own_follows : (w : World) (i j : ℕ) → is_valid w.layout ≡ true → Seats w → Slots w → stood j (told_in w i) (stands (w.seat i).post j) ≡ stands ((step w i).seat i).post j
-own_follows w i j d s t =
-    step_goes (Follow (counted (w.seat i).post)) (follow_closed (counted (w.seat i).post)) (w.seat i).phase (counted (w.seat i).post) (w.seat i).desk (finds w i)
-    (first_follows (w.seat i).phase (counted (w.seat i).post) (finds w i) (λ why base e. room_of w i why base d s t e) (λ work e. copy_room w i work d s t e)) j
+own_follows : (w : World) (i j : ℕ) → is_valid w.layout ≡ true → Seats w → Slots w → Rests w → stood j (told_in w i) (stands (w.seat i).post j) ≡ stands ((step w i).seat i).post j
+own_follows w i j d s t r =
+    step_goes (Follow (counted (w.seat i).post)) (follow_closed (counted (w.seat i).post)) (w.seat i).phase (counted (w.seat i).post) (offered w i).desk (finds w i)
+    (first_follows (w.seat i).phase (counted (w.seat i).post) (finds w i) (λ why base e. room_of w i why base d s t e) (λ work e. copy_room w i work d s t e) (λ e. hides_bare w i r e)) j
     ∙ sym (ap (λ (post : Post). stands post j) (stepped_post w i))
 
 -- the same of the record
@@ -93,13 +98,13 @@ told_stands k i j false e p (event ∷ told) = told_stands k i j false e (Then p
     other_one : (k i j : ℕ) → (k == i) ≡ false → (p : Past) (event : Event) → stood_at k j (Then p i event) ≡ stood_at k j p
     other_one k i j e p event = rw e refl
 
-step_stands : (w : World) (i k j : ℕ) (p : Past) (same : Bool) → (k == i) ≡ same → is_valid w.layout ≡ true → Seats w → Slots w → stood_at k j p ≡ stands (w.seat k).post j → stood_at k j (tells_of p i (told_in w i)) ≡ stands ((step w i).seat k).post j
-step_stands w i k j p true e d s t h =
+step_stands : (w : World) (i k j : ℕ) (p : Past) (same : Bool) → (k == i) ≡ same → is_valid w.layout ≡ true → Seats w → Slots w → Rests w → stood_at k j p ≡ stands (w.seat k).post j → stood_at k j (tells_of p i (told_in w i)) ≡ stands ((step w i).seat k).post j
+step_stands w i k j p true e d s t r h =
     let one : k ≡ i = grind (arith, nat_tests) in
     let here : stands (w.seat k).post j ≡ stands (w.seat i).post j = ap (λ (m : ℕ). stands (w.seat m).post j) one in
     let there : stands ((step w i).seat i).post j ≡ stands ((step w i).seat k).post j = ap (λ (m : ℕ). stands ((step w i).seat m).post j) (sym one) in
-    told_stands k i j true e p (told_in w i) ∙ ap (stood j (told_in w i)) (h ∙ here) ∙ own_follows w i j d s t ∙ there
-step_stands w i k j p false e d s t h = told_stands k i j false e p (told_in w i) ∙ h ∙ sym (ap (λ (l : Local). stands l.post j) (seat_stays w i k e))
+    told_stands k i j true e p (told_in w i) ∙ ap (stood j (told_in w i)) (h ∙ here) ∙ own_follows w i j d s t r ∙ there
+step_stands w i k j p false e d s t r h = told_stands k i j false e p (told_in w i) ∙ h ∙ sym (ap (λ (l : Local). stands l.post j) (seat_stays w i k e))
 
 begin_same : (w : World) (i k j : ℕ) (call : Call) (same : Bool) → (k == i) ≡ same → stands ((begin w i call).seat k).post j ≡ stands (w.seat k).post j
 begin_same w i k j call true e =
@@ -143,6 +148,14 @@ unheld_each k j s i (event ∷ told) p u h g =
     by_row true b f = not_of_false b (f refl)
     by_row false b f = refl
 
+adopt_free : (s place : ℕ) (same : Bool) → takes_or_frees (if same then Adopts place else Stays) s ≡ false
+adopt_free s place true = refl
+adopt_free s place false = refl
+
+keep_free : (s : ℕ) (at : KeepAt) (found : ℕ) → takes_or_frees (keep_row at found) s ≡ false
+keep_free s (TakeList place) found = adopt_free s place (found == 1)
+keep_free s at found = refl
+
 -- a protection, a reload and a step on what is kept neither give nor free a row
 protects_free : (s : ℕ) (phase : Phase) (post : Post) (found : ℕ) → phase_holds_none phase ≡ false → takes_or_frees (row_move phase post found) s ≡ false
 protects_free s Idle post found h = absurd (cc)
@@ -158,7 +171,7 @@ protects_free s (Runs why (GiveUp slot)) post found h = absurd (cc)
 protects_free s (Runs why (Retire at)) post found h = absurd (cc)
 protects_free s (Runs why (Move at)) post found h = absurd (cc)
 protects_free s (Scans later at) post found h = absurd (cc)
-protects_free s (Works (Keeping at)) post found h = refl
+protects_free s (Works (Keeping at)) post found h = keep_free s at found
 protects_free s (Works (Getting key at)) post found h = absurd (cc)
 protects_free s (Works (Changing kept at)) post found h = absurd (cc)
 protects_free s (Works (Enqueuing kept at)) post found h = absurd (cc)
@@ -166,10 +179,10 @@ protects_free s (Works (Dequeuing at)) post found h = absurd (cc)
 
 step_each : (w : World) (i k j s : ℕ) (p : Past) (none : Bool) → phase_holds_none (w.seat i).phase ≡ none → Inv w → stood_at k j p ≡ stands (w.seat k).post j → Each (reuse_ok k j s) p → Each (reuse_ok k j s) (tells_of p i (told_in w i))
 step_each w i k j s p true e a h g =
-    unheld_each k j s i (told_in w i) p (told_unheld (w.seat i).phase (counted (w.seat i).post) (w.seat i).desk (finds w i) e)
+    unheld_each k j s i (told_in w i) p (told_unheld (w.seat i).phase (counted (w.seat i).post) (offered w i).desk (finds w i) e)
     (λ y. no_reuse w i k j s a (sym h ∙ row_of s (stood_at k j p) y)) g
 step_each w i k j s p false e a h g =
-    free_each k j s i (told_in w i) p (told_free s (w.seat i).phase (w.seat i).post (counted (w.seat i).post) (w.seat i).desk (finds w i) (protects_free s (w.seat i).phase (w.seat i).post (finds w i) e)) g
+    free_each k j s i (told_in w i) p (told_free s (w.seat i).phase (w.seat i).post (counted (w.seat i).post) (offered w i).desk (finds w i) (protects_free s (w.seat i).phase (w.seat i).post (finds w i) e)) g
 
 -- what a history keeps
 record Keeps (layout : Layout) (made : Made) : Type 0 where
@@ -181,7 +194,7 @@ record Keeps (layout : Layout) (made : Made) : Type 0 where
 begin_stood : (k i j : ℕ) (call : Call) (p : Past) → stood_at k j (Then p i (events.Begin call)) ≡ stood_at k j p
 begin_stood k i j call p = same_either (k == i) (stood_at k j p)
 
-begin_keeps : (layout : Layout) (made : Made) (i : ℕ) (call : Call) → is_busy made.world i ≡ false → may_begin made.world.layout.config call ≡ true → Keeps layout made → Keeps layout (done made (Begins i call))
+begin_keeps : (layout : Layout) (made : Made) (i : ℕ) (call : Call) → is_busy made.world i ≡ false → may_start made.world i call ≡ true → Keeps layout made → Keeps layout (done made (Begins i call))
 begin_keeps layout made i call f m g = record {
   table = g.table;
   known = inv_begin made.world i call f m g.known;
@@ -196,7 +209,7 @@ step_keeps layout made i b g =
     record {
       table = g.table;
       known = inv_kept made.world i b a;
-      stands = λ k j. step_stands made.world i k j made.past (k == i) refl t.valid t.seats t.slots (g.stands k j);
+      stands = λ k j. step_stands made.world i k j made.past (k == i) refl t.valid t.seats t.slots t.rests (g.stands k j);
       law = λ k j s. step_each made.world i k j s made.past (phase_holds_none (made.world.seat i).phase) refl a (g.stands k j) (g.law k j s);
     }
 

@@ -1,6 +1,6 @@
 -- No step reuses a row that stands.
 use Rattle.law_answers.specs.inv.model.Posts.{counted}
-use Rattle.law_answers.specs.inv.model.World.{finds}
+use Rattle.law_answers.specs.inv.model.World.{finds, offered}
 use Rattle.law_answers.specs.inv.history.History.{world_of}
 use Rattle.law_answers.proofs.inv.Inv.Reached.{inv_reached}
 use Rattle.law_answers.proofs.inv.Inv.Tells.{inv_stays}
@@ -8,7 +8,7 @@ use Rattle.law_reuse.specs.Reuse.{NoReuse, NeverReused}
 use Rattle.law_reuse.proofs.Reuse.Told.{told_free}
 
 pub no_reuse : NoReuse
-no_reuse w i k j s a e = let t = inv_stays w i k j s a e in told_free s (w.seat i).phase (w.seat i).post (counted (w.seat i).post) (w.seat i).desk (finds w i) t.stays
+no_reuse w i k j s a e = let t = inv_stays w i k j s a e in told_free s (w.seat i).phase (w.seat i).post (counted (w.seat i).post) (offered w i).desk (finds w i) t.stays
 
 pub never_reused : NeverReused
 never_reused layout items i k j s d e = no_reuse (world_of layout items) i k j s (inv_reached layout items d) e

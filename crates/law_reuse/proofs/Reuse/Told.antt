@@ -65,7 +65,7 @@ first_kept s Idle last post found h = refl
 first_kept s (Runs why base) last post found h = base_all (λ event. not (is_reuse s event)) base post found (λ event. one_kept s base post found event h)
 first_kept s (Scans later (ReadGuard number)) last post found h = refl
 first_kept s (Scans later (GiveBack place slot)) last post found h = and_true (not (s == slot)) (not_of_false (s == slot) h)
-first_kept s (Works work) last post found h = work_all (λ event. not (is_reuse s event)) (λ index slot. refl) (λ from index slot. refl) (λ seat index era. refl) work post
+first_kept s (Works work) last post found h = work_all (λ event. not (is_reuse s event)) (λ index slot. refl) (λ from index slot. refl) (λ seat index era. refl) (λ seat. refl) work post
 
 pub told_free : (s : ℕ) (phase : Phase) (last post : Post) (desk : Desk) (found : ℕ) → takes_or_frees (row_move phase last found) s ≡ false → Free s (told_by (steps.phase_turn phase post desk found))
 told_free s phase last post desk found h =

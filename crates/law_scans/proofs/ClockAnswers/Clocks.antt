@@ -39,7 +39,7 @@ use Rattle.law_places.specs.inv.model.Phases.RetireAt.{LoadLife, LoadRetire, Sto
 use Rattle.law_places.specs.inv.model.Phases.MoveAt.{LoadEra, CheckEra, AnswerAsked, LoadReserved, HandOver, HideLate, ExchangeClock}
 use Rattle.law_places.specs.inv.model.Phases.Base.{Allocate, Retire, Move}
 use Rattle.law_places.specs.inv.model.Phases.Ending.{Done, Protected, Followed, Allocated, Retired, Clocked}
-use Rattle.law_places.specs.inv.model.Calls.{Task, Gets, Changes, Holds, Enqueues, Dequeues, Next, Again, MakeRoom, Answering, Retiring, AfterScan, Answered, Repeated, Counted, ChangeKept, EnqueueKept, GetAt, FindVersion, FindCount, FindKey, FindValue, ChangeAt, LoadVersion, LoadCount, LoadKey, LoadValue, ExchangeRoot, EnqueueAt, LoadNumber, LoadNext, PassTail, ExchangeNext, ExchangeTail, DequeueAt, SwingTail, ExchangeHead, Work, Getting, Changing, Enqueuing, Dequeuing, ScanAt, ReadGuard, GiveBack, Why, Opens, FollowsHead, Fills, ClearsNext, Clears, Finishes, GivesUp, Retires, Tidies, Advances, Releases, Phase, Idle, Runs, Scans, Works, CallOutcome, GoesOn, Answers, LetGo, Released, Rehold, Dropped, KeepAt, Loosens, LoadHeld, StoreHeld, Looks, Misses, Keeping}
+use Rattle.law_places.specs.inv.model.Calls.{Task, Gets, Changes, Holds, Enqueues, Dequeues, Next, Again, MakeRoom, Answering, Retiring, AfterScan, Answered, Repeated, Counted, ChangeKept, EnqueueKept, GetAt, FindVersion, FindCount, FindKey, FindValue, ChangeAt, LoadVersion, LoadCount, LoadKey, LoadValue, ExchangeRoot, EnqueueAt, LoadNumber, LoadNext, PassTail, ExchangeNext, ExchangeTail, DequeueAt, SwingTail, ExchangeHead, Work, Getting, Changing, Enqueuing, Dequeuing, ScanAt, ReadGuard, GiveBack, Why, Opens, FollowsHead, Fills, ClearsNext, Clears, Finishes, GivesUp, Retires, Tidies, Advances, Releases, Phase, Idle, Runs, Scans, Works, CallOutcome, GoesOn, Answers, LetGo, Released, Rehold, Dropped, Parting, KeepAt, Loosens, LoadHeld, StoreHeld, Looks, Misses, HideSpan, MarkLeft, TakeList, MarkTaken, Keeping}
 use Rattle.law_places.specs.inv.shapes.Seats.{Kind, ToRetire, ToMove, kind_of, suits, retires, moves as moves_kind}
 use Rattle.law_places.proofs.laws.Along.{along}
 use Rattle.law_places.proofs.inv.history.Passes.{scan_told}
@@ -52,6 +52,7 @@ use Rattle.law_places.proofs.inv.model.Facts.{same_number, both}
 use Rattle.law_places.specs.laws.AnswerLaw.{is_advance}
 use Rattle.law_places.specs.laws.HistoryAnswers.{ClockTally, outcome_fits, answer_fits}
 use Rattle.law_scans.specs.Outcomes.{clock_by}
+use Rattle.law_scans.proofs.Leaving.{Parts, parts_all, parts_on, takes_on}
 use Rattle.law_scans.proofs.DueScans.Lands.{PhaseRight, due_same}
 use Rattle.law_scans.proofs.DueScans.Still.{claim_front, tick_front, move_front, base_front, front, counts}
 use Rattle.law_places.specs.inv.model.words.Schemes.{has_one_interval}
@@ -279,11 +280,16 @@ dequeue_fits last (SwingTail head next) post desk found c s = clearing_next_fits
 dequeue_fits last (ExchangeHead head next number value) post desk found c s = taken_fits last head next number value post desk (found == head + 1) c s
 dequeue_fits last at post desk found c s = s
 
+-- a seat that leaves
+pub parts_fit : (last : ℕ) (c : ClockTally) → c.due ≡ false → Parts (λ (phase : Phase). PhaseFits last phase c)
+parts_fit last c s = record { clears = λ index. s; hides = s; marks = s }
+
 -- what is let go, a copy and a look
 released_fits : (last : ℕ) (let_go : LetGo) (post : Post) (desk : Desk) (told : List Event) (c : ClockTally) → c.due ≡ false → OutFits last (keeps.released let_go post desk told).outcome c
 released_fits last Released post desk told c s = refl
 released_fits last (Rehold key) post desk told c s = round_fits last (Holds key) post c s
 released_fits last (Dropped index) post desk told c s = refl
+released_fits last (Parting index) post desk told c s = parts_on (λ (phase : Phase). PhaseFits last phase c) (parts_fit last c s) (index + 1) post
 
 copied_fits : (last from index : ℕ) (post : Post) (desk : Desk) (reserved : List Event) (x : Option ℕ) (c : ClockTally) → c.due ≡ false → OutFits last (keeps.copied from index post desk reserved x).outcome c
 copied_fits last from index post desk reserved None c s = refl
@@ -313,6 +319,10 @@ keep_fits last (LoadHeld from index) post desk found c s = load_fits last from i
 keep_fits last (StoreHeld from index era) post desk found c s = copied_fits last from index post desk (reserves_index post index era) (stands post from) c s
 keep_fits last (Looks index key at) post desk found c s = look_fits last index key at post desk found c s
 keep_fits last (Misses index) post desk found c s = refl
+keep_fits last HideSpan post desk found c s = s
+keep_fits last MarkLeft post desk found c s = refl
+keep_fits last (TakeList place) post desk found c s = takes_on (λ (outcome : CallOutcome). OutFits last outcome c) place (record { marks = λ count. s; none = refl; late = refl }) post desk (found == 1) found
+keep_fits last (MarkTaken place count) post desk found c s = refl
 
 pub letting_fits : (last : ℕ) (let_go : LetGo) (post : Post) (c : ClockTally) → c.due ≡ false → PhaseFits last (letting let_go post) c
 letting_fits last let_go post c s = by (release_base (scheme_of post) post (let_index let_go))
@@ -704,4 +714,6 @@ first_fits last retired (names.Look index key) post = looked_fits (stands post i
     looked_fits : (x : Option ℕ) → PhaseFits last (steps.looking_at index key x) (record { retired = retired; due = false; moved = None })
     looked_fits None = refl
     looked_fits (Some slot) = refl
+first_fits last retired names.Leave post = let c : ClockTally = record { retired = retired; due = false; moved = None } in parts_all (λ (phase : Phase). PhaseFits last phase c) (parts_fit last c refl) post
+first_fits last retired (names.Adopt place) post = refl
 first_fits last retired (names.PutIf key value version) post = round_fits last _ post _ refl

@@ -11,7 +11,7 @@ use Rattle.law_places.specs.inv.model.declared.post.Post.{Post}
 use Rattle.law_places.specs.inv.model.Calls.{Phase, CallTurn, CallOutcome, Answers, GoesOn}
 use Rattle.law_places.specs.inv.model.Locals.{Local, begun, begun_post, told_end, turn}
 use Rattle.law_places.specs.inv.model.Posts.{counted}
-use Rattle.law_places.specs.inv.model.World.{World, begin, step, finds, is_busy, told_in}
+use Rattle.law_places.specs.inv.model.World.{World, begin, finds, is_busy, offered, step, told_in, list_in}
 use Rattle.law_places.specs.inv.shapes.Frame.{phase_left}
 use Rattle.law_places.proofs.inv.shapes.Frame.{seat_stays, begin_stays, begin_begins}
 use Rattle.law_places.specs.inv.history.Record.{Past, Each, tells_of}
@@ -75,15 +75,15 @@ pub record KeepsClocks (layout : Layout) (made : Made) : Type 0 where
 abbrev pub fronts : World → ℕ → List Event
 fronts w i = front (w.seat i).phase (counted (w.seat i).post) (finds w i)
 
-pub own_lands : (layout : Layout) (made : Made) (i : ℕ) (k : KeepsClocks layout made) → Lands layout.config.every layout.config.last_era (clock_tally layout.config.every i made.past) (made.world.seat i).phase (fronts made.world i) (turn (made.world.seat i) (finds made.world i)).outcome
+pub own_lands : (layout : Layout) (made : Made) (i : ℕ) (k : KeepsClocks layout made) → Lands layout.config.every layout.config.last_era (clock_tally layout.config.every i made.past) (made.world.seat i).phase (fronts made.world i) (turn (offered made.world i) (finds made.world i)).outcome
 own_lands layout made i k =
     let w : World = made.world in
-    let own : Local = w.seat i in
+    let own : Local = offered w i in
     let x : ClockTally = clock_tally layout.config.every i made.past in
     let g = k.base in
     let a : own.post.layout ≡ layout = (g.known.seats.fits i).post.layout ∙ g.table in
     let s = k.seats i in
-    let r : PhaseRight own.phase (counted own.post) = phase_right w.layout own.phase own.post own.desk.list (g.known.seats.fits i).post.layout (g.known.seats.fits i).phase (g.known.whole.both.rows.plays i).right in
+    let r : PhaseRight own.phase (counted own.post) = phase_right w.layout own.phase own.post (list_in w i) (g.known.seats.fits i).post.layout (g.known.seats.fits i).phase (g.known.whole.both.rows.plays i).right in
     let f : PhaseFits own.post.layout.config.last_era own.phase x = subst (λ (table : Layout). PhaseFits table.config.last_era own.phase x) (sym a) s.fits in
     subst (λ (table : Layout). Lands table.config.every table.config.last_era x own.phase (fronts w i) (turn own (finds w i)).outcome) a
     (turn_lands x own.phase (counted own.post) own.desk (finds w i) r s.retired f)
@@ -100,9 +100,9 @@ end_same : (every : ℕ) (post : Post) (outcome : CallOutcome) (x : ClockTally) 
 end_same every post (GoesOn phase) x = refl
 end_same every post (Answers answer) x = refl
 
-open_tally : (every : ℕ) (w : World) (i : ℕ) (p : Past) → clock_tally every i (tells_of p i (turn (w.seat i) (finds w i)).told) ≡ along (clock_by every) (fronts w i) (clock_tally every i p)
+open_tally : (every : ℕ) (w : World) (i : ℕ) (p : Past) → clock_tally every i (tells_of p i (turn (offered w i) (finds w i)).told) ≡ along (clock_by every) (fronts w i) (clock_tally every i p)
 open_tally every w i p =
-    let t : CallTurn = turn (w.seat i) (finds w i) in
+    let t : CallTurn = turn (offered w i) (finds w i) in
     let x : ClockTally = clock_tally every i p in
     seen_tells (clock_by every) no_clock i t.told p
     ∙ sym (end_same every t.post t.outcome (along (clock_by every) t.told x))
@@ -114,7 +114,7 @@ own_fits layout made i k =
     let w : World = made.world in
     let l = own_lands layout made i k in
     let s = told_starts w i in
-    let t : CallTurn = turn (w.seat i) (finds w i) in
+    let t : CallTurn = turn (offered w i) (finds w i) in
     let x : ClockTally = clock_tally layout.config.every i made.past in
     let e : clock_tally layout.config.every i (tells_of made.past i (told_in w i)) ≡ along (clock_by layout.config.every) (fronts w i) x = seen_tells (clock_by layout.config.every) no_clock i (told_in w i) made.past ∙ along_told layout.config.every w i x in
     let r = k.seats i in
@@ -140,7 +140,7 @@ step_law : (layout : Layout) (made : Made) (i : ℕ) → is_busy made.world i �
 step_law layout made i y k =
     let w : World = made.world in
     let n : ℕ = layout.config.buckets in
-    let t : CallTurn = turn (w.seat i) (finds w i) in
+    let t : CallTurn = turn (offered w i) (finds w i) in
     let b = k.base in
     let l = own_lands layout made i k in
     let o : Owes n (w.seat i).call (owed n (w.seat i).call (w.seat i).phase) t = owes_of n w i b.answers.table b.answers.known ((b.answers.seats i).serves y) in

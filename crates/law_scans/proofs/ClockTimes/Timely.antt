@@ -12,7 +12,7 @@ use Rattle.law_places.specs.inv.model.declared.post.Post.{Post}
 use Rattle.law_places.specs.inv.model.Calls.{Phase, Idle, Runs, Scans, Works, CallTurn, CallOutcome, GoesOn, Answers, Why, Opens, FollowsHead, Fills, ClearsNext, Clears, Finishes, GivesUp, Retires, Tidies, Advances, Releases, ReadGuard, GiveBack}
 use Rattle.law_places.specs.inv.model.Locals.{Local, begun_post, told_end, turn}
 use Rattle.law_places.specs.inv.model.Posts.{counted}
-use Rattle.law_places.specs.inv.model.World.{World, begin, step, finds, is_busy, told_in}
+use Rattle.law_places.specs.inv.model.World.{World, begin, finds, is_busy, offered, step, told_in, list_in}
 use Rattle.law_places.specs.inv.shapes.Frame.{phase_left}
 use Rattle.law_places.specs.inv.shapes.Seats.{kind_of, suits}
 use Rattle.law_places.proofs.inv.shapes.Frame.{seat_stays, begin_stays, begin_begins}
@@ -190,10 +190,10 @@ from_step w i p n =
     let s = told_starts w i in
     from_keeps i i (told_in w i) p (ap (all_of keeps_from) s.is ∙ of_along keeps_from (fronts w i) s.rest (front_keeps (w.seat i).phase (counted (w.seat i).post) (finds w i) n) (still_keeps s.rest s.still))
 
-own_in : (layout : Layout) (made : Made) (i : ℕ) → is_valid layout ≡ true → (k : KeepsTimes layout made) → OutIn layout.config.last_era (from_of i (tells_of made.past i (told_in made.world i))) (clock_of made.past) (turn (made.world.seat i) (finds made.world i)).outcome
+own_in : (layout : Layout) (made : Made) (i : ℕ) → is_valid layout ≡ true → (k : KeepsTimes layout made) → OutIn layout.config.last_era (from_of i (tells_of made.past i (told_in made.world i))) (clock_of made.past) (turn (offered made.world i) (finds made.world i)).outcome
 own_in layout made i d k =
     let w : World = made.world in
-    let own : Local = w.seat i in
+    let own : Local = offered w i in
     let last : ℕ = layout.config.last_era in
     let b = k.base in
     let g = b.base in
@@ -201,7 +201,7 @@ own_in layout made i d k =
     let l = own_lands layout made i b in
     let from : ℕ = from_of i (tells_of made.past i (told_in w i)) in
     let a : own.post.layout ≡ layout = (g.known.seats.fits i).post.layout ∙ g.table in
-    let r : PhaseRight own.phase (counted own.post) = phase_right w.layout own.phase own.post own.desk.list (g.known.seats.fits i).post.layout (g.known.seats.fits i).phase (g.known.whole.both.rows.plays i).right in
+    let r : PhaseRight own.phase (counted own.post) = phase_right w.layout own.phase own.post (list_in w i) (g.known.seats.fits i).post.layout (g.known.seats.fits i).phase (g.known.whole.both.rows.plays i).right in
     turn_in layout.config.every last from (clock_of made.past) (clock_tally layout.config.every i made.past) own.phase (counted own.post) own.desk (finds w i)
     (record {
       table = ap (λ (x : Layout). x.config.last_era) a;
@@ -220,7 +220,7 @@ step_in layout made i d k m true e =
     let q : i ≡ m = grind (arith, nat_tests) in
     let last : ℕ = layout.config.last_era in
     let p : Past = tells_of made.past i (told_in w i) in
-    let t : CallTurn = turn (w.seat i) (finds w i) in
+    let t : CallTurn = turn (offered w i) (finds w i) in
     subst (λ (j : ℕ). PhaseIn last (from_of j p) (clock_of p) ((step w i).seat j).phase) q
     (subst (λ (phase : Phase). PhaseIn last (from_of i p) (clock_of p) phase) (sym (stepped_phase w i))
     (phase_rises last (from_of i p) (clock_of made.past) (clock_of p) (phase_left t.outcome) (clock_rises i (told_in w i) made.past) (left_in last (from_of i p) (clock_of made.past) t.outcome (own_in layout made i d k))))
@@ -270,7 +270,7 @@ step_law layout made i d y k m =
     let w : World = made.world in
     let n : ℕ = layout.config.buckets in
     let last : ℕ = layout.config.last_era in
-    let t : CallTurn = turn (w.seat i) (finds w i) in
+    let t : CallTurn = turn (offered w i) (finds w i) in
     let c = k.base in
     let b = c.base in
     let o : Owes n (w.seat i).call (owed n (w.seat i).call (w.seat i).phase) t = owes_of n w i b.answers.table b.answers.known ((b.answers.seats i).serves y) in

@@ -37,6 +37,7 @@ use Rattle.law_places.specs.inv.model.words.declared.packed.Request.TheVariants 
 use Rattle.law_places.proofs.inv.model.Facts.{both, first_of, rest_of}
 use Rattle.law_places.specs.laws.HistoryAnswers.{ClockTally, outcome_fits, answer_fits}
 use Rattle.law_scans.specs.Outcomes.{clock_by}
+use Rattle.law_scans.proofs.Leaving.{parts_all}
 use Rattle.law_scans.proofs.ClockAnswers.Clocks.{is_plain, NextFits, WhyFits, PhaseFits, OutFits, move_due}
 use Rattle.law_scans.proofs.DueScans.Lands.{PhaseRight}
 use Rattle.law_scans.proofs.DueScans.Still.{claim_front, base_front, front}
@@ -437,4 +438,6 @@ first_in last from now (names.Look index key) post = looking_in (stands post ind
     looking_in : (x : Option ℕ) → PhaseIn last from now (steps.looking_at index key x)
     looking_in None = tt
     looking_in (Some slot) = tt
+first_in last from now names.Leave post = parts_all (λ (phase : Phase). PhaseIn last from now phase) (record { clears = λ index. tt; hides = tt; marks = tt }) post
+first_in last from now (names.Adopt place) post = tt
 first_in last from now (names.PutIf key value version) post = round_in last from now _ post

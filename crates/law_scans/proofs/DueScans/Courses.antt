@@ -23,7 +23,7 @@ use Rattle.law_places.specs.inv.model.Phases.{Base, Ending, Outcome, Goes, Ends}
 use Rattle.law_places.specs.inv.model.Phases.AllocateAt.{StoreLife}
 use Rattle.law_places.specs.inv.model.Phases.Base.{Allocate, Retire, Move}
 use Rattle.law_places.specs.inv.model.Phases.Ending.{Done, Protected, Followed, Allocated, Retired, Clocked}
-use Rattle.law_places.specs.inv.model.Calls.{Task, Gets, Changes, Holds, Enqueues, Dequeues, Next, Again, MakeRoom, Answering, Retiring, AfterScan, Answered, Repeated, Counted, ChangeKept, EnqueueKept, GetAt, FindVersion, FindCount, FindKey, FindValue, ChangeAt, LoadVersion, LoadCount, LoadKey, LoadValue, ExchangeRoot, EnqueueAt, LoadNumber, LoadNext, PassTail, ExchangeNext, ExchangeTail, DequeueAt, SwingTail, ExchangeHead, Work, Getting, Changing, Enqueuing, Dequeuing, ScanAt, ReadGuard, GiveBack, Why, Opens, FollowsHead, Fills, ClearsNext, Clears, Finishes, GivesUp, Retires, Tidies, Advances, Releases, Phase, Idle, Runs, Scans, Works, CallOutcome, GoesOn, Answers, LetGo, Released, Rehold, Dropped, KeepAt, Loosens, LoadHeld, StoreHeld, Looks, Misses, Keeping}
+use Rattle.law_places.specs.inv.model.Calls.{Task, Gets, Changes, Holds, Enqueues, Dequeues, Next, Again, MakeRoom, Answering, Retiring, AfterScan, Answered, Repeated, Counted, ChangeKept, EnqueueKept, GetAt, FindVersion, FindCount, FindKey, FindValue, ChangeAt, LoadVersion, LoadCount, LoadKey, LoadValue, ExchangeRoot, EnqueueAt, LoadNumber, LoadNext, PassTail, ExchangeNext, ExchangeTail, DequeueAt, SwingTail, ExchangeHead, Work, Getting, Changing, Enqueuing, Dequeuing, ScanAt, ReadGuard, GiveBack, Why, Opens, FollowsHead, Fills, ClearsNext, Clears, Finishes, GivesUp, Retires, Tidies, Advances, Releases, Phase, Idle, Runs, Scans, Works, CallOutcome, GoesOn, Answers, LetGo, Released, Rehold, Dropped, Parting, KeepAt, Loosens, LoadHeld, StoreHeld, Looks, Misses, HideSpan, MarkLeft, TakeList, MarkTaken, Keeping}
 use Rattle.law_places.specs.inv.shapes.Seats.{Kind, ToFill, ToRetire, ToMove, kind_of, suits, fills, retires, moves as moves_kind}
 use Rattle.law_places.specs.inv.rows.Hands.{holds_none}
 use Rattle.law_places.proofs.laws.Along.{along}
@@ -32,6 +32,7 @@ use Rattle.law_places.specs.laws.HistoryScans.{Course, Advancing, MayScan, MustS
 use Rattle.law_scans.specs.Scans.{tally_by}
 use Rattle.law_places.specs.laws.HistoryEras.{move_right}
 use Rattle.law_scans.proofs.DueScans.Still.{base_front, counts}
+use Rattle.law_scans.proofs.Leaving.{Parts, parts_on, takes_on}
 use Rattle.law_places.specs.inv.model.words.Schemes.{has_one_interval}
 use Rattle.law_places.specs.inv.model.Posts.{stands, withdrawn, cleared, reserves_index}
 
@@ -286,11 +287,16 @@ dequeue_fits all (SwingTail head next) post desk found c s = clearing_next_fits 
 dequeue_fits all (ExchangeHead head next number value) post desk found c s = taken_fits all head next number value post desk (found == head + 1) c s
 dequeue_fits all at post desk found c s = s
 
+-- a seat that leaves
+pub parts_fit : (all : ℕ) (c : Course) → is_settled all c ≡ true → Parts (λ (phase : Phase). PhaseFits all phase c)
+parts_fit all c s = record { clears = λ index. s; hides = s; marks = s }
+
 -- what is let go, a copy and a look
 released_fits : (all : ℕ) (let_go : LetGo) (post : Post) (desk : Desk) (told : List Event) (c : Course) → is_settled all c ≡ true → OutFits all (keeps.released let_go post desk told).outcome c
 released_fits all Released post desk told c s = s
 released_fits all (Rehold key) post desk told c s = round_fits all (Holds key) post c (other_task all (Holds key) c refl s)
 released_fits all (Dropped index) post desk told c s = s
+released_fits all (Parting index) post desk told c s = parts_on (λ (phase : Phase). PhaseFits all phase c) (parts_fit all c s) (index + 1) post
 
 copied_fits : (all from index : ℕ) (post : Post) (desk : Desk) (reserved : List Event) (x : Option ℕ) (c : Course) → is_settled all c ≡ true → OutFits all (keeps.copied from index post desk reserved x).outcome c
 copied_fits all from index post desk reserved None c s = s
@@ -320,6 +326,10 @@ keep_fits all (LoadHeld from index) post desk found c s = load_fits all from ind
 keep_fits all (StoreHeld from index era) post desk found c s = copied_fits all from index post desk (reserves_index post index era) (stands post from) c s
 keep_fits all (Looks index key at) post desk found c s = look_fits all index key at post desk found c s
 keep_fits all (Misses index) post desk found c s = s
+keep_fits all HideSpan post desk found c s = s
+keep_fits all MarkLeft post desk found c s = s
+keep_fits all (TakeList place) post desk found c s = takes_on (λ (outcome : CallOutcome). OutFits all outcome c) place (record { marks = λ count. s; none = s; late = s }) post desk (found == 1) found
+keep_fits all (MarkTaken place count) post desk found c s = s
 
 pub letting_fits : (all : ℕ) (let_go : LetGo) (post : Post) (c : Course) → is_settled all c ≡ true → PhaseFits all (letting let_go post) c
 letting_fits all let_go post c s = by (release_base (scheme_of post) post (let_index let_go))

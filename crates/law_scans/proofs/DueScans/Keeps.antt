@@ -11,9 +11,9 @@ use Rattle.law_places.specs.inv.model.defs.declared.lifetime.Lifetime.{Lifetime}
 use Rattle.law_places.specs.inv.model.declared.post.Post.{Post}
 use Rattle.law_places.specs.inv.model.Calls.{Phase, Idle, Runs, Scans, Works, CallTurn, CallOutcome, GoesOn, Answers}
 use Rattle.law_places.specs.inv.model.Guards.{guards}
-use Rattle.law_places.specs.inv.model.Locals.{Local, begun, begun_post, told_end, turn, may_begin}
+use Rattle.law_places.specs.inv.model.Locals.{Local, begun, begun_post, told_end, turn}
 use Rattle.law_places.specs.inv.model.Posts.{counted}
-use Rattle.law_places.specs.inv.model.World.{World, begin, step, finds, is_busy, told_in}
+use Rattle.law_places.specs.inv.model.World.{World, begin, finds, is_busy, offered, step, told_in, may_start, list_in}
 use Rattle.law_places.proofs.inv.model.Facts.{both, first_of, rest_of}
 use Rattle.law_places.proofs.inv.covers.Held.{stepped_phase, stepped_post}
 use Rattle.law_places.specs.inv.shapes.Frame.{phase_left}
@@ -137,22 +137,22 @@ pub record Keeps (layout : Layout) (made : Made) : Type 0 where
   pub law : Each (λ q k event. course_right (guards layout.config) event (tally_of layout.config.every k q)) made.past
 
 abbrev TurnLands : Layout → World → ℕ → Tally → Type 0
-TurnLands layout w i x = Lands layout.config.every (guards layout.config) x (w.seat i).phase (front (w.seat i).phase (counted (w.seat i).post) (finds w i)) (turn (w.seat i) (finds w i)).outcome
+TurnLands layout w i x = Lands layout.config.every (guards layout.config) x (w.seat i).phase (front (w.seat i).phase (counted (w.seat i).post) (finds w i)) (turn (offered w i) (finds w i)).outcome
 
 own_lands : (layout : Layout) (made : Made) (i : ℕ) (k : Keeps layout made) → TurnLands layout made.world i (tally_of layout.config.every i made.past)
 own_lands layout made i k =
     let w : World = made.world in
-    let own : Local = w.seat i in
+    let own : Local = offered w i in
     let x : Tally = tally_of layout.config.every i made.past in
     let a : own.post.layout ≡ layout = (k.known.seats.fits i).post.layout ∙ k.table in
     let s = k.seats i in
-    let r : PhaseRight own.phase (counted own.post) = phase_right w.layout own.phase own.post own.desk.list (k.known.seats.fits i).post.layout (k.known.seats.fits i).phase (k.known.whole.both.rows.plays i).right in
+    let r : PhaseRight own.phase (counted own.post) = phase_right w.layout own.phase own.post (list_in w i) (k.known.seats.fits i).post.layout (k.known.seats.fits i).phase (k.known.whole.both.rows.plays i).right in
     let f : PhaseFits (guards own.post.layout.config) own.phase x.course = subst (λ (table : Layout). PhaseFits (guards table.config) own.phase x.course) (sym a) s.fits in
     subst (λ (table : Layout). Lands table.config.every (guards table.config) x own.phase (front own.phase (counted own.post) (finds w i)) (turn own (finds w i)).outcome) a
     (turn_lands x own.phase (counted own.post) own.desk (finds w i) r s.retired f)
 
-pub told_starts : (w : World) (i : ℕ) → Starts (front (w.seat i).phase (counted (w.seat i).post) (finds w i)) (counts (w.seat i).phase (w.seat i).post.retired) (turn (w.seat i) (finds w i)).post (told_in w i)
-told_starts w i = told_begins (w.seat i).phase (counted (w.seat i).post) (w.seat i).desk (finds w i)
+pub told_starts : (w : World) (i : ℕ) → Starts (front (w.seat i).phase (counted (w.seat i).post) (finds w i)) (counts (w.seat i).phase (w.seat i).post.retired) (turn (offered w i) (finds w i)).post (told_in w i)
+told_starts w i = told_begins (w.seat i).phase (counted (w.seat i).post) (offered w i).desk (finds w i)
 
 -- the tally after a step
 step_tally : (every : ℕ) (w : World) (i : ℕ) (p : Past) → tally_of every i (tells_of p i (told_in w i)) ≡ along (tally_by every) (front (w.seat i).phase (counted (w.seat i).post) (finds w i)) (tally_of every i p)
@@ -172,7 +172,7 @@ own_fits layout made i k =
     let w : World = made.world in
     let l = own_lands layout made i k in
     let s = told_starts w i in
-    let t : CallTurn = turn (w.seat i) (finds w i) in
+    let t : CallTurn = turn (offered w i) (finds w i) in
     let e = step_tally layout.config.every w i made.past in
     let r = k.seats i in
     record {
@@ -194,7 +194,7 @@ step_law : (layout : Layout) (made : Made) (i : ℕ) → is_busy made.world i �
 step_law layout made i y k =
     let w : World = made.world in
     let n : ℕ = layout.config.buckets in
-    let t : CallTurn = turn (w.seat i) (finds w i) in
+    let t : CallTurn = turn (offered w i) (finds w i) in
     let o : Owes n (w.seat i).call (owed n (w.seat i).call (w.seat i).phase) t = owes_of n w i k.answers.table k.answers.known ((k.answers.seats i).serves y) in
     each_tells (tally_by layout.config.every) no_tally (course_right (guards layout.config)) i (told_in w i) made.past
     (told_right layout.config.every (guards layout.config) (tally_of layout.config.every i made.past) (w.seat i).phase (front (w.seat i).phase (counted (w.seat i).post) (finds w i)) t.told _ t.post t.outcome (told_starts w i) o.told.goes (own_lands layout made i k))
@@ -229,7 +229,7 @@ begin_fits every all w i k call p false e g =
     subst (λ (l : Local). SeatFits every all l.phase l.post (tally_of every k (Then p i (events.Begin call)))) (sym (begin_stays w i k call e))
     (subst (λ (x : Tally). SeatFits every all (w.seat k).phase (w.seat k).post x) (sym (seen_other (tally_by every) no_tally k i p (events.Begin call) e)) (g k))
 
-pub begin_keeps : (layout : Layout) (made : Made) (i : ℕ) (call : Call) → is_busy made.world i ≡ false → may_begin made.world.layout.config call ≡ true → Keeps layout made → Keeps layout (done made (Begins i call))
+pub begin_keeps : (layout : Layout) (made : Made) (i : ℕ) (call : Call) → is_busy made.world i ≡ false → may_start made.world i call ≡ true → Keeps layout made → Keeps layout (done made (Begins i call))
 begin_keeps layout made i call f m g =
     let w : World = made.world in
     let k = g.known in

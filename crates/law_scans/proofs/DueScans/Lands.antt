@@ -37,7 +37,8 @@ use Rattle.law_places.proofs.inv.history.Passes.{scan_told}
 use Rattle.law_places.specs.laws.HistoryScans.{Course, Plain, Advancing, MayScan, MustScan, Reading, Tally, first_course, moved_course, read_course, retired_course, may_read, is_settled}
 use Rattle.law_places.specs.laws.HistoryEras.{may_move}
 use Rattle.law_scans.proofs.DueScans.Still.{claim_front, tick_front, base_front, front}
-use Rattle.law_scans.proofs.DueScans.Courses.{letting_fits, is_may, is_fresh, is_walked, TaskFits, NextFits, LaterFits, AfterFits, at_guard, at_end, ScanAtFits, FillFits, WhyFits, PhaseFits, OutFits, Lands, other_task, round_fits, closed_fits, clearing_fits, work_fits, silent_lands, resumed_opens, resumed_follows, resumed_next, resumed_clears, resumed_finishes, resumed_gives, resumed_releases}
+use Rattle.law_scans.proofs.Leaving.{parts_all}
+use Rattle.law_scans.proofs.DueScans.Courses.{letting_fits, parts_fit, is_may, is_fresh, is_walked, TaskFits, NextFits, LaterFits, AfterFits, at_guard, at_end, ScanAtFits, FillFits, WhyFits, PhaseFits, OutFits, Lands, other_task, round_fits, closed_fits, clearing_fits, work_fits, silent_lands, resumed_opens, resumed_follows, resumed_next, resumed_clears, resumed_finishes, resumed_gives, resumed_releases}
 
 -- a row is filled
 written_fits : (all : ℕ) (task : Task) (post : Post) (desk : Desk) (told : List Event) (c : Course) → TaskFits all task c → OutFits all (steps.written_row task post desk told).outcome c
@@ -342,4 +343,6 @@ first_fits all (names.Look index key) post = looking_fits (stands post index)
     looking_fits : (x : Option ℕ) → PhaseFits all (steps.looking_at index key x) Plain
     looking_fits None = refl
     looking_fits (Some slot) = refl
+first_fits all names.Leave post = parts_all (λ (phase : Phase). PhaseFits all phase Plain) (parts_fit all Plain refl) post
+first_fits all (names.Adopt place) post = refl
 first_fits all (names.PutIf key value version) post = round_fits all _ post MayScan (record { settled = refl; fresh = λ h. refl })

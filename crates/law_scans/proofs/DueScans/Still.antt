@@ -31,7 +31,7 @@ use Rattle.law_places.specs.inv.model.Phases.AllocateAt.{LoadBirth, ClaimSlot, S
 use Rattle.law_places.specs.inv.model.Phases.RetireAt.{LoadLife, LoadRetire, StoreRetired}
 use Rattle.law_places.specs.inv.model.Phases.MoveAt.{LoadEra, CheckEra, AnswerAsked, LoadReserved, HandOver, ExchangeClock}
 use Rattle.law_places.specs.inv.model.Phases.Base.{Begin, Protect, Reload, Allocate, Write, Retire, Move}
-use Rattle.law_places.specs.inv.model.Calls.{Loosens, LoadHeld, StoreHeld, Looks, Misses, Work, Getting, Changing, Enqueuing, Dequeuing, Keeping, Phase, Idle, Runs, Scans, Works}
+use Rattle.law_places.specs.inv.model.Calls.{Loosens, LoadHeld, StoreHeld, Looks, Misses, HideSpan, MarkLeft, TakeList, MarkTaken, Work, Getting, Changing, Enqueuing, Dequeuing, Keeping, Phase, Idle, Runs, Scans, Works}
 use Rattle.law_places.proofs.inv.history.Passes.{is_quiet, Closed, First, scan_told, step_goes, copied_post, work_post, work_told}
 use Rattle.law_places.proofs.inv.history.AllOf.{all_of, of_along, of_weaker}
 use Rattle.law_places.proofs.inv.history.MayTell.{Tells, base_all, clear_all, work_all}
@@ -243,6 +243,10 @@ work_count (Keeping (LoadHeld from index)) post = load_count from index post (ha
 work_count (Keeping (StoreHeld from index era)) post = copied_count index post (stands post from)
 work_count (Keeping (Looks index key at)) post = refl
 work_count (Keeping (Misses index)) post = refl
+work_count (Keeping HideSpan) post = refl
+work_count (Keeping MarkLeft) post = refl
+work_count (Keeping (TakeList place)) post = refl
+work_count (Keeping (MarkTaken place count)) post = refl
 work_count (Getting key at) post = refl
 work_count (Changing kept at) post = refl
 work_count (Enqueuing kept at) post = refl
@@ -252,7 +256,7 @@ first_begins : (phase : Phase) (post : Post) (found : ℕ) → First (Begins (fr
 first_begins Idle post found = begins_all [] post
 first_begins (Runs why base) post found = base_begins base post found
 first_begins (Scans later at) post found = begins_all (scan_told at post found) post
-first_begins (Works work) post found = record { rest = work_told work post; is = refl; still = work_all is_still (λ index slot. refl) (λ from index slot. refl) (λ seat index era. refl) work post; count = work_count work post }
+first_begins (Works work) post found = record { rest = work_told work post; is = refl; still = work_all is_still (λ index slot. refl) (λ from index slot. refl) (λ seat index era. refl) (λ seat. refl) work post; count = work_count work post }
 
 pub told_begins : (phase : Phase) (post : Post) (desk : Desk) (found : ℕ) → Begins (front phase post found) (counts phase post.retired) (steps.phase_turn phase post desk found).post (told_by (steps.phase_turn phase post desk found))
 told_begins phase post desk found = step_goes (Begins (front phase post found) (counts phase post.retired)) (begins_closed (front phase post found) (counts phase post.retired)) phase post desk found (first_begins phase post found)

@@ -5,7 +5,7 @@ use Rattle.law_places.specs.inv.model.words.Place.{is_valid}
 use Rattle.law_places.specs.inv.model.words.declared.layout.Layout.{Layout}
 use Rattle.law_places.specs.inv.model.defs.declared.call.Call.{Call}
 use Rattle.law_places.specs.inv.model.defs.declared.fold.Change.{Change}
-use Rattle.law_places.specs.inv.model.World.{World, is_busy, told_in}
+use Rattle.law_places.specs.inv.model.World.{World, is_busy, told_in, may_start}
 use Rattle.law_places.specs.inv.contents.Gives.{QueueCounts}
 use Rattle.law_places.proofs.inv.contents.Items.Gives.{items_count}
 use Rattle.law_places.specs.inv.history.Record.{Past}
@@ -17,7 +17,6 @@ use Rattle.law_places.proofs.inv.Inv.Begun.{inv_start, inv_begin}
 use Rattle.law_places.proofs.inv.Inv.Kept.{inv_kept}
 use Rattle.law_places.proofs.answers.Lawful.Maps.{told_changes}
 use Rattle.law_places.proofs.answers.Lawful.Queues.{Agrees, told_agrees}
-use Rattle.law_places.specs.inv.model.Locals.{may_begin}
 
 -- what a history keeps: the record's changes and counts are the book's
 record Keeps (layout : Layout) (made : Made) : Type 0 where
@@ -26,7 +25,7 @@ record Keeps (layout : Layout) (made : Made) : Type 0 where
   changes : (b : ℕ) → changes_of b made.past ≡ made.world.book.changes b
   agrees : Agrees made.world.book made.past
 
-begin_keeps : (layout : Layout) (made : Made) (i : ℕ) (call : Call) → is_busy made.world i ≡ false → may_begin made.world.layout.config call ≡ true → Keeps layout made → Keeps layout (done made (Begins i call))
+begin_keeps : (layout : Layout) (made : Made) (i : ℕ) (call : Call) → is_busy made.world i ≡ false → may_start made.world i call ≡ true → Keeps layout made → Keeps layout (done made (Begins i call))
 begin_keeps layout made i call f m g = record {
   table = g.table;
   known = inv_begin made.world i call f m g.known;

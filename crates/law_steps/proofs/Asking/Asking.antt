@@ -1,7 +1,7 @@
 -- What a step tells of helper words and of its seat's index words comes where it may.
 use Rattle.std.proofs.Common.{ℕ, ◌≡◌, Bool, true, false, List, [], ◌∷◌, ◌++◌, Option, Some, None, refl, ◌∙◌, subst}
 use Rattle.std.proofs.lemmas.Bool.{or_left, or_right}
-use Rattle.std.specs.Prelude.{◌==◌, ◌&&◌, ◌||◌, if◌then◌else◌, not}
+use Rattle.std.specs.Prelude.{◌==◌, ◌&&◌, ◌||◌, drop, if◌then◌else◌, not}
 use Rattle.law_scans.specs.inv.model.words.Packed.{reservation_word}
 use Rattle.law_scans.specs.inv.model.words.declared.config.Config.{Config}
 use Rattle.law_scans.specs.inv.model.defs.declared.event.Event.{Event}
@@ -14,7 +14,7 @@ use Rattle.law_scans.specs.inv.model.Guards.{one_era}
 use Rattle.law_scans.specs.inv.model.Machine as machine
 use Rattle.law_scans.specs.inv.model.Memory.{bump}
 use Rattle.law_scans.specs.inv.model.MoveClock as movers
-use Rattle.law_scans.specs.inv.model.Posts.{stands, cleared, reserves_index, reserves_helper, reserves_span}
+use Rattle.law_scans.specs.inv.model.Posts.{stands, cleared, cleared_from, reserves_index, reserves_helper, reserves_span}
 use Rattle.law_scans.specs.inv.model.Protect as protects
 use Rattle.law_scans.specs.inv.model.Rounds.{scheme_of, clear_told, index_of, let_index}
 use Rattle.law_scans.specs.inv.model.words.Schemes.{has_one_interval}
@@ -23,7 +23,7 @@ use Rattle.law_scans.specs.inv.model.Phases.BeginAt.{PublishSpan}
 use Rattle.law_scans.specs.inv.model.Phases.ProtectAt.{PublishEra, PublishHelper, TakeAnswer, WithdrawHelper, RaiseUpper}
 use Rattle.law_scans.specs.inv.model.Phases.MoveAt.{ShowEra, HandOver, HideEra, HideLate}
 use Rattle.law_scans.specs.inv.model.Phases.Base.{Begin, Protect, Clear, Finish, Release, Move}
-use Rattle.law_scans.specs.inv.model.Calls.{Work, Getting, Changing, Enqueuing, Dequeuing, Keeping, Loosens, LoadHeld, StoreHeld, Looks, Misses, Task, Gets, Changes, Holds, Enqueues, Dequeues, AfterScan, Answered, Repeated, Counted, Why, Opens, FollowsHead, Fills, ClearsNext, Clears, Finishes, GivesUp, Retires, Tidies, Advances, Releases}
+use Rattle.law_scans.specs.inv.model.Calls.{Work, Getting, Changing, Enqueuing, Dequeuing, Keeping, Loosens, LoadHeld, StoreHeld, Looks, Misses, HideSpan, MarkLeft, TakeList, MarkTaken, Task, Gets, Changes, Holds, Enqueues, Dequeues, AfterScan, Answered, Repeated, Counted, Why, Opens, FollowsHead, Fills, ClearsNext, Clears, Finishes, GivesUp, Retires, Tidies, Advances, Releases}
 use Rattle.law_scans.proofs.inv.model.Facts.{same_number, first_of, rest_of}
 use Rattle.law_held.specs.turns.inv.shapes.Seats.{Shaped, kind_of, suits, index_by}
 use Rattle.law_held.specs.turns.inv.history.Record.{Past, Test, Each, tells_of}
@@ -31,7 +31,7 @@ use Rattle.law_held.specs.turns.inv.history.Record.Past.{Then}
 use Rattle.law_held.proofs.turns.inv.history.AllOf.{all_of, of_weaker}
 use Rattle.law_held.proofs.turns.inv.history.Passes.{Closed, copied_told, work_told}
 use Rattle.law_held.proofs.turns.Counting.Passing.{Apart}
-use Rattle.law_held.proofs.turns.inv.history.MayTell.{concluded_told, publishes, is_reserve, no_reserve, held_any}
+use Rattle.law_held.proofs.turns.inv.history.MayTell.{cleared_from_all, concluded_told, publishes, is_reserve, no_reserve, held_any}
 use Rattle.law_scans.specs.laws.HistoryScans.{Course}
 use Rattle.law_scans.specs.laws.HistoryEras.{may_move}
 use Rattle.law_scans.specs.Scans.{tally_of}
@@ -238,6 +238,11 @@ work_asks c i p (Keeping (LoadHeld from index)) post h = load_asks c i p from in
 work_asks c i p (Keeping (StoreHeld from index era)) post h = store_asks c i p from index era post (stands post from) h
 work_asks c i p (Keeping (Looks index key at)) post h = tt
 work_asks c i p (Keeping (Misses index)) post h = tt
+work_asks c i p (Keeping HideSpan) post h =
+    asks_both c i (cleared_from 2 (drop 2 post.standing)) (reserves_span post None) p (calm_asks c i (cleared_from 2 (drop 2 post.standing)) p (cleared_from_all is_calm 2 (drop 2 post.standing) (λ index slot. refl))) (refl, tt)
+work_asks c i p (Keeping MarkLeft) post h = tt
+work_asks c i p (Keeping (TakeList place)) post h = tt
+work_asks c i p (Keeping (MarkTaken place count)) post h = tt
 
 -- a machine that moves the clock runs only where the call may move it
 pub move_course : (all : ℕ) (why : Why) (base : Base) (at : MoveAt) (course : Course) → base ≡ Move at → suits base (kind_of why) ≡ true → courses.WhyFits all why base course → may_move course ≡ true

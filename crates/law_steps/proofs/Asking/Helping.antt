@@ -14,7 +14,7 @@ use Rattle.law_scans.specs.inv.model.Guards.{one_era}
 use Rattle.law_scans.specs.inv.model.Machine as machine
 use Rattle.law_scans.specs.inv.model.Posts.{counted, reserves_helper}
 use Rattle.law_scans.specs.inv.model.Rounds.{scheme_of, clear_told}
-use Rattle.law_scans.specs.inv.model.World.{World, finds, told_in}
+use Rattle.law_scans.specs.inv.model.World.{World, finds, offered, told_in}
 use Rattle.law_scans.specs.inv.model.Phases.{Base}
 use Rattle.law_scans.specs.inv.model.Phases.ProtectAt.{PublishHelper}
 use Rattle.law_scans.specs.inv.model.Phases.MoveAt.{ShowEra}
@@ -89,7 +89,7 @@ is_clearing base = false
 
 -- and a call's own step publishes no helper word
 pub work_plain : (work : Work) (post : Post) → all_plain (work_told work post) ≡ true
-work_plain work post = work_all is_plain (λ index slot. refl) (λ from index slot. refl) (λ seat index era. refl) work post
+work_plain work post = work_all is_plain (λ index slot. refl) (λ from index slot. refl) (λ seat index era. refl) (λ seat. refl) work post
 
 helper_helps : (i j tries n : ℕ) (post : Post) (era : ℕ) → tried_enough tries n ≡ true → helps_along i j tries (reserves_helper post era) n ≡ true
 helper_helps i j tries n post era h = by (one_era era)
@@ -148,7 +148,7 @@ step_helps layout made h i j a g =
     let k = a.known.known in
     let f = k.seats.fits i in
     let t : ℕ = tried_of i j (record_of h) in
-    step_goes (λ post told. helps_along i j w.layout.config.tries told t ≡ true) (helps_closed i j w.layout.config.tries t) (w.seat i).phase (counted (w.seat i).post) (w.seat i).desk (finds w i)
+    step_goes (λ post told. helps_along i j w.layout.config.tries told t ≡ true) (helps_closed i j w.layout.config.tries t) (w.seat i).phase (counted (w.seat i).post) (offered w i).desk (finds w i)
     (phase_helps w i j t (last_of i (record_of h)) (turns_since i j h) (w.seat i).phase f.phase (g.tried i j))
 
 -- the entries that a turn tells

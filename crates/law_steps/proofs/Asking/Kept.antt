@@ -13,7 +13,7 @@ use Rattle.law_scans.specs.inv.model.Guards.{guards}
 use Rattle.law_scans.specs.inv.model.Phases.{Base}
 use Rattle.law_scans.specs.inv.model.Phases.Base.{Protect}
 use Rattle.law_scans.specs.inv.model.Posts.{counted}
-use Rattle.law_scans.specs.inv.model.World.{World, finds, told_in}
+use Rattle.law_scans.specs.inv.model.World.{World, finds, offered, told_in}
 use Rattle.law_scans.specs.inv.model.words.Schemes.{is_wfe}
 use Rattle.law_held.specs.turns.inv.shapes.Seats.{kind_of, suits}
 use Rattle.law_held.specs.turns.inv.shapes.Seats as seats
@@ -104,7 +104,7 @@ step_asks layout made h i a b g =
     λ j. subst (λ (table : Layout). phase_tried table.config (turns_since i j h) (w.seat i).phase j (tried_of i j p) (last_of i p) ≡ true) l.counts.table (l.tried i j) in
     let y : courses.PhaseFits (guards layout.config) (w.seat i).phase (tally_of layout.config.every i p).course =
     subst (λ (q : Past). courses.PhaseFits (guards layout.config) (w.seat i).phase (tally_of layout.config.every i q).course) (sym a.tells) r.fits in
-    step_goes (λ post told. Asks layout.config i told p) (asks_closed layout.config i p) (w.seat i).phase (counted (w.seat i).post) (w.seat i).desk (finds w i)
+    step_goes (λ post told. Asks layout.config i told p) (asks_closed layout.config i p) (w.seat i).phase (counted (w.seat i).post) (offered w i).desk (finds w i)
     (phase_asks layout.config w.layout i p (λ j. turns_since i j h) (guards layout.config) (last_of i p) (finds w i) (w.seat i).post (w.seat i).phase
     (record {
       fits = f.phase;

@@ -24,7 +24,7 @@ use Rattle.law_scans.specs.inv.model.Posts.{counted, reserves_helper}
 use Rattle.law_scans.specs.inv.model.Rounds.{scheme_of, clear_told}
 use Rattle.law_scans.specs.inv.model.Steps as steps
 use Rattle.law_scans.specs.inv.model.Steps.{phase_move}
-use Rattle.law_scans.specs.inv.model.World.{World, begin, step, finds, told_in}
+use Rattle.law_scans.specs.inv.model.World.{World, begin, finds, offered, step, told_in}
 use Rattle.law_scans.proofs.inv.model.Facts.{both, first_of, rest_of, number_is, same_number}
 use Rattle.law_held.specs.turns.inv.shapes.Eras.{Eras}
 use Rattle.law_held.specs.turns.inv.shapes.Seats.{PhaseFits, Run, kind_of, suits}
@@ -157,7 +157,7 @@ came w i j x r (Runs why base) e =
     let there : ℕ = finds w i in
     let y : Option Interval = last_told i j (machine.after base post there).told x in
     let s : Bool = rise_told i j (machine.after base post there).told x r in
-    step_goes (λ p told. Comes i j x r y s told) (comes_closed i j x r y s) (w.seat i).phase post (w.seat i).desk there
+    step_goes (λ p told. Comes i j x r y s told) (comes_closed i j x r y s) (w.seat i).phase post (offered w i).desk there
     (subst (λ (phase : Phase). First (λ p told. Comes i j x r y s told) phase post there) (sym e) (record { last = refl; rising = refl }))
 came w i j x r Idle e = tt
 came w i j x r (Scans later at) e = tt
@@ -239,7 +239,7 @@ step_law layout made h i j a g =
     let f = k.seats.fits i in
     let p : Past = record_of h in
     told_each j i (told_in w i) p
-    (step_goes (λ post told. Fine j i told p) (fine_closed j i p) (w.seat i).phase (counted (w.seat i).post) (w.seat i).desk (finds w i)
+    (step_goes (λ post told. Fine j i told p) (fine_closed j i p) (w.seat i).phase (counted (w.seat i).post) (offered w i).desk (finds w i)
     (phase_fine w i j p (turns_since i j h) (last_of i p) (w.seat i).phase f.phase (g.lasts.tried i j) (g.own i j)))
     (g.law j)
 

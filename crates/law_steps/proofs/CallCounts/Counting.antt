@@ -19,7 +19,7 @@ use Rattle.law_scans.specs.inv.model.Steps as steps
 use Rattle.law_scans.specs.inv.model.Phases.{Alone, MoveAt, Base}
 use Rattle.law_scans.specs.inv.model.Phases.MoveAt.{LoadEra, ExchangeClock}
 use Rattle.law_scans.specs.inv.model.Phases.Base.{Protect, Clear, Release, Move}
-use Rattle.law_scans.specs.inv.model.Calls.{Gets, Holds, Answering, Counted, Opens, Clears, Advances, Releases, Released, Rehold, Dropped, KeepAt, Loosens, LoadHeld, StoreHeld, Looks, Misses, Keeping, ScanAt, ReadGuard, GiveBack, GetAt, FindVersion, FindCount, FindKey, FindValue, Getting, Phase, Runs, Scans, Works, CallOutcome, GoesOn, Answers}
+use Rattle.law_scans.specs.inv.model.Calls.{Gets, Holds, Answering, Counted, Opens, Clears, Advances, Releases, Released, Rehold, Dropped, KeepAt, Loosens, LoadHeld, StoreHeld, Looks, Misses, HideSpan, MarkLeft, TakeList, MarkTaken, Keeping, ScanAt, ReadGuard, GiveBack, GetAt, FindVersion, FindCount, FindKey, FindValue, Getting, Phase, Runs, Scans, Works, CallOutcome, GoesOn, Answers}
 use Rattle.law_scans.proofs.inv.model.Facts.{both}
 use Rattle.law_scans.specs.inv.model.words.Schemes.{has_one_interval, is_wfe}
 use Rattle.law_held.specs.turns.inv.shapes.Frame.{KeepFits}
@@ -155,6 +155,10 @@ copy_out c a b (LoadHeld from index) post desk found backs n m s f h e = load_ou
 copy_out c a b (StoreHeld from index era) post desk found backs n m s f h e =
     store_out c a b from index post desk (reserves_index post index era) (stands post from) backs m f.kept (ap has_one_interval (sym s) ∙ f.plain) (grind (arith, nat_tests))
 copy_out c a b (Misses index) post desk found backs n m s f h e = none_made m (not (has_one_interval c.scheme)) (grind (arith, nat_tests))
+copy_out c a b HideSpan post desk found backs n m s f h e = absurd (cc)
+copy_out c a b MarkLeft post desk found backs n m s f h e = absurd (cc)
+copy_out c a b (TakeList place) post desk found backs n m s f h e = absurd (cc)
+copy_out c a b (MarkTaken place count) post desk found backs n m s f h e = absurd (cc)
 copy_out c a b (Loosens let_go) post desk found backs n m s f h e = absurd (cc)
 copy_out c a b (Looks index key at) post desk found backs n m s f h e = absurd (cc)
 
@@ -180,6 +184,10 @@ look_at_out c a b index key (FindValue slot version pair) post desk found backs 
 pub look_out : (c : Config) (a b : ℕ) (at : KeepAt) (post : Post) (desk : Desk) (found backs n m : ℕ) → KeepIn c at → at_look (Works (Keeping at)) n ≡ true → m ≡ n + 1 → Out c (calls.Look a b) backs m (steps.phase_turn (Works (Keeping at)) post desk found).outcome
 look_out c a b (Looks index key at) post desk found backs n m g h e = look_at_out c a b index key at post desk found backs n m g.1 h e
 look_out c a b (Misses index) post desk found backs n m g h e = grind (arith, nat_tests)
+look_out c a b HideSpan post desk found backs n m g h e = absurd (cc)
+look_out c a b MarkLeft post desk found backs n m g h e = absurd (cc)
+look_out c a b (TakeList place) post desk found backs n m g h e = absurd (cc)
+look_out c a b (MarkTaken place count) post desk found backs n m g h e = absurd (cc)
 look_out c a b (Loosens let_go) post desk found backs n m g h e = absurd (cc)
 look_out c a b (LoadHeld from index) post desk found backs n m g h e = absurd (cc)
 look_out c a b (StoreHeld from index era) post desk found backs n m g h e = absurd (cc)

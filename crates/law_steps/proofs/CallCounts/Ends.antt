@@ -17,7 +17,7 @@ use Rattle.law_scans.specs.inv.model.Guards.{guards, guard_at, published as publ
 use Rattle.law_scans.specs.inv.model.Scan as scans
 use Rattle.law_scans.specs.inv.model.Phases.{Base}
 use Rattle.law_held.proofs.turns.inv.shapes.Kept.{work_counted}
-use Rattle.law_scans.specs.inv.model.Locals.{Local, may_begin, busy_in, begun_post, told_by, told_end, turn, rounds_told, settled_by}
+use Rattle.law_scans.specs.inv.model.Locals.{Local, busy_in, begun_post, told_by, told_end, turn, rounds_told, settled_by}
 use Rattle.law_scans.specs.inv.model.Phases.Base.{Move}
 use Rattle.law_scans.specs.inv.model.Posts.{counted, stands}
 use Rattle.law_scans.specs.inv.model.Rest.{rest, move_left}
@@ -25,7 +25,7 @@ use Rattle.law_scans.specs.inv.model.Phases.MoveAt.{LoadEra}
 use Rattle.law_scans.specs.inv.model.Calls.{Gets, Counted, Advances, Releases, Released, Dropped, Loosens, Keeping, ScanAt, ReadGuard, GiveBack, Phase, Runs, Scans, Works, CallTurn, CallOutcome, GoesOn, Answers}
 use Rattle.law_scans.specs.inv.model.Rounds.{scheme_of, letting_by, release_base, move_base, helps, round}
 use Rattle.law_scans.specs.inv.model.Steps as steps
-use Rattle.law_scans.specs.inv.model.World.{World, begin, step, finds, is_busy, told_in}
+use Rattle.law_scans.specs.inv.model.World.{World, begin, finds, is_busy, offered, step, told_in, may_start}
 use Rattle.law_scans.proofs.inv.model.Frames.{after_same}
 use Rattle.law_scans.proofs.inv.model.Facts.{same_number, first_of, rest_of}
 use Rattle.law_scans.specs.inv.model.words.Schemes.{is_wfe}
@@ -92,10 +92,10 @@ facts_of w i a =
     }
 
 abbrev Goal : (w : World) (i : ℕ) (call : Call) (backs m : ℕ) (phase : Phase) → Type 0
-Goal w i call backs m phase = Out w.layout.config call backs m (steps.phase_turn phase (counted (w.seat i).post) (w.seat i).desk (finds w i)).outcome
+Goal w i call backs m phase = Out w.layout.config call backs m (steps.phase_turn phase (counted (w.seat i).post) (offered w i).desk (finds w i)).outcome
 
 abbrev Told_by : (w : World) (i : ℕ) (phase : Phase) → List Event
-Told_by w i phase = (steps.phase_turn phase (counted (w.seat i).post) (w.seat i).desk (finds w i)).told
+Told_by w i phase = (steps.phase_turn phase (counted (w.seat i).post) (offered w i).desk (finds w i)).told
 
 giving_tells : (post : Post) (desk : Desk) (told : List Event) (x : Option scans.Entry) → (scans.giving_back Counted post desk told x).told ≡ told
 giving_tells post desk told None = refl
@@ -114,7 +114,7 @@ release_case : (w : World) (i : ℕ) (phase : Phase) (before backs m : ℕ) → 
 release_case w i (Runs (Releases Released) base) before backs m a e h q =
     let k = a.known in
     let r : Run w.layout (Releases Released) base (w.seat i).post = subst (PhaseFits w.layout (w.seat i).post) e (k.seats.fits i).phase in
-    release_out w.layout.config base (counted (w.seat i).post) (w.seat i).desk (finds w i) backs (w.seat i).post.steps m r.suited h q
+    release_out w.layout.config base (counted (w.seat i).post) (offered w i).desk (finds w i) backs (w.seat i).post.steps m r.suited h q
 release_case w i (Works (Keeping (Loosens Released))) before backs m a e h q = grind (arith, nat_tests)
 release_case w i phase before backs m a e h q = absurd (cc)
 
@@ -122,7 +122,7 @@ drop_case : (w : World) (i index : ℕ) (phase : Phase) (before backs m : ℕ) �
 drop_case w i index (Runs (Releases (Dropped own)) base) before backs m a e h q =
     let k = a.known in
     let r : Run w.layout (Releases (Dropped own)) base (w.seat i).post = subst (PhaseFits w.layout (w.seat i).post) e (k.seats.fits i).phase in
-    drop_out w.layout.config index own base (counted (w.seat i).post) (w.seat i).desk (finds w i) backs (w.seat i).post.steps m r.suited h q
+    drop_out w.layout.config index own base (counted (w.seat i).post) (offered w i).desk (finds w i) backs (w.seat i).post.steps m r.suited h q
 drop_case w i index (Works (Keeping (Loosens (Dropped own)))) before backs m a e h q = grind (arith, nat_tests)
 drop_case w i index phase before backs m a e h q = absurd (cc)
 
@@ -130,7 +130,7 @@ copy_case : (w : World) (i from index : ℕ) (phase : Phase) (before backs m : �
 copy_case w i from index (Works (Keeping at)) before backs m a e h q =
     let k = a.known in
     let f = k.seats.fits i in
-    copy_out w.layout.config from index at (counted (w.seat i).post) (w.seat i).desk (finds w i) backs (w.seat i).post.steps m (ap (λ (table : Layout). table.config.scheme) f.post.layout)
+    copy_out w.layout.config from index at (counted (w.seat i).post) (offered w i).desk (finds w i) backs (w.seat i).post.steps m (ap (λ (table : Layout). table.config.scheme) f.post.layout)
     (work_counted (Keeping at) (w.seat i).post (subst (PhaseFits w.layout (w.seat i).post) e f.phase)) h q
 copy_case w i from index phase before backs m a e h q = absurd (cc)
 
@@ -138,7 +138,7 @@ look_case : (w : World) (i index key : ℕ) (phase : Phase) (before backs m : �
 look_case w i index key (Works (Keeping at)) before backs m a e h q =
     let k = a.known in
     let s = k.slots.seats i in
-    look_out w.layout.config index key at (counted (w.seat i).post) (w.seat i).desk (finds w i) backs (w.seat i).post.steps m (subst (PhaseIn w.layout (w.seat i).desk) e s.phase) h q
+    look_out w.layout.config index key at (counted (w.seat i).post) (offered w i).desk (finds w i) backs (w.seat i).post.steps m (subst (PhaseIn w.layout (w.seat i).desk) e s.phase) h q
 look_case w i index key phase before backs m a e h q = absurd (cc)
 
 small_of : (c : Config) (layout : Layout) (at : ScanAt) (post : Post) → layout.config ≡ c → PhaseFits layout post (Scans Counted at) → scan_small c at ≡ true
@@ -149,11 +149,11 @@ scan_case : (w : World) (i : ℕ) (phase : Phase) (before backs m : ℕ) → Inv
 scan_case w i (Scans Counted at) before backs m a e h q b =
     let k = a.known in
     let f = k.seats.fits i in
-    scan_out w.layout.config at (counted (w.seat i).post) (w.seat i).desk (finds w i) before backs (w.seat i).post.steps m (ap (λ (table : Layout). table.config) f.post.layout)
+    scan_out w.layout.config at (counted (w.seat i).post) (offered w i).desk (finds w i) before backs (w.seat i).post.steps m (ap (λ (table : Layout). table.config) f.post.layout)
     (small_of w.layout.config w.layout at (w.seat i).post refl (subst (PhaseFits w.layout (w.seat i).post) e f.phase)) h q (b ∙ told_backs at)
   where
     told_backs : (at : ScanAt) → backs_along (Told_by w i (Scans Counted at)) before ≡ backs_at at before
-    told_backs at = ap (λ (es : List Event). backs_along es before) (scan_tells at (counted (w.seat i).post) (w.seat i).desk (finds w i)) ∙ one at
+    told_backs at = ap (λ (es : List Event). backs_along es before) (scan_tells at (counted (w.seat i).post) (offered w i).desk (finds w i)) ∙ one at
       where
         one : (at : ScanAt) → backs_along (scan_event at (counted (w.seat i).post) (finds w i) ∷ []) before ≡ backs_at at before
         one (ReadGuard number) = refl
@@ -166,11 +166,11 @@ advance_case w i (Runs Advances (Move at)) before backs m a e h q =
     let r : Run w.layout Advances (Move at) (w.seat i).post = subst (PhaseFits w.layout (w.seat i).post) e (k.seats.fits i).phase in
     let o = moves_on w i k.valid k.seats in
     let c : PhaseEnds (Runs Advances (Move at)) (counted (w.seat i).post) (finds w i) = subst (λ (phase : Phase). PhaseEnds phase (counted (w.seat i).post) (finds w i)) e (phase_ends w i k.seats) in
-    advance_out w.layout.config at (counted (w.seat i).post) (w.seat i).desk (finds w i) backs (w.seat i).post.steps m r.fits c (o.falls Advances at e) h q
+    advance_out w.layout.config at (counted (w.seat i).post) (offered w i).desk (finds w i) backs (w.seat i).post.steps m r.fits c (o.falls Advances at e) h q
 advance_case w i phase before backs m a e h q = absurd (cc)
 
 free_case : (w : World) (i : ℕ) (call : Call) (backs m : ℕ) (phase : Phase) → ((c : Config) (backs m : ℕ) (phase : Phase) → call_steps c call phase backs m ≡ true) → ((c : Config) (backs m : ℕ) (answer : Answer) → steps_right c call backs answer m ≡ true) → Goal w i call backs m phase
-free_case w i call backs m phase f g = by (steps.phase_turn phase (counted (w.seat i).post) (w.seat i).desk (finds w i)).outcome
+free_case w i call backs m phase f g = by (steps.phase_turn phase (counted (w.seat i).post) (offered w i).desk (finds w i)).outcome
   where
     by : (outcome : CallOutcome) → Out w.layout.config call backs m outcome
     by (GoesOn next) = f w.layout.config backs m next
@@ -181,11 +181,13 @@ call_case w i calls.Release before backs m a l h q b = release_case w i (w.seat 
 call_case w i (calls.DropIndex index) before backs m a l h q b = drop_case w i index (w.seat i).phase before backs m a refl h q
 call_case w i (calls.Copy from index) before backs m a l h q b = copy_case w i from index (w.seat i).phase before backs m a refl h q
 call_case w i (calls.Look index key) before backs m a l h q b = look_case w i index key (w.seat i).phase before backs m a refl h q
+call_case w i calls.Leave before backs m a l h q b = free_case w i calls.Leave backs m (w.seat i).phase (λ c b n p. refl) (λ c b n r. refl)
+call_case w i (calls.Adopt place) before backs m a l h q b = free_case w i (calls.Adopt place) backs m (w.seat i).phase (λ c b n p. refl) (λ c b n r. refl)
 call_case w i (calls.PutIf key value version) before backs m a l h q b = free_case w i (calls.PutIf key value version) backs m (w.seat i).phase (λ c b n p. refl) (λ c b n r. refl)
 call_case w i calls.Scan before backs m a l h q b = scan_case w i (w.seat i).phase before backs m a refl h q b
 call_case w i calls.Advance before backs m a l h q b = advance_case w i (w.seat i).phase before backs m a refl h q
-call_case w i (calls.Hold key) before backs m a l h q b = hold_out w.layout.config key (w.seat i).phase (counted (w.seat i).post) (w.seat i).desk (finds w i) backs (w.seat i).post.steps m (facts_of w i a) l h q
-call_case w i (calls.Get key) before backs m a l h q b = get_out w.layout.config key (w.seat i).phase (counted (w.seat i).post) (w.seat i).desk (finds w i) backs (w.seat i).post.steps m (facts_of w i a) l h q
+call_case w i (calls.Hold key) before backs m a l h q b = hold_out w.layout.config key (w.seat i).phase (counted (w.seat i).post) (offered w i).desk (finds w i) backs (w.seat i).post.steps m (facts_of w i a) l h q
+call_case w i (calls.Get key) before backs m a l h q b = get_out w.layout.config key (w.seat i).phase (counted (w.seat i).post) (offered w i).desk (finds w i) backs (w.seat i).post.steps m (facts_of w i a) l h q
 call_case w i (calls.Put key value) before backs m a l h q b = free_case w i (calls.Put key value) backs m (w.seat i).phase (λ c b n p. refl) (λ c b n r. refl)
 call_case w i (calls.Remove key) before backs m a l h q b = free_case w i (calls.Remove key) backs m (w.seat i).phase (λ c b n p. refl) (λ c b n r. refl)
 call_case w i (calls.Enqueue value) before backs m a l h q b = free_case w i (calls.Enqueue value) backs m (w.seat i).phase (λ c b n p. refl) (λ c b n r. refl)
@@ -231,22 +233,22 @@ low_of : (n m : ℕ) → n + m < 2 ^ 62 → n < 2 ^ 62
 low_of n m h = omega (h, arith)
 
 turn_out : (layout : Layout) (made : Made) (h : schedule.History) (i : ℕ) → Around made h → is_busy made.world i ≡ true → Counts layout made h
-    → Out made.world.layout.config (made.world.seat i).call (backs_along (turn (made.world.seat i) (finds made.world i)).told (backs_of i made.past)) (turn (made.world.seat i) (finds made.world i)).post.steps (turn (made.world.seat i) (finds made.world i)).outcome
+    → Out made.world.layout.config (made.world.seat i).call (backs_along (turn (offered made.world i) (finds made.world i)).told (backs_of i made.past)) (turn (offered made.world i) (finds made.world i)).post.steps (turn (offered made.world i) (finds made.world i)).outcome
 turn_out layout made h i a y g =
     let w : World = made.world in
-    let t : CallTurn = turn (w.seat i) (finds w i) in
+    let t : CallTurn = turn (offered w i) (finds w i) in
     let m : t.post.steps ≡ (w.seat i).post.steps + 1 = sym (ap (λ (post : Post). post.steps) (stepped_post w i)) ∙ a.more i y in
     call_case w i (w.seat i).call (backs_of i made.past) (backs_along t.told (backs_of i made.past)) t.post.steps a.known (low_of (w.seat i).post.steps (rest w i) (a.few i y)) (g.seats i y) m refl
 
 step_own : (layout : Layout) (made : Made) (h : schedule.History) (i : ℕ) → Around made h → is_busy made.world i ≡ true → Counts layout made h → SeatCounts made.world.layout.config (backs_of i (tells_of made.past i (told_in made.world i))) ((step made.world i).seat i)
 step_own layout made h i a y g =
     let w : World = made.world in
-    let t : CallTurn = turn (w.seat i) (finds w i) in
+    let t : CallTurn = turn (offered w i) (finds w i) in
     let o = turn_out layout made h i a y g in
     let b : backs_of i (tells_of made.past i (told_in w i)) ≡ backs_along t.told (backs_of i made.past) = ap (backs_of i) (tells_both i t.told (told_end t.post t.outcome) made.past) ∙ backs_tells i (told_end t.post t.outcome) (tells_of made.past i t.told) ∙ end_backs t.post t.outcome (backs_of i (tells_of made.past i t.told)) ∙ backs_tells i t.told made.past in
     subst (λ (n : ℕ). SeatCounts w.layout.config n ((step w i).seat i)) (sym b)
     (subst (λ (l : Local). SeatCounts w.layout.config (backs_along t.told (backs_of i made.past)) l) (sym (seat_steps w i))
-    (settled_counts w.layout.config (backs_along t.told (backs_of i made.past)) (w.seat i) t.post (noting t.desk (told_by t)) (rounds_told (w.seat i).rounds (told_by t)) t.outcome o))
+    (settled_counts w.layout.config (backs_along t.told (backs_of i made.past)) (offered w i) t.post (noting t.desk (told_by t)) (rounds_told (offered w i).rounds (told_by t)) t.outcome o))
 
 step_seats : (layout : Layout) (made : Made) (h : schedule.History) (i k : ℕ) (same : Bool) → (k == i) ≡ same → Around made h → is_busy made.world i ≡ true → Counts layout made h → SeatCounts made.world.layout.config (backs_of k (tells_of made.past i (told_in made.world i))) ((step made.world i).seat k)
 step_seats layout made h i k true e a y g =
@@ -260,7 +262,7 @@ step_seats layout made h i k false e a y g =
 step_law : (layout : Layout) (made : Made) (h : schedule.History) (i : ℕ) → Around made h → is_busy made.world i ≡ true → Counts layout made h → Each (end_ok layout.config) (tells_of made.past i (told_in made.world i))
 step_law layout made h i a y g =
     let w : World = made.world in
-    let t : CallTurn = turn (w.seat i) (finds w i) in
+    let t : CallTurn = turn (offered w i) (finds w i) in
     let s = g.answers in
     let r = s.seats i in
     let o = owes_of layout.config.buckets w i s.table a.known (r.serves y) in
@@ -328,6 +330,8 @@ first_counts c calls.Release post e = release_first (release_base (scheme_of pos
 first_counts c (calls.DropIndex index) post e = drop_first index (release_base (scheme_of post) post index)
 first_counts c (calls.Copy from index) post e = copy_first from index (stands post from)
 first_counts c (calls.Look index key) post e = look_first index key (stands post index)
+first_counts c calls.Leave post e = refl
+first_counts c (calls.Adopt place) post e = refl
 first_counts c (calls.PutIf key value version) post e = refl
 first_counts c calls.Scan post e = refl
 first_counts c calls.Advance post e = advance_first c (scheme_of post)
@@ -353,7 +357,7 @@ begin_seats layout made h i k call false e a g =
     let w : World = made.world in
     subst (λ (l : Local). SeatCounts w.layout.config (backs_of k (Then made.past i (events.Begin call))) l) (sym (begin_stays w i k call e)) (λ y. rw e (g.seats k y))
 
-begin_kept : (layout : Layout) (made : Made) (h : schedule.History) (i : ℕ) (call : Call) → Around made h → is_busy made.world i ≡ false → may_begin made.world.layout.config call ≡ true → Counts layout made h → Counts layout (done made (Begins i call)) (Starts h i call)
+begin_kept : (layout : Layout) (made : Made) (h : schedule.History) (i : ℕ) (call : Call) → Around made h → is_busy made.world i ≡ false → may_start made.world i call ≡ true → Counts layout made h → Counts layout (done made (Begins i call)) (Starts h i call)
 begin_kept layout made h i call a f m g = record {
   answers = answering.begin_keeps layout.config.buckets made i call f m g.answers;
   table = g.table;

@@ -9,7 +9,6 @@ use Rattle.law_scans.specs.inv.model.defs.declared.call.Call.{Call}
 use Rattle.law_scans.specs.inv.model.defs.declared.event.Event.{Event}
 use Rattle.law_scans.specs.inv.model.defs.declared.event.Event.TheVariants as events
 use Rattle.law_scans.specs.inv.model.declared.ends.FollowEnd.TheVariants as follow_ends
-use Rattle.law_scans.specs.inv.model.defs.declared.lifetime.Interval.{Interval}
 use Rattle.law_scans.specs.inv.model.declared.post.Post.{Post}
 use Rattle.law_scans.specs.inv.model.Desks.{Desk}
 use Rattle.law_scans.specs.inv.model.Locals.{Local, busy_in, begun_post, told_by}
@@ -18,7 +17,7 @@ use Rattle.law_scans.specs.inv.model.Posts.{counted, stands, withdrawn, cleared}
 use Rattle.law_scans.specs.inv.model.Rest.{rest}
 use Rattle.law_scans.specs.inv.model.Rounds.{scheme_of, clearing_next}
 use Rattle.law_scans.specs.inv.model.Steps as steps
-use Rattle.law_scans.specs.inv.model.World.{World, begin, step, finds, is_busy, told_in}
+use Rattle.law_scans.specs.inv.model.World.{World, begin, finds, is_busy, offered, step, told_in}
 use Rattle.law_scans.specs.inv.model.Phases.{ProtectAt, Base, Turn, Ending, Outcome, Goes, Ends}
 use Rattle.law_scans.specs.inv.model.Phases.ProtectAt.{LoadClock, LoadWithin}
 use Rattle.law_scans.specs.inv.model.Phases.Base.{Protect, Reload}
@@ -52,7 +51,7 @@ use Rattle.law_scans.specs.laws.StateAt.{spanned_by, spanned_of, raised_by, rais
 use Rattle.law_scans.specs.laws.StepLaw.{number_raised, raise_ok}
 use Rattle.law_steps.specs.Records.{RecordsKeepRaises}
 use Rattle.law_held.proofs.turns.Withdrawals.Leaving.{protects_at, is_first, is_new, Leads, Left, stepped_leads, first_new}
-use Rattle.law_steps.proofs.Raises.Raising.{spanned_along, raised_along, counts_along, raised_both, still_spans, still_raises, still_counts, work_still, work_span, spans_closed, counts_closed, none_closed, at_raised, base_raised, Out}
+use Rattle.law_steps.proofs.Raises.Raising.{spanned_along, raised_along, counts_along, raised_both, low_raises, low_counts, work_low, work_spans, spans_closed, counts_closed, none_closed, at_raised, base_raised, Out}
 use Rattle.law_steps.proofs.Raises.Intervals.{Stage, run_made}
 use Rattle.law_held.proofs.turns.TurnCounts.Tried.{is_follow}
 use Rattle.law_held.proofs.turns.inv.requests.Parents.{why_counted}
@@ -172,8 +171,8 @@ first_spans w i s r (Runs why base) e k =
 first_spans w i s r (Scans later (ReadGuard number)) e k = k.spans
 first_spans w i s r (Scans later (GiveBack place slot)) e k = k.spans
 first_spans w i s r (Works work) e k =
-    let post : Post = counted (w.seat i).post in
-    still_spans i (work_told work post) s (work_still work post) ∙ k.spans ∙ sym (ap (λ (x : Option Interval). is_some x) (work_span work post))
+    let f = k.known.known in
+    work_spans i work (counted (w.seat i).post) s (f.seats.fits i).post.seat k.spans
 
 first_counts : (w : World) (i : ℕ) (s : Bool) (r : ℕ) (phase : Phase) → (w.seat i).phase ≡ phase → Known w i s r → First (λ post told. counts_along i told s r ≡ true) phase (counted (w.seat i).post) (finds w i)
 first_counts w i s r Idle e k = refl
@@ -181,14 +180,14 @@ first_counts w i s r (Runs why base) e k =
     let m = run_made i s r w.layout why base (counted (w.seat i).post) (finds w i) (w.seat i).post.steps (stage_of w i s r k.known why base k.scheme e (k.low (ap busy_in e)) k.spans (subst (λ (phase : Phase). phase_raised phase (w.seat i).post.steps r ≡ true) e k.right)) in m.counts
 first_counts w i s r (Scans later (ReadGuard number)) e k = refl
 first_counts w i s r (Scans later (GiveBack place slot)) e k = refl
-first_counts w i s r (Works work) e k = still_counts i (work_told work (counted (w.seat i).post)) s r (work_still work (counted (w.seat i).post))
+first_counts w i s r (Works work) e k = low_counts i (work_told work (counted (w.seat i).post)) s r (work_low work (counted (w.seat i).post))
 
-none_phase : (w : World) (i : ℕ) (s : Bool) (r : ℕ) (phase : Phase) → First (λ post told. raised_along i told s r ≡ 0) phase (counted (w.seat i).post) (finds w i) → raised_along i (told_by (steps.phase_turn phase (counted (w.seat i).post) (w.seat i).desk (finds w i))) s r ≡ 0
-none_phase w i s r phase h = step_goes (λ post told. raised_along i told s r ≡ 0) (none_closed i s r) phase (counted (w.seat i).post) (w.seat i).desk (finds w i) h
+none_phase : (w : World) (i : ℕ) (s : Bool) (r : ℕ) (phase : Phase) → First (λ post told. raised_along i told s r ≡ 0) phase (counted (w.seat i).post) (finds w i) → raised_along i (told_by (steps.phase_turn phase (counted (w.seat i).post) (offered w i).desk (finds w i))) s r ≡ 0
+none_phase w i s r phase h = step_goes (λ post told. raised_along i told s r ≡ 0) (none_closed i s r) phase (counted (w.seat i).post) (offered w i).desk (finds w i) h
 
-turn_final : (w : World) (i : ℕ) (s : Bool) (r : ℕ) (interval : Bool) (phase : Phase) → (w.seat i).phase ≡ phase → Known w i s r → Left interval phase (counted (w.seat i).post) (finds w i) (phase_left (steps.phase_turn phase (counted (w.seat i).post) (w.seat i).desk (finds w i)).outcome)
-    → Final i s r (steps.phase_turn phase (counted (w.seat i).post) (w.seat i).desk (finds w i))
-turn_final w i s r interval Idle e k l = over i s r (steps.phase_turn Idle (counted (w.seat i).post) (w.seat i).desk (finds w i)) l (none_phase w i s r Idle (zero_of_test r (subst (λ (phase : Phase). phase_raised phase (w.seat i).post.steps r ≡ true) e k.right)))
+turn_final : (w : World) (i : ℕ) (s : Bool) (r : ℕ) (interval : Bool) (phase : Phase) → (w.seat i).phase ≡ phase → Known w i s r → Left interval phase (counted (w.seat i).post) (finds w i) (phase_left (steps.phase_turn phase (counted (w.seat i).post) (offered w i).desk (finds w i)).outcome)
+    → Final i s r (steps.phase_turn phase (counted (w.seat i).post) (offered w i).desk (finds w i))
+turn_final w i s r interval Idle e k l = over i s r (steps.phase_turn Idle (counted (w.seat i).post) (offered w i).desk (finds w i)) l (none_phase w i s r Idle (zero_of_test r (subst (λ (phase : Phase). phase_raised phase (w.seat i).post.steps r ≡ true) e k.right)))
 turn_final w i s r interval (Runs why base) e k l =
     let t : Turn = machine.after base (counted (w.seat i).post) (finds w i) in
     let x = stage_of w i s r k.known why base k.scheme e (k.low (ap busy_in e)) k.spans (subst (λ (phase : Phase). phase_raised phase (w.seat i).post.steps r ≡ true) e k.right) in
@@ -198,16 +197,16 @@ turn_final w i s r interval (Runs why base) e k l =
     let q : scheme_of t.post ≡ Ibr = ap (λ (table : Layout). table.config.scheme) n.post.layout ∙ k.scheme in
     let st : why_stands why base (counted (w.seat i).post) = why_counted why base (w.seat i).post (subst (λ (phase : Phase). phase_stands phase (w.seat i).post) e (f.parents.stand i)) in
     let a : OutcomeStands why t.outcome t.post = machine_stands w.layout i why base (counted (w.seat i).post) (finds w i) (counted_fits w.layout i (w.seat i).post (f.seats.fits i).post) x.run st in
-    run_final i s r interval why (w.seat i).desk t.post t.told t.outcome m.out q a l (none_phase w i s r (Runs why base))
+    run_final i s r interval why (offered w i).desk t.post t.told t.outcome m.out q a l (none_phase w i s r (Runs why base))
 turn_final w i s r interval (Scans later (ReadGuard number)) e k l =
-    over i s r (steps.phase_turn (Scans later (ReadGuard number)) (counted (w.seat i).post) (w.seat i).desk (finds w i)) l (none_phase w i s r (Scans later (ReadGuard number)) (zero_of_test r (subst (λ (phase : Phase). phase_raised phase (w.seat i).post.steps r ≡ true) e k.right)))
+    over i s r (steps.phase_turn (Scans later (ReadGuard number)) (counted (w.seat i).post) (offered w i).desk (finds w i)) l (none_phase w i s r (Scans later (ReadGuard number)) (zero_of_test r (subst (λ (phase : Phase). phase_raised phase (w.seat i).post.steps r ≡ true) e k.right)))
 turn_final w i s r interval (Scans later (GiveBack place slot)) e k l =
-    over i s r (steps.phase_turn (Scans later (GiveBack place slot)) (counted (w.seat i).post) (w.seat i).desk (finds w i)) l (none_phase w i s r (Scans later (GiveBack place slot)) (zero_of_test r (subst (λ (phase : Phase). phase_raised phase (w.seat i).post.steps r ≡ true) e k.right)))
+    over i s r (steps.phase_turn (Scans later (GiveBack place slot)) (counted (w.seat i).post) (offered w i).desk (finds w i)) l (none_phase w i s r (Scans later (GiveBack place slot)) (zero_of_test r (subst (λ (phase : Phase). phase_raised phase (w.seat i).post.steps r ≡ true) e k.right)))
 turn_final w i s r interval (Works work) e k l =
-    over i s r (steps.phase_turn (Works work) (counted (w.seat i).post) (w.seat i).desk (finds w i)) l
+    over i s r (steps.phase_turn (Works work) (counted (w.seat i).post) (offered w i).desk (finds w i)) l
     (none_phase w i s r (Works work)
     (ap (raised_along i (work_told work (counted (w.seat i).post)) s) (zero_of_test r (subst (λ (phase : Phase). phase_raised phase (w.seat i).post.steps r ≡ true) e k.right))
-    ∙ still_raises i (work_told work (counted (w.seat i).post)) s (work_still work (counted (w.seat i).post))))
+    ∙ low_raises i (work_told work (counted (w.seat i).post)) s (work_low work (counted (w.seat i).post))))
 
 -- what seat i tells is told by it alone
 spanned_tells : (i : ℕ) (told : List Event) (p : Past) → spanned_of i (tells_of p i told) ≡ spanned_along i told (spanned_of i p)
@@ -279,8 +278,8 @@ step_own layout made h i n a g =
     let r : ℕ = raised_of i (record_of h) in
     let phase : Phase = (w.seat i).phase in
     let x = known_of layout made h i n a g in
-    let t : CallTurn = steps.phase_turn phase (counted (w.seat i).post) (w.seat i).desk (finds w i) in
-    let y : spanned_along i (told_in w i) s ≡ is_some t.post.span = step_goes (λ post told. spanned_along i told s ≡ is_some post.span) (spans_closed i s) phase (counted (w.seat i).post) (w.seat i).desk (finds w i) (first_spans w i s r phase refl x) in
+    let t : CallTurn = steps.phase_turn phase (counted (w.seat i).post) (offered w i).desk (finds w i) in
+    let y : spanned_along i (told_in w i) s ≡ is_some t.post.span = step_goes (λ post told. spanned_along i told s ≡ is_some post.span) (spans_closed i s) phase (counted (w.seat i).post) (offered w i).desk (finds w i) (first_spans w i s r phase refl x) in
     let led : Left (is_ibr w.layout.config.scheme) phase (counted (w.seat i).post) (finds w i) (phase_left t.outcome) = subst (λ (next : Phase). Left (is_ibr w.layout.config.scheme) phase (counted (w.seat i).post) (finds w i) next) (stepped_phase w i) (stepped_leads w i v.valid v.seats) in
     let z : phase_raised (phase_left t.outcome) t.post.steps (raised_along i (told_in w i) s r) ≡ true = turn_final w i s r (is_ibr w.layout.config.scheme) phase refl x led in
     let p : ((step w i).seat i).post ≡ t.post = stepped_post w i in
@@ -306,7 +305,7 @@ step_kept layout made h i n a g =
     let s : Bool = spanned_of i (record_of h) in
     let r : ℕ = raised_of i (record_of h) in
     let x = known_of layout made h i n a g in
-    let c : counts_along i (told_in w i) s r ≡ true = step_goes (λ post told. counts_along i told s r ≡ true) (counts_closed i s r) (w.seat i).phase (counted (w.seat i).post) (w.seat i).desk (finds w i) (first_counts w i s r (w.seat i).phase refl x) in
+    let c : counts_along i (told_in w i) s r ≡ true = step_goes (λ post told. counts_along i told s r ≡ true) (counts_closed i s r) (w.seat i).phase (counted (w.seat i).post) (offered w i).desk (finds w i) (first_counts w i s r (w.seat i).phase refl x) in
     record { table = g.table; seats = λ k. step_seats layout made h i k (k == i) refl n a g; law = told_each i (told_in w i) (record_of h) c g.law }
 
 -- a call begins

@@ -1,6 +1,6 @@
 -- How often an interval was raised, by where its seat stands, over each step of a machine of 2GE.
 use Rattle.std.proofs.Common.{ℕ, ◌≡◌, ◌+◌, Bool, true, false, List, [], ◌∷◌, ◌++◌, Option, Some, None, refl, sym, ap, ◌∙◌}
-use Rattle.std.specs.Prelude.{◌==◌, ◌&&◌, ◌||◌, ◌*◌, nat_le, is_some, if◌then◌else◌}
+use Rattle.std.specs.Prelude.{◌==◌, ◌&&◌, ◌||◌, ◌*◌, drop, nat_le, is_some, if◌then◌else◌}
 use Rattle.law_scans.specs.inv.model.words.Packed.{reservation_word, read_reservation}
 use Rattle.law_scans.specs.inv.model.words.declared.config.SchemeKind.{SchemeKind}
 use Rattle.law_scans.specs.inv.model.words.declared.config.SchemeKind.TheVariants.{He, Ibr, Wfe}
@@ -13,10 +13,10 @@ use Rattle.law_scans.specs.inv.model.declared.post.Post.{Post}
 use Rattle.law_scans.specs.inv.model.Allocate as allocates
 use Rattle.law_scans.specs.inv.model.Machine as machine
 use Rattle.law_scans.specs.inv.model.MoveClock as movers
-use Rattle.law_scans.specs.inv.model.Calls.{Work, Getting, Changing, Enqueuing, Dequeuing, Keeping, Loosens, LoadHeld, StoreHeld, Looks, Misses}
-use Rattle.law_scans.specs.inv.model.Posts.{stands}
+use Rattle.law_scans.specs.inv.model.Calls.{Work, Getting, Changing, Enqueuing, Dequeuing, Keeping, Loosens, LoadHeld, StoreHeld, Looks, Misses, HideSpan, MarkLeft, TakeList, MarkTaken}
+use Rattle.law_scans.specs.inv.model.Posts.{cleared, cleared_from, reserves_index, reserves_span, stands}
 use Rattle.law_scans.specs.inv.model.words.Schemes.{has_one_interval}
-use Rattle.law_scans.specs.inv.model.Rounds.{scheme_of, clear_told, clear_post}
+use Rattle.law_scans.specs.inv.model.Rounds.{scheme_of, clear_told, clear_post, let_index}
 use Rattle.law_scans.specs.inv.model.SlowPath as slow
 use Rattle.law_scans.specs.inv.model.WriteRow.{last_written}
 use Rattle.law_scans.specs.inv.model.Phases.{ProtectAt, MoveAt, Walk, Base, Turn, Outcome, Goes, Ends}
@@ -26,12 +26,12 @@ use Rattle.law_scans.specs.inv.model.Phases.RetireAt.{LoadLife}
 use Rattle.law_scans.specs.inv.model.Phases.MoveAt.{LoadEra, CheckEra, AnswerAsked, LoadReserved, HandOver, ExchangeClock}
 use Rattle.law_scans.specs.inv.model.Phases.Base.{Begin, Protect, Reload, Clear, Finish, Release, Allocate, Write, Retire, Move}
 use Rattle.law_scans.specs.inv.model.Phases.Ending.{Followed}
-use Rattle.law_scans.proofs.inv.model.Facts.{both, first_of, rest_of}
-use Rattle.law_held.proofs.turns.inv.history.Passes.{is_quiet, all_quiet, Closed, copied_post, work_post, work_told}
+use Rattle.law_scans.proofs.inv.model.Facts.{both, first_of, rest_of, same_number}
+use Rattle.law_held.proofs.turns.inv.history.Passes.{is_quiet, all_quiet, Closed, copied_post, copied_told, keep_told, work_post, work_told}
 use Rattle.law_scans.specs.laws.StateAt.{spanned_by, raised_by}
 use Rattle.law_scans.specs.laws.StepLaw.{number_raised}
 use Rattle.law_held.proofs.turns.Counting.Runs.{is_calm}
-use Rattle.law_held.proofs.turns.inv.history.MayTell.{Tells, base_all, clear_all, work_all}
+use Rattle.law_held.proofs.turns.inv.history.MayTell.{Tells, base_all, cleared_all, clear_all, work_all}
 use Rattle.law_held.proofs.turns.inv.history.AllOf.{all_of, of_weaker}
 
 -- along what a step tells
@@ -77,30 +77,60 @@ still_span i (events.Reserve (Helper seat) span) s h = refl
 still_span i (events.Reserve (Index seat index) span) s h = refl
 still_span i event s h = refl
 
-still_raise : (i : ℕ) (event : Event) (s : Bool) → is_still event ≡ true → raised_by i event s 0 ≡ 0
-still_raise i (events.Reserve (Whole seat) span) s h = absurd (cc)
-still_raise i (events.Reserve (Helper seat) span) s h = refl
-still_raise i (events.Reserve (Index seat index) span) s h = refl
-still_raise i event s h = refl
+-- events that tell no interval of an interval word, and no numbers
+abbrev is_low : Event → Bool
+is_low (events.Reserve (Whole seat) (Some span)) = false
+is_low (events.Held index slot steps) = false
+is_low (events.Null index steps) = false
+is_low event = true
 
-still_count : (event : Event) (r : ℕ) → is_still event ≡ true → number_raised event r ≡ true
-still_count (events.Held index slot steps) r h = absurd (cc)
-still_count (events.Null index steps) r h = absurd (cc)
-still_count event r h = refl
+abbrev all_low : List Event → Bool
+all_low told = all_of is_low told
+
+none_raise : (own spanned : Bool) (more none : ℕ) → (if own && (spanned && false) then more else none) ≡ none
+none_raise true true more none = refl
+none_raise true false more none = refl
+none_raise false spanned more none = refl
+
+low_raise : (i : ℕ) (event : Event) (s : Bool) → is_low event ≡ true → raised_by i event s 0 ≡ 0
+low_raise i (events.Reserve (Whole seat) None) s h = none_raise (seat == i) s (0 + 1) 0
+low_raise i (events.Reserve (Whole seat) (Some span)) s h = absurd (cc)
+low_raise i (events.Reserve (Helper seat) span) s h = refl
+low_raise i (events.Reserve (Index seat index) span) s h = refl
+low_raise i event s h = refl
+
+low_count : (event : Event) (r : ℕ) → is_low event ≡ true → number_raised event r ≡ true
+low_count (events.Held index slot steps) r h = absurd (cc)
+low_count (events.Null index steps) r h = absurd (cc)
+low_count event r h = refl
+
+still_low : (event : Event) → is_still event ≡ true → is_low event ≡ true
+still_low (events.Reserve (Whole seat) span) h = absurd (cc)
+still_low (events.Reserve (Helper seat) span) h = refl
+still_low (events.Reserve (Index seat index) span) h = refl
+still_low (events.Held index slot steps) h = absurd (cc)
+still_low (events.Null index steps) h = absurd (cc)
+still_low event h = refl
 
 pub still_spans : (i : ℕ) (told : List Event) (s : Bool) → all_still told ≡ true → spanned_along i told s ≡ s
 still_spans i [] s h = refl
 still_spans i (event ∷ told) s h = ap (spanned_along i told) (still_span i event s (first_of (is_still event) (all_still told) h)) ∙ still_spans i told s (rest_of (is_still event) (all_still told) h)
 
+pub low_raises : (i : ℕ) (told : List Event) (s : Bool) → all_low told ≡ true → raised_along i told s 0 ≡ 0
+low_raises i [] s h = refl
+low_raises i (event ∷ told) s h =
+    ap (λ (r : ℕ). raised_along i told (spanned_by i event s) r) (low_raise i event s (first_of (is_low event) (all_low told) h)) ∙ low_raises i told (spanned_by i event s) (rest_of (is_low event) (all_low told) h)
+
+pub low_counts : (i : ℕ) (told : List Event) (s : Bool) (r : ℕ) → all_low told ≡ true → counts_along i told s r ≡ true
+low_counts i [] s r h = refl
+low_counts i (event ∷ told) s r h =
+    both (number_raised event r) (counts_along i told (spanned_by i event s) (raised_by i event s r)) (low_count event r (first_of (is_low event) (all_low told) h)) (low_counts i told (spanned_by i event s) (raised_by i event s r) (rest_of (is_low event) (all_low told) h))
+
 pub still_raises : (i : ℕ) (told : List Event) (s : Bool) → all_still told ≡ true → raised_along i told s 0 ≡ 0
-still_raises i [] s h = refl
-still_raises i (event ∷ told) s h =
-    ap (λ (r : ℕ). raised_along i told (spanned_by i event s) r) (still_raise i event s (first_of (is_still event) (all_still told) h)) ∙ still_raises i told (spanned_by i event s) (rest_of (is_still event) (all_still told) h)
+still_raises i told s h = low_raises i told s (of_weaker is_still is_low told still_low h)
 
 pub still_counts : (i : ℕ) (told : List Event) (s : Bool) (r : ℕ) → all_still told ≡ true → counts_along i told s r ≡ true
-still_counts i [] s r h = refl
-still_counts i (event ∷ told) s r h =
-    both (number_raised event r) (counts_along i told (spanned_by i event s) (raised_by i event s r)) (still_count event r (first_of (is_still event) (all_still told) h)) (still_counts i told (spanned_by i event s) (raised_by i event s r) (rest_of (is_still event) (all_still told) h))
+still_counts i told s r h = low_counts i told s r (of_weaker is_still is_low told still_low h)
 
 quiet_one : (event : Event) → is_quiet event ≡ true → is_still event ≡ true
 quiet_one (events.Reserve guard span) h = absurd (cc)
@@ -214,10 +244,11 @@ calm_span Finish post found h = absurd (cc)
 calm_span (Release index) post found h = absurd (cc)
 calm_span base post found h = refl
 
--- a call's own step tells nothing of intervals, and leaves the interval as it is
-pub work_still : (work : Work) (post : Post) → all_still (work_told work post) ≡ true
-work_still work post = work_all is_still (λ index slot. refl) (λ from index slot. refl) (λ seat index era. refl) work post
+-- a call's own step raises no interval
+pub work_low : (work : Work) (post : Post) → all_low (work_told work post) ≡ true
+work_low work post = work_all is_low (λ index slot. refl) (λ from index slot. refl) (λ seat index era. refl) (λ seat. refl) work post
 
+-- and leaves it as it is, but where a seat that leaves withdraws it
 copied_span : (index : ℕ) (post : Post) (x : Option ℕ) → (copied_post index post x).span ≡ post.span
 copied_span index post None = refl
 copied_span index post (Some slot) = refl
@@ -226,13 +257,40 @@ load_span : (index : ℕ) (post : Post) (x : Option ℕ) (one : Bool) → (if on
 load_span index post x true = copied_span index post x
 load_span index post x false = refl
 
-pub work_span : (work : Work) (post : Post) → (work_post work post).span ≡ post.span
-work_span (Keeping (LoadHeld from index)) post = load_span index post (stands post from) (has_one_interval (scheme_of post))
-work_span (Keeping (StoreHeld from index era)) post = copied_span index post (stands post from)
-work_span (Keeping (Loosens let_go)) post = refl
-work_span (Keeping (Looks index key at)) post = refl
-work_span (Keeping (Misses index)) post = refl
-work_span (Getting key at) post = refl
-work_span (Changing kept at) post = refl
-work_span (Enqueuing kept at) post = refl
-work_span (Dequeuing at) post = refl
+cleared_spans : (i index : ℕ) (x : Option ℕ) (s : Bool) → spanned_along i (cleared index x) s ≡ s
+cleared_spans i index x s = still_spans i (cleared index x) s (cleared_all is_still index x (λ index slot. refl))
+
+copied_spans : (i from index : ℕ) (post : Post) (reserved : List Event) (x : Option ℕ) (s : Bool) → all_still reserved ≡ true → spanned_along i (copied_told from index post reserved x) s ≡ s
+copied_spans i from index post reserved None s h = refl
+copied_spans i from index post reserved (Some slot) s h =
+    spanned_both i (cleared index (stands post index) ++ reserved) (events.Copied from index slot ∷ []) s ∙ spanned_both i (cleared index (stands post index)) reserved s
+    ∙ still_spans i reserved (spanned_along i (cleared index (stands post index)) s) h ∙ cleared_spans i index (stands post index) s
+
+load_spans : (i from index : ℕ) (post : Post) (s one : Bool) → spanned_along i (if one then copied_told from index post [] (stands post from) else []) s ≡ s
+load_spans i from index post s true = copied_spans i from index post [] (stands post from) s refl
+load_spans i from index post s false = refl
+
+hidden_spans : (i : ℕ) (post : Post) (s : Bool) → post.seat ≡ i → spanned_along i (keep_told HideSpan post) s ≡ false
+hidden_spans i post s e =
+    spanned_both i (cleared_from 2 (drop 2 post.standing)) (reserves_span post None) s ∙ own (post.seat == i) (ap (λ (k : ℕ). k == i) e ∙ same_number i)
+  where
+    own : (b : Bool) → b ≡ true → (if b then false else spanned_along i (cleared_from 2 (drop 2 post.standing)) s) ≡ false
+    own true q = refl
+    own false q = absurd (cc)
+
+pub work_spans : (i : ℕ) (work : Work) (post : Post) (s : Bool) → post.seat ≡ i → s ≡ is_some post.span → spanned_along i (work_told work post) s ≡ is_some (work_post work post).span
+work_spans i (Keeping (LoadHeld from index)) post s e h =
+    load_spans i from index post s (has_one_interval (scheme_of post)) ∙ h ∙ sym (ap (λ (x : Option Interval). is_some x) (load_span index post (stands post from) (has_one_interval (scheme_of post))))
+work_spans i (Keeping (StoreHeld from index era)) post s e h =
+    copied_spans i from index post (reserves_index post index era) (stands post from) s refl ∙ h ∙ sym (ap (λ (x : Option Interval). is_some x) (copied_span index post (stands post from)))
+work_spans i (Keeping (Loosens let_go)) post s e h = cleared_spans i (let_index let_go) (stands post (let_index let_go)) s ∙ h
+work_spans i (Keeping (Looks index key at)) post s e h = h
+work_spans i (Keeping (Misses index)) post s e h = h
+work_spans i (Keeping HideSpan) post s e h = hidden_spans i post s e
+work_spans i (Keeping MarkLeft) post s e h = h
+work_spans i (Keeping (TakeList place)) post s e h = h
+work_spans i (Keeping (MarkTaken place count)) post s e h = h
+work_spans i (Getting key at) post s e h = h
+work_spans i (Changing kept at) post s e h = h
+work_spans i (Enqueuing kept at) post s e h = h
+work_spans i (Dequeuing at) post s e h = h

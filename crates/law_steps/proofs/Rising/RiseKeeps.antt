@@ -14,13 +14,13 @@ use Rattle.law_scans.specs.inv.model.defs.declared.event.Root.{Root}
 use Rattle.law_scans.specs.inv.model.defs.declared.lifetime.Interval.{Interval}
 use Rattle.law_scans.specs.inv.model.declared.post.Post.{Post}
 use Rattle.law_scans.specs.inv.model.Calls.{Why, Phase, Idle, Runs, Scans, Works, ReadGuard, GiveBack}
-use Rattle.law_scans.specs.inv.model.Locals.{Local, after, begun, may_begin}
+use Rattle.law_scans.specs.inv.model.Locals.{Local, after, begun}
 use Rattle.law_scans.specs.inv.model.Phases.{Aim, Tries, ProtectAt, MoveAt, Base}
 use Rattle.law_scans.specs.inv.model.Phases.ProtectAt.{LoadClock, PublishEra, LoadAnswer, TakeAnswer, RaiseUpper}
 use Rattle.law_scans.specs.inv.model.Phases.MoveAt.{HandOver}
 use Rattle.law_scans.specs.inv.model.Phases.Base.{Begin, Protect, Move}
 use Rattle.law_scans.specs.inv.model.Posts.{counted}
-use Rattle.law_scans.specs.inv.model.World.{World, begin, step, finds, is_busy, told_in}
+use Rattle.law_scans.specs.inv.model.World.{World, begin, finds, is_busy, offered, step, told_in, may_start}
 use Rattle.law_held.specs.turns.inv.shapes.Eras.{PhaseEras}
 use Rattle.law_held.proofs.turns.inv.shapes.Frame.{after_seated, begun_seated, seat_stays, seat_steps, begin_stays, begin_begins}
 use Rattle.law_held.proofs.turns.inv.shapes.Kept.{begun_fits}
@@ -105,7 +105,7 @@ own_raises layout made i (Works work) d b g q = tt
 own_risen : (layout : Layout) (made : Made) (i : ℕ) → is_valid layout ≡ true → i < made.world.layout.config.seats → Growing layout made → SeatRisen (step made.world i) i
 own_risen layout made i d b g =
     let w : World = made.world in
-    let l : Local = w.seat i in
+    let l : Local = offered w i in
     let k = g.known in
     let values : ℕ → Option Interval = λ j. eras_shown (step w i) (Index i j) in
     let helper : Option Interval = eras_shown (step w i) (Helper i) in
@@ -165,7 +165,7 @@ phase_leads w i z p (Scans later (GiveBack place slot)) l n e s q h = (refl, ref
 phase_leads w i z p (Works work) l n e s q h = work_leads w.layout.config i (value_in p) work (counted (w.seat i).post) (subst (PhaseIn w.layout (w.seat i).desk) q (l.seats i).phase)
 
 step_leads : (w : World) (i : ℕ) (z : Asked) (p : Past) → Slots w → OriginsNeeds w i z → ((guard : Guard) → value_of guard p ≡ eras_shown w guard) → eras_shown w (Whole i) ≡ (w.seat i).post.span → SeatRisen w i → Leads i (value_in p) (told_in w i)
-step_leads w i z p l n e s h = step_goes (λ post told. Leads i (value_in p) told) (leads_closed i (value_in p)) (w.seat i).phase (counted (w.seat i).post) (w.seat i).desk (finds w i) (phase_leads w i z p (w.seat i).phase l n e s refl h)
+step_leads w i z p l n e s h = step_goes (λ post told. Leads i (value_in p) told) (leads_closed i (value_in p)) (w.seat i).phase (counted (w.seat i).post) (offered w i).desk (finds w i) (phase_leads w i z p (w.seat i).phase l n e s refl h)
 
 step_growing : (layout : Layout) (made : Made) (i : ℕ) → is_valid layout ≡ true → fits made.world (Steps i) ≡ true → i < made.world.layout.config.seats → Growing layout made → Growing layout (done made (Steps i))
 step_growing layout made i d h b g =
@@ -192,7 +192,7 @@ begin_risen w i m call true e v f g =
 begin_risen w i m call false e v f g =
     subst (λ (x : Local). PhaseRisen (λ (j : ℕ). eras_shown w (Index m j)) (eras_shown w (Helper m)) x.post x.phase) (sym (begin_stays w i m call e)) (g m)
 
-begin_growing : (layout : Layout) (made : Made) (i : ℕ) (call : Call) → fits made.world (Begins i call) ≡ true → is_busy made.world i ≡ false → may_begin made.world.layout.config call ≡ true → Growing layout made → Growing layout (done made (Begins i call))
+begin_growing : (layout : Layout) (made : Made) (i : ℕ) (call : Call) → fits made.world (Begins i call) ≡ true → is_busy made.world i ≡ false → may_start made.world i call ≡ true → Growing layout made → Growing layout (done made (Begins i call))
 begin_growing layout made i call h f may g =
     let w : World = made.world in
     let k = g.known in
@@ -210,7 +210,7 @@ begin_growing layout made i call h f may g =
 
 item_growing : (layout : Layout) (made : Made) (item : Item) (fit : Bool) → fits made.world item ≡ fit → is_valid layout ≡ true → Growing layout made → Growing layout (done_if made item fit)
 item_growing layout made item false f d g = g
-item_growing layout made (Begins i call) true f d g = begin_growing layout made i call f (begins_right i made.world.layout.config.seats (is_busy made.world i) (may_begin made.world.layout.config call) f) (begins_within i made.world.layout.config.seats (is_busy made.world i) (may_begin made.world.layout.config call) f) g
+item_growing layout made (Begins i call) true f d g = begin_growing layout made i call f (begins_right i made.world.layout.config.seats (is_busy made.world i) (may_start made.world i call) f) (begins_within i made.world.layout.config.seats (is_busy made.world i) (may_start made.world i call) f) g
 item_growing layout made (Steps i) true f d g = step_growing layout made i d f (low_seat i made.world.layout.config.seats (is_busy made.world i) f) g
 
 items_growing : (layout : Layout) (items : List Item) (made : Made) → is_valid layout ≡ true → Growing layout made → Growing layout (made_from made items)

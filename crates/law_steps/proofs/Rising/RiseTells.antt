@@ -1,7 +1,7 @@
 -- What a step tells of guards grows: what its seat was about to publish is later than what is published.
 use Rattle.std.proofs.Common.{ℕ, ◌≡◌, ◌≤◌, ◌<◌, Bool, true, false, List, [], ◌∷◌, ◌++◌, Option, Some, None, refl, sym, ap, ◌∙◌, subst, arith}
 use Rattle.std.proofs.lemmas.Bool.Decides.{nat_tests}
-use Rattle.std.specs.Prelude.{◌==◌, ◌||◌, is_some, if◌then◌else◌, nat_lt, not}
+use Rattle.std.specs.Prelude.{◌==◌, ◌||◌, drop, is_some, if◌then◌else◌, nat_lt, not}
 use Rattle.law_scans.specs.inv.model.words.Packed.{reservation_word}
 use Rattle.law_scans.specs.inv.model.defs.declared.event.Event.{Event}
 use Rattle.law_scans.specs.inv.model.defs.declared.event.Event.TheVariants as events
@@ -19,8 +19,8 @@ use Rattle.law_scans.specs.inv.model.Phases.BeginAt.{LoadLower, PublishSpan}
 use Rattle.law_scans.specs.inv.model.Phases.ProtectAt.{PublishEra, PublishHelper, TakeAnswer, WithdrawHelper, RaiseUpper}
 use Rattle.law_scans.specs.inv.model.Phases.MoveAt.{ShowEra, HandOver, HideEra, HideLate}
 use Rattle.law_scans.specs.inv.model.Phases.Base.{Begin, Protect, Clear, Finish, Release, Move}
-use Rattle.law_scans.specs.inv.model.Posts.{stands, cleared, lower, upper, reserves_helper, reserves_index}
-use Rattle.law_scans.specs.inv.model.Calls.{Work, Getting, Changing, Enqueuing, Dequeuing, Keeping, Loosens, LoadHeld, StoreHeld, Looks, Misses}
+use Rattle.law_scans.specs.inv.model.Posts.{stands, cleared, cleared_from, lower, upper, reserves_helper, reserves_index, reserves_span}
+use Rattle.law_scans.specs.inv.model.Calls.{Work, Getting, Changing, Enqueuing, Dequeuing, Keeping, Loosens, LoadHeld, StoreHeld, Looks, Misses, HideSpan, MarkLeft, TakeList, MarkTaken}
 use Rattle.law_scans.specs.inv.model.words.Schemes.{has_one_interval}
 use Rattle.law_scans.specs.inv.model.words.declared.config.Config.{Config}
 use Rattle.law_held.specs.turns.inv.shapes.Slots.{WorkIn}
@@ -35,7 +35,7 @@ use Rattle.law_held.proofs.turns.inv.history.AllOf.{all_of, of_along, of_weaker}
 use Rattle.law_scans.specs.laws.HistoryEras.{span_grows}
 use Rattle.law_scans.specs.laws.StateAt.{era_grows}
 use Rattle.law_steps.proofs.Rising.Rises.{era_under, protect_risen}
-use Rattle.law_held.proofs.turns.inv.history.MayTell.{publishes, is_reserve, no_reserve, held_any, cleared_all, clear_all, concluded_told}
+use Rattle.law_held.proofs.turns.inv.history.MayTell.{publishes, is_reserve, no_reserve, held_any, cleared_all, cleared_from_all, clear_all, concluded_told}
 
 -- both laws in one, by what each guard publishes
 abbrev pub grows_right : (teller : ℕ) → (value : Guard → Option Interval) → Event → Bool
@@ -242,6 +242,11 @@ work_flat config (Keeping (StoreHeld from index era)) post k =
     copied_flat from index post (reserves_index post index era) (stands post from) (both (is_flat (events.Reserve (Index post.seat index) (one_era era))) true (era_flat post.seat index era high) refl)
 work_flat config (Keeping (Looks index key at)) post k = refl
 work_flat config (Keeping (Misses index)) post k = refl
+work_flat config (Keeping HideSpan) post k =
+    of_along is_flat (cleared_from 2 (drop 2 post.standing)) (reserves_span post None) (cleared_from_all is_flat 2 (drop 2 post.standing) (λ index slot. refl)) refl
+work_flat config (Keeping MarkLeft) post k = refl
+work_flat config (Keeping (TakeList place)) post k = refl
+work_flat config (Keeping (MarkTaken place count)) post k = refl
 
 pub work_leads : (config : Config) (i : ℕ) (value : Guard → Option Interval) (work : Work) (post : Post) → WorkIn config work → Leads i value (work_told work post)
 work_leads config i value work post k = flat_leads i value (work_told work post) (work_flat config work post k)

@@ -32,7 +32,7 @@ use Rattle.law_held.specs.turns.inv.shapes.Frame.{Grows, Moves, Onward, Owes}
 use Rattle.law_held.specs.turns.inv.shapes.Seats.{PhaseFits, PostFits}
 use Rattle.law_held.proofs.turns.inv.shapes.Frame.{moves_with}
 use Rattle.law_held.proofs.turns.inv.shapes.Inside.{shape_moves}
-use Rattle.law_held.proofs.turns.inv.shapes.Kept.{counted_fits, run_counted, work_counted}
+use Rattle.law_held.proofs.turns.inv.shapes.Kept.{bared_fits, counted_fits, run_counted, work_counted}
 use Rattle.law_held.proofs.turns.inv.ends.Told.Births.{each_stores}
 use Rattle.law_held.proofs.turns.inv.shapes.Shapes.{shape_grows}
 use Rattle.law_held.proofs.turns.inv.links.Origins.Plain.{out_moves, moves_on}
@@ -185,4 +185,4 @@ risen_owed layout k values helper v (Runs why base) post found q p f =
     let m : Moves (PostFits layout k) (PhaseFits layout) why t = shape_moves layout k v why base (counted post) found (counted_fits layout k post q) (run_counted layout why base post p) in
     moves_with why t m (record { post = m.post; phase = onward_risen values helper why t.post t.outcome (base_on values helper base (counted post) found f) })
 risen_owed layout k values helper v (Scans later at) post found q p f = counted_fits layout k post q
-risen_owed layout k values helper v (Works work) post found q p f = record { post = counted_fits layout k post q; fits = work_counted work post p; stores = each_stores (λ p phase. PhaseRisen values helper p phase) (λ p from index era. tt) (counted post) found work }
+risen_owed layout k values helper v (Works work) post found q p f = record { post = bared_fits layout k work (counted post) (counted_fits layout k post q); fits = work_counted work post p; stores = each_stores (λ p phase. PhaseRisen values helper p phase) (λ p from index era. tt) (counted post) found work }

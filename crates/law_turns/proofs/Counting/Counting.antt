@@ -16,7 +16,7 @@ use Rattle.law_answers.specs.inv.model.Locals.{Local, busy_in, begun_post, turn}
 use Rattle.law_answers.specs.inv.model.Posts.{counted}
 use Rattle.law_answers.specs.inv.model.Rest.{rest}
 use Rattle.law_answers.specs.inv.model.Steps as steps
-use Rattle.law_answers.specs.inv.model.World.{World, begin, step, finds, is_busy, told_in}
+use Rattle.law_answers.specs.inv.model.World.{World, begin, finds, is_busy, offered, step, told_in}
 use Rattle.law_answers.specs.inv.model.Phases.{Aim, ProtectAt, MoveAt, Base}
 use Rattle.law_answers.specs.inv.model.Phases.ProtectAt.{PublishEra, TakeAnswer}
 use Rattle.law_answers.specs.inv.model.Phases.MoveAt.{HandOver}
@@ -146,7 +146,7 @@ phase_comes w i j n a (Works work) b e =
 
 -- what a step makes of what its seat has published
 told_comes : (w : World) (i j n : ℕ) (a : Inv w) → i < w.layout.config.seats → reserved_along i j (told_in w i) n ≡ phase_x (w.seat i).phase j n
-told_comes w i j n a b = step_goes (λ p told. reserved_along i j told n ≡ phase_x (w.seat i).phase j n) (comes_closed i j n (phase_x (w.seat i).phase j n)) (w.seat i).phase (counted (w.seat i).post) (w.seat i).desk (finds w i) (phase_comes w i j n a (w.seat i).phase b refl)
+told_comes w i j n a b = step_goes (λ p told. reserved_along i j told n ≡ phase_x (w.seat i).phase j n) (comes_closed i j n (phase_x (w.seat i).phase j n)) (w.seat i).phase (counted (w.seat i).post) (offered w i).desk (finds w i) (phase_comes w i j n a (w.seat i).phase b refl)
 
 keep_right : (layout : Layout) → is_valid layout ≡ true → (at : KeepAt) → KeepIn layout.config at → WorkRight (Keeping at)
 keep_right layout v (StoreHeld from index era) k = let b = bounds_of layout v in (omega (k.kept, k.rises, arith), omega (k.below, b.indexes.1, arith))
@@ -219,8 +219,8 @@ step_own : (layout : Layout) (made : Made) (h : schedule.History) (i : ℕ) → 
 step_own layout made h i n a b y g =
     let w : World = made.world in
     let s = seat_of layout made h i n a y g in
-    let t : CallTurn = turn (w.seat i) (finds w i) in
-    let f : Left (λ j. phase_x (w.seat i).phase j (published h i j)) (u_next (published h i) (since_of h i)) t = turn_fits (published h i) (since_of h i) layout i (w.seat i).phase (w.seat i).post (w.seat i).desk (finds w i) s in
+    let t : CallTurn = turn (offered w i) (finds w i) in
+    let f : Left (λ j. phase_x (w.seat i).phase j (published h i j)) (u_next (published h i) (since_of h i)) t = turn_fits (published h i) (since_of h i) layout i (w.seat i).phase (w.seat i).post (offered w i).desk (finds w i) s in
     let later : schedule.History = Turns h i (told_in w i) in
     let q : Fits (published later i) (since_of later i) t.post (phase_left t.outcome) =
     fits_same (λ j. phase_x (w.seat i).phase j (published h i j)) (u_next (published h i) (since_of h i)) (published later i) (since_of later i) t.post (phase_left t.outcome)
@@ -263,7 +263,7 @@ step_law layout made h i n a b y g =
     let u : ℕ → ℕ = u_next (published h i) (since_of h i) in
     let call : ℕ = (w.seat i).post.steps + 1 in
     let r : events_right x u call (told_in w i) ≡ true =
-    step_goes (λ p told. events_right x u call told ≡ true) (rights_closed x u call) (w.seat i).phase (counted (w.seat i).post) (w.seat i).desk (finds w i) (turn_rights (published h i) (since_of h i) layout i (w.seat i).phase (w.seat i).post (finds w i) s) in
+    step_goes (λ p told. events_right x u call told ≡ true) (rights_closed x u call) (w.seat i).phase (counted (w.seat i).post) (offered w i).desk (finds w i) (turn_rights (published h i) (since_of h i) layout i (w.seat i).phase (w.seat i).post (finds w i) s) in
     let c : turns_of i later ≡ call = turns_here i h (told_in w i) ∙ ap (λ (m : ℕ). m + 1) (g.turns i y) in
     subst (λ (m : ℕ). events_right (published later i) (since_of later i) m (told_in w i) ≡ true) (sym c)
     (events_same x u (published later i) (since_of later i) call (told_in w i) (λ j. published_here w i j h a.known b) (λ j. turned_here i j h (told_in w i)) r)

@@ -1,6 +1,6 @@
 -- What a seat has published where it stands, under Hazard Eras and Wait-Free Eras: nothing at the indexes that are free, and within
 -- a protection as many turns ago as the protection has made steps since. What comes after a machine keeps that.
-use Rattle.std.proofs.Common.{ℕ, ◌≡◌, ◌≢◌, ◌≤◌, ◌<◌, ◌+◌, ◌-◌, Bool, true, false, List, [], ◌∷◌, ◌++◌, length, Option, Some, None, refl, sym, ◌∙◌, subst, arith}
+use Rattle.std.proofs.Common.{ℕ, ◌≡◌, ◌≢◌, ◌≤◌, ◌<◌, ◌+◌, ◌-◌, Bool, true, false, List, [], ◌∷◌, ◌++◌, drop, length, Option, Some, None, refl, sym, ◌∙◌, subst, arith}
 use Rattle.std.proofs.lemmas.Bool.Decides.{nat_tests}
 use Rattle.std.specs.Prelude.{◌==◌, ◌&&◌, ◌||◌, ◌*◌, ◌%◌, not, nat_le, nat_lt, is_none, is_some, if◌then◌else◌}
 use Rattle.law_answers.specs.inv.model.words.declared.config.SchemeKind.{SchemeKind}
@@ -27,7 +27,7 @@ use Rattle.law_answers.specs.inv.model.Enqueue as enqueues
 use Rattle.law_answers.specs.inv.model.Get as gets
 use Rattle.law_answers.specs.inv.model.Guards.{guards, guard_at, eras_in, one_era, published}
 use Rattle.law_answers.specs.inv.model.Keep as keeps
-use Rattle.law_answers.specs.inv.model.Posts.{reserves_index, stands, with_row}
+use Rattle.law_answers.specs.inv.model.Posts.{reserves_index, standing_from, stands, with_row}
 use Rattle.law_answers.specs.laws.StateAt.{one_more}
 use Rattle.law_answers.specs.inv.model.Rounds.{scheme_of, bucket_of, index_of, root_of, taken_of, begin_base, protect_base, let_index, letting, letting_by, release_base, clear_base, finish_base, opening, round_by, round, given_up, closed, finishing_by, finishing, clearing_by, clearing, clearing_next_by, clearing_next}
 use Rattle.law_answers.specs.inv.model.Scan as scan
@@ -36,13 +36,13 @@ use Rattle.law_answers.specs.inv.model.Phases.{Tries, Endless, Failed, ProtectAt
 use Rattle.law_answers.specs.inv.model.Phases.ProtectAt.{LoadClock, PublishEra, LoadLink, CheckClock, PublishRequest, LoadOwnClock, PublishHelper, LoadOwnLink, CheckOwnClock, AnswerOwn, LoadAnswer, TakeAnswer, WithdrawRequest, WithdrawHelper, LoadWithin, CheckUpper, RaiseUpper}
 use Rattle.law_answers.specs.inv.model.Phases.Base.{Protect, Reload}
 use Rattle.law_answers.specs.inv.model.Phases.Ending.{Done, Protected, Followed, Allocated, Retired, Clocked}
-use Rattle.law_answers.specs.inv.model.Calls.{Task, Gets, Changes, Holds, Enqueues, Dequeues, Next, Again, MakeRoom, Answering, Retiring, AfterScan, Answered, Repeated, Counted, ChangeKept, EnqueueKept, GetAt, FindVersion, FindCount, FindKey, FindValue, ChangeAt, LoadVersion, LoadCount, LoadKey, LoadValue, ExchangeRoot, EnqueueAt, LoadNumber, LoadNext, PassTail, ExchangeNext, ExchangeTail, DequeueAt, LoadTail, SwingTail, TakeNumber, TakeValue, ExchangeHead, Work, Getting, Changing, Enqueuing, Dequeuing, Keeping, KeepAt, Loosens, LoadHeld, StoreHeld, Looks, Misses, LetGo, Released, Rehold, Dropped, ScanAt, ReadGuard, GiveBack, Why, Opens, FollowsHead, Fills, ClearsNext, Clears, Finishes, GivesUp, Retires, Tidies, Advances, Releases, Phase, Idle, Runs, Scans, Works, CallTurn}
+use Rattle.law_answers.specs.inv.model.Calls.{Task, Gets, Changes, Holds, Enqueues, Dequeues, Next, Again, MakeRoom, Answering, Retiring, AfterScan, Answered, Repeated, Counted, ChangeKept, EnqueueKept, GetAt, FindVersion, FindCount, FindKey, FindValue, ChangeAt, LoadVersion, LoadCount, LoadKey, LoadValue, ExchangeRoot, EnqueueAt, LoadNumber, LoadNext, PassTail, ExchangeNext, ExchangeTail, DequeueAt, LoadTail, SwingTail, TakeNumber, TakeValue, ExchangeHead, Work, Getting, Changing, Enqueuing, Dequeuing, Keeping, KeepAt, Loosens, LoadHeld, StoreHeld, Looks, Misses, HideSpan, MarkLeft, TakeList, MarkTaken, LetGo, Released, Rehold, Dropped, Parting, ScanAt, ReadGuard, GiveBack, Why, Opens, FollowsHead, Fills, ClearsNext, Clears, Finishes, GivesUp, Retires, Tidies, Advances, Releases, Phase, Idle, Runs, Scans, Works, CallTurn}
 use Rattle.law_answers.specs.inv.model.words.Schemes.{has_one_interval, is_ibr, is_he}
 use Rattle.law_answers.specs.inv.model.defs.declared.fold.Change.TheVariants as changes
 use Rattle.law_answers.proofs.inv.model.Facts.{false_not_true}
 use Rattle.law_answers.proofs.inv.model.Standing.{stands-with_row_same, stands-with_row_other}
 use Rattle.law_answers.specs.inv.shapes.Frame.{KeepFits, phase_left}
-use Rattle.law_answers.specs.inv.covers.Rests.{spare, bare, beside, within, deep, vacant_later, vacant_work, vacant_released}
+use Rattle.law_answers.specs.inv.covers.Rests.{spare, bare, beside, within, deep, vacant_later, vacant_work}
 use Rattle.law_answers.proofs.inv.covers.Resting.{bare_own}
 use Rattle.law_answers.proofs.inv.covers.Vacant.{beside_bare}
 use Rattle.law_answers.proofs.inv.covers.Rests.{spare_bare}
@@ -61,11 +61,15 @@ free_why (Tidies later) j = vacant_later later j
 free_why Advances j = spare j
 free_why (Releases let_go) j = spare j
 
+abbrev pub free_work : Work → ℕ → Bool
+free_work (Keeping at) j = spare j
+free_work work j = vacant_work work j
+
 abbrev pub free : Phase → ℕ → Bool
 free Idle j = spare j
 free (Runs why base) j = free_why why j
 free (Scans later at) j = vacant_later later j
-free (Works work) j = vacant_work work j
+free (Works work) j = free_work work j
 
 -- index 2 is protected or cleared
 abbrev pub is_hold : Task → Bool
@@ -367,12 +371,20 @@ load_fits : {x u : ℕ → ℕ} (from index : ℕ) (post : Post) (desk : Desk) (
 load_fits from index post desk found true n c = absurd (cc)
 load_fits from index post desk found false n c = record { clean = c; own = refl }
 
+taking_fits : {x u : ℕ → ℕ} (place : ℕ) (post : Post) (desk : Desk) (left : Bool) (found : ℕ) → Clean x post spare unused → Left x u (keeps.taking place post desk left found)
+taking_fits place post desk true found c = record { clean = c; own = refl }
+taking_fits place post desk false found c = record { clean = c; own = refl }
+
 pub keep_fits : {x u : ℕ → ℕ} (at : KeepAt) (post : Post) (desk : Desk) (found : ℕ) → KeepFits post at → WorkRight (Keeping at) → length post.standing ≡ 8 → Clean x post spare unused → Left (λ j. work_x (Keeping at) j (x j)) u (keeps.keep_turn at post desk found)
 keep_fits (Loosens let_go) post desk found f r e c = absurd (false_not_true (is_ibr (scheme_of post)) c.plain f.interval)
 keep_fits (LoadHeld from index) post desk found f r e c = load_fits from index post desk found (has_one_interval (scheme_of post)) c.plain c
 keep_fits (StoreHeld from index era) post desk found f r e c = store_fits from index era post desk (reserves_index post index era) (stands post from) f.kept r.0 (rw e r.1) c
 keep_fits (Looks index key at) post desk found f r e c = look_fits index key at post desk found c
 keep_fits (Misses index) post desk found f r e c = record { clean = c; own = refl }
+keep_fits HideSpan post desk found f r e c = absurd (false_not_true (is_ibr (scheme_of post)) c.plain f.interval)
+keep_fits MarkLeft post desk found f r e c = record { clean = c; own = refl }
+keep_fits (TakeList place) post desk found f r e c = taking_fits place post desk (found == 1) found c
+keep_fits (MarkTaken place count) post desk found f r e c = record { clean = c; own = refl }
 
 -- the other steps publish nothing
 abbrev pub is_keeping : Work → Bool
@@ -483,10 +495,23 @@ advanced_fits (Followed end) post desk told c = record { clean = c; own = refl }
 advanced_fits (Allocated end) post desk told c = record { clean = c; own = refl }
 advanced_fits (Retired life) post desk told c = record { clean = c; own = refl }
 
-released_fits : {x u : ℕ → ℕ} (let_go : LetGo) (post : Post) (desk : Desk) (told : List Event) → Clean x post (vacant_released let_go) unused → Left x u (keeps.released let_go post desk told)
+-- a seat leaves: what stands next is let go
+parting_fits : {x u : ℕ → ℕ} (post : Post) (o : Option ℕ) → Clean x post spare unused → Fits x u post (keeps.parting_index o)
+parting_fits post None c = record { clean = c; own = refl }
+parting_fits post (Some index) c = record { clean = used (holds_why (Releases (Parting index))) c; own = refl }
+
+-- the indexes that are free once something was let go
+abbrev pub free_released : LetGo → ℕ → Bool
+free_released Released j = spare j
+free_released (Rehold key) j = nat_lt j 3
+free_released (Dropped index) j = spare j
+free_released (Parting index) j = spare j
+
+released_fits : {x u : ℕ → ℕ} (let_go : LetGo) (post : Post) (desk : Desk) (told : List Event) → Clean x post (free_released let_go) unused → Left x u (keeps.released let_go post desk told)
 released_fits Released post desk told c = record { clean = c; own = refl }
 released_fits (Rehold key) post desk told c = round_fits (Holds key) post c
 released_fits (Dropped index) post desk told c = record { clean = c; own = refl }
+released_fits (Parting index) post desk told c = parting_fits post (standing_from (index + 1) (drop (index + 1) post.standing)) c
 
 -- what has to hold where a machine has ended
 abbrev pub Opened : (x : ℕ → ℕ) → Post → Task → Ending → Type 0
@@ -509,7 +534,7 @@ Resumes x post (GivesUp answer) ending = Clean x post spare unused
 Resumes x post (Retires answer) ending = Clean x post spare unused
 Resumes x post (Tidies later) ending = Clean x post (vacant_later later) unused
 Resumes x post Advances ending = Clean x post spare unused
-Resumes x post (Releases let_go) ending = Clean x post (vacant_released let_go) unused
+Resumes x post (Releases let_go) ending = Clean x post (free_released let_go) unused
 
 opened_fits : {x u : ℕ → ℕ} (task : Task) (ending : Ending) (post : Post) (desk : Desk) (told : List Event) → Opened x post task ending → Left x u (steps.opened task ending post desk told)
 opened_fits task (Protected (protect_ends.Held slot era)) post desk told c = opened_row_fits task slot post desk told c
@@ -577,6 +602,13 @@ looking_at_fits : {x u : ℕ → ℕ} (index key : ℕ) (post : Post) (o : Optio
 looking_at_fits index key post None c = record { clean = c; own = refl }
 looking_at_fits index key post (Some slot) c = record { clean = c; own = refl }
 
+leaving_at : {x u : ℕ → ℕ} (post : Post) (one : Bool) → one ≡ false → Clean x post spare unused → Fits x u post (if one then keeps.parting_span post.span else keeps.parting_from 2 post)
+leaving_at post true n c = absurd (cc)
+leaving_at post false n c = parting_fits post (standing_from 2 (drop 2 post.standing)) c
+
+leaving_fits : {x u : ℕ → ℕ} (post : Post) → Clean x post spare unused → Fits x u post (keeps.parting post)
+leaving_fits post c = leaving_at post (has_one_interval (scheme_of post)) c.plain c
+
 pub first_fits : {x u : ℕ → ℕ} (call : Call) (post : Post) → Clean x post spare unused → Fits x u post (steps.first_phase call post)
 first_fits (names.Get key) post c = round_fits (Gets key) post c
 first_fits (names.Put key value) post c = round_fits (steps.changing (changes.Put key value) None) post c
@@ -590,4 +622,6 @@ first_fits names.Scan post c = record { clean = c; own = refl }
 first_fits (names.Copy from index) post c = copying_fits from index post (stands post from) c
 first_fits (names.DropIndex index) post c = letting_fits (Dropped index) post c
 first_fits (names.Look index key) post c = looking_at_fits index key post (stands post index) c
+first_fits names.Leave post c = leaving_fits post c
+first_fits (names.Adopt place) post c = record { clean = c; own = refl }
 first_fits (names.PutIf key value version) post c = round_fits (steps.changing (changes.Put key value) (Some version)) post c

@@ -25,7 +25,7 @@ use Rattle.law_answers.specs.inv.model.Phases.MoveAt.{LoadEra, CheckEra, AnswerA
 use Rattle.law_answers.specs.inv.model.Phases.Base.{Begin, Protect, Reload, Clear, Finish, Release, Allocate, Write, GiveUp, Retire, Move}
 use Rattle.law_answers.specs.inv.model.declared.ends.FollowEnd.TheVariants as follow_ends
 use Rattle.law_answers.specs.inv.model.Phases.Ending.{Followed}
-use Rattle.law_answers.specs.inv.model.Calls.{Task, Gets, Changes, Holds, Enqueues, Dequeues, Why, Opens, FollowsHead, Fills, ClearsNext, Clears, Finishes, GivesUp, Retires, Tidies, Advances, Releases, LetGo, Released, Rehold, Dropped, Keeping, Next, ReadGuard, GiveBack, Phase, Idle, Runs, Scans, Works}
+use Rattle.law_answers.specs.inv.model.Calls.{Task, Gets, Changes, Holds, Enqueues, Dequeues, Why, Opens, FollowsHead, Fills, ClearsNext, Clears, Finishes, GivesUp, Retires, Tidies, Advances, Releases, LetGo, Released, Rehold, Dropped, Parting, Keeping, Next, ReadGuard, GiveBack, Phase, Idle, Runs, Scans, Works}
 use Rattle.law_answers.proofs.inv.model.Facts.{first_of, rest_of, false_not_true, and_true, le_of_test, no_truth}
 use Rattle.law_answers.specs.inv.rows.Hands.{runs_right, task_fills}
 use Rattle.law_answers.specs.inv.model.words.Schemes.{is_ibr, is_he}
@@ -33,10 +33,10 @@ use Rattle.law_answers.specs.inv.shapes.Frame.{Moves, Passed}
 use Rattle.law_answers.specs.inv.shapes.Seats.{Kind, protect_fits, kind_of, suits, PostFits, PhaseFits, Run}
 use Rattle.law_answers.proofs.inv.shapes.Inside.{shape_moves}
 use Rattle.law_answers.proofs.inv.shapes.Kept.{counted_fits, run_counted, work_counted}
-use Rattle.law_answers.specs.inv.covers.Rests.{spare, bare, beside, within, deep, vacant_released}
+use Rattle.law_answers.specs.inv.covers.Rests.{spare, bare, beside, within, deep}
 use Rattle.law_answers.proofs.inv.history.Passes.{First}
 use Rattle.law_answers.specs.laws.HistoryTurns.{event_right, events_right}
-use Rattle.law_turns.proofs.Counting.Fits.{free_why, holds_why, holds_task, unused, work_x, WorkRight, keep_fits, fills_task, Clean, since, paced, taken, base_own, Fits, Passes, Resumes, Left, work_fits, scan_fits, resumed_fits}
+use Rattle.law_turns.proofs.Counting.Fits.{free_released, free_why, holds_why, holds_task, unused, work_x, WorkRight, keep_fits, fills_task, Clean, since, paced, taken, base_own, Fits, Passes, Resumes, Left, work_fits, scan_fits, resumed_fits}
 use Rattle.law_turns.proofs.Counting.Told.{base_rights, work_rights}
 use Rattle.law_turns.proofs.Counting.Passing.{after_x, turned, since_next, few_next, number_of}
 use Rattle.law_turns.proofs.Counting.Protects.{Site, protect_passes, protect_rights, u_next, rights_if}
@@ -249,12 +249,13 @@ clears_reached x u task next index post found e c =
 
 releases_reached : (x u : ℕ → ℕ) (let_go : LetGo) (index : ℕ) (post : Post) (found : ℕ) → index ≡ let_index let_go → Clean x post spare (holds_why (Releases let_go)) → Reached x u (Releases let_go) (Clear index) post found
 releases_reached x u let_go index post found e c =
-    clear_clean x index post spare (vacant_released let_go) (holds_why (Releases let_go)) (λ j n w. by_index let_go index j e n w) (λ j h. own j h) c
+    clear_clean x index post spare (free_released let_go) (holds_why (Releases let_go)) (λ j n w. by_index let_go index j e n w) (λ j h. own j h) c
   where
-    by_index : (let_go : LetGo) (index j : ℕ) → index ≡ let_index let_go → (index == j) ≡ false → vacant_released let_go j ≡ true → spare j ≡ true
+    by_index : (let_go : LetGo) (index j : ℕ) → index ≡ let_index let_go → (index == j) ≡ false → free_released let_go j ≡ true → spare j ≡ true
     by_index Released index j e n w = w
     by_index (Rehold key) index j e n w = grind (arith, nat_tests)
     by_index (Dropped other) index j e n w = w
+    by_index (Parting other) index j e n w = w
 
     own : (j : ℕ) → (j == let_index let_go) ≡ true → (index == j) ≡ true
     own j h = grind (arith, nat_tests)

@@ -1,7 +1,7 @@
 -- What the events of a step make of what its seat has published at its index words, and that only protections tell numbers.
 use Rattle.std.proofs.Common.{ℕ, ◌≡◌, ◌≤◌, ◌+◌, Bool, true, false, List, [], ◌∷◌, ◌++◌, Option, Some, None, refl, ap, ◌∙◌, arith}
 use Rattle.std.proofs.lemmas.Bool.Decides.{nat_tests}
-use Rattle.std.specs.Prelude.{◌==◌, ◌&&◌, if◌then◌else◌, not, is_some}
+use Rattle.std.specs.Prelude.{◌==◌, ◌&&◌, drop, if◌then◌else◌, not, is_some}
 use Rattle.law_answers.specs.inv.model.words.declared.config.SchemeKind.{SchemeKind}
 use Rattle.law_answers.specs.inv.model.defs.declared.event.Event.{Event}
 use Rattle.law_answers.specs.inv.model.defs.declared.event.Event.TheVariants as events
@@ -11,11 +11,11 @@ use Rattle.law_answers.specs.inv.model.defs.declared.lifetime.Interval.{Interval
 use Rattle.law_answers.specs.inv.model.declared.post.Post.{Post}
 use Rattle.law_answers.specs.inv.model.Guards.{one_era}
 use Rattle.law_answers.specs.inv.model.Machine as machine
-use Rattle.law_answers.specs.inv.model.Posts.{cleared, reserves_index, stands}
+use Rattle.law_answers.specs.inv.model.Posts.{cleared, cleared_from, reserves_index, reserves_span, stands}
 use Rattle.law_answers.specs.inv.model.Protect as protects
 use Rattle.law_answers.specs.inv.model.Rounds.{scheme_of, clear_told, let_index}
 use Rattle.law_answers.specs.inv.model.words.Schemes.{has_one_interval}
-use Rattle.law_answers.specs.inv.model.Calls.{KeepAt, Loosens, LoadHeld, StoreHeld, Looks, Misses, Work, Keeping}
+use Rattle.law_answers.specs.inv.model.Calls.{KeepAt, Loosens, LoadHeld, StoreHeld, Looks, Misses, HideSpan, MarkLeft, TakeList, MarkTaken, Work, Keeping}
 use Rattle.law_answers.specs.inv.model.Phases.{Base}
 use Rattle.law_answers.proofs.inv.model.Facts.{same_number, both, first_of, rest_of, and_true}
 use Rattle.law_answers.specs.inv.history.Record.{Past, tells_of}
@@ -23,7 +23,7 @@ use Rattle.law_answers.specs.inv.history.Record.Past.{Then}
 use Rattle.law_answers.proofs.inv.history.Passes.{is_quiet, all_quiet, Closed, copied_told, keep_told, work_told}
 use Rattle.law_answers.specs.laws.StateAt.{one_more, reserves_by, reserves_of}
 use Rattle.law_answers.specs.laws.HistoryTurns.{event_right, events_right}
-use Rattle.law_answers.proofs.inv.history.MayTell.{Tells, base_all, held_any, cleared_all, clear_all, is_find, is_index, finds, stores_index, no_find, no_index, work_all}
+use Rattle.law_answers.proofs.inv.history.MayTell.{Tells, base_all, held_any, cleared_all, cleared_from_all, clear_all, is_find, is_index, finds, stores_index, no_find, no_index, work_all}
 use Rattle.law_answers.proofs.inv.history.AllOf.{all_of, of_along, of_weaker, of_both}
 use Rattle.law_answers.specs.inv.shapes.Frame.{KeepFits, WorkFits}
 use Rattle.law_turns.proofs.Counting.Fits.{work_x}
@@ -128,7 +128,7 @@ clear_dull scheme post index = clear_all is_dull scheme post index (λ index slo
 
 -- nor does a call on what is kept tell a number
 pub work_rights : (x u : ℕ → ℕ) (call : ℕ) (work : Work) (post : Post) → events_right x u call (work_told work post) ≡ true
-work_rights x u call work post = unfound_rights x u call (work_told work post) (work_all (λ event. not (is_find event)) (λ index slot. refl) (λ from index slot. refl) (λ seat index era. refl) work post)
+work_rights x u call work post = unfound_rights x u call (work_told work post) (work_all (λ event. not (is_find event)) (λ index slot. refl) (λ from index slot. refl) (λ seat index era. refl) (λ seat. refl) work post)
 
 -- what comes after a machine changes neither
 abbrev pub Comes : (i j n m : ℕ) → Post → List Event → Type 0
@@ -231,6 +231,10 @@ store_comes i j n from index era post (Some slot) s h =
     ∙ ap (reserved_along i j (reserves_index post index era)) (dull_reserved i j (cleared index (stands post index)) n (cleared_dull index (stands post index)))
     ∙ index_any i j post.seat index n (one_era era) s
 
+-- nor does a seat that leaves, where all is let go with the interval
+pub hide_dull : (post : Post) → all_dull (keep_told HideSpan post) ≡ true
+hide_dull post = of_along is_dull (cleared_from 2 (drop 2 post.standing)) (reserves_span post None) (cleared_from_all is_dull 2 (drop 2 post.standing) (λ index slot. refl)) refl
+
 keep_comes : (i j n : ℕ) (at : KeepAt) (post : Post) → post.seat ≡ i → KeepFits post at → reserved_along i j (keep_told at post) n ≡ work_x (Keeping at) j n
 keep_comes i j n (Loosens let_go) post s f = dull_reserved i j (cleared (let_index let_go) (stands post (let_index let_go))) n (cleared_dull (let_index let_go) (stands post (let_index let_go)))
 keep_comes i j n (LoadHeld from index) post s f = by (has_one_interval (scheme_of post))
@@ -241,6 +245,10 @@ keep_comes i j n (LoadHeld from index) post s f = by (has_one_interval (scheme_o
 keep_comes i j n (StoreHeld from index era) post s f = store_comes i j n from index era post (stands post from) s f.kept
 keep_comes i j n (Looks index key at) post s f = refl
 keep_comes i j n (Misses index) post s f = refl
+keep_comes i j n HideSpan post s f = dull_reserved i j (keep_told HideSpan post) n (hide_dull post)
+keep_comes i j n MarkLeft post s f = refl
+keep_comes i j n (TakeList place) post s f = refl
+keep_comes i j n (MarkTaken place count) post s f = refl
 
 pub work_comes : (i j n : ℕ) (work : Work) (post : Post) → post.seat ≡ i → WorkFits post work → reserved_along i j (work_told work post) n ≡ work_x work j n
 work_comes i j n (Keeping at) post s f = keep_comes i j n at post s f

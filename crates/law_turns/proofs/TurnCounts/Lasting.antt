@@ -12,7 +12,7 @@ use Rattle.law_answers.specs.inv.model.declared.ends.FollowEnd.TheVariants as fo
 use Rattle.law_answers.specs.inv.model.declared.post.Post.{Post}
 use Rattle.law_answers.specs.inv.model.Machine as machine
 use Rattle.law_answers.specs.inv.model.Posts.{counted, stands}
-use Rattle.law_answers.specs.inv.model.World.{World, finds, told_in}
+use Rattle.law_answers.specs.inv.model.World.{World, finds, offered, told_in}
 use Rattle.law_answers.specs.inv.model.Phases.{Aim, ProtectAt, Base, Ending, Outcome, Goes, Ends}
 use Rattle.law_answers.specs.inv.model.Phases.ProtectAt.{LoadClock, PublishEra, LoadLink, CheckClock, WithdrawRequest, WithdrawHelper, LoadWithin, CheckUpper, RaiseUpper}
 use Rattle.law_answers.specs.inv.model.Phases.MoveAt.{HandOver}
@@ -57,7 +57,7 @@ first_comes i j n last (Works work) post found = record { tried = refl; found = 
 pub told_comes : (w : World) (i j n last : ℕ) → Comes i j n last (tried_along i j (own_told (w.seat i).phase (counted (w.seat i).post) (finds w i)) n) (last_along (own_told (w.seat i).phase (counted (w.seat i).post) (finds w i)) last) (told_in w i)
 told_comes w i j n last =
     let own : List Event = own_told (w.seat i).phase (counted (w.seat i).post) (finds w i) in
-    step_goes (λ p told. Comes i j n last (tried_along i j own n) (last_along own last) told) (comes_closed i j n last (tried_along i j own n) (last_along own last)) (w.seat i).phase (counted (w.seat i).post) (w.seat i).desk (finds w i)
+    step_goes (λ p told. Comes i j n last (tried_along i j own n) (last_along own last) told) (comes_closed i j n last (tried_along i j own n) (last_along own last)) (w.seat i).phase (counted (w.seat i).post) (offered w i).desk (finds w i)
     (first_comes i j n last (w.seat i).phase (counted (w.seat i).post) (finds w i))
 
 -- what seat i tells is told by it alone

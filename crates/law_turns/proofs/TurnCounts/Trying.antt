@@ -15,7 +15,7 @@ use Rattle.law_answers.specs.inv.model.Protect as protects
 use Rattle.law_answers.specs.inv.model.Guards.{one_era}
 use Rattle.law_answers.specs.inv.model.Posts.{cleared, reserves_index, stands}
 use Rattle.law_answers.specs.inv.model.words.Schemes.{has_one_interval}
-use Rattle.law_answers.specs.inv.model.Calls.{KeepAt, Loosens, LoadHeld, StoreHeld, Looks, Misses, Work, Keeping}
+use Rattle.law_answers.specs.inv.model.Calls.{KeepAt, Loosens, LoadHeld, StoreHeld, Looks, Misses, HideSpan, MarkLeft, TakeList, MarkTaken, Work, Keeping}
 use Rattle.law_answers.specs.inv.model.Rounds.{scheme_of, clear_told, let_index}
 use Rattle.law_answers.specs.inv.model.Phases.{Aim, Alone, Follows, Tries, Endless, Failed, ProtectAt, Base, Turn, Outcome, Goes, Ends}
 use Rattle.law_answers.specs.inv.model.Phases.ProtectAt.{LoadClock, PublishEra, LoadLink, CheckClock, WithdrawRequest, WithdrawHelper, LoadWithin, CheckUpper, RaiseUpper}
@@ -23,7 +23,7 @@ use Rattle.law_answers.specs.inv.model.Phases.Base.{Protect, Reload}
 use Rattle.law_answers.specs.inv.model.Phases.Ending.{Followed}
 use Rattle.law_answers.proofs.inv.model.Facts.{first_of, rest_of}
 use Rattle.law_answers.proofs.inv.history.Passes.{Closed, copied_told, keep_told, work_told}
-use Rattle.law_turns.proofs.Counting.Told.{is_dull, all_dull, cleared_dull}
+use Rattle.law_turns.proofs.Counting.Told.{is_dull, all_dull, cleared_dull, hide_dull}
 use Rattle.law_answers.specs.laws.StateAt.{one_more, tried_by, last_by}
 use Rattle.law_turns.proofs.Withdrawals.Withdrawing.{is_mute, all_mute, quiet_mute, clear_mute, tells_link}
 use Rattle.law_answers.proofs.inv.history.AllOf.{of_weaker}
@@ -108,6 +108,10 @@ keep_zero i j (LoadHeld from index) post n z = by (has_one_interval (scheme_of p
 keep_zero i j (StoreHeld from index era) post n z = copied_zero i j from index post (reserves_index post index era) (stands post from) n (λ o. apart_word i j post.seat index era n o) z
 keep_zero i j (Looks index key at) post n z = z
 keep_zero i j (Misses index) post n z = z
+keep_zero i j HideSpan post n z = dull_tried i j (keep_told HideSpan post) n (hide_dull post) ∙ z
+keep_zero i j MarkLeft post n z = z
+keep_zero i j (TakeList place) post n z = z
+keep_zero i j (MarkTaken place count) post n z = z
 
 pub work_zero : (i j : ℕ) (work : Work) (post : Post) (n : ℕ) → n ≡ 0 → tried_along i j (work_told work post) n ≡ 0
 work_zero i j (Keeping at) post n z = keep_zero i j at post n z

@@ -23,7 +23,7 @@ use Rattle.law_answers.specs.inv.model.Protect as protects
 use Rattle.law_answers.specs.inv.model.SlowPath as slow
 use Rattle.law_answers.specs.inv.model.Steps as steps
 use Rattle.law_answers.specs.inv.model.WriteRow.{last_written}
-use Rattle.law_answers.specs.inv.model.World.{World, begin, step, finds, is_busy, told_in}
+use Rattle.law_answers.specs.inv.model.World.{World, begin, finds, is_busy, offered, step, told_in}
 use Rattle.law_answers.specs.inv.model.Phases.{Aim, Alone, Follows, Tries, Endless, Failed, ProtectAt, MoveAt, Walk, Base, Turn, Outcome, Goes, Ends}
 use Rattle.law_answers.specs.inv.model.Phases.BeginAt.{LoadLower}
 use Rattle.law_answers.specs.inv.model.Phases.ProtectAt.{LoadClock, PublishEra, LoadLink, CheckClock, PublishRequest, PublishHelper, CheckOwnClock, AnswerOwn, LoadAnswer, WithdrawRequest, WithdrawHelper, LoadWithin, CheckUpper}
@@ -277,7 +277,7 @@ own_told w i a =
     let f = k.seats.fits i in
     let s : (w.seat i).post.seat ≡ i = f.post.seat in
     let phase : Phase = (w.seat i).phase in
-    step_goes (λ p told. Shows i (phase_shows phase) (phase_leaves phase) (phase_finds phase) told) (shows_closed i (phase_shows phase) (phase_leaves phase) (phase_finds phase)) phase (counted (w.seat i).post) (w.seat i).desk (finds w i)
+    step_goes (λ p told. Shows i (phase_shows phase) (phase_leaves phase) (phase_finds phase) told) (shows_closed i (phase_shows phase) (phase_leaves phase) (phase_finds phase)) phase (counted (w.seat i).post) (offered w i).desk (finds w i)
     (first_shown i phase (counted (w.seat i).post) (finds w i) s (era_of w i phase k.eras refl))
 
 pub turned_due : (i : ℕ) (h : schedule.History) (told : List Event) → due_of i (Turns h i told) ≡ (if found_shown i told (shown_of i (record_of h)) then 2 else one_less (due_of i h))
@@ -308,7 +308,7 @@ step_law : (w : World) (h : schedule.History) (i : ℕ) → Inv w → Tied (show
 step_law w h i a t =
     let k = a.known in
     let f = k.seats.fits i in
-    ap (λ (n : ℕ). withdraws_by i n (told_in w i)) t.due ∙ phase_law i (w.seat i).phase (counted (w.seat i).post) (w.seat i).desk (finds w i) f.post.seat
+    ap (λ (n : ℕ). withdraws_by i n (told_in w i)) t.due ∙ phase_law i (w.seat i).phase (counted (w.seat i).post) (offered w i).desk (finds w i) f.post.seat
 
 pub step_kept : (made : Made) (h : schedule.History) (i : ℕ) → Around made h → Keeps made h → Keeps (done made (Steps i)) (Turns h i (told_in made.world i))
 step_kept made h i a g = record {

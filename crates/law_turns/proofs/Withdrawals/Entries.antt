@@ -22,7 +22,7 @@ use Rattle.law_answers.specs.inv.model.Phases.Base.{Protect}
 use Rattle.law_answers.specs.inv.model.Posts.{counted}
 use Rattle.law_answers.specs.inv.model.Protect as protects
 use Rattle.law_answers.specs.inv.model.Steps as steps
-use Rattle.law_answers.specs.inv.model.World.{World, finds, is_busy, told_in}
+use Rattle.law_answers.specs.inv.model.World.{World, finds, is_busy, offered, told_in}
 use Rattle.law_answers.proofs.inv.model.Facts.{both, first_of, rest_of, number_is, same_number}
 use Rattle.law_answers.specs.inv.Inv.{Inv}
 use Rattle.law_answers.specs.inv.history.Heard.{heard_of}
@@ -132,12 +132,12 @@ step_follows w i a = by (phase_finds (w.seat i).phase) refl
     phase = (w.seat i).phase
 
     by : (f : Bool) → phase_finds phase ≡ f → PhaseFollows i phase (told_in w i)
-    by true e = phase_follows i phase (counted (w.seat i).post) (w.seat i).desk (finds w i) e
+    by true e = phase_follows i phase (counted (w.seat i).post) (offered w i).desk (finds w i) e
     by false e =
         let o : Shows i (phase_shows phase) (phase_leaves phase) (phase_finds phase) (told_in w i) = due.own_told w i a in
         let k = a.known in
         let f = k.seats.fits i in
-        rw e (turn_follows i (phase_due phase) (told_in w i) (phase_shows phase) (due.phase_law i phase (counted (w.seat i).post) (w.seat i).desk (finds w i) f.post.seat) (o.found ∙ e))
+        rw e (turn_follows i (phase_due phase) (told_in w i) (phase_shows phase) (due.phase_law i phase (counted (w.seat i).post) (offered w i).desk (finds w i) f.post.seat) (o.found ∙ e))
 
 -- the same of the record
 own_shown : (i : ℕ) (p : Past) (event : Event) → shown_of i (Then p i event) ≡ shown_by i event (shown_of i p)
@@ -185,10 +185,10 @@ phase_helper i Idle post there s = refl
 phase_helper i (Runs why base) post there s = base_all (own_helper i) base post there (λ event. helper_told i base post there event s)
 phase_helper i (Scans later (ReadGuard number)) post there s = refl
 phase_helper i (Scans later (GiveBack place slot)) post there s = refl
-phase_helper i (Works work) post there s = work_all (own_helper i) (λ index slot. refl) (λ from index slot. refl) (λ seat index era. refl) work post
+phase_helper i (Works work) post there s = work_all (own_helper i) (λ index slot. refl) (λ from index slot. refl) (λ seat index era. refl) (λ seat. refl) work post
 
 step_helper : (w : World) (i : ℕ) → (w.seat i).post.seat ≡ i → all_of (own_helper i) (told_in w i) ≡ true
-step_helper w i s = step_all (own_helper i) (helper_passes i) (w.seat i).phase (counted (w.seat i).post) (w.seat i).desk (finds w i) (phase_helper i (w.seat i).phase (counted (w.seat i).post) (finds w i) s)
+step_helper w i s = step_all (own_helper i) (helper_passes i) (w.seat i).phase (counted (w.seat i).post) (offered w i).desk (finds w i) (phase_helper i (w.seat i).phase (counted (w.seat i).post) (finds w i) s)
 
 abbrev helper_ok : Test
 helper_ok p i event = own_helper i event

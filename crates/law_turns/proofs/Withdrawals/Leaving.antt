@@ -22,13 +22,13 @@ use Rattle.law_answers.specs.inv.model.Phases.Base.{Begin, Protect, Reload, Clea
 use Rattle.law_answers.specs.inv.model.Posts.{counted}
 use Rattle.law_answers.specs.inv.model.Rounds.{scheme_of, protect_at, clear_base, clearing_next_by}
 use Rattle.law_answers.specs.inv.model.Steps as steps
-use Rattle.law_answers.specs.inv.model.World.{World, step, finds}
+use Rattle.law_answers.specs.inv.model.World.{World, finds, offered, step}
 use Rattle.law_answers.specs.inv.model.Calls.{Why, LoadHeld, Work, Keeping, Phase, Idle, Runs, Scans, Works, FollowsHead, ClearsNext, Again}
 use Rattle.law_answers.specs.inv.shapes.Frame.{Grows, Passed, Stores, phase_left}
 use Rattle.law_answers.specs.inv.model.words.Schemes.{is_ibr}
 use Rattle.law_answers.specs.inv.shapes.Seats.{PostFits, PhaseFits, Seats}
 use Rattle.law_answers.proofs.inv.shapes.Inside.{shape_moves}
-use Rattle.law_answers.proofs.inv.shapes.Kept.{counted_fits, run_counted, work_counted}
+use Rattle.law_answers.proofs.inv.shapes.Kept.{bared_fits, counted_fits, run_counted, work_counted}
 use Rattle.law_answers.proofs.inv.shapes.Shapes.{shape_grows}
 use Rattle.law_answers.proofs.inv.shapes.Works.{resume_left, work_left, scan_left, first_grows}
 use Rattle.law_answers.proofs.inv.covers.Held.{stepped_phase}
@@ -155,13 +155,13 @@ turn_leads layout k v (Runs why base) post desk found q f =
     let m = shape_moves layout k v why base (counted post) found (counted_fits layout k post q) (run_counted layout why base post f) in
     resumed_leads layout k v why desk t.post t.told t.outcome m.post m.phase
 turn_leads layout k v (Scans later at) post desk found q f = let l = scan_left (new_grows layout k v) later at (counted post) desk found (counted_fits layout k post q) in l.phase
-turn_leads layout k v (Works work) post desk found q f = let l = work_left (new_grows layout k v) work (counted post) desk found (work_counted work post f) (stores_new work (counted post) found) (counted_fits layout k post q) in l.phase
+turn_leads layout k v (Works work) post desk found q f = let l = work_left (new_grows layout k v) work (counted post) desk found (work_counted work post f) (stores_new work (counted post) found) (bared_fits layout k work (counted post) (counted_fits layout k post q)) in l.phase
 
 -- a step of a seat
 pub stepped_leads : (w : World) (i : ℕ) → is_valid w.layout ≡ true → Seats w → Left (is_ibr w.layout.config.scheme) (w.seat i).phase (counted (w.seat i).post) (finds w i) ((step w i).seat i).phase
 stepped_leads w i v s =
     let a = s.fits i in
-    subst (λ (next : Phase). Left (is_ibr w.layout.config.scheme) (w.seat i).phase (counted (w.seat i).post) (finds w i) next) (sym (stepped_phase w i)) (turn_leads w.layout i v (w.seat i).phase (w.seat i).post (w.seat i).desk (finds w i) a.post a.phase)
+    subst (λ (next : Phase). Left (is_ibr w.layout.config.scheme) (w.seat i).phase (counted (w.seat i).post) (finds w i) next) (sym (stepped_phase w i)) (turn_leads w.layout i v (w.seat i).phase (w.seat i).post (offered w i).desk (finds w i) a.post a.phase)
 
 -- a call begins
 pub first_new : (layout : Layout) (k : ℕ) → is_valid layout ≡ true → (call : Call) (post : Post) → PostFits layout k post → is_new (steps.first_phase call post) ≡ true

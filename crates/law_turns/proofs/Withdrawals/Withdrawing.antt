@@ -336,4 +336,4 @@ first_shown i Idle post found s e = nothing i false
 first_shown i (Runs why base) post found s e = base_shown i base post found s e
 first_shown i (Scans later (ReadGuard number)) post found s e = record { left = refl; found = refl }
 first_shown i (Scans later (GiveBack place slot)) post found s e = record { left = refl; found = refl }
-first_shown i (Works work) post found s e = plain_shows i (work_told work post) (may.work_all is_plain (λ index slot. refl) (λ from index slot. refl) (λ seat index era. refl) work post)
+first_shown i (Works work) post found s e = plain_shows i (work_told work post) (may.work_all is_plain (λ index slot. refl) (λ from index slot. refl) (λ seat index era. refl) (λ seat. refl) work post)

@@ -6,34 +6,34 @@ use Rattle.wfe_server_run.proofs.Complete.{complete as run_whole}
 use Rattle.wfe_cli.proofs.command.main_call.Goals as goal
 
 pub returns-in-Ok-Some-clause-replays : goal.returns-in-Ok-Some-clause-replays
-returns-in-Ok-Some-clause-replays g c asks = keeps_of _ c.perform.result _ _ _ _ _ (replays_as _ _ _ c.perform.result _ _ _ _ _ (search rules) asks c.perform.ensures.does)
+returns-in-Ok-Some-clause-replays g c asks = keeps_of _ _ c.perform.result _ _ _ _ _ (replays_as _ _ _ _ c.perform.result _ _ _ _ _ (search rules) asks c.perform.ensures.does)
 
 pub returns-in-Ok-Some-clause-lawful : goal.returns-in-Ok-Some-clause-lawful
 returns-in-Ok-Some-clause-lawful g c = given_lawful
 
 pub returns-in-Ok-Some-clause-generates : goal.returns-in-Ok-Some-clause-generates
-returns-in-Ok-Some-clause-generates g c seed turns asks = summarizes_as _ _ _ seed turns c.perform.result _ _ _ _ _ (search rules) asks c.perform.ensures.does
+returns-in-Ok-Some-clause-generates g c seed turns asks = summarizes_as _ _ _ _ seed turns c.perform.result _ _ _ _ _ (search rules) asks c.perform.ensures.does
 
 pub returns-in-Ok-Some-clause-runs : goal.returns-in-Ok-Some-clause-runs
-returns-in-Ok-Some-clause-runs g c asks = runs_as _ _ _ c.perform.result _ _ _ _ _ (search rules) asks c.perform.ensures.does
+returns-in-Ok-Some-clause-runs g c asks = runs_as _ _ _ _ c.perform.result _ _ _ _ _ (search rules) asks c.perform.ensures.does
 
 pub returns-in-Ok-Some-clause-unread : goal.returns-in-Ok-Some-clause-unread
 returns-in-Ok-Some-clause-unread g c replays runs = unread_by _ _ (search rules) replays runs c.perform.ensures.unread
 
 pub returns-in-Ok-Some-clause-run_whole : goal.returns-in-Ok-Some-clause-run_whole
 returns-in-Ok-Some-clause-run_whole g c asks =
-    run_whole _ c.perform.result _ _ _ _ _ (runs_as _ _ _ c.perform.result _ _ _ _ _ (search rules) asks c.perform.ensures.does) c.perform.ensures.read c.perform.ensures.write
+    run_whole _ c.perform.result _ _ _ _ _ (runs_as _ _ _ _ c.perform.result _ _ _ _ _ (search rules) asks c.perform.ensures.does) c.perform.ensures.read c.perform.ensures.write
 
 pub returns-in-Ok-Some-clause-complete : goal.returns-in-Ok-Some-clause-complete
 returns-in-Ok-Some-clause-complete g c asks bytes progress told good reads writes =
-    complete _ c.perform.result _ _ _ _ _ (replays_as _ _ _ c.perform.result _ _ _ _ _ (search rules) asks c.perform.ensures.does)
+    complete _ _ c.perform.result _ _ _ _ _ (replays_as _ _ _ _ c.perform.result _ _ _ _ _ (search rules) asks c.perform.ensures.does)
     bytes progress told good (λ fault. reads (c.perform.ensures.read fault)) (λ fault. writes (c.perform.ensures.write fault))
 
 pub returns-in-Ok-None-clause-lawful : goal.returns-in-Ok-None-clause-lawful
 returns-in-Ok-None-clause-lawful g c = given_lawful
 
 pub returns-in-Err-clause-replays : goal.returns-in-Err-clause-replays
-returns-in-Err-clause-replays g c asks = nothing_kept _ _ _ _
+returns-in-Err-clause-replays g c asks = nothing_kept _ _ _ _ _
 
 pub returns-in-Err-clause-runs : goal.returns-in-Err-clause-runs
 returns-in-Err-clause-runs g c asks = nothing_run _ _ _ _

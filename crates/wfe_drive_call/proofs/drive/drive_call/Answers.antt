@@ -17,19 +17,19 @@ pub drive_he-requires-clause-here : goal.drive_he-requires-clause-here
 drive_he-requires-clause-here g c =
     let desk : HeldDesk = record c.args.desk.now { notes = c.clear.new.self } in
     let cleared : desk_of desk ≡ record (desk_of c.args.desk.now) { notes = no_notes } = ap (λ (notes : Notes). let held : Desk = record (desk_of c.args.desk.now) { notes = notes } in held) c.clear.ensures.empty in
-    here_begun (g.W.Words.at c.args.words.now) (g.W.Words.at c.start.new.self) c.args.call c.args.post.now c.args.desk.now desk _ c.requires.here c.start.ensures.at c.requires.may refl cleared
+    here_begun (g.W.Words.at c.args.words.now) (g.W.Words.at c.start.new.self) c.args.call c.args.post.now c.args.desk.now desk _ c.requires.here c.start.ensures.at c.requires.may c.requires.stays refl cleared
 
 pub drive_ibr-requires-clause-here : goal.drive_ibr-requires-clause-here
 drive_ibr-requires-clause-here g c =
     let desk : HeldDesk = record c.args.desk.now { notes = c.clear.new.self } in
     let cleared : desk_of desk ≡ record (desk_of c.args.desk.now) { notes = no_notes } = ap (λ (notes : Notes). let held : Desk = record (desk_of c.args.desk.now) { notes = notes } in held) c.clear.ensures.empty in
-    here_begun (g.W.Words.at c.args.words.now) (g.W.Words.at c.start.new.self) c.args.call c.args.post.now c.args.desk.now desk _ c.requires.here c.start.ensures.at c.requires.may refl cleared
+    here_begun (g.W.Words.at c.args.words.now) (g.W.Words.at c.start.new.self) c.args.call c.args.post.now c.args.desk.now desk _ c.requires.here c.start.ensures.at c.requires.may c.requires.stays refl cleared
 
 pub drive_wfe-requires-clause-here : goal.drive_wfe-requires-clause-here
 drive_wfe-requires-clause-here g c =
     let desk : HeldDesk = record c.args.desk.now { notes = c.clear.new.self } in
     let cleared : desk_of desk ≡ record (desk_of c.args.desk.now) { notes = no_notes } = ap (λ (notes : Notes). let held : Desk = record (desk_of c.args.desk.now) { notes = notes } in held) c.clear.ensures.empty in
-    here_begun (g.W.Words.at c.args.words.now) (g.W.Words.at c.start.new.self) c.args.call c.args.post.now c.args.desk.now desk _ c.requires.here c.start.ensures.at c.requires.may refl cleared
+    here_begun (g.W.Words.at c.args.words.now) (g.W.Words.at c.start.new.self) c.args.call c.args.post.now c.args.desk.now desk _ c.requires.here c.start.ensures.at c.requires.may c.requires.stays refl cleared
 
 pub returns-in-He : goal.returns-in-He
 returns-in-He g c =
@@ -41,7 +41,7 @@ returns-in-He g c =
     called_by (words.at c.args.words.now) (words.at c.start.new.self) (words.at c.drive_he.new.words) (words.stands c.args.words.now) (words.stands c.start.new.self) (words.stands c.drive_he.new.words) c.args.call c.drive_he.result c.args.post.now c.args.desk.now desk _
     (at_phase Idle c.drive_he.new.post c.drive_he.new.desk) c.start.ensures.at c.requires.may c.start.ensures.stands refl cleared c.drive_he.ensures.made in
     let over : Over (words.at c.drive_he.new.words) c.args.call c.drive_he.result c.args.post.now c.drive_he.new.post c.drive_he.new.desk =
-    over_by (words.at c.args.words.now) (words.at c.drive_he.new.words) (words.stands c.args.words.now) (words.stands c.drive_he.new.words) c.args.call c.drive_he.result c.args.post.now c.args.desk.now c.drive_he.new.post c.drive_he.new.desk c.requires.here called in
+    over_by (words.at c.args.words.now) (words.at c.drive_he.new.words) (words.stands c.args.words.now) (words.stands c.drive_he.new.words) c.args.call c.drive_he.result c.args.post.now c.args.desk.now c.drive_he.new.post c.drive_he.new.desk c.requires.stays c.requires.here called in
     record {
       valid = c.drive_he.ensures.valid;
       same = words.same_on _ _ _ c.start.ensures.same c.drive_he.ensures.same;
@@ -62,7 +62,7 @@ returns-in-Ibr g c =
     called_by (words.at c.args.words.now) (words.at c.start.new.self) (words.at c.drive_ibr.new.words) (words.stands c.args.words.now) (words.stands c.start.new.self) (words.stands c.drive_ibr.new.words) c.args.call c.drive_ibr.result c.args.post.now c.args.desk.now desk _
     (at_phase Idle c.drive_ibr.new.post c.drive_ibr.new.desk) c.start.ensures.at c.requires.may c.start.ensures.stands refl cleared c.drive_ibr.ensures.made in
     let over : Over (words.at c.drive_ibr.new.words) c.args.call c.drive_ibr.result c.args.post.now c.drive_ibr.new.post c.drive_ibr.new.desk =
-    over_by (words.at c.args.words.now) (words.at c.drive_ibr.new.words) (words.stands c.args.words.now) (words.stands c.drive_ibr.new.words) c.args.call c.drive_ibr.result c.args.post.now c.args.desk.now c.drive_ibr.new.post c.drive_ibr.new.desk c.requires.here called in
+    over_by (words.at c.args.words.now) (words.at c.drive_ibr.new.words) (words.stands c.args.words.now) (words.stands c.drive_ibr.new.words) c.args.call c.drive_ibr.result c.args.post.now c.args.desk.now c.drive_ibr.new.post c.drive_ibr.new.desk c.requires.stays c.requires.here called in
     record {
       valid = c.drive_ibr.ensures.valid;
       same = words.same_on _ _ _ c.start.ensures.same c.drive_ibr.ensures.same;
@@ -83,7 +83,7 @@ returns-in-Wfe g c =
     called_by (words.at c.args.words.now) (words.at c.start.new.self) (words.at c.drive_wfe.new.words) (words.stands c.args.words.now) (words.stands c.start.new.self) (words.stands c.drive_wfe.new.words) c.args.call c.drive_wfe.result c.args.post.now c.args.desk.now desk _
     (at_phase Idle c.drive_wfe.new.post c.drive_wfe.new.desk) c.start.ensures.at c.requires.may c.start.ensures.stands refl cleared c.drive_wfe.ensures.made in
     let over : Over (words.at c.drive_wfe.new.words) c.args.call c.drive_wfe.result c.args.post.now c.drive_wfe.new.post c.drive_wfe.new.desk =
-    over_by (words.at c.args.words.now) (words.at c.drive_wfe.new.words) (words.stands c.args.words.now) (words.stands c.drive_wfe.new.words) c.args.call c.drive_wfe.result c.args.post.now c.args.desk.now c.drive_wfe.new.post c.drive_wfe.new.desk c.requires.here called in
+    over_by (words.at c.args.words.now) (words.at c.drive_wfe.new.words) (words.stands c.args.words.now) (words.stands c.drive_wfe.new.words) c.args.call c.drive_wfe.result c.args.post.now c.args.desk.now c.drive_wfe.new.post c.drive_wfe.new.desk c.requires.stays c.requires.here called in
     record {
       valid = c.drive_wfe.ensures.valid;
       same = words.same_on _ _ _ c.start.ensures.same c.drive_wfe.ensures.same;

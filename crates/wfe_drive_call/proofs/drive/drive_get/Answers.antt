@@ -18,19 +18,19 @@ pub get_he_in-requires-clause-here : goal.get_he_in-requires-clause-here
 get_he_in-requires-clause-here g c =
     let desk : HeldDesk = record c.args.desk.now { notes = c.clear.new.self } in
     let cleared : desk_of desk ≡ record (desk_of c.args.desk.now) { notes = no_notes } = ap (λ (notes : Notes). let held : Desk = record (desk_of c.args.desk.now) { notes = notes } in held) c.clear.ensures.empty in
-    here_begun (g.W.Words.at c.args.words.now) (g.W.Words.at c.start.new.self) (calls.Get c.args.key) c.args.post.now c.args.desk.now desk _ c.requires.here c.start.ensures.at refl refl cleared
+    here_begun (g.W.Words.at c.args.words.now) (g.W.Words.at c.start.new.self) (calls.Get c.args.key) c.args.post.now c.args.desk.now desk _ c.requires.here c.start.ensures.at refl refl refl cleared
 
 pub get_free-requires-clause-here : goal.get_free-requires-clause-here
 get_free-requires-clause-here g c =
     let desk : HeldDesk = record c.args.desk.now { notes = c.clear.new.self } in
     let cleared : desk_of desk ≡ record (desk_of c.args.desk.now) { notes = no_notes } = ap (λ (notes : Notes). let held : Desk = record (desk_of c.args.desk.now) { notes = notes } in held) c.clear.ensures.empty in
-    here_begun (g.W.Words.at c.args.words.now) (g.W.Words.at c.start.new.self) (calls.Get c.args.key) c.args.post.now c.args.desk.now desk _ c.requires.here c.start.ensures.at refl refl cleared
+    here_begun (g.W.Words.at c.args.words.now) (g.W.Words.at c.start.new.self) (calls.Get c.args.key) c.args.post.now c.args.desk.now desk _ c.requires.here c.start.ensures.at refl refl refl cleared
 
 pub get_wfe_in-requires-clause-here : goal.get_wfe_in-requires-clause-here
 get_wfe_in-requires-clause-here g c =
     let desk : HeldDesk = record c.args.desk.now { notes = c.clear.new.self } in
     let cleared : desk_of desk ≡ record (desk_of c.args.desk.now) { notes = no_notes } = ap (λ (notes : Notes). let held : Desk = record (desk_of c.args.desk.now) { notes = notes } in held) c.clear.ensures.empty in
-    here_begun (g.W.Words.at c.args.words.now) (g.W.Words.at c.start.new.self) (calls.Get c.args.key) c.args.post.now c.args.desk.now desk _ c.requires.here c.start.ensures.at refl refl cleared
+    here_begun (g.W.Words.at c.args.words.now) (g.W.Words.at c.start.new.self) (calls.Get c.args.key) c.args.post.now c.args.desk.now desk _ c.requires.here c.start.ensures.at refl refl refl cleared
 
 pub returns-in-He : goal.returns-in-He
 returns-in-He g c =
@@ -42,7 +42,7 @@ returns-in-He g c =
     called_by (words.at c.args.words.now) (words.at c.start.new.self) (words.at c.get_he_in.new.words) (words.stands c.args.words.now) (words.stands c.start.new.self) (words.stands c.get_he_in.new.words) (calls.Get c.args.key) c.get_he_in.result c.args.post.now c.args.desk.now desk _
     (at_phase Idle c.get_he_in.new.post c.get_he_in.new.desk) c.start.ensures.at refl c.start.ensures.stands refl cleared c.get_he_in.ensures.made in
     let over : Over (words.at c.get_he_in.new.words) (calls.Get c.args.key) c.get_he_in.result c.args.post.now c.get_he_in.new.post c.get_he_in.new.desk =
-    over_by (words.at c.args.words.now) (words.at c.get_he_in.new.words) (words.stands c.args.words.now) (words.stands c.get_he_in.new.words) (calls.Get c.args.key) c.get_he_in.result c.args.post.now c.args.desk.now c.get_he_in.new.post c.get_he_in.new.desk c.requires.here called in
+    over_by (words.at c.args.words.now) (words.at c.get_he_in.new.words) (words.stands c.args.words.now) (words.stands c.get_he_in.new.words) (calls.Get c.args.key) c.get_he_in.result c.args.post.now c.args.desk.now c.get_he_in.new.post c.get_he_in.new.desk refl c.requires.here called in
     record {
       valid = c.get_he_in.ensures.valid;
       same = words.same_on _ _ _ c.start.ensures.same c.get_he_in.ensures.same;
@@ -63,7 +63,7 @@ returns-in-Ibr g c =
     called_by (words.at c.args.words.now) (words.at c.start.new.self) (words.at c.get_free.new.words) (words.stands c.args.words.now) (words.stands c.start.new.self) (words.stands c.get_free.new.words) (calls.Get c.args.key) c.get_free.result c.args.post.now c.args.desk.now desk _
     (at_phase Idle c.get_free.new.post c.get_free.new.desk) c.start.ensures.at refl c.start.ensures.stands refl cleared c.get_free.ensures.made in
     let over : Over (words.at c.get_free.new.words) (calls.Get c.args.key) c.get_free.result c.args.post.now c.get_free.new.post c.get_free.new.desk =
-    over_by (words.at c.args.words.now) (words.at c.get_free.new.words) (words.stands c.args.words.now) (words.stands c.get_free.new.words) (calls.Get c.args.key) c.get_free.result c.args.post.now c.args.desk.now c.get_free.new.post c.get_free.new.desk c.requires.here called in
+    over_by (words.at c.args.words.now) (words.at c.get_free.new.words) (words.stands c.args.words.now) (words.stands c.get_free.new.words) (calls.Get c.args.key) c.get_free.result c.args.post.now c.args.desk.now c.get_free.new.post c.get_free.new.desk refl c.requires.here called in
     record {
       valid = c.get_free.ensures.valid;
       same = words.same_on _ _ _ c.start.ensures.same c.get_free.ensures.same;
@@ -84,7 +84,7 @@ returns-in-Wfe g c =
     called_by (words.at c.args.words.now) (words.at c.start.new.self) (words.at c.get_wfe_in.new.words) (words.stands c.args.words.now) (words.stands c.start.new.self) (words.stands c.get_wfe_in.new.words) (calls.Get c.args.key) c.get_wfe_in.result c.args.post.now c.args.desk.now desk _
     (at_phase Idle c.get_wfe_in.new.post c.get_wfe_in.new.desk) c.start.ensures.at refl c.start.ensures.stands refl cleared c.get_wfe_in.ensures.made in
     let over : Over (words.at c.get_wfe_in.new.words) (calls.Get c.args.key) c.get_wfe_in.result c.args.post.now c.get_wfe_in.new.post c.get_wfe_in.new.desk =
-    over_by (words.at c.args.words.now) (words.at c.get_wfe_in.new.words) (words.stands c.args.words.now) (words.stands c.get_wfe_in.new.words) (calls.Get c.args.key) c.get_wfe_in.result c.args.post.now c.args.desk.now c.get_wfe_in.new.post c.get_wfe_in.new.desk c.requires.here called in
+    over_by (words.at c.args.words.now) (words.at c.get_wfe_in.new.words) (words.stands c.args.words.now) (words.stands c.get_wfe_in.new.words) (calls.Get c.args.key) c.get_wfe_in.result c.args.post.now c.args.desk.now c.get_wfe_in.new.post c.get_wfe_in.new.desk refl c.requires.here called in
     record {
       valid = c.get_wfe_in.ensures.valid;
       same = words.same_on _ _ _ c.start.ensures.same c.get_wfe_in.ensures.same;

@@ -7,6 +7,6 @@ use Rattle.wfe_drive_call_tests.proofs.calls.make.Given as goal
 
 abbrev pub invariant-loop-call : goal.invariant-loop-call
 invariant-loop-call g l = record {
-  here : Here (IsAt l.words.cells l.words.steps) (at_phase Idle l.post l.desk);
+  here : Here (IsAt l.words.cells l.words.steps l.words.left) (at_phase Idle l.post l.desk);
   room : HasRoom l.desk l.post.layout;
 }

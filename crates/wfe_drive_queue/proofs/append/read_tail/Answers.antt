@@ -5,7 +5,7 @@ use Rattle.wfe_core.specs.Enqueue.{at_next}
 use Rattle.wfe_core.specs.Ready.{LinkFits}
 use Rattle.wfe_core.specs.declared.post.Post.{Post}
 use Rattle.wfe_drive_queue.specs.Items.{kept_of}
-use Rattle.wfe_drive_queue.specs.drive_words.drive_cells.Unit.{seat_after}
+use Rattle.wfe_drive_queue.specs.drive_words.drive_cells.Unit.{kept_desk, seat_after}
 use Rattle.wfe_drive_queue.specs.drive_words.Path.{stepped}
 use Rattle.wfe_drive_queue.specs.drive_runs.Pieces.{seat_of}
 use Rattle.wfe_drive_queue.proofs.Appending.{at_steps, two}
@@ -53,4 +53,4 @@ returns-clause-leads g c = λ desk h.
     let x0 = c.step-number.ensures.steps _ a0 in
     let a1 = asks_seat (seat_of (Works (Enqueuing read LoadNext)) (stepped post) desk) (here_on h x0.leads) refl c.load_cell-2.ensures in
     let x1 = c.step-next.ensures.steps _ a1 in
-    leads_as _ _ (ap (λ (p : Post). seat_after (at_next read c.step-next.result p desk (c.step-next.result == 0))) (at_steps post (post.steps + 1 + 1) (post.steps + 2) (two post.steps))) (then_leads x0.leads x1.leads)
+    leads_as _ _ (ap (λ (p : Post). seat_after (at_next read c.step-next.result p (kept_desk desk) (c.step-next.result == 0))) (at_steps post (post.steps + 1 + 1) (post.steps + 2) (two post.steps))) (then_leads x0.leads x1.leads)

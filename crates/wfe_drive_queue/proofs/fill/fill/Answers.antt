@@ -4,10 +4,17 @@ use Rattle.wfe_core.specs.Calls.{Enqueues, Fills, Runs}
 use Rattle.wfe_core.specs.Enqueue.{filling_by}
 use Rattle.wfe_drive_queue.specs.Items.{kept_of}
 use Rattle.wfe_drive_queue.specs.drive_words.Called.{at_phase}
-use Rattle.wfe_drive_runs.proofs.drive_words.Leading.{here_as, leads_from, then_leads}
+use Rattle.wfe_drive_runs.proofs.drive_words.Leading.{here_as, here_on, leads_from, then_leads}
 use Rattle.wfe_drive_runs.proofs.Turning.{leads_so}
 use Rattle.wfe_drive_queue.proofs.Appending.{none_free, row_given}
 use Rattle.wfe_drive_queue.proofs.fill.fill.Goals as goal
+
+pub write-requires-in-Given-clause-here : goal.write-requires-in-Given-clause-here
+write-requires-in-Given-clause-here g c =
+    let kept = kept_of c.args.item.now in
+    let is = ap (λ (taken : Option ℕ). at_phase (Runs (Fills (Enqueues kept)) (filling_by kept taken)) c.args.post.now c.args.desk.now) c.in-None.is in
+    let h = here_as _ _ is c.requires.here in
+    here_on h (row_given kept c.in-Given.slot c.in-Given.birth c.take_row.new.post c.take_row.new.desk (leads_so (c.in-Given.ensures.ends (Fills (Enqueues kept)) h)))
 
 pub returns-in-Given-clause-leads : goal.returns-in-Given-clause-leads
 returns-in-Given-clause-leads g c =

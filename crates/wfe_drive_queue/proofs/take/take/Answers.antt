@@ -3,7 +3,7 @@ use Rattle.std.proofs.Common.{ap, arith, refl, ◌+◌, ◌<◌, ◌==◌, ◌^�
 use Rattle.wfe_core.specs.Calls.{Dequeuing, ExchangeHead, TakeNumber, TakeValue, Works}
 use Rattle.wfe_core.specs.Dequeue.{taken}
 use Rattle.wfe_core.specs.declared.post.Post.{Post}
-use Rattle.wfe_drive_queue.specs.drive_words.drive_cells.Unit.{seat_after}
+use Rattle.wfe_drive_queue.specs.drive_words.drive_cells.Unit.{kept_desk, seat_after}
 use Rattle.wfe_drive_queue.specs.drive_words.Path.{stepped}
 use Rattle.wfe_drive_queue.specs.drive_runs.Pieces.{seat_of}
 use Rattle.wfe_drive_queue.proofs.Appending.{at_steps, three}
@@ -68,7 +68,7 @@ returns-then-found-head-clause-leads g c = λ desk h.
     let x1 = c.step-value.ensures.steps _ a1 in
     let last = seat_of (Works (Dequeuing (ExchangeHead c.args.head c.args.next c.step-number.result c.step-value.result))) (stepped (stepped post)) desk in
     let x2 = c.step-found.ensures.steps _ (asks_seat last (here_on a1.here x1.leads) refl c.move_head.ensures) in
-    let moved = ap (λ (p : Post). seat_after (taken c.args.head c.args.next c.step-number.result c.step-value.result p desk (c.step-found.result == c.args.head + 1))) (at_steps post (post.steps + 1 + 1 + 1) (post.steps + 3) (three post.steps)) in
+    let moved = ap (λ (p : Post). seat_after (taken c.args.head c.args.next c.step-number.result c.step-value.result p (kept_desk desk) (c.step-found.result == c.args.head + 1))) (at_steps post (post.steps + 1 + 1 + 1) (post.steps + 3) (three post.steps)) in
     let left : Post = record post { steps = post.steps + 3 } in
     then_leads (then_leads x0.leads x1.leads) (leads_as _ _ (moved ∙ is_lost c.args.head c.args.next c.step-number.result c.step-value.result c.step-found.result left desk c.if-found-head.true) x2.leads)
 
@@ -84,6 +84,6 @@ returns-clause-leads g c = λ desk h.
     let x1 = c.step-value.ensures.steps _ a1 in
     let last = seat_of (Works (Dequeuing (ExchangeHead c.args.head c.args.next c.step-number.result c.step-value.result))) (stepped (stepped post)) desk in
     let x2 = c.step-found.ensures.steps _ (asks_seat last (here_on a1.here x1.leads) refl c.move_head.ensures) in
-    let moved = ap (λ (p : Post). seat_after (taken c.args.head c.args.next c.step-number.result c.step-value.result p desk (c.step-found.result == c.args.head + 1))) (at_steps post (post.steps + 1 + 1 + 1) (post.steps + 3) (three post.steps)) in
+    let moved = ap (λ (p : Post). seat_after (taken c.args.head c.args.next c.step-number.result c.step-value.result p (kept_desk desk) (c.step-found.result == c.args.head + 1))) (at_steps post (post.steps + 1 + 1 + 1) (post.steps + 3) (three post.steps)) in
     let left : Post = record post { steps = post.steps + 3 } in
     then_leads (then_leads x0.leads x1.leads) (leads_as _ _ (moved ∙ is_taken c.args.head c.args.next c.step-number.result c.step-value.result c.step-found.result left desk c.if-found-head.false) x2.leads)

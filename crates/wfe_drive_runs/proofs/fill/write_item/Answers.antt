@@ -7,6 +7,7 @@ use Rattle.wfe_core.specs.Phases.Ending.{Done}
 use Rattle.wfe_core.specs.Steps.{resume}
 use Rattle.wfe_core.specs.declared.post.Post.{Post}
 use Rattle.wfe_drive_words.specs.Path.{stepped}
+use Rattle.wfe_drive_words.specs.drive_cells.Unit.{kept_desk}
 use Rattle.wfe_drive_runs.specs.Pieces.{seat_of}
 use Rattle.wfe_drive_words.proofs.Leading.{few_here, here_on, then_leads}
 use Rattle.wfe_drive_words.proofs.Trying.{three}
@@ -47,7 +48,7 @@ returns-clause-turns g c = λ why desk h.
     let last = seat_of (Runs why (Write c.args.slot item 2)) (stepped (stepped post)) desk in
     let a2 = asks_seat last (here_on a1.here x1.leads) refl c.store_cell-3.ensures in
     let x2 = c.step-3.ensures.steps _ a2 in
-    then_turns (then_leads x0.leads x1.leads) (turns_as _ _ (ap (λ (n : _). let p : Post = record post { steps = n } in resume why Done p desk []) (three post.steps)) (turns_once last x2))
+    then_turns (then_leads x0.leads x1.leads) (turns_as _ _ (ap (λ (n : _). let p : Post = record post { steps = n } in resume why Done p (kept_desk desk) []) (three post.steps)) (turns_once last x2))
 
 pub overflow_add-post : goal.overflow_add-post
 overflow_add-post g c =

@@ -5,6 +5,7 @@ use Rattle.wfe_core.specs.Guards.{one_era}
 use Rattle.wfe_core.specs.Phases.Base.{Clear}
 use Rattle.wfe_core.specs.Posts.{stands}
 use Rattle.wfe_core.specs.defs.declared.event.Guard.TheVariants as guards
+use Rattle.wfe_drive_words.specs.drive_cells.Unit.{kept_desk}
 use Rattle.wfe_drive_runs.specs.Pieces.{seat_of}
 use Rattle.wfe_drive_runs.proofs.Closing.{clear_quiet}
 use Rattle.wfe_drive_words.proofs.Leading.{few_here}
@@ -42,6 +43,6 @@ pub returns-clause-turns : goal.returns-clause-turns
 returns-clause-turns g c = λ why desk h.
     let seat = seat_of (Runs why (Clear c.args.index)) c.args.post.now desk in (
       _,
-      clear_quiet desk c.args.index (stands c.args.post.now c.args.index) (guards.Index c.args.post.now.seat c.args.index) (one_era 0),
+      clear_quiet (kept_desk desk) c.args.index (stands c.args.post.now c.args.index) (guards.Index c.args.post.now.seat c.args.index) (one_era 0),
       turns_once seat (c.step.ensures.steps _ (asks_seat seat h refl c.publish.ensures)),
     )

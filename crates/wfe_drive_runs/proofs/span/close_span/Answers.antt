@@ -6,6 +6,7 @@ use Rattle.std.proofs.lemmas.List.{length-set}
 use Rattle.wfe_core.specs.Calls.{Finishes, Runs}
 use Rattle.wfe_core.specs.Phases.Base.{Finish}
 use Rattle.wfe_core.specs.Posts.{reserves_span, withdrawn}
+use Rattle.wfe_drive_words.specs.drive_cells.Unit.{kept_desk}
 use Rattle.wfe_drive_runs.specs.Pieces.{seat_of}
 use Rattle.wfe_drive_runs.proofs.Closing.{closed_noted, closed_outcome}
 use Rattle.wfe_drive_words.proofs.Leading.{few_here, here_as}
@@ -46,4 +47,4 @@ returns-clause-turns g c = λ task next desk i f first.
     let x = turns_once seat (c.step.ensures.steps _ (asks_seat seat (here_as _ _ is first) refl c.store_none.ensures)) in
     let post : Post = record c.args.post.now { standing = slice_set c.args.post.now.standing 0 None; span = None; steps = c.args.post.now.steps + 1 } in
     let told : List Event = reserves_span c.args.post.now None in
-    turns_from _ _ (sym is) (turns_same _ _ (closed_noted task next post desk told) (closed_outcome task next post desk desk told) x)
+    turns_from _ _ (sym is) (turns_same _ _ (closed_noted task next post (kept_desk desk) told) (closed_outcome task next post (kept_desk desk) (kept_desk desk) told) x)

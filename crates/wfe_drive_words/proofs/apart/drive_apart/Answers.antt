@@ -49,8 +49,10 @@ returns-in-Some-clause-made g c =
     let seat : SeatView = at_phase (g.M.CallMachine.phase c.loop-answer.machine c.loop-answer.post) c.loop-answer.post c.loop-answer.desk in
     let i = c.loop-answer.invariant in
     let s = c.perform-found.ensures in
+    let may : MayTake seat c.perform-found.result =
+    takes_at (g.W.Words.at c.loop-answer.words) (g.W.Words.at c.perform-found.new.self) seat c.next_apart-op.result c.perform-found.result i.here i.busy c.next_apart-op.ensures s.at in
     makes_answer (g.W.Words.at c.args.words.now) (g.W.Words.at c.loop-answer.words) (g.W.Words.at c.perform-found.new.self) (g.W.Words.stands c.args.words.now) (g.W.Words.stands c.loop-answer.words) (g.W.Words.stands c.perform-found.new.self)
-    first seat c.next_apart-op.result c.perform-found.result c.take_apart.new.post c.take_apart.new.desk c.take_apart.new.told c.in-Some.answer (g.M.CallMachine.phase c.take_apart.new.machine c.take_apart.new.post) i.made i.busy c.next_apart-op.ensures s.at s.stands c.in-Some.ensures.took
+    first seat c.next_apart-op.result c.perform-found.result c.take_apart.new.post c.take_apart.new.desk c.take_apart.new.told c.in-Some.answer (g.M.CallMachine.phase c.take_apart.new.machine c.take_apart.new.post) i.made i.busy may.alone c.next_apart-op.ensures s.at s.stands c.in-Some.ensures.took
 
 pub loop-answer-preserved : goal.loop-answer-preserved
 loop-answer-preserved g c =
@@ -63,7 +65,7 @@ loop-answer-preserved g c =
     let took = c.in_default.ensures.took in
     let phase : Phase = g.M.CallMachine.phase c.take_apart.new.machine c.take_apart.new.post in
     let may : MayTake seat c.perform-found.result = takes_at before later seat c.next_apart-op.result c.perform-found.result i.here i.busy c.next_apart-op.ensures s.at in
-    let h = here_after before later seat c.next_apart-op.result c.perform-found.result c.take_apart.new.post c.take_apart.new.desk c.take_apart.new.told phase i.here i.busy c.next_apart-op.ensures s.at took in
+    let h = here_after before later seat c.next_apart-op.result c.perform-found.result c.take_apart.new.post c.take_apart.new.desk c.take_apart.new.told phase i.here i.busy may.alone c.next_apart-op.ensures s.at took in
     record {
       valid = s.valid;
       same = g.W.Words.same_on _ _ _ i.same s.same;
@@ -73,5 +75,5 @@ loop-answer-preserved g c =
       suits = search rules;
       room = c.in_default.ensures.room;
       made = makes_more (g.W.Words.at c.args.words.now) before later (g.W.Words.stands c.args.words.now) (g.W.Words.stands c.loop-answer.words) (g.W.Words.stands c.perform-found.new.self)
-          first seat c.next_apart-op.result c.perform-found.result c.take_apart.new.post c.take_apart.new.desk c.take_apart.new.told phase i.made i.busy c.next_apart-op.ensures s.at s.stands took;
+          first seat c.next_apart-op.result c.perform-found.result c.take_apart.new.post c.take_apart.new.desk c.take_apart.new.told phase i.made i.busy may.alone c.next_apart-op.ensures s.at s.stands took;
     }

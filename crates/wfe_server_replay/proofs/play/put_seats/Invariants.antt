@@ -8,5 +8,5 @@ use Rattle.wfe_server_replay.proofs.play.put_seats.Given as goal
 abbrev pub invariant-loop-seat : goal.invariant-loop-seat
 invariant-loop-seat g l =
     Wrote g.K.Sink.written g.K.Sink.faults g.K.Sink.may_stand l.fn.sink l.sink
-    (text_of (seat_lines 0 l.garbage))
-    (text_of (seat_lines l.seat (drop l.seat l.garbage)))
+    (text_of (seat_lines 0 l.garbage l.lists))
+    (text_of (seat_lines l.seat (drop l.seat l.garbage) l.lists))

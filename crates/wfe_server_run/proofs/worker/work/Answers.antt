@@ -1,11 +1,14 @@
-use Rattle.std.proofs.Common.{arith, rules, true, ◌≡◌}
+use Rattle.std.proofs.Common.{arith, rules}
 use Rattle.std.proofs.lemmas.List.Elements.{All-get_or}
-use Rattle.wfe_core.specs.Locals.{may_begin}
+use Rattle.wfe_server_run.specs.Fitting.{Begins}
 use Rattle.wfe_server_run.proofs.Told.{worked_more}
 use Rattle.wfe_server_run.proofs.worker.work.Goals as goal
 
 pub make_call-requires-clause-may : goal.make_call-requires-clause-may
-make_call-requires-clause-may g c κs within = All-get_or (λ call. may_begin c.args.shared.now.layout.config call ≡ true) c.args.script.now c.loop-place.place _ c.loop-place-test.true c.requires.fits
+make_call-requires-clause-may g c κs within = let begins = All-get_or (Begins c.args.shared.now.layout.config) c.args.script.now c.loop-place.place _ c.loop-place-test.true c.requires.fits in begins.0
+
+pub make_call-requires-clause-stays : goal.make_call-requires-clause-stays
+make_call-requires-clause-stays g c κs within = let begins = All-get_or (Begins c.args.shared.now.layout.config) c.args.script.now c.loop-place.place _ c.loop-place-test.true c.requires.fits in begins.1
 
 pub loop-place-preserved : goal.loop-place-preserved
 loop-place-preserved g c = record {

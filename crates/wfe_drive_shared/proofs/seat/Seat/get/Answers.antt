@@ -13,11 +13,16 @@ use Rattle.wfe_drive_rule.specs.Views.{own}
 use Rattle.wfe_drive_shared.specs.Calls.{IsMade}
 use Rattle.wfe_drive_shared.specs.Public.{SeatNow}
 use Rattle.wfe_drive_shared.specs.Sound.{IsMet}
-use Rattle.wfe_drive_shared.proofs.Made.{made_by, met_more, over, seated_as}
+use Rattle.wfe_drive_shared.proofs.Made.{made_by, met_more, over, rests_here, seated_as, still_there}
 use Rattle.wfe_drive_shared.proofs.seat.Seat.get.Goals as goal
 
 pub bucket_for-bucket-requires : goal.bucket_for-bucket-requires
 bucket_for-bucket-requires c = c.self.invariant.seated.tracked.valid
+
+pub drive_get-answer-requires-clause-here : goal.drive_get-answer-requires-clause-here
+drive_get-answer-requires-clause-here c =
+    let i = c.self.invariant in
+    rests_here c.self.inside.handle.me (at_phase Idle c.self.inside.post c.self.inside.desk) i.resting i.here i.there
 
 pub invariant_of-self : goal.invariant_of-self
 invariant_of-self c =
@@ -35,6 +40,7 @@ invariant_of-self c =
       resting = o.resting;
       here = o.here;
       room = d.room;
+      there = still_there new.words.handle.now.me _ o.resting d.here;
       met = met_more new.post.layout.config.buckets (calls.Get c.args.key) (answers.Got c.in-Got.version c.in-Got.value) (own c.self.inside.handle.me.0).local (own new.words.handle.now.me.0).local o.ops c.self.inside.seen.items c.see.new.seen.items ends
           (subst (λ (l : Layout). IsMet l.config.buckets (met_in l.config.buckets log) c.self.inside.seen.items) (sym table) i.met)
           c.see.ensures.met;

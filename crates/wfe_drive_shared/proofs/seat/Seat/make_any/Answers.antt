@@ -6,18 +6,38 @@ use Rattle.wfe_core.specs.words.declared.layout.Layout.{Layout}
 use Rattle.wfe_drive_call.specs.drive_words.Called.{at_phase}
 use Rattle.wfe_drive_rule.specs.drive_cells.Unit.{SeatView}
 use Rattle.law_all.specs.logs.Versions.{met_in}
-use Rattle.wfe_drive_rule.specs.Handles.{IsTracked}
+use Rattle.wfe_drive_rule.specs.Handles.{IsSeated, IsTracked}
 use Rattle.wfe_drive_rule.specs.Views.{own}
 use Rattle.wfe_drive_shared.specs.Calls.{IsMade}
 use Rattle.wfe_drive_shared.specs.Public.{SeatNow}
 use Rattle.wfe_drive_shared.specs.Sound.{IsMet}
-use Rattle.wfe_drive_shared.proofs.Made.{made_by, met_more, over, seated_as}
+use Rattle.wfe_drive_shared.proofs.TableWords.{comes_standing}
+use Rattle.wfe_drive_shared.proofs.Made.{made_by, met_more, over, rests_here, seated_as, still_there}
 use Rattle.wfe_drive_shared.proofs.seat.Seat.make_any.Goals as goal
 
 pub drive_call-answer-requires-clause-may : goal.drive_call-answer-requires-clause-may
 drive_call-answer-requires-clause-may c =
     let key : c.self.inside.post.layout ≡ c.args.ledger.now.key = sym (ap (λ (v : SeatView). v.post.layout) c.self.invariant.here) ∙ ap (λ (s : SeatNow). s.track.local.post.layout) c.self.view_is ∙ c.requires.layout in
     subst (λ (d : Layout). may_begin d.config c.args.call ≡ true) (sym key) c.requires.may
+
+pub drive_call-answer-requires-clause-valid : goal.drive_call-answer-requires-clause-valid
+drive_call-answer-requires-clause-valid c =
+    let i = c.self.invariant in
+    let s = c.self.inside in
+    let key : s.post.layout ≡ c.args.ledger.now.key = sym (ap (λ (v : SeatView). v.post.layout) i.here) ∙ ap (λ (seat : SeatNow). seat.track.local.post.layout) c.self.view_is ∙ c.requires.layout in
+    let seated : IsSeated c.args.ledger.now.key s.post.seat s.handle.me = subst (λ (d : Layout). IsSeated d s.post.seat s.handle.me) key i.seated in
+    record {
+      ids = ap (λ (seat : SeatNow). seat.table) c.self.view_is ∙ c.requires.table;
+      sized = c.requires.sized;
+      seated = seated;
+      comes = comes_standing c.args.ledger.now.key s.post.seat s.handle.me seated;
+      later = λ e. absurd (cc);
+    }
+
+pub drive_call-answer-requires-clause-here : goal.drive_call-answer-requires-clause-here
+drive_call-answer-requires-clause-here c =
+    let i = c.self.invariant in
+    rests_here c.self.inside.handle.me (at_phase Idle c.self.inside.post c.self.inside.desk) i.resting i.here i.there
 
 pub invariant_of-self : goal.invariant_of-self
 invariant_of-self c =
@@ -33,6 +53,7 @@ invariant_of-self c =
       resting = o.resting;
       here = o.here;
       room = d.room;
+      there = still_there new.words.handle.now.me _ o.resting d.here;
       met = met_more new.post.layout.config.buckets c.args.call c.drive_call-answer.result (own c.self.inside.handle.me.0).local (own new.words.handle.now.me.0).local o.ops c.self.inside.seen.items c.meet.new.seen.items o.ends
           (subst (λ (l : Layout). IsMet l.config.buckets (met_in l.config.buckets log) c.self.inside.seen.items) (sym table) i.met)
           c.meet.ensures.met;

@@ -1,4 +1,7 @@
-use Rattle.std.proofs.Common.{◌∙◌}
+use Rattle.std.proofs.Common.{ap, sym, ◌∙◌}
+use Rattle.std.proofs.lemmas.Bool.{false≢true}
+use Rattle.wfe_core.specs.Locals.{Local}
+use Rattle.wfe_drive_call.specs.drive_words.Comes.{departs}
 use Rattle.wfe_drive_shared.proofs.TableWords.{comes_standing, may_standing}
 use Rattle.wfe_drive_shared.proofs.words.TableWordsWords.start.Goals as goal
 
@@ -12,4 +15,7 @@ returns-clause-valid c = record {
 }
 
 pub begin-requires-clause-may : goal.begin-requires-clause-may
-begin-requires-clause-may c = may_standing _ _ _ c.requires.idle.0 c.args.call c.requires.valid.seated c.requires.idle.1 c.requires.idle.3
+begin-requires-clause-may c = may_standing _ _ _ c.requires.idle.0 c.args.call c.requires.valid.seated c.requires.idle.1 c.requires.idle.4
+
+pub begin-requires-clause-there : goal.begin-requires-clause-there
+begin-requires-clause-there c = λ e. absurd (false≢true (sym (ap (λ (l : Local). departs l.call) c.requires.idle.1 ∙ c.requires.idle.3) ∙ ap departs e))

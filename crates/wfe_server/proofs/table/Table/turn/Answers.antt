@@ -1,6 +1,6 @@
 use Rattle.std.proofs.Common.{◌∙◌}
 use Rattle.wfe_server_out.proofs.Texts.{on_err}
-use Rattle.wfe_server.proofs.Calls.{turn_may}
+use Rattle.wfe_server.proofs.Calls.{turn_may, turn_stays}
 use Rattle.wfe_server.proofs.Turning.{began, began_layout, ran_layout, seat_within, turn_err, turn_first, turn_is, turn_made, turn_ok, turn_second}
 use Rattle.wfe_server.proofs.table.Table.turn.Goals as goal
 
@@ -10,6 +10,9 @@ start-requires-clause-seat g c =
 
 pub start-requires-clause-may : goal.start-requires-clause-may
 start-requires-clause-may g c = turn_may c.of-turn.result c.args.a c.args.b c.run.new.self.played.table.layout.config c.of-turn.ensures
+
+pub start-requires-clause-stays : goal.start-requires-clause-stays
+start-requires-clause-stays g c = turn_stays c.of-turn.result c.args.a c.args.b c.of-turn.ensures
 
 pub step-requires : goal.step-requires
 step-requires g c =

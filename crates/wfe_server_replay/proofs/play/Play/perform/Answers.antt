@@ -18,4 +18,4 @@ pub returns-in-End-clause-emits : goal.returns-in-End-clause-emits
 returns-in-End-clause-emits g c = emits_of (ap (λ (command : Command). played_out command c.args.self.now) (sym c.in-End.is)) c.finish.ensures.emits
 
 pub returns-in-Table-clause-emits : goal.returns-in-Table-clause-emits
-returns-in-Table-clause-emits g c = emits_of (ap (λ (command : Command). played_out command c.args.self.now) (sym c.in-Table.is)) (emits_text (heard_of-table_pieces c.args.self.now.garbage) c.put_table.ensures.writes)
+returns-in-Table-clause-emits g c = emits_of (ap (λ (command : Command). played_out command c.args.self.now) (sym c.in-Table.is)) (emits_text (heard_of-table_pieces c.args.self.now.garbage c.args.self.now.waiting) c.put_table.ensures.writes)

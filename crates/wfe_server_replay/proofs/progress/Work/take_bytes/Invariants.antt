@@ -8,7 +8,7 @@ use Rattle.wfe_server_replay.proofs.progress.Work.take_bytes.Given as goal
 -- the bytes before this one are taken, and what they give was put out
 abbrev pub invariant-loop-byte : goal.invariant-loop-byte
 invariant-loop-byte g l = record {
-  taken : after_bytes player (Ok l.fn.self) (take l.byte-index l.bytes) ≡ Ok l.self;
-  put : Puts (boxed (λ b. (goal.Watcher-dyn g (b.vtable, b.value)).stands b.value)) (outside (g.K.Sink.written l.fn.sink) l.fn.watchers) (outside (g.K.Sink.written l.sink) l.watchers) (bytes_output player (Ok l.fn.self) (take l.byte-index l.bytes));
+  taken : after_bytes (player g.E.Engine.taken) (Ok l.fn.self) (take l.byte-index l.bytes) ≡ Ok l.self;
+  put : Puts (boxed (λ b. (goal.Watcher-dyn g (b.vtable, b.value)).stands b.value)) (outside (g.K.Sink.written l.fn.sink) l.fn.watchers) (outside (g.K.Sink.written l.sink) l.watchers) (bytes_output (player g.E.Engine.taken) (Ok l.fn.self) (take l.byte-index l.bytes));
   later : g.K.Sink.faults l.fn.sink ≤ g.K.Sink.faults l.sink;
 }

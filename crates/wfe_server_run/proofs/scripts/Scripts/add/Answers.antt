@@ -15,7 +15,7 @@ invariant_of-self c =
     let fit : fits_indexes inside.config.indexes c.args.call ≡ true = subst (λ (s : Scripted). fits_indexes s.config.indexes c.args.call ≡ true) (sym c.self.view_is) c.requires.fits in (
       c.self.invariant.0,
       search rules,
-      added_fits inside.config inside.calls.items c.args.seat c.args.call c.index_mut.result.now c.push.new.self (is_ok c.push.result) within c.index_mut.ensures.value c.push.ensures.items fit c.self.invariant.2,
+      added_fits inside.config inside.calls.items c.args.seat c.args.call c.index_mut.result.now c.push.new.self (is_ok c.push.result) within c.index_mut.ensures.value c.push.ensures.items fit c.requires.workers c.self.invariant.2,
     )
 
 pub returns-clause-added : goal.returns-clause-added

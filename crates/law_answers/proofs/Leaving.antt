@@ -1,0 +1,3 @@
+pub mod Records
+pub mod Told
+pub mod Words
