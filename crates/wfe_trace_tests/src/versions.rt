@@ -47,11 +47,11 @@ fn in_body(rt: &impl Abort, mode: Mode, first: &str) -> TraceState {
 }
 
 #[test]
-fn the_first_line_names_one_of_three_versions(rt: HostRuntime) {
+fn the_first_line_names_one_of_four_versions(rt: HostRuntime) {
     let others = [
-        "wfe 0", "wfe 4", "wfe 12", "wfe 02", "wfe  2", "wfe 2 ", "WFE 2", "wfe", "2",
+        "wfe 0", "wfe 5", "wfe 12", "wfe 02", "wfe  2", "wfe 2 ", "WFE 2", "wfe", "2",
     ];
-    for first in ["wfe 1", "wfe 2", "wfe 3"] {
+    for first in ["wfe 1", "wfe 2", "wfe 3", "wfe 4"] {
         let mut state = TraceState::new(Mode::Replay);
         for text in others {
             expect(&rt, &mut state, text, Some(Reason::First));
@@ -63,7 +63,12 @@ fn the_first_line_names_one_of_three_versions(rt: HostRuntime) {
 
 #[test]
 fn the_setting_has_the_pairs_of_its_version(rt: HostRuntime) {
-    for (first, version, pairs) in [("wfe 1", 1, 6), ("wfe 2", 2, 6), ("wfe 3", 3, 14)] {
+    for (first, version, pairs) in [
+        ("wfe 1", 1, 6),
+        ("wfe 2", 2, 6),
+        ("wfe 3", 3, 14),
+        ("wfe 4", 4, 14),
+    ] {
         for mode in [Mode::Replay, Mode::Run] {
             let mut state = in_setting(&rt, mode, first);
             let config = Config { pairs, ..CONFIG };
