@@ -13,7 +13,8 @@ use Rattle.inv_all.specs.history.Turns.History.{Blank, Starts, Turns}
 use Rattle.inv_all.proofs.history.Entries.{entries_of_each}
 use Rattle.inv_all.specs.history.Heard.{heard_of}
 use Rattle.law_answers.proofs.Turns.Counted.{histories_count}
-use Rattle.laws.specs.StateAt.{has_left, is_open, opened_by}
+use Rattle.laws.specs.Lists.{has_left}
+use Rattle.laws.specs.StateAt.{is_open, opened_by}
 use Rattle.laws.specs.Standing.{open_ok}
 use Rattle.law_answers.proofs.Leaving.Records.{records_stay, stays_ok}
 use Rattle.law_answers.specs.Records.{RecordsOpenCalls}

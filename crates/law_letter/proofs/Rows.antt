@@ -6,7 +6,8 @@ use Rattle.laws.proofs.records.defs.Facts.{first_of, rest_of, number_is, same_nu
 use Rattle.laws.specs.HistoryRows as strong
 use Rattle.laws.specs.HistoryRows.{HistoryRows, once_ok, is_in_hand}
 use Rattle.laws.specs.Once.{Once, Grant, no_grant, granted_by, linked_to, may_link, is_placed, places_right, placing_ok, free_ok, backs_ok, nexts_ok}
-use Rattle.laws.specs.StateAt.{Given, given_by, taken_at, has_slot, list_of, was_given, next_at}
+use Rattle.laws.specs.Lists.{has_slot, list_of}
+use Rattle.laws.specs.StateAt.{Given, given_by, taken_at, was_given, next_at}
 use Rattle.laws.specs.StateAt.Given.{Without, InHand, Placed}
 use Rattle.laws.specs.defs.declared.event.Event.{Event}
 use Rattle.laws.specs.defs.declared.event.Event.TheVariants as events

@@ -11,7 +11,8 @@ use Rattle.laws.specs.HistoryScans.{Course, Tally, first_course, moved_course, r
 use Rattle.laws.specs.HistoryScans.Course.{Plain, Advancing, MayScan, MustScan, Reading}
 use Rattle.laws.specs.Standing.{open_ok}
 use Rattle.laws.specs.ScanLaw.{Blocks, begun_block, blocks_by, blocks_of, guards, is_given_one, is_scan_call, may_begin, is_scanned, blocks_ok, seeks_room, room_ok, due_block}
-use Rattle.laws.specs.StateAt.{began_by, began_of, has_left, is_open, opened_by, retires_by, retires_of, was_taken}
+use Rattle.laws.specs.Lists.{has_left}
+use Rattle.laws.specs.StateAt.{began_by, began_of, is_open, opened_by, retires_by, retires_of, was_taken}
 use Rattle.laws.specs.defs.declared.call.Call.{Call}
 use Rattle.laws.specs.defs.declared.call.Call.TheVariants as calls
 use Rattle.laws.specs.defs.declared.event.Event.{Event}

@@ -9,7 +9,7 @@ use Rattle.law_reuse.specs.inv.history.Record.Past.{Start, Then}
 use Rattle.law_reuse.specs.inv.model.defs.declared.event.Event.{Event}
 use Rattle.law_reuse.specs.inv.model.defs.declared.event.Event.TheVariants as events
 use Rattle.law_reuse.specs.inv.model.defs.declared.lifetime.Lifetime.{Lifetime}
-use Rattle.law_reuse.specs.laws.StateAt.{gained_by, handed_by, list_of, without}
+use Rattle.law_reuse.specs.laws.Lists.{gained_by, handed_by, list_of, without}
 use Rattle.law_lists.specs.Counted.{waiting_of}
 use Rattle.wfe_watch.specs.Counts.{capped}
 use Rattle.wfe_watch.specs.Lists.{handed_over, lists_after, no_lists, waiting_at}

@@ -38,7 +38,7 @@ use Rattle.law_reuse.specs.inv.rows.Rows.{RowMove, View}
 use Rattle.law_reuse.specs.inv.rows.Rows.RowMove.{Adopts, Appends, Bears, Claims, Drops, Links, Lists, Pops, Reads, Replaces, Returns, Seals, Stays}
 use Rattle.law_reuse.proofs.inv.rows.Fits.{MoveFits}
 use Rattle.law_reuse.proofs.laws.Along.{OfKind, Single, along, along_kind, list_quiet, list_tells, single_each}
-use Rattle.law_reuse.specs.laws.StateAt.{gained_by, handed_by, hands_none, has_slot, is_handed, list_by, list_of, without}
+use Rattle.law_reuse.specs.laws.Lists.{gained_by, handed_by, hands_none, has_slot, is_handed, list_by, list_of, without}
 use Rattle.law_reuse.specs.Rows.{Shows}
 use Rattle.law_reuse.proofs.Once.Desks.{takes_list}
 use Rattle.law_reuse.proofs.Once.Keeps as keeping

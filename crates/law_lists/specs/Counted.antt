@@ -5,7 +5,7 @@ use Rattle.law_reuse.specs.inv.model.words.declared.layout.Layout.{Layout}
 use Rattle.law_reuse.specs.inv.history.History.{Item, record_of}
 use Rattle.law_reuse.specs.inv.history.Record.{Past}
 use Rattle.law_reuse.specs.inv.history.Record.Past.{Start, Then}
-use Rattle.law_reuse.specs.laws.StateAt.{list_of}
+use Rattle.law_reuse.specs.laws.Lists.{list_of}
 use Rattle.wfe_watch.specs.Lists.{lists_after, no_lists, waiting_at}
 
 -- the counts of so many seats

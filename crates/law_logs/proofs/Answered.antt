@@ -8,7 +8,8 @@ use Rattle.law_steps.specs.inv.model.defs.declared.call.Call.TheVariants as call
 use Rattle.law_steps.specs.inv.model.defs.declared.fold.Change.{Change}
 use Rattle.law_steps.specs.inv.model.defs.declared.fold.Change.TheVariants as changes
 use Rattle.law_steps.specs.inv.model.words.declared.config.Config.{Config}
-use Rattle.law_steps.specs.laws.StateAt.{adopts, bucket_of, count_of, has_left, is_adopted, is_left, pairs_at, queued_of, value_at}
+use Rattle.law_steps.specs.laws.Lists.{adopts, has_left, is_adopted, is_left}
+use Rattle.law_steps.specs.laws.StateAt.{bucket_of, count_of, pairs_at, queued_of, value_at}
 use Rattle.std.specs.Prelude.{◌==◌, ◌&&◌, ◌||◌, is_some}
 use Rattle.law_steps.specs.inv.model.defs.Entry.{Entry}
 use Rattle.law_steps.specs.inv.history.Record.{Past, tells}

@@ -7,7 +7,8 @@ use Rattle.law_steps.specs.inv.model.defs.declared.call.Call.{Call}
 use Rattle.law_steps.specs.inv.model.defs.declared.event.Event.{Event}
 use Rattle.law_steps.specs.inv.model.defs.declared.event.Event.TheVariants as events
 use Rattle.law_steps.specs.laws.Standing.{open_ok}
-use Rattle.law_steps.specs.laws.StateAt.{began_of, has_left, is_open}
+use Rattle.law_steps.specs.laws.Lists.{has_left}
+use Rattle.law_steps.specs.laws.StateAt.{began_of, is_open}
 use Rattle.law_steps.specs.inv.history.Record.{Past, Each}
 use Rattle.law_steps.specs.inv.history.Record.Past.{Start, Then}
 use Rattle.law_steps.proofs.held.places.answers.AnswersTold.Answering.{own_began}

@@ -13,7 +13,8 @@ use Rattle.law_steps.specs.laws.AnswerLaw.{adopted_else, same_event, stayed}
 use Rattle.law_steps.specs.laws.HistoryAnswers.{is_bare_below, same_told}
 use Rattle.law_steps.specs.laws.Once.{is_adopt, lists_ok}
 use Rattle.law_steps.specs.laws.Standing.{is_leave, open_ok}
-use Rattle.law_steps.specs.laws.StateAt.{adopts, began_by, began_of, has_left, is_adopted, is_left, is_open, list_of, opened_by, stood_at, told_of, with_told}
+use Rattle.law_steps.specs.laws.Lists.{adopts, has_left, is_adopted, is_left, list_of}
+use Rattle.law_steps.specs.laws.StateAt.{began_by, began_of, is_open, opened_by, stood_at, told_of, with_told}
 use Rattle.law_steps.specs.inv.history.Record.{Each, Past, begins, held_since, tells}
 use Rattle.law_steps.specs.inv.history.Record.Past.{Start, Then}
 use Rattle.law_logs.specs.Answered.{IsGone, IsHanded, IsStaying, IsTakenOver}

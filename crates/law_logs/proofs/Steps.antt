@@ -18,7 +18,8 @@ use Rattle.law_steps.specs.laws.HistoryHolds.{clears_ok, lone_ok}
 use Rattle.law_steps.specs.laws.HistoryScans.{count_ok}
 use Rattle.law_steps.specs.laws.HistorySteps as strong
 use Rattle.law_steps.specs.laws.Standing.{open_ok}
-use Rattle.law_steps.specs.laws.StateAt.{backs_by, backs_of, began_of, is_back, list_of, seen, times}
+use Rattle.law_steps.specs.laws.Lists.{list_of}
+use Rattle.law_steps.specs.laws.StateAt.{backs_by, backs_of, began_of, is_back, seen, times}
 use Rattle.law_steps.specs.laws.StepLaw.{began_steps, end_ok, steps_right}
 use Rattle.law_letter.proofs.Answers.{reasons_kept}
 use Rattle.law_letter.proofs.Each.{counted_by, times_seen}

@@ -14,7 +14,8 @@ use Rattle.law_steps.specs.inv.model.words.declared.config.Config.{Config}
 use Rattle.law_steps.specs.inv.model.defs.declared.event.Event.TheVariants as events
 use Rattle.law_steps.specs.laws.AnswerLaw.{adopted_else, stayed}
 use Rattle.law_steps.specs.laws.ScanLaw.{guards}
-use Rattle.law_steps.specs.laws.StateAt.{bucket_of, count_of, has_left, has_told, is_adopted, is_give, is_read, is_there, list_of, pairs_at, queued_of, row_at, shows_of, stood_at, taken_of, taken_since, times, value_at}
+use Rattle.law_steps.specs.laws.Lists.{has_left, is_adopted, list_of}
+use Rattle.law_steps.specs.laws.StateAt.{bucket_of, count_of, has_told, is_give, is_read, is_there, pairs_at, queued_of, row_at, shows_of, stood_at, taken_of, taken_since, times, value_at}
 use Rattle.law_steps.specs.laws.StateAt.RowShows.{ShowsVersion}
 use Rattle.law_steps.specs.inv.history.Record.{Past, begins, held_since, tells}
 use Rattle.law_steps.specs.inv.history.Record.Past.{Then}

@@ -5,7 +5,8 @@ use Rattle.law_answers.specs.inv.rows.Rows.{Status, View, is_taken}
 use Rattle.law_answers.specs.inv.history.Record.{Past}
 use Rattle.law_answers.specs.Records.{PlacesSay}
 use Rattle.law_answers.specs.inv.model.World.{World, list_in}
-use Rattle.law_answers.specs.laws.StateAt.{cut_at, list_of, retired_at, taken_at}
+use Rattle.law_answers.specs.laws.Lists.{list_of}
+use Rattle.law_answers.specs.laws.StateAt.{cut_at, retired_at, taken_at}
 use Rattle.law_answers.specs.inv.rows.Agree.{Agree}
 use Rattle.law_answers.specs.inv.history.History.{Item, record_of, world_of}
 use Rattle.law_answers.specs.inv.model.words.declared.layout.Layout.{Layout}

@@ -12,7 +12,8 @@ use Rattle.model_record.specs.defs.declared.event.Event.TheVariants as events
 use Rattle.model_record.specs.defs.declared.event.Guard.{Guard}
 use Rattle.model_record.specs.defs.declared.event.Guard.TheVariants.{Helper, Index, Whole}
 use Rattle.model_record.specs.defs.declared.lifetime.Lifetime.{Lifetime}
-use Rattle.laws.specs.StateAt.{is_row, taken_by, taken_at, retired_by, retired_at, gained_by, handed_by, hands_none, is_handed, list_by, list_of, cut_by, cut_at, same_guard, is_index_word}
+use Rattle.laws.specs.Lists.{gained_by, handed_by, hands_none, is_handed, list_by, list_of}
+use Rattle.laws.specs.StateAt.{is_row, taken_by, taken_at, retired_by, retired_at, cut_by, cut_at, same_guard, is_index_word}
 
 pub row_of : (s : ℕ) (x : Option ℕ) → is_row s x ≡ true → x ≡ Some s
 row_of s None h = absurd (cc)

@@ -13,7 +13,8 @@ use Rattle.model_record.specs.defs.declared.event.Event.{Event}
 use Rattle.model_record.specs.defs.declared.event.Event.TheVariants as events
 use Rattle.wfe_words.specs.declared.config.Config.{Config}
 use Rattle.laws.specs.ScanLaw.{guards, blocks_of}
-use Rattle.laws.specs.StateAt.{retires_of, changed_of, seen, same_value, began_of, count_of, is_there, pairs_at, was_current, queued_of, adopts, has_left, has_told, is_adopted, begun_at, is_bare, stands, bucket_of, taken_since, clock_of, taken_of, tails_of, finds_of, times, is_read, is_back, is_give, list_of, is_among, RowShows, ShowsVersion, shows_of, value_at}
+use Rattle.laws.specs.Lists.{adopts, has_left, is_adopted, list_of}
+use Rattle.laws.specs.StateAt.{retires_of, changed_of, seen, same_value, began_of, count_of, is_there, pairs_at, was_current, queued_of, has_told, begun_at, is_bare, stands, bucket_of, taken_since, clock_of, taken_of, tails_of, finds_of, times, is_read, is_back, is_give, is_among, RowShows, ShowsVersion, shows_of, value_at}
 
 -- the answers that a call may have
 abbrev pub suits : Call → Answer → Bool

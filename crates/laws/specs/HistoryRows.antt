@@ -9,7 +9,8 @@ use Rattle.model_record.specs.defs.declared.call.Call.TheVariants as calls
 use Rattle.laws.specs.Once.Due.{NoneDue}
 use Rattle.laws.specs.Once.{due_at, is_slot, lists_ok, order_ok, retiring_ok}
 use Rattle.laws.specs.StateAt.Given.{InHand, Placed, Without}
-use Rattle.laws.specs.StateAt.{Given, began_of, retires_of, cut_at, given_of, has_slot, head_at, list_of, next_at, retired_at, tail_at, taken_at, was_given}
+use Rattle.laws.specs.Lists.{has_slot, list_of}
+use Rattle.laws.specs.StateAt.{Given, began_of, retires_of, cut_at, given_of, head_at, next_at, retired_at, tail_at, taken_at, was_given}
 
 -- A row is given only where it is free, and told Unused or Back only where it is taken. A seat tells Back only of a row of its own
 -- list, and retires only a row that it has cut and not retired since.

@@ -10,7 +10,8 @@ use Rattle.model_record.specs.defs.declared.event.Event.TheVariants as events
 use Rattle.model_record.specs.defs.declared.event.Event.{Event}
 use Rattle.wfe_words.specs.declared.config.Config.{Config}
 use Rattle.laws.specs.ScanLaw.{guards, is_scan_call, read_ok, scan_ok}
-use Rattle.laws.specs.StateAt.{call_of, is_back, is_read, is_retire, list_of, seen, takes_out, times, told, was_taken}
+use Rattle.laws.specs.Lists.{list_of}
+use Rattle.laws.specs.StateAt.{call_of, is_back, is_read, is_retire, seen, takes_out, times, told, was_taken}
 
 abbrev pub BlockLaw : Config → Past → Type 0
 BlockLaw config r = EachEntry (scan_ok config) r

@@ -14,6 +14,7 @@ pub mod HistoryTable
 pub mod HistoryTurns
 pub mod HoldLaw
 pub mod Laws
+pub mod Lists
 pub mod MapLaw
 pub mod NoReuse
 pub mod Once

@@ -8,7 +8,8 @@ use Rattle.model_record.specs.defs.declared.event.Event.{Event}
 use Rattle.model_record.specs.defs.declared.event.Event.TheVariants as events
 use Rattle.model_record.specs.defs.declared.event.Root.TheVariants as roots
 use Rattle.laws.specs.Standing.{is_leave}
-use Rattle.laws.specs.StateAt.{began_of, has_left, has_slot, is_adopted, list_of, taken_at, bucket_at, head_at, next_at, tail_at, is_among, is_empty, is_row, cuts_of, seen}
+use Rattle.laws.specs.Lists.{has_left, has_slot, is_adopted, list_of}
+use Rattle.laws.specs.StateAt.{began_of, taken_at, bucket_at, head_at, next_at, tail_at, is_among, is_empty, is_row, cuts_of, seen}
 
 -- A row is given only where it is free, and told Unused or Back only where it is taken.
 abbrev pub free_ok : (slots : ℕ) → Test

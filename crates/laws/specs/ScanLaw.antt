@@ -12,7 +12,8 @@ use Rattle.model_record.specs.defs.declared.lifetime.Lifetime.{Lifetime}
 use Rattle.wfe_words.specs.declared.config.Config.{Config}
 use Rattle.wfe_words.specs.declared.config.SchemeKind.{SchemeKind}
 use Rattle.wfe_words.specs.declared.config.SchemeKind.TheVariants.{He, Ibr, Wfe}
-use Rattle.laws.specs.StateAt.{same_guard, list_of, read_of, scans_of, value_of, same_span, seen, began_of, was_taken}
+use Rattle.laws.specs.Lists.{list_of}
+use Rattle.laws.specs.StateAt.{same_guard, read_of, scans_of, value_of, same_span, seen, began_of, was_taken}
 
 -- the index word of this number, by seat and then index
 abbrev pub index_at : Config → ℕ → Guard

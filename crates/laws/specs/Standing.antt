@@ -4,7 +4,8 @@ use Rattle.model_record.specs.Record.{Test, EachEntry, Past}
 use Rattle.model_record.specs.defs.declared.call.Call.{Call}
 use Rattle.model_record.specs.defs.declared.call.Call.TheVariants as calls
 use Rattle.model_record.specs.defs.declared.event.Event.TheVariants as events
-use Rattle.laws.specs.StateAt.{stands, began_of, has_left, is_bare, is_dequeue, is_open}
+use Rattle.laws.specs.Lists.{has_left}
+use Rattle.laws.specs.StateAt.{stands, began_of, is_bare, is_dequeue, is_open}
 
 -- a call begins where its seat is in none and has not left, and all else is told in a call: so a seat that left tells nothing after the
 -- end of that call

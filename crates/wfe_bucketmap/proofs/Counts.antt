@@ -10,9 +10,9 @@ use Rattle.wfe_core.specs.Desks.{Desk, noting}
 use Rattle.wfe_core.specs.Memory.{bump}
 use Rattle.wfe_core.specs.Posts.{counted}
 use Rattle.wfe_core.specs.Steps.{phase_turn}
-use Rattle.wfe_call_rounds.specs.Steps.{Steps}
-use Rattle.wfe_call_rounds.specs.iface.Schemes.{RoundPhases}
-use Rattle.wfe_call_rounds.proofs.Taken.{round_counted, took_from}
+use Rattle.wfe_bucketmap_read.specs.call_rounds.Steps.{Steps}
+use Rattle.wfe_bucketmap_read.specs.call_rounds.iface.Schemes.{RoundPhases}
+use Rattle.wfe_bucketmap_read.proofs.call_rounds.Taken.{round_counted, took_from}
 use Rattle.wfe_bucketmap.specs.declared.change_state.State.{State as ChangeState}
 use Rattle.wfe_bucketmap.specs.declared.change_state.State.TheVariants as fills
 use Rattle.wfe_bucketmap.specs.ChangeStates.{change_phase}

@@ -10,10 +10,10 @@ use Rattle.wfe_core.specs.Phases.{Base, Ending, Outcome, Ends}
 use Rattle.wfe_core.specs.Desks.{Desk}
 use Rattle.wfe_core.specs.Rounds.{scheme_of, index_of, clearing, closed}
 use Rattle.wfe_core.specs.Steps.{phase_turn, resume, resumed}
-use Rattle.wfe_call_rounds.specs.Rounds.{CloseAt, close_from, close_step, close_phase, is_again, then_close}
-use Rattle.wfe_call_rounds.specs.Steps.{Steps}
-use Rattle.wfe_call_rounds.proofs.Model.{clearing_at}
-use Rattle.wfe_call_rounds.proofs.Taken.{closes_step, closed_step, then_over}
+use Rattle.wfe_bucketmap_read.specs.call_rounds.Rounds.{CloseAt, close_from, close_step, close_phase, is_again, then_close}
+use Rattle.wfe_bucketmap_read.specs.call_rounds.Steps.{Steps}
+use Rattle.wfe_bucketmap_read.proofs.call_rounds.Model.{clearing_at}
+use Rattle.wfe_bucketmap_read.proofs.call_rounds.Taken.{closes_step, closed_step, then_over}
 
 clearing_with : (task : Task) (next : Next) (kind : SchemeKind) (again : Bool) (post : Post) (desk : Desk) (told : List Event) → scheme_of post ≡ kind → again ≡ is_again next → clearing task next post desk told ≡ then_close task next desk (close_from kind (index_of task) again post told)
 clearing_with task next kind again post desk told s e =

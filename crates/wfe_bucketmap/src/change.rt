@@ -13,13 +13,13 @@ ghost use Rattle.wfe_core.specs.Steps.{changing, filled_by, opened, phase_turn, 
 ghost use Rattle.wfe_core.specs.Valid.{IsValid};
 ghost use Rattle.wfe_core.specs.WriteRow.{writing};
 ghost use Rattle.wfe_core.specs.declared.post.Post.{Post as ModelPost};
-ghost use Rattle.wfe_call_rounds.specs.Steps.{SameSeat, Steps};
+ghost use Rattle.wfe_bucketmap_read.specs.call_rounds.Steps.{SameSeat, Steps};
 ghost use Rattle.wfe_bucketmap.specs.Changes.{kept_of, led, next_of};
 ghost use Rattle.wfe_bucketmap.specs.ChangeStates.{change_phase};
 
 use super::change_at::{ChangeAt, ChangeEnd, Changed, Kept};
 use super::change_state::State;
-use wfe_call_rounds::{Rounds, Scheme, close, open, take_close, take_open};
+use wfe_bucketmap_read::{Rounds, Scheme, close, open, take_close, take_open};
 use wfe_call_tidy::{Reclaim, Tidy};
 use wfe_core::{
     AllocateEnd, Answer, CallMachine, Change, Desk, Machine, Op, Post, ProtectEnd, Root, Told,

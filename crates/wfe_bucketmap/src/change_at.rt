@@ -8,7 +8,7 @@ ghost use Rattle.wfe_core.specs.Desks.{Desk};
 ghost use Rattle.wfe_core.specs.Memory.{numbered};
 ghost use Rattle.wfe_core.specs.Rounds.{key_of};
 ghost use Rattle.wfe_core.specs.Valid.{IsValid};
-ghost use Rattle.wfe_call_rounds.specs.Rounds.{is_again};
+ghost use Rattle.wfe_bucketmap_read.specs.call_rounds.Rounds.{is_again};
 ghost use Rattle.wfe_bucketmap.specs.Changes.{at_of, kept_of, led, next_of};
 
 use wfe_core::{Answer, Change, ClockMove, Event, Op, Post, Root, Told};

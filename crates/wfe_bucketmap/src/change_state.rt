@@ -1,6 +1,6 @@
 // Where a change stands.
 use super::change_at::{ChangeAt, ChangeEnd};
-use wfe_call_rounds::{Closing, Opening};
+use wfe_bucketmap_read::{Closing, Opening};
 use wfe_call_tidy::{Reclaim, Tidy};
 use wfe_core::{Answer, Machine, ProtectEnd};
 use wfe_slots::{Allocate, GiveUp, WriteRow};

@@ -5,7 +5,7 @@ ghost use Rattle.wfe_core.specs.Steps.{first_phase};
 ghost use Rattle.wfe_core.specs.declared.post.Post.{Post as ModelPost};
 
 use super::change::ChangeBucket;
-use wfe_call_rounds::Scheme;
+use wfe_bucketmap_read::Scheme;
 use wfe_core::{Answer, CallMachine, Change, Desk, Op, Post, Told};
 
 /// Removes a key and its value.

@@ -1,3 +1,4 @@
+pub use Rattle.wfe_call_rounds.proofs as call_rounds
 pub mod Copying
 pub mod Counting
 pub mod Holding

@@ -22,4 +22,6 @@ pub use get::Get;
 pub use hold::Hold;
 pub use look::Look;
 pub use release::Release;
-pub use wfe_call_rounds::{He, Ibr, Scheme, Wfe};
+pub use wfe_call_rounds::{
+    Closing, He, Ibr, Opening, Rounds, Scheme, Wfe, close, open, take_close, take_open,
+};

@@ -1,6 +1,6 @@
 // One of the calls, by name, and how it begins.
 ghost use Rattle.std.specs.Prelude.{◌≡◌, true};
-ghost use Rattle.wfe_call_any.specs.Stays.{stays};
+ghost use Rattle.wfe_core.specs.Locals.{stays};
 ghost use Rattle.wfe_core.specs.Steps.{first_phase};
 ghost use Rattle.wfe_core.specs.declared.post.Post.{Post};
 

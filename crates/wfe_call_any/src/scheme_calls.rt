@@ -1,6 +1,6 @@
 // The calls of each scheme: a type with one parameter, so that types that hold all three stay short.
 ghost use Rattle.std.specs.Prelude.{◌≡◌, true};
-ghost use Rattle.wfe_call_any.specs.Stays.{stays};
+ghost use Rattle.wfe_core.specs.Locals.{stays};
 ghost use Rattle.wfe_core.specs.Steps.{first_phase};
 ghost use Rattle.wfe_core.specs.declared.post.Post.{Post};
 

@@ -24,7 +24,7 @@ use Rattle.law_lists.specs.watch.Lists.{lists_after, no_lists, waiting_at, waiti
 use Rattle.law_lists.proofs.Fitting.{records_count_lists}
 use Rattle.law_lists.proofs.watch.ListsLemmas.{lists_told-append}
 use Rattle.wfe_cli.specs.Headline.{AreLawful, GivenLawful, HasLaws, IsBroken, Keeps, Promises, Summarizes, entries_in}
-use Rattle.wfe_call_any.specs.Stays.{stays}
+use Rattle.wfe_core.specs.Locals.{stays}
 use Rattle.wfe_defs.specs.declared.call.Call.{Call}
 
 -- what is counted entry by entry

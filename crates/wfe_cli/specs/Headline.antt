@@ -13,7 +13,7 @@ use Rattle.wfe_server.specs.server_replay.Given.{Given, IsTaken, given_out, give
 use Rattle.wfe_server.specs.server_replay.Replay.{IsCutOff, IsRefused, IsReplayed, IsStopped, all_lines, closed_lines}
 use Rattle.wfe_server.specs.server_replay.Sunk.{Outside}
 use Rattle.wfe_server_run.specs.all.Whole.{IsLawful}
-use Rattle.law_lists.specs.laws.StateAt.{list_of}
+use Rattle.law_lists.specs.laws.Lists.{list_of}
 use Rattle.law_lists.specs.watch.Lists.{waiting_at}
 use Rattle.wfe_defs.specs.declared.call.Call.{Call}
 

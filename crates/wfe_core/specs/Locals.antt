@@ -106,6 +106,12 @@ may_begin config (names.Look index key) = nat_le 2 index && nat_lt index config.
 may_begin config (names.Adopt place) = nat_lt place config.seats
 may_begin config call = true
 
+-- the seat neither leaves by the call nor takes over what another has left
+abbrev pub stays : Call → Bool
+stays names.Leave = false
+stays (names.Adopt place) = false
+stays call = true
+
 -- steps are counted from a call's start
 abbrev pub begun_post : Post → Post
 begun_post post = record post { steps = 0 }

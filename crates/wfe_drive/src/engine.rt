@@ -1,9 +1,8 @@
 // What a trace is replayed on.
 ghost use Rattle.std.specs.Prelude.{◌≡◌, ◌<◌, [], IfOk, false, true};
 ghost use Rattle.wfe_core.specs.words.Place.{is_valid};
-ghost use Rattle.wfe_call_any.specs.Stays.{stays};
 ghost use Rattle.wfe_drive_cells.specs.Unit.{IsUnit, after_start, is_gone, seat_at};
-ghost use Rattle.wfe_core.specs.Locals.{busy_in, may_begin};
+ghost use Rattle.wfe_core.specs.Locals.{busy_in, may_begin, stays};
 ghost use Rattle.wfe_drive_reached.specs.Reached.{first_table, units_left};
 
 use crate::Rig;
@@ -65,7 +64,7 @@ pub trait Engine: Sized + Drop {
 }
 
 impl<C: MakeCells> Engine for Rig<C> {
-    ghost use Rattle.wfe_call_any.specs.Stays.{stays};
+    ghost use Rattle.wfe_core.specs.Locals.{stays};
     ghost use Rattle.wfe_drive_reached.specs.Bare.{bare};
 
     ghost table = { λ rig. bare rig };

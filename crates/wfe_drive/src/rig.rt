@@ -1,11 +1,10 @@
 // A table of words with its seats, of which one after another makes its units.
 ghost use Rattle.std.specs.Prelude.{◌≡◌, ◌<◌, ◌==◌, [], IfOk, length, true, false};
 ghost use Rattle.wfe_core.specs.words.Place.{is_valid};
-ghost use Rattle.wfe_call_any.specs.Stays.{stays};
 ghost use Rattle.wfe_drive_cells.specs.Memory.{HoldsStart};
 ghost use Rattle.wfe_drive_cells.specs.Operations.{answered, word_in};
 ghost use Rattle.wfe_drive_cells.specs.Unit.{IsUnit, after_start, may_adopt, seat_at};
-ghost use Rattle.wfe_core.specs.Locals.{busy_in, may_begin};
+ghost use Rattle.wfe_core.specs.Locals.{busy_in, may_begin, stays};
 ghost use Rattle.wfe_core.specs.Steps.{first_phase};
 ghost use Rattle.wfe_core.specs.declared.post.Post.{Post};
 ghost use Rattle.wfe_drive_reached.specs.Bare.{bare, is_place};

@@ -1,7 +1,6 @@
 // A rig in the hands of a test, with the record of what its units told.
 ghost use Rattle.std.specs.Prelude.{◌≡◌, true};
-ghost use Rattle.wfe_core.specs.Locals.{may_begin};
-ghost use Rattle.wfe_call_any.specs.Stays.{stays};
+ghost use Rattle.wfe_core.specs.Locals.{may_begin, stays};
 
 use std::alloc::Global;
 use std::test::Fail;

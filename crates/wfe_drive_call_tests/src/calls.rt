@@ -3,8 +3,7 @@
 ghost use Rattle.std.specs.Prelude.{◌≡◌, ◌<◌, IfOk, true};
 ghost use Rattle.wfe_core.specs.Calls.{Idle};
 ghost use Rattle.wfe_core.specs.DeskHeld.{HasRoom};
-ghost use Rattle.wfe_core.specs.Locals.{may_begin};
-ghost use Rattle.wfe_drive_call.specs.call_any.Stays.{stays};
+ghost use Rattle.wfe_core.specs.Locals.{may_begin, stays};
 ghost use Rattle.wfe_drive_call.specs.drive_words.Called.{Here, at_phase};
 ghost use Rattle.wfe_drive_call.specs.drive_words.Comes.{departs};
 ghost use Rattle.wfe_drive_call_tests.specs.Plain.{IsAt};

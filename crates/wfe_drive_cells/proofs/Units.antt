@@ -281,7 +281,7 @@ scan_kept : (at : ScanAt) (post : Post) (desk : Desk) → scan_ready at post des
 scan_kept (ReadGuard number) post desk h = h
 scan_kept (GiveBack place slot) post desk h = let b : BackFits post desk place slot = h.1 in (h.0, record { entry = b.entry; back = b.back })
 
-ready_kept : (phase : Phase) (post : Post) (desk : Desk) → IsCallReady phase post desk → IsCallReady phase post (kept_desk desk)
+pub ready_kept : (phase : Phase) (post : Post) (desk : Desk) → IsCallReady phase post desk → IsCallReady phase post (kept_desk desk)
 ready_kept Idle post desk h = h
 ready_kept (Runs why base) post desk h = (h.0, why_kept why base post desk h.1)
 ready_kept (Scans later at) post desk h = (h.0, scan_kept at post desk h.1)

@@ -39,9 +39,8 @@ use Rattle.wfe_core.specs.Phases.RetireAt.{LoadLife}
 use Rattle.wfe_core.specs.Rounds.{scheme_of}
 use Rattle.wfe_core.specs.Scan.{scan_move}
 use Rattle.wfe_core.specs.Steps.{phase_move}
-use Rattle.wfe_core.specs.Locals.{busy_in, move}
+use Rattle.wfe_core.specs.Locals.{busy_in, move, stays}
 use Rattle.wfe_core.specs.World.{World}
-use Rattle.wfe_call_any.specs.Stays.{stays}
 use Rattle.law_answers.proofs.AnswersTold.Owed.{Serves}
 use Rattle.wfe_drive_reached.specs.Bare.{is_of_seat}
 use Rattle.wfe_drive_reached.specs.Reached.{StaysIn}

@@ -16,7 +16,7 @@ use Rattle.wfe_core.specs.CallReady.{IsCallPlausible, IsCallReady, NotesFit}
 use Rattle.wfe_core.specs.Valid.{IsValid}
 use Rattle.wfe_core.specs.Calls.{Answers, CallOutcome, CallTurn, GoesOn, Phase}
 use Rattle.wfe_core.specs.Desks.{Desk, no_notes}
-use Rattle.wfe_core.specs.Locals.{Local, asks, begun_post, busy_in, may_begin, move, told_by, turn}
+use Rattle.wfe_core.specs.Locals.{Local, asks, begun_post, busy_in, may_begin, move, stays, told_by, turn}
 use Rattle.wfe_core.specs.Memory.{Move, place_in}
 use Rattle.wfe_core.specs.MayStep.{MayStep}
 use Rattle.wfe_core.specs.Rest.{rest}
@@ -25,7 +25,6 @@ use Rattle.wfe_core.specs.World.{World, begin, finds, is_busy, is_here, may_star
 use Rattle.wfe_core.specs.declared.op.Op.{Op}
 use Rattle.wfe_core.specs.declared.post.Post.{Post}
 use Rattle.wfe_core.proofs.Facts.{both}
-use Rattle.wfe_call_any.specs.Stays.{stays}
 use Rattle.wfe_drive_cells.specs.Bridge.{AsksWithin}
 use Rattle.wfe_drive_cells.specs.Memory.{HoldsStart}
 use Rattle.wfe_drive_cells.specs.Operations.{answered, performed, word_in}

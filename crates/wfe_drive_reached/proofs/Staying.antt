@@ -8,7 +8,7 @@ use Rattle.wfe_core.specs.words.declared.layout.Layout.{Layout}
 use Rattle.wfe_core.specs.defs.declared.call.Call.{Call}
 use Rattle.wfe_core.specs.Calls.{Answers, CallOutcome, CallTurn, GoesOn, Idle, Keeping, MarkLeft, MarkTaken, Phase, Runs, Scans, TakeList, Works}
 use Rattle.wfe_core.specs.Desks.{Desk, noting}
-use Rattle.wfe_core.specs.Locals.{Local, begun, begun_post, busy_in, rounds_told, settled, settled_by, told_by, turn}
+use Rattle.wfe_core.specs.Locals.{Local, begun, begun_post, busy_in, rounds_told, settled, settled_by, stays, told_by, turn}
 use Rattle.wfe_core.specs.Memory.{bump}
 use Rattle.wfe_core.specs.Posts.{counted}
 use Rattle.wfe_core.specs.Rest.{rest}
@@ -16,7 +16,6 @@ use Rattle.wfe_core.specs.Rest as rests
 use Rattle.wfe_core.specs.Steps.{first_phase}
 use Rattle.wfe_core.specs.World.{World, begin, finds, is_busy, may_start, offered, start, step}
 use Rattle.wfe_core.specs.declared.post.Post.{Post}
-use Rattle.wfe_call_any.specs.Stays.{stays}
 use Rattle.wfe_drive_cells.specs.Unit.{may_adopt}
 use Rattle.law_answers.specs.inv.Ends.{CallsEnd}
 use Rattle.law_answers.specs.inv.Inv.{Inv}

@@ -7,12 +7,11 @@ use Rattle.wfe_core.specs.words.declared.layout.Layout.{Layout}
 use Rattle.wfe_core.specs.defs.declared.call.Call.{Call}
 use Rattle.wfe_core.specs.declared.post.Post.{Post}
 use Rattle.wfe_core.specs.Calls.{GoesOn, Phase}
-use Rattle.wfe_core.specs.Locals.{turn}
+use Rattle.wfe_core.specs.Locals.{stays, turn}
 use Rattle.wfe_core.specs.Rest.{rest}
 use Rattle.wfe_core.specs.Steps.{first_phase}
 use Rattle.wfe_core.specs.World.{World, finds, is_busy, offered}
 use Rattle.wfe_drive_cells.specs.Unit.{Shows, TableView, fresh_seat, seat_at}
-use Rattle.wfe_call_any.specs.Stays.{stays}
 use Rattle.law_answers.specs.inv.Inv.{Inv}
 
 -- each word as it starts, and each seat between calls

@@ -3,13 +3,12 @@
 #![tactic(auto)]
 
 ghost use Rattle.std.specs.Prelude.{◌<◌, ◌≡◌, List, Option, false, true, ℕ};
-ghost use Rattle.wfe_core.specs.Locals.{busy_in, may_begin};
+ghost use Rattle.wfe_core.specs.Locals.{busy_in, may_begin, stays};
 ghost use Rattle.wfe_core.specs.defs.declared.call.Answer.{Answer};
 ghost use Rattle.wfe_core.specs.defs.declared.call.Call.{Call};
 ghost use Rattle.wfe_core.specs.defs.declared.event.Event.{Event};
 ghost use Rattle.wfe_core.specs.words.Place.{is_valid};
 ghost use Rattle.wfe_core.specs.words.declared.layout.Layout.{Layout};
-ghost use Rattle.wfe_call_any.specs.Stays.{stays};
 ghost use Rattle.wfe_drive_cells.specs.Memory.{HoldsStart};
 ghost use Rattle.wfe_drive_cells.specs.Unit.{IsUnit, TableView, after_start, is_gone, seat_at};
 ghost use Rattle.wfe_drive_reached.specs.Bare.{bare};

@@ -9,6 +9,7 @@ use mathlib.Core.Option.{Option as Home}
 use lib.ListN.{get_elem?}
 use Rattle.wfe_core.specs.words.declared.layout.Layout.{Layout}
 use Rattle.wfe_core.specs.defs.declared.call.Call.{Call}
+use Rattle.wfe_drive_rule.specs.declared.kept.Kept.{Kept}
 use Rattle.wfe_core.specs.Locals.{Local, busy_in}
 use Rattle.wfe_core.specs.World.{is_busy}
 use Rattle.law_answers.specs.history.History.{world_of}
@@ -28,7 +29,7 @@ record HasAll (layout : Layout) (views : List View) (v : View) : Type 0 where
   had_is : (seat : ℕ) → had seat v ≡ sum_by (had seat) views
   once : (seat : ℕ) → had seat v ≡ (if nat_lt seat layout.config.seats then 1 else 0)
 
-has_all : (layout : Layout) (list : List ℕ) (homes : List (Home (Option Call))) (views : List View) (id : ℕ) (v : View) → Rules layout list homes views → get_elem? views id ≡ some v → layout.config.seats ≤ size v → HasAll layout views v
+has_all : (layout : Layout) (list : List ℕ) (homes : List (Home (Option Kept))) (views : List View) (id : ℕ) (v : View) → Rules layout list homes views → get_elem? views id ≡ some v → layout.config.seats ≤ size v → HasAll layout views v
 has_all layout list homes views id v r e most =
     let n = r.numbers in
     let out : sum_by size (set views id spent) + size v ≡ sum_by size views = sum_out size views id v refl e in

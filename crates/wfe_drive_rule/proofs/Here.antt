@@ -34,7 +34,7 @@ pub settled_call : (l : Local) (t : CallTurn) → (settled l t).call ≡ l.call
 settled_call l t = settled_by_call l t.post _ _ t.outcome
 
 -- the step that marks a seat as left is one of a leave
-leaving_call : (call : Call) (phase : Phase) → is_leaving phase ≡ true → Serves call phase → call ≡ names.Leave
+pub leaving_call : (call : Call) (phase : Phase) → is_leaving phase ≡ true → Serves call phase → call ≡ names.Leave
 leaving_call call (Works (Keeping MarkLeft)) h s = s
 leaving_call call phase h s = absurd (cc)
 

@@ -10,13 +10,14 @@ use Rattle.atomic_table.specs.Table.{Splits, opening}
 use Rattle.atomic_table.proofs.Lists.{at_set, at_snoc}
 use Rattle.wfe_core.specs.words.Place.{is_valid}
 use Rattle.wfe_core.specs.words.declared.layout.Layout.{Layout}
-use Rattle.wfe_core.specs.defs.declared.call.Call.{Call}
+use Rattle.law_answers.specs.history.History.{world_of}
+use Rattle.wfe_drive_rule.specs.declared.kept.Kept.{Kept}
 use Rattle.wfe_core.proofs.Ranges.{bounds_of}
 use Rattle.wfe_drive_cells.specs.Memory.{HoldsStart}
 use Rattle.wfe_drive_cells.proofs.Bridge.{memory-start}
 use Rattle.wfe_drive_rule.specs.Handles.{IsBare, IsTracked}
 use Rattle.wfe_drive_rule.specs.Moves.{newcomer, one_more}
-use Rattle.wfe_drive_rule.specs.Rule.{Follows, Holds, had, taken}
+use Rattle.wfe_drive_rule.specs.Rule.{Follows, Holds, IsHere, had, taken}
 use Rattle.wfe_drive_rule.specs.Views.{Handle, View, bare_view, first_view, fresh_track, own}
 use Rattle.wfe_drive_rule.proofs.Numbers.{counts_all, numbers_split}
 use Rattle.wfe_drive_rule.proofs.Sums.{sum_same}
@@ -56,11 +57,15 @@ splits layout id v t some_made room s r e =
       unmade = λ seat z. r.unmade seat (omega (arith, z, sum_by_push (had seat) us w, had_is seat));
       made = m + 1;
       numbers = numbers_split layout s.views id v m e is (omega (arith, some_made, is)) (omega (arith, room, is)) r.numbers;
+      here = λ j u g on. ⊎_elim
+          (λ q. ⊎_elim (λ p. subst (λ (z : View). All (IsHere (world_of layout r.items)) z.tracks) p.1 (r.here id v e (ap (λ (z : View). z.holds) p.1 ∙ on))) (λ p. r.here j u p.1 on) (at_set s.views id j (one_more v) u q))
+          (λ q. absurd (cc (ap (λ (z : View). z.holds) q ∙ on)))
+          (at_snoc us w u j g);
       home = λ seat low z. r.home seat low (omega (arith, z, sum_by_push (taken seat) us w, taken_is seat));
     }
 
 -- each slot is at home, and empty
-all_home : (n seat : ℕ) → seat < n → (let none : Option Call = None in get_elem? (map some (replicate n none)) seat ≡ some (some none))
+all_home : (n seat : ℕ) → seat < n → (let none : Option Kept = None in get_elem? (map some (replicate n none)) seat ≡ some (some none))
 all_home zero seat h = absurd (omega (arith, h))
 all_home (suc n) zero h = refl
 all_home (suc n) (suc seat) h = all_home n seat (omega (arith, h))
@@ -79,6 +84,14 @@ first_tracks layout zero view e =
     (All-cons (Follows layout []) (fresh_track layout 0) [] (record { more = []; begins = refl; stood = refl; stands = refl }) (All-nil (Follows layout [])))
 first_tracks layout (suc id) view e = absurd (cc)
 
+first_word_of : (b : Bool) → (let n : ℕ = if b then 0 else 0 in n ≡ 0)
+first_word_of true = refl
+first_word_of false = refl
+
+first_holds : (layout : Layout) (id : ℕ) (view : View) → get_elem? (first_view layout ∷ []) id ≡ some view → view.holds ≡ true → ⊥
+first_holds layout zero view e on = cc (ap (λ (z : View). z.holds) (some-injective (first_view layout) view e) ∙ on)
+first_holds layout (suc id) view e on = cc
+
 pub opens : (layout : Layout) (list : List ℕ) → is_valid layout ≡ true → HoldsStart layout list → Holds layout (opening list (replicate layout.config.seats None) (first_view layout))
 opens layout list valid h = record {
   valid = valid;
@@ -96,5 +109,10 @@ opens layout list valid h = record {
     says = first_says layout;
     sum = refl;
   };
-  home = λ seat low z. all_home layout.config.seats seat low;
+  here = λ id view e on. absurd (first_holds layout id view e on);
+  home = λ seat low z. record {
+    kept = None;
+    there = all_home layout.config.seats seat low;
+    holds = record { left = λ one. absurd (omega (arith, one, first_word_of (nat_lt seat layout.config.seats))); clear = λ ne. refl };
+  };
 }

@@ -9,7 +9,7 @@ use lib.ListN.{get_elem?}
 use Rattle.atomic_table.proofs.Lists.{at_set, at_snoc}
 use Rattle.wfe_core.specs.words.declared.layout.Layout.{Layout}
 use Rattle.wfe_drive_rule.specs.Moves.{newcomer, one_more, taken_in}
-use Rattle.wfe_drive_rule.specs.Rule.{Numbered, counted, had, size}
+use Rattle.wfe_drive_rule.specs.Rule.{Numbered, counted, had, marking, marks_at, size}
 use Rattle.wfe_drive_rule.specs.Views.{Track, View, seat_of, spent}
 use Rattle.wfe_drive_rule.proofs.Sums.{sum_out, sum_same, sum_set, sum_two}
 
@@ -90,6 +90,9 @@ both_say a b m h (inr e) (inr f) = inr (omega (arith, e, f, h))
 
 pub had-taken_in : (seat : ℕ) (v w : View) → had seat (taken_in v w) ≡ had seat v + had seat w
 had-taken_in seat v w = sum_by-append (λ (x : Track). cond (seat_of x == seat) 1 0) v.tracks w.tracks
+
+pub marking-taken_in : (place : ℕ) (v w : View) → marking place (taken_in v w) ≡ marking place v + marking place w
+marking-taken_in place v w = sum_by-append (λ (x : Track). cond (marks_at x.local.phase place) 1 0) v.tracks w.tracks
 
 pub numbers_joined : (layout : Layout) (views : List View) (id other : ℕ) (v w : View) (m : ℕ) → other ≢ id → get_elem? views id ≡ some v → get_elem? views other ≡ some w → get_elem? (set views id (taken_in v w)) other ≡ some w → Numbered layout views m
     → Numbered layout (set (set views id (taken_in v w)) other spent) m

@@ -16,26 +16,27 @@ use Rattle.wfe_drive_cells.specs.Bridge.{AsksWithin}
 use Rattle.wfe_drive_cells.specs.Operations.{answer_of, changed, word_in}
 use Rattle.wfe_drive_cells.proofs.Bridge.{word_in-numbered}
 use Rattle.law_answers.specs.history.History.{Item, world_of}
-use Rattle.wfe_drive_rule.specs.Handles.{IsSeated, IsTracked}
+use Rattle.wfe_drive_rule.specs.Handles.{IsHeld, IsSeated, IsTracked, MovesNone}
 use Rattle.wfe_drive_rule.specs.Moves.{Stepped, Told}
 use Rattle.wfe_drive_rule.specs.Rule.{Holds}
 use Rattle.wfe_drive_rule.specs.Views.{Handle, Track, call_in, entry, own, seat_of, standing}
-use Rattle.wfe_drive_rule.proofs.Allowed.{Entered, allowed, asks_within, entered_same, enters}
+use Rattle.wfe_drive_rule.proofs.Acting.{allowed}
+use Rattle.wfe_drive_rule.proofs.Allowed.{Entered, asks_within, entered_same, enters}
 use Rattle.law_answers.proofs.history.Snoc.{layout_is}
 
 -- the step that an operation asks for
-pub may : (layout : Layout) (slots id slot : ℕ) (handle : Handle) (op : Op) → IsSeated layout slot handle → busy_in (standing handle).phase ≡ true → op ≡ asks (standing handle)
+pub may : (layout : Layout) (slots id slot : ℕ) (handle : Handle) (op : Op) → IsSeated layout slot handle → busy_in (standing handle).phase ≡ true → MovesNone (standing handle) → op ≡ asks (standing handle)
     → Allows (Holds layout) slots id handle (word_in op) (changed op) (Stepped handle)
-may layout slots id slot handle op seated busy e = subst (λ (o : Op). Allows (Holds layout) slots id handle (word_in o) (changed o) (Stepped handle)) (sym e) (allowed layout slots id slot handle seated busy)
+may layout slots id slot handle op seated busy moves e = subst (λ (o : Op). Allows (Holds layout) slots id handle (word_in o) (changed o) (Stepped handle)) (sym e) (allowed layout slots id slot handle seated busy moves)
 
 either_if : (b : Bool) (x y : ℕ) → (if b then x else y) ≡ either b x y
 either_if true x y = refl
 either_if false x y = refl
 
-pub may_exchange : (layout : Layout) (slots id slot : ℕ) (handle : Handle) (word old new : ℕ) → IsSeated layout slot handle → busy_in (standing handle).phase ≡ true → Cas word old new ≡ asks (standing handle)
+pub may_exchange : (layout : Layout) (slots id slot : ℕ) (handle : Handle) (word old new : ℕ) → IsSeated layout slot handle → busy_in (standing handle).phase ≡ true → MovesNone (standing handle) → Cas word old new ≡ asks (standing handle)
     → Allows (Holds layout) slots id handle word (λ n. either (n == old) new n) (Stepped handle)
-may_exchange layout slots id slot handle word old new seated busy e =
-    subst (λ (f : ℕ → ℕ). Allows (Holds layout) slots id handle word f (Stepped handle)) (fun_ext (λ n. either_if (n == old) new n)) (may layout slots id slot handle (Cas word old new) seated busy e)
+may_exchange layout slots id slot handle word old new seated busy moves e =
+    subst (λ (f : ℕ → ℕ). Allows (Holds layout) slots id handle word f (Stepped handle)) (fun_ext (λ n. either_if (n == old) new n)) (may layout slots id slot handle (Cas word old new) seated busy moves e)
 
 -- a store tells nothing of the number that it found
 same_told : (handle later : Handle) (op : Op) (n m : ℕ) → op ≡ asks (standing handle) → answer_of op n ≡ answer_of op m → Stepped handle n later → Stepped handle m later
@@ -43,15 +44,15 @@ same_told handle later op n m e same s =
     let a : answer_of (asks (standing handle)) n ≡ answer_of (asks (standing handle)) m = subst (λ (o : Op). answer_of o n ≡ answer_of o m) e same in
     record { told = subst (λ (k : ℕ). Told (own handle.0).local.post.layout handle k later.0) a s.told; slots = s.slots }
 
-pub may_store : (layout : Layout) (slots id slot : ℕ) (handle : Handle) (word value : ℕ) → IsSeated layout slot handle → busy_in (standing handle).phase ≡ true → Store word value ≡ asks (standing handle)
+pub may_store : (layout : Layout) (slots id slot : ℕ) (handle : Handle) (word value : ℕ) → IsSeated layout slot handle → busy_in (standing handle).phase ≡ true → MovesNone (standing handle) → Store word value ≡ asks (standing handle)
     → Allows (Holds layout) slots id handle word (λ _. value) (λ _. Stepped handle value)
-may_store layout slots id slot handle word value seated busy e s r ls g bound =
-    let a = may layout slots id slot handle (Store word value) seated busy e s r ls g bound in
+may_store layout slots id slot handle word value seated busy moves e s r ls g bound =
+    let a = may layout slots id slot handle (Store word value) seated busy moves e s r ls g bound in
     (a.0, a.1, a.2, a.3, same_told handle (a.0, carried_after handle.1 a.1) (Store word value) (slice_index s.words word) value e refl a.4)
 
 -- the word is one of the table's, by the seat's own past
-pub inside : (layout : Layout) (slot : ℕ) (handle : Handle) (op : Op) → IsSeated layout slot handle → op ≡ asks (standing handle) → word_in op < words layout
-inside layout slot handle op seated e =
+pub inside : (layout : Layout) (handle : Handle) (op : Op) → IsHeld layout handle → op ≡ asks (standing handle) → word_in op < words layout
+inside layout handle op seated e =
     let x : Track = own handle.0 in
     let l : Local = standing handle in
     let t : IsTracked layout x = seated.tracked in

@@ -6,6 +6,7 @@ use Rattle.wfe_core.specs.words.declared.layout.Layout.{Layout}
 use Rattle.wfe_core.specs.words.Place.{words}
 use Rattle.wfe_core.specs.words.Place.Place.{Clock}
 use Rattle.wfe_core.specs.defs.declared.call.Call.{Call}
+use Rattle.wfe_drive_rule.specs.declared.kept.Kept.{Kept}
 use Rattle.wfe_core.specs.Locals.{Local, after, busy_in}
 use Rattle.wfe_core.specs.World.{World, finds, gift_at, offered}
 use Rattle.wfe_core.specs.Calls.{Keeping, Phase, TakeList, Works}
@@ -16,7 +17,7 @@ use Rattle.wfe_core.proofs.words.Numbers.{number_below}
 use Rattle.law_answers.specs.history.History.{Item, Steps, world_of}
 use Rattle.law_answers.proofs.Turns.Counted.{first_busy}
 use Rattle.law_answers.proofs.inv.requests.Turns.{upd_here}
-use Rattle.wfe_drive_rule.specs.Handles.{IsSeated, IsTracked}
+use Rattle.wfe_drive_rule.specs.Handles.{IsHeld, IsSeated, IsTracked}
 use Rattle.wfe_drive_rule.specs.Moves.{Told, keeping, with_own}
 use Rattle.wfe_drive_rule.specs.Views.{Handle, Track, View, call_in, entered, own, seat_of, standing}
 use Rattle.wfe_drive_rule.proofs.Allowed.{entered_same}
@@ -27,18 +28,18 @@ pub some_words : (layout : Layout) (count : ℕ) → count ≡ words layout → 
 some_words layout count e = omega (arith, e, number_below layout Clock refl)
 
 -- the slot that a seated handle has
-pub first_slot : (slots : List (ℕ × Option Call)) (slot : ℕ) (call : Option Call) → slots ≡ (slot, call) ∷ [] → (old : Option Call) × (slots ≡ (slot, old) ∷ rest slots)
-first_slot slots slot call e = (call, e ∙ ap (λ (r : List (ℕ × Option Call)). (slot, call) ∷ r) (sym (ap rest e)))
+pub first_slot : (slots : List (ℕ × Option Kept)) (slot : ℕ) (kept : Option Kept) (more : List (ℕ × Option Kept)) → slots ≡ (slot, kept) ∷ more → (old : Option Kept) × (slots ≡ (slot, old) ∷ rest slots)
+first_slot slots slot kept more e = (kept, e ∙ ap (λ (r : List (ℕ × Option Kept)). (slot, kept) ∷ r) (sym (ap rest e)))
 
-pub put_slot : (slots : List (ℕ × Option Call)) (slot : ℕ) (call new : Option Call) → slots ≡ (slot, call) ∷ [] → (slot, new) ∷ rest slots ≡ (slot, new) ∷ []
-put_slot slots slot call new e = ap (λ (s : List (ℕ × Option Call)). (slot, new) ∷ rest s) e
+pub put_slot : (slots : List (ℕ × Option Kept)) (slot : ℕ) (kept new : Option Kept) (more : List (ℕ × Option Kept)) → slots ≡ (slot, kept) ∷ more → (slot, new) ∷ rest slots ≡ (slot, new) ∷ more
+put_slot slots slot kept new more e = ap (λ (s : List (ℕ × Option Kept)). (slot, new) ∷ rest s) e
 
 -- so a seat at rest has none in its slot
 pub resting_slot : (l : Local) (call : Option Call) → busy_in (entered l call).phase ≡ false → call ≡ None
 resting_slot l None e = refl
 resting_slot l (Some call) e = absurd (cc (first_busy call l))
 
-tracked_on : (layout : Layout) (handle : Handle) (found : ℕ) (items : List Item) → IsTracked layout (own handle.0) → busy_in (standing handle).phase ≡ true → (world_of layout items).seat (seat_of (own handle.0)) ≡ standing handle → found ≡ finds (world_of layout items) (seat_of (own handle.0))
+pub tracked_on : (layout : Layout) (handle : Handle) (found : ℕ) (items : List Item) → IsTracked layout (own handle.0) → busy_in (standing handle).phase ≡ true → (world_of layout items).seat (seat_of (own handle.0)) ≡ standing handle → found ≡ finds (world_of layout items) (seat_of (own handle.0))
     → IsTracked layout (record { local = after (offered (world_of layout items) (seat_of (own handle.0))) found; past = items ++ Steps (seat_of (own handle.0)) ∷ [] })
 tracked_on layout handle found items t busy e f =
     let i : ℕ = seat_of (own handle.0) in
@@ -58,14 +59,17 @@ tracked_on layout handle found items t busy e f =
       stood = ap (world_of layout later).seat number ∙ here;
     }
 
-pub seated_on : (layout : Layout) (slot found : ℕ) (handle later : Handle) → IsSeated layout slot handle → busy_in (standing handle).phase ≡ true → Told layout handle found later.0 → later.1 ≡ (slot, None) ∷ [] → IsSeated layout slot later
-seated_on layout slot found handle later seated busy told empty =
+pub seated_held : (layout : Layout) (slot found : ℕ) (handle later : Handle) → IsHeld layout handle → slot ≡ seat_of (own handle.0) → busy_in (standing handle).phase ≡ true → Told layout handle found later.0 → later.1 ≡ (slot, None) ∷ [] → IsSeated layout slot later
+seated_held layout slot found handle later seated slot_is busy told empty =
     let o : Local = offered (world_of layout told.items) (seat_of (own handle.0)) in
     let y : Track = record { local = after o found; past = told.items ++ Steps (seat_of (own handle.0)) ∷ [] } in
     let t : IsTracked layout y = tracked_on layout handle found told.items seated.tracked busy told.stands told.found_is in
     let number : seat_of y ≡ seat_of (own handle.0) = (stays_in_place.steps o found).seat ∙ ap (λ (k : Local). k.post.seat) told.stands ∙ (entered_same (own handle.0).local (call_in handle.1)).seat in
-    let base : IsSeated layout slot (with_own handle.0 y, (slot, None) ∷ []) = record { one = refl; tracked = t; holds = seated.holds; number = seated.number ∙ sym number; slots = refl; begins = λ call e. absurd (cc) } in
+    let base : IsSeated layout slot (with_own handle.0 y, (slot, None) ∷ []) = record { one = refl; tracked = t; holds = seated.holds; number = slot_is ∙ sym number; slots = refl; begins = λ call e. absurd (cc) } in
     subst (λ v. IsSeated layout slot (v, later.1)) (sym told.to) (subst (λ s. IsSeated layout slot (with_own handle.0 y, s)) (sym empty) base)
+
+pub seated_on : (layout : Layout) (slot found : ℕ) (handle later : Handle) → IsSeated layout slot handle → busy_in (standing handle).phase ≡ true → Told layout handle found later.0 → later.1 ≡ (slot, None) ∷ [] → IsSeated layout slot later
+seated_on layout slot found handle later s busy told empty = seated_held layout slot found handle later (record { one = s.one; tracked = s.tracked; holds = s.holds; begins = s.begins }) s.number busy told empty
 
 -- where a step takes over no list, its seat goes on by itself
 no_gift : (seat : ℕ → Local) (phase : Phase) → may_adopt phase ≡ false → gift_at seat phase ≡ []

@@ -1,9 +1,9 @@
 -- Sums over the views of a table, where one view changes, and tracks that are counted by their seats.
-use Rattle.std.proofs.Common.{All, Bool, List, [], arith, cond, false, get_or, length, refl, set, subst, true, ℕ, zero, suc, ◌+◌, ◌<◌, ◌∙◌, ◌∷◌, ◌≡◌, ◌≢◌, ◌≤◌}
+use Rattle.std.proofs.Common.{All, Bool, List, [], ap, arith, cond, false, get_or, length, refl, set, subst, true, ℕ, zero, suc, ◌+◌, ◌<◌, ◌∙◌, ◌∷◌, ◌≡◌, ◌≢◌, ◌≤◌}
 use Rattle.std.proofs.lemmas.Bool.Decides.{nat_tests}
 use Rattle.std.proofs.lemmas.List.Elements.{All-cons, All-head, All-nil, All-tail}
 use Rattle.std.proofs.lemmas.List.Sums.{get_or-le-sum_by, sum_by-cons, sum_by-set}
-use Rattle.std.specs.Prelude.{Contains, if◌then◌else◌, sum_by, ◌==◌}
+use Rattle.std.specs.Prelude.{Contains, count_by, if◌then◌else◌, sum_by, ◌==◌}
 use mathlib.Core.Option.{some, some-injective}
 use lib.ListN.{get_elem?}
 use Rattle.atomic_table.proofs.Lists.{set_else}
@@ -65,3 +65,22 @@ among_by seat x xs false q h f = let a = f (omega (arith, h)) in record { track 
 pub among : (seat : ℕ) (tracks : List Track) → 1 ≤ times seat tracks → Among seat tracks
 among seat [] h = absurd (omega (arith, h))
 among seat (x ∷ xs) h = among_by seat x xs (seat_of x == seat) refl (omega (arith, h, times-cons seat x xs)) (among seat xs)
+
+-- what follows of each
+pub All-each : (P Q : Track → Type 0) (tracks : List Track) → ((track : Track) → P track → Q track) → All P tracks → All Q tracks
+All-each P Q [] f a = All-nil Q
+All-each P Q (x ∷ xs) f a = All-cons Q x xs (f x (All-head P x xs a)) (All-each P Q xs f (All-tail P x xs a))
+
+-- each view gives none
+pub sum_zero : (f : View → ℕ) (views : List View) → ((j : ℕ) (w : View) → get_elem? views j ≡ some w → f w ≡ 0) → sum_by f views ≡ 0
+sum_zero f [] h = refl
+sum_zero f (x ∷ xs) h = omega (arith, sum_by-cons f x xs, h 0 x refl, sum_zero f xs (λ j w e. h (suc j) w e))
+
+-- nor does any track
+pub count_zero : (p : Track → Bool) (tracks : List Track) → All (λ track. p track ≡ false) tracks → count_by p tracks ≡ 0
+count_zero p [] h = refl
+count_zero p (x ∷ xs) h =
+    let one : Bool → ℕ = (λ b. cond b 1 0) in
+    let e : count_by p (x ∷ xs) ≡ one (p x) + count_by p xs = sum_by-cons (λ (track : Track). cond (p track) 1 0) x xs in
+    let z : one (p x) ≡ 0 = ap one (All-head (λ track. p track ≡ false) x xs h) in
+    omega (arith, e, z, count_zero p xs (All-tail (λ track. p track ≡ false) x xs h))

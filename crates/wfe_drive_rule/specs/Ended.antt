@@ -6,6 +6,7 @@ use lib.ListN.{get_elem?}
 use Rattle.wfe_core.specs.words.Place.{is_valid, words}
 use Rattle.wfe_core.specs.words.declared.layout.Layout.{Layout}
 use Rattle.wfe_core.specs.defs.declared.call.Call.{Call}
+use Rattle.wfe_drive_rule.specs.declared.kept.Kept.{Kept}
 use Rattle.wfe_core.specs.Locals.{fresh}
 use Rattle.wfe_core.specs.World.{is_busy}
 use Rattle.wfe_drive_cells.specs.Memory.{memory}
@@ -31,7 +32,7 @@ pub record ShowsWorld (layout : Layout) (list : List ℕ) (views : List View) : 
 
 -- words and views of a table between any two steps of any threads
 abbrev pub SharedRule : Type 0
-SharedRule = (layout : Layout) (list : List ℕ) (homes : List (Home (Option Call))) (views : List View) → Rules layout list homes views → ShowsWorld layout list views
+SharedRule = (layout : Layout) (list : List ℕ) (homes : List (Home (Option Kept))) (views : List View) → Rules layout list homes views → ShowsWorld layout list views
 
 -- the words of a table that no thread shares any more, with these tracks
 pub record Ended (layout : Layout) (list : List ℕ) (tracks : List Track) : Type 0 where
@@ -49,5 +50,5 @@ pub record Ended (layout : Layout) (list : List ℕ) (tracks : List Track) : Typ
 
 -- where one handle has as many seats as there are, and all are between calls
 abbrev pub HandlesEnd : Type 0
-HandlesEnd = (layout : Layout) (list : List ℕ) (homes : List (Home (Option Call))) (views : List View) (id : ℕ) (view : View) → Rules layout list homes views → get_elem? views id ≡ some view
+HandlesEnd = (layout : Layout) (list : List ℕ) (homes : List (Home (Option Kept))) (views : List View) (id : ℕ) (view : View) → Rules layout list homes views → get_elem? views id ≡ some view
     → layout.config.seats ≤ length view.tracks → All IsIdle view.tracks → Ended layout list view.tracks

@@ -1,18 +1,25 @@
 -- What a handle learns by a step of its seat, and how handles take and give their slots, are made and are joined.
-use Rattle.std.specs.Prelude.{List, None, Option, [], false, true, ℕ, ◌++◌, ◌+◌, ◌∷◌, ◌≡◌}
-use Rattle.atomic_table.specs.Table.{Step}
+use Rattle.std.specs.Prelude.{Bool, List, MatchBool, None, Option, [], false, true, ℕ, ◌++◌, ◌+◌, ◌==◌, ◌∷◌, ◌≡◌}
+use Rattle.atomic_table.specs.Table.{Step, rest}
 use Rattle.wfe_core.specs.words.declared.layout.Layout.{Layout}
 use Rattle.wfe_core.specs.defs.declared.call.Call.{Call}
+use Rattle.wfe_drive_rule.specs.declared.kept.Kept.{Kept}
+use Rattle.wfe_core.specs.Calls.{Keeping, TakeList, Works}
+use Rattle.wfe_core.specs.defs.declared.lifetime.Lifetime.{Lifetime}
 use Rattle.wfe_core.specs.Locals.{Local, after, asks}
 use Rattle.wfe_core.specs.World.{finds, offered}
 use Rattle.wfe_drive_cells.specs.Operations.{answer_of}
 use Rattle.wfe_drive_cells.specs.Unit.{kept_desk}
 use Rattle.law_answers.specs.history.History.{Item, Steps, world_of}
-use Rattle.wfe_drive_rule.specs.Views.{Handle, Track, View, bare_view, fresh_track, own, seat_of, standing}
+use Rattle.wfe_drive_rule.specs.Views.{Handle, Track, View, bare_view, fresh_track, own, seat_of, slot_left, standing}
 
 -- the view with another own seat, and no other
 abbrev pub with_own : View → Track → View
 with_own view track = record { made = view.made; tracks = track ∷ []; holds = view.holds }
+
+-- the view of a handle that has its slot
+abbrev pub slotted : View → View
+slotted view = record { made = view.made; tracks = view.tracks; holds = true }
 
 -- the seat as it makes a step that takes over no list
 abbrev pub keeping : Local → Local
@@ -36,15 +43,44 @@ pub record Stepped (handle : Handle) (word : ℕ) (later : Handle) : Type 0 wher
   pub slots : later.1 ≡ handle.1
 
 -- one step of the table, of whichever kind
-abbrev pub StepsOnce : Step (Option Call) → Handle → ℕ → Handle → Type 0
+abbrev pub StepsOnce : Step (Option Kept) → Handle → ℕ → Handle → Type 0
 StepsOnce step = Stepped
 
--- the view of a handle that has its slot
-abbrev pub slotted : View → View
-slotted view = record { made = view.made; tracks = view.tracks; holds = true }
+-- a step by which the seat leaves: its slot goes home, with what it holds
+pub record HandsOver (handle : Handle) (word : ℕ) (later : Handle) : Type 0 where
+  pub told : Told (own handle.0).local.post.layout handle word (slotted later.0)
+  pub gone : later.0.holds ≡ false
+  pub slots : later.1 ≡ rest handle.1
+
+-- the list that the seat takes over: its place's slot comes with it
+pub record IsTaken (handle : Handle) (gift : List Lifetime) (later : Handle) : Type 0 where
+  pub place : ℕ
+  pub at : (standing handle).phase ≡ Works (Keeping (TakeList place))
+  pub first : Bool
+  pub slots : later.1 ≡ (place, slot_left (record { lives = gift; slots = (own handle.0).local.post.layout.config.slots }) first) ∷ handle.1
+
+-- a step by which it takes over a list, if it finds one that was left
+pub record TakesOver (handle : Handle) (word : ℕ) (later : Handle) : Type 0 where
+  pub told : Told (own handle.0).local.post.layout handle word later.0
+  pub slots : MatchBool (word == 1) (IsTaken handle (offered (world_of (own handle.0).local.post.layout told.items) (seat_of (own handle.0))).desk.gift later) (later.1 ≡ handle.1)
+
+-- a step by which it marks that: the place's slot goes home
+pub record MarksOver (handle : Handle) (word : ℕ) (later : Handle) : Type 0 where
+  pub told : Told (own handle.0).local.post.layout handle word later.0
+  pub slots : later.1 ≡ rest handle.1
+
+-- the same as what a store answers, which is no word
+abbrev pub Hands : Step (Option Kept) → Handle → ℕ → Handle → Type 0
+Hands step handle word later = HandsOver handle 0 later
+
+abbrev pub Adopts : Step (Option Kept) → Handle → ℕ → Handle → Type 0
+Adopts step = TakesOver
+
+abbrev pub Marks : Step (Option Kept) → Handle → ℕ → Handle → Type 0
+Marks step handle word later = MarksOver handle 0 later
 
 -- the slot of the own seat's number is taken, and holds no call
-abbrev pub Takes : Step (Option Call) → Handle → ℕ → Handle → Type 0
+abbrev pub Takes : Step (Option Kept) → Handle → ℕ → Handle → Type 0
 Takes step handle word later = later ≡ (slotted handle.0, (seat_of (own handle.0), None) ∷ [])
 
 -- the view of a handle without its slot
@@ -52,7 +88,7 @@ abbrev pub bared : View → View
 bared view = record { made = view.made; tracks = view.tracks; holds = false }
 
 -- the slot is given back
-abbrev pub Gives : Step (Option Call) → Handle → ℕ → Handle → Type 0
+abbrev pub Gives : Step (Option Kept) → Handle → ℕ → Handle → Type 0
 Gives step handle word later = later ≡ (bared handle.0, [])
 
 -- the handle that counts has counted one seat more

@@ -1,5 +1,5 @@
 -- The rule of the shared table: a history comes to the World that words and views show.
-use Rattle.std.specs.Prelude.{All, List, None, Option, count_by, if◌then◌else◌, length, nat_lt, sum_by, true, ℕ, ◌++◌, ◌<◌, ◌==◌, ◌≡◌, ◌≤◌, ◌⊎◌}
+use Rattle.std.specs.Prelude.{All, Bool, List, None, Option, count_by, false, if◌then◌else◌, length, nat_lt, sum_by, true, ℕ, ◌++◌, ◌+◌, ◌<◌, ◌==◌, ◌≡◌, ◌≢◌, ◌≤◌, ◌⊎◌}
 use mathlib.Core.Option.{some}
 use mathlib.Core.Option.{Option as Home}
 use lib.ListN.{get_elem?}
@@ -7,10 +7,14 @@ use Rattle.atomic_table.specs.Table.{State}
 use Rattle.wfe_core.specs.words.Place.{is_valid, words}
 use Rattle.wfe_core.specs.words.declared.layout.Layout.{Layout}
 use Rattle.wfe_core.specs.defs.declared.call.Call.{Call}
+use Rattle.wfe_drive_rule.specs.declared.kept.Kept.{Kept}
+use Rattle.wfe_core.specs.Calls.{Keeping, MarkTaken, Phase, Works}
 use Rattle.wfe_core.specs.Locals.{fresh}
+use Rattle.wfe_core.specs.World.{World, is_here, list_in}
+use Rattle.wfe_core.specs.words.Place.Place.{PlaceOf}
 use Rattle.wfe_drive_cells.specs.Memory.{memory}
 use Rattle.law_answers.specs.history.History.{Item, world_of}
-use Rattle.wfe_drive_rule.specs.Views.{Track, View, seat_of}
+use Rattle.wfe_drive_rule.specs.Views.{Track, View, seat_of, slot_left}
 
 -- how many of these tracks are the seat's
 abbrev pub times : ℕ → List Track → ℕ
@@ -20,9 +24,25 @@ times seat tracks = count_by (λ track. seat_of track == seat) tracks
 abbrev pub had : ℕ → View → ℕ
 had seat view = times seat view.tracks
 
--- the same of a view that has taken its slot, and 0 of another
+-- the same of a view that has its slot, and 0 of another
+abbrev pub held : ℕ → View → ℕ
+held seat view = if view.holds then times seat view.tracks else 0
+
+-- the seat's next step marks the list of this place as taken over
+abbrev pub marks_at : Phase → (place : ℕ) → Bool
+marks_at (Works (Keeping (MarkTaken at count))) place = at == place
+marks_at phase place = false
+
+-- how many of these tracks do
+abbrev pub markings : ℕ → List Track → ℕ
+markings place tracks = count_by (λ track. marks_at track.local.phase place) tracks
+
+abbrev pub marking : ℕ → View → ℕ
+marking place view = markings place view.tracks
+
+-- how often the view has the seat's slot: as its own, and between taking over the list in it and marking that
 abbrev pub taken : ℕ → View → ℕ
-taken seat view = if view.holds then times seat view.tracks else 0
+taken seat view = held seat view + marking seat view
 
 -- how many tracks the view has in all
 abbrev pub size : View → ℕ
@@ -53,8 +73,23 @@ pub record Numbered (layout : Layout) (views : List View) (made : ℕ) : Type 0 
   pub says : (id : ℕ) (view : View) → get_elem? views id ≡ some view → (view.made ≡ 0) ⊎ (view.made ≡ made)
   pub sum : sum_by counted views ≡ made
 
+-- what the slot of a seat holds at home: the list of a seat that has left, until another takes that over; else nothing
+pub record AtHome (layout : Layout) (w : World) (seat : ℕ) (kept : Option Kept) : Type 0 where
+  pub left : w.mem (PlaceOf seat) ≡ 1 → (first : Bool) × (kept ≡ slot_left (record { lives = list_in w seat; slots = layout.config.slots }) first)
+  pub clear : w.mem (PlaceOf seat) ≢ 1 → kept ≡ None
+
+-- it is at home, and holds that
+pub record IsHome (layout : Layout) (w : World) (homes : List (Home (Option Kept))) (seat : ℕ) : Type 0 where
+  pub kept : Option Kept
+  pub there : get_elem? homes seat ≡ some (some kept)
+  pub holds : AtHome layout w seat kept
+
+-- the seat of this track has not left
+abbrev pub IsHere : World → Track → Type 0
+IsHere w track = is_here w (seat_of track) ≡ true
+
 -- what holds of words, slots and views between any two steps of the table
-pub record Rules (layout : Layout) (list : List ℕ) (homes : List (Home (Option Call))) (views : List View) : Type 0 where
+pub record Rules (layout : Layout) (list : List ℕ) (homes : List (Home (Option Kept))) (views : List View) : Type 0 where
   -- the setting is valid
   pub valid : is_valid layout ≡ true
   -- there are as many words as the layout has
@@ -69,9 +104,11 @@ pub record Rules (layout : Layout) (list : List ℕ) (homes : List (Home (Option
   -- the seats that were made are numbered, and one view says how many they are
   pub made : ℕ
   pub numbers : Numbered layout views made
-  -- each slot that no view has taken is at home, and holds no call
-  pub home : (seat : ℕ) → seat < layout.config.seats → sum_by (taken seat) views ≡ 0 → get_elem? homes seat ≡ some (some None)
+  -- a seat whose view has its slot has not left
+  pub here : (id : ℕ) (view : View) → get_elem? views id ≡ some view → view.holds ≡ true → All (IsHere (world_of layout items)) view.tracks
+  -- each slot that no view has is at home
+  pub home : (seat : ℕ) → seat < layout.config.seats → sum_by (taken seat) views ≡ 0 → IsHome layout (world_of layout items) homes seat
 
 -- the same of the table as plain data
-abbrev pub Holds : Layout → State (Option Call) View → Type 0
+abbrev pub Holds : Layout → State (Option Kept) View → Type 0
 Holds layout state = Rules layout state.words state.homes state.views

@@ -1,11 +1,15 @@
 -- What a handle of the shared table knows: a seat with its past, and the seats that it has taken in.
-use Rattle.std.specs.Prelude.{Bool, List, None, Option, Some, [], false, ℕ, ◌∷◌}
+use Rattle.std.specs.Prelude.{Bool, List, None, Option, Some, [], false, true, ℕ, ◌∷◌}
 use Rattle.atomic_table.specs.Table.{Me}
 use Rattle.wfe_core.specs.words.declared.config.SchemeKind.TheVariants.{He}
 use Rattle.wfe_core.specs.words.declared.layout.Layout.{Layout}
+use Rattle.wfe_core.specs.Held.{ListHeld}
 use Rattle.wfe_core.specs.defs.declared.call.Call.{Call}
+use Rattle.wfe_core.specs.defs.declared.call.Call.TheVariants as names
 use Rattle.wfe_core.specs.Locals.{Local, begun, fresh}
 use Rattle.law_answers.specs.history.History.{Begins, Item}
+use Rattle.wfe_drive_rule.specs.declared.kept.Kept.{Kept}
+use Rattle.wfe_drive_rule.specs.declared.kept.Kept.TheVariants.{Begun, Left}
 
 -- a seat's local state, and the history up to its own last step
 pub record Track : Type 0 where
@@ -19,9 +23,9 @@ pub record View : Type 0 where
   pub tracks : List Track
   pub holds : Bool
 
--- a handle: what it knows, and the slots that it has. A slot may hold a call, which has begun and has made no step yet
+-- a handle: what it knows, and the slots that it has
 abbrev pub Handle : Type 0
-Handle = Me (Option Call) View
+Handle = Me (Option Kept) View
 
 -- the seat's number
 abbrev pub seat_of : Track → ℕ
@@ -61,10 +65,30 @@ first_of (track ∷ tracks) = track
 abbrev pub own : View → Track
 own view = first_of view.tracks
 
+-- the call that a slot holds, which has begun and has made no step yet: it holds that, or nothing; or the list that a seat leaves,
+-- and then a leave if that has made no step
+abbrev pub leave_if : (first : Bool) → Option Call
+leave_if true = Some names.Leave
+leave_if false = None
+
+abbrev pub call_of : Option Kept → Option Call
+call_of None = None
+call_of (Some (Begun call)) = Some call
+call_of (Some (Left list first)) = leave_if first
+
 -- the call in the first of these slots
-abbrev pub call_in : List (ℕ × Option Call) → Option Call
+abbrev pub call_in : List (ℕ × Option Kept) → Option Call
 call_in [] = None
-call_in (slot ∷ slots) = slot.1
+call_in (slot ∷ slots) = call_of slot.1
+
+-- a slot with this call, or with none
+abbrev pub slot_of : Option Call → Option Kept
+slot_of None = None
+slot_of (Some call) = Some (Begun call)
+
+-- a slot with a list that was left
+abbrev pub slot_left : ListHeld → (first : Bool) → Option Kept
+slot_left list first = Some (Left list first)
 
 -- the seat with the call of its slot begun
 abbrev pub entered : Local → Option Call → Local

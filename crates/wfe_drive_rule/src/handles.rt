@@ -1,5 +1,6 @@
 // How handles of the shared table are made, take and give their slots, and are joined.
-ghost use Rattle.std.specs.Prelude.{[], ◌∷◌, ◌≡◌, ◌≤◌, ◌<◌, None};
+ghost use Rattle.std.specs.Prelude.{[], ◌∷◌, ◌≡◌, ◌≢◌, ◌≤◌, ◌<◌, None};
+ghost use Rattle.wfe_core.specs.defs.declared.call.Call.TheVariants as calls;
 ghost use Rattle.wfe_drive_rule.specs.Handles.{IsBare, IsGathered, IsIdle, IsResting, IsSeated, IsSized, IsTracked};
 ghost use Rattle.wfe_drive_rule.specs.Moves.{bared, one_more, slotted, taken_in};
 ghost use Rattle.wfe_drive_rule.specs.Views.{bare_view, fresh_track, own, seat_of};
@@ -22,16 +23,19 @@ pub fn split(table: &Ledger, handle: &mut Handle) -> Handle
     table.split_seat::<OneMore>(handle)
 }
 
-/// A handle takes its seat's slot, whose number is the seat's. The slot holds no call.
+/// A handle takes its seat's slot, whose number is the seat's, where the seat is between calls and has not
+/// left. The slot is empty.
 pub fn take_slot(table: &Ledger, handle: &mut Handle, slot: usize)
     requires ids { handle.old.table_id ≡ table.now.table_id }
     requires sized { IsSized table.now.table_id table.now.key }
     requires bare { IsBare table.now.key handle.old.me }
     requires number { slot ≡ seat_of (own handle.old.me.0) }
+    requires idle { IsIdle (own handle.old.me.0) }
+    requires there { (own handle.old.me.0).local.call ≢ calls.Leave }
     ensures ids { (handle.new.table_id ≡ handle.old.table_id) × (handle.new.id ≡ handle.old.id) }
     ensures taken { handle.new.me ≡ (slotted handle.old.me.0, (slot, None) ∷ []) }
     ensures seated { IsSeated table.now.key slot handle.new.me }
-    ensures resting { IsIdle (own handle.old.me.0) → IsResting handle.new.me }
+    ensures resting { IsResting handle.new.me }
 {
     table.load::<TakeSlot>(handle, 0);
 }

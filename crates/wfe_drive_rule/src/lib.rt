@@ -5,6 +5,8 @@
 
 mod facts;
 mod handles;
+mod kept;
+mod lists;
 mod rule;
 mod steps;
 mod table;
@@ -13,6 +15,8 @@ mod tests;
 
 pub use facts::{handles_end, handles_stand_in_histories, tables_follow_histories};
 pub use handles::{give_slot, split, take_in, take_slot};
+pub use kept::Kept;
+pub use lists::{adopt_list, hand_list, mark_place};
 pub use rule::{Handle, HandleView, HistoryRule, Ledger, OwnedLedger};
 pub use steps::{begin, step};
 pub use table::{close, finish, open};

@@ -1,17 +1,18 @@
 // The rule of the shared table, and what its steps tell. (The table's own crate calls a handle a seat.)
+use crate::kept::Kept;
 use atomic_table::{Join, Play, Split, TableRule};
 use std::alloc::Global;
 use std::marker::Model;
-use wfe_core::{Call, Layout};
+use wfe_core::Layout;
 
 /// The words that threads share, with a slot for each seat.
-pub type Ledger = atomic_table::Shared<Option<Call>, HandleView, Layout, HistoryRule>;
+pub type Ledger = atomic_table::Shared<Option<Kept>, HandleView, Layout, HistoryRule>;
 
 /// The same with its memory.
-pub type OwnedLedger = atomic_table::Table<Option<Call>, HandleView, Layout, HistoryRule, Global>;
+pub type OwnedLedger = atomic_table::Table<Option<Kept>, HandleView, Layout, HistoryRule, Global>;
 
 /// What a thread makes the steps of a seat with. It takes no bytes, and may go to another thread.
-pub type Handle = atomic_table::Seat<Option<Call>, HandleView>;
+pub type Handle = atomic_table::Seat<Option<Kept>, HandleView>;
 
 /// What a handle knows. Proofs alone speak of it, and no value is made.
 #[derive(Drop)]
@@ -28,7 +29,7 @@ impl Model for HandleView {
 /// A history comes to the World that the words and the views show.
 pub struct HistoryRule;
 
-impl TableRule<Option<Call>, HandleView, Layout> for HistoryRule {
+impl TableRule<Option<Kept>, HandleView, Layout> for HistoryRule {
     ghost use Rattle.wfe_drive_rule.specs.Rule.{Holds};
     ghost use Rattle.wfe_drive_rule.specs.Views.{first_view};
 
@@ -40,16 +41,43 @@ impl TableRule<Option<Call>, HandleView, Layout> for HistoryRule {
 // A seat makes a step, of whichever kind.
 pub(crate) struct OneStep;
 
-impl Play<Option<Call>, HandleView> for OneStep {
+impl Play<Option<Kept>, HandleView> for OneStep {
     ghost use Rattle.wfe_drive_rule.specs.Moves.{StepsOnce};
 
     ghost then = { StepsOnce };
 }
 
+// A seat leaves, and its slot goes home with its list.
+pub(crate) struct HandList;
+
+impl Play<Option<Kept>, HandleView> for HandList {
+    ghost use Rattle.wfe_drive_rule.specs.Moves.{Hands};
+
+    ghost then = { Hands };
+}
+
+// A seat takes over the list of a place with that place's slot, if it finds one that was left.
+pub(crate) struct AdoptList;
+
+impl Play<Option<Kept>, HandleView> for AdoptList {
+    ghost use Rattle.wfe_drive_rule.specs.Moves.{Adopts};
+
+    ghost then = { Adopts };
+}
+
+// A seat marks the list of a place as taken over, and that place's slot goes home.
+pub(crate) struct MarkPlace;
+
+impl Play<Option<Kept>, HandleView> for MarkPlace {
+    ghost use Rattle.wfe_drive_rule.specs.Moves.{Marks};
+
+    ghost then = { Marks };
+}
+
 // A handle takes its slot.
 pub(crate) struct TakeSlot;
 
-impl Play<Option<Call>, HandleView> for TakeSlot {
+impl Play<Option<Kept>, HandleView> for TakeSlot {
     ghost use Rattle.wfe_drive_rule.specs.Moves.{Takes};
 
     ghost then = { Takes };
@@ -58,7 +86,7 @@ impl Play<Option<Call>, HandleView> for TakeSlot {
 // A handle gives its slot back.
 pub(crate) struct GiveSlot;
 
-impl Play<Option<Call>, HandleView> for GiveSlot {
+impl Play<Option<Kept>, HandleView> for GiveSlot {
     ghost use Rattle.wfe_drive_rule.specs.Moves.{Gives};
 
     ghost then = { Gives };

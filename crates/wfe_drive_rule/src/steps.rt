@@ -2,12 +2,13 @@
 ghost use Rattle.std.specs.Prelude.{◌≡◌, ◌≢◌, None, false, true};
 ghost use Rattle.wfe_core.specs.defs.declared.call.Call.TheVariants as calls;
 ghost use Rattle.wfe_core.specs.Locals.{after, asks, begun, busy_in, may_begin};
-ghost use Rattle.wfe_drive_rule.specs.Handles.{IsResting, IsSeated, IsSized};
+ghost use Rattle.wfe_drive_rule.specs.Handles.{IsAdopting, IsBare, IsResting, IsSeated, IsSized, MovesNone};
 ghost use Rattle.wfe_drive_cells.specs.Unit.{may_adopt};
 ghost use Rattle.wfe_drive_rule.specs.Moves.{Told, keeping};
 ghost use Rattle.wfe_drive_rule.specs.Views.{call_in, own, seat_of, standing};
 
-use crate::rule::{Handle, Ledger, OneStep};
+use crate::kept::Kept;
+use crate::rule::{AdoptList, HandList, Handle, Ledger, MarkPlace, OneStep};
 use wfe_core::{Call, Op};
 
 /// A call of the handle's seat begins, one that may begin, where none is under way and the last was no leave. No word changes: the seat's slot,
@@ -23,10 +24,13 @@ pub fn begin(table: &Ledger, handle: &mut Handle, slot: usize, call: Call)
     ensures view { handle.new.me.0 ≡ handle.old.me.0 }
     ensures begins { standing handle.new.me ≡ begun (standing handle.old.me) call }
 {
-    table.exchange(handle, slot, Some(call));
+    match table.exchange(handle, slot, Some(Kept::Begun { call })) {
+        None => {}
+        Some(_) => unreachable!(),
+    }
 }
 
-/// The next step of the handle's seat, whose call is under way: one atomic step on one word. It
+/// The next step of the handle's seat, whose call is under way, one that moves no list: one atomic step on one word. It
 /// answers the word before, and 0 for a store. At the call's first step the slot is emptied too; at
 /// the others nothing else is written.
 #[inline(always)]
@@ -37,6 +41,7 @@ pub fn step(table: &Ledger, handle: &mut Handle, slot: usize, op: Op, first: boo
     requires busy { busy_in (standing handle.old.me).phase ≡ true }
     requires asks { op ≡ asks (standing handle.old.me) }
     requires later { first ≡ false → call_in handle.old.me.1 ≡ None }
+    requires moves { MovesNone (standing handle.old.me) }
     ensures ids { (handle.new.table_id ≡ handle.old.table_id) × (handle.new.id ≡ handle.old.id) }
     ensures seated { IsSeated table.now.key slot handle.new.me }
     ensures slot { call_in handle.new.me.1 ≡ None }
@@ -45,7 +50,10 @@ pub fn step(table: &Ledger, handle: &mut Handle, slot: usize, op: Op, first: boo
 {
     let found = perform(table, handle, op);
     if first {
-        table.exchange(handle, slot, None);
+        match table.exchange(handle, slot, None) {
+            Some(Kept::Left { .. }) => unreachable!(),
+            Some(Kept::Begun { .. }) | None => {}
+        }
     }
     found
 }
@@ -58,6 +66,7 @@ fn perform(table: &Ledger, handle: &mut Handle, op: Op) -> u64
     requires seated { IsSeated table.now.key (seat_of (own handle.old.me.0)) handle.old.me }
     requires busy { busy_in (standing handle.old.me).phase ≡ true }
     requires asks { op ≡ asks (standing handle.old.me) }
+    requires moves { MovesNone (standing handle.old.me) }
     ensures ids { (handle.new.table_id ≡ handle.old.table_id) × (handle.new.id ≡ handle.old.id) }
     ensures slots { handle.new.me.1 ≡ handle.old.me.1 }
     ensures told { Told table.now.key handle.old.me result handle.new.me.0 }

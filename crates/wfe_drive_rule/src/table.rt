@@ -6,10 +6,11 @@ ghost use Rattle.wfe_drive_rule.specs.Ended.{Ended};
 ghost use Rattle.wfe_drive_rule.specs.Handles.{IsBare, IsGathered, IsSized};
 ghost use Rattle.wfe_drive_rule.specs.Views.{first_view};
 
+use crate::kept::Kept;
 use crate::rule::{Handle, OwnedLedger};
 use atomic_table::{Closed, Table};
 use std::alloc::Global;
-use wfe_core::{Call, Layout, NoMemory};
+use wfe_core::{Layout, NoMemory};
 use wfe_drive_cells::start_words;
 
 /// A table with the start words of a layout, and the handle of seat 0, which counts the seats that
@@ -31,7 +32,7 @@ pub fn open(alloc: Global, layout: Layout) -> Result<(OwnedLedger, Handle), NoMe
 
 /// The words at the end, once one handle has as many seats as the table has, all between calls. Each
 /// slot comes back too.
-pub fn close(table: OwnedLedger, handle: Handle) -> Closed<Option<Call>, Global>
+pub fn close(table: OwnedLedger, handle: Handle) -> Closed<Option<Kept>, Global>
     requires ids { handle.table_id ≡ table.shared.table_id }
     requires gathered { IsGathered handle.me }
     requires all { table.shared.key.config.seats ≤ length handle.me.0.tracks }
@@ -43,7 +44,7 @@ pub fn close(table: OwnedLedger, handle: Handle) -> Closed<Option<Call>, Global>
 }
 
 /// Gives back the memory of a table that was closed, whose words are done with.
-pub fn finish(mut closed: Closed<Option<Call>, Global>)
+pub fn finish(mut closed: Closed<Option<Kept>, Global>)
     requires { IsFull closed.slots }
 {
     for slot in 0..closed.slot_count() {

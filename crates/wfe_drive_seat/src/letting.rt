@@ -86,8 +86,8 @@ fn let_at<C: Cells>(cells: &mut C, post: &mut Post, index: u32, told: &mut Told)
     });
 }
 
-#[tactic(auto, using(crate::proofs::Rows::cleared_here, crate::proofs::Rows::cleared_past))]
 // Tells Clear for each index from 2 on at which something stands.
+#[tactic(auto, using(crate::proofs::Rows::cleared_here, crate::proofs::Rows::cleared_past))]
 fn tell_cleared(post: &Post, told: &mut Told)
     requires valid { IsValid post.now }
     requires empty { told.old ≡ [] }

@@ -14,7 +14,8 @@ use Rattle.wfe_core.specs.defs.declared.lifetime.Lifetime.{Lifetime}
 use Rattle.wfe_core.specs.words.declared.config.Config.{Config}
 use Rattle.wfe_core.specs.words.declared.layout.Layout.{Layout}
 use Rattle.laws.specs.HistoryHolds.{reuse_ok}
-use Rattle.laws.specs.StateAt.{has_slot, is_row, list_of, stood_at, taken_at}
+use Rattle.laws.specs.Lists.{has_slot, list_of}
+use Rattle.laws.specs.StateAt.{is_row, stood_at, taken_at}
 use Rattle.laws.proofs.records.Entries.{each_of_entries}
 use Rattle.law_all.proofs.logs.Grows.{snoc_tells}
 use Rattle.law_all.proofs.logs.Ledgers.{records_keep_logs}

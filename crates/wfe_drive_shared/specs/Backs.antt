@@ -5,7 +5,8 @@ use Rattle.wfe_core.specs.defs.Entry.{Entry}
 use Rattle.wfe_core.specs.defs.declared.event.Event.{Event}
 use Rattle.wfe_core.specs.defs.declared.event.Event.TheVariants as events
 use Rattle.wfe_core.specs.words.declared.config.Config.{Config}
-use Rattle.laws.specs.StateAt.{has_slot, is_row, list_of, stood_at, taken_at}
+use Rattle.laws.specs.Lists.{has_slot, list_of}
+use Rattle.laws.specs.StateAt.{is_row, stood_at, taken_at}
 use Rattle.wfe_drive_rule.specs.history.Record.{Past, tells}
 use Rattle.wfe_drive_rule.specs.history.Record.Past.{Then}
 

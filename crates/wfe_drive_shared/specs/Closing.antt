@@ -1,5 +1,5 @@
 -- What a shared table leaves when it is closed, and what comes back where it is not.
-use Rattle.std.specs.Prelude.{All, Contains, List, false, length, map, ℕ, ◌<◌, ◌≡◌, ◌≤◌}
+use Rattle.std.specs.Prelude.{All, Contains, List, false, length, map, ℕ, ◌+◌, ◌<◌, ◌≡◌, ◌≤◌}
 use Rattle.wfe_core.specs.words.declared.layout.Layout.{Layout}
 use Rattle.wfe_core.specs.World.{is_busy}
 use Rattle.law_all.specs.RunLaw.{AtClose, RunLaw}
@@ -13,6 +13,8 @@ use Rattle.wfe_drive_rule.specs.history.History.{Item, record_of, world_of}
 use Rattle.wfe_drive_shared.specs.Public.{SeatNow, TableNow}
 use Rattle.wfe_drive_shared.specs.declared.close.CloseError.{CloseError}
 use Rattle.wfe_drive_shared.specs.declared.close.CloseError.TheVariants as errors
+use Rattle.wfe_drive_shared.specs.declared.close_left.CloseLeftError.{CloseLeftError}
+use Rattle.wfe_drive_shared.specs.declared.close_left.CloseLeftError.TheVariants as left_errors
 
 abbrev pub track_of : SeatNow → Track
 track_of seat = seat.track
@@ -42,3 +44,8 @@ pub record IsLeft (layout : Layout) (tracks : List Track) (closed : Closed) : Ty
 abbrev pub IsHandedBack : TableNow → List SeatNow → CloseError → Type 0
 IsHandedBack shared seats (errors.SeatMissing table handed place) = (length seats < shared.layout.config.seats) × (place ≡ length seats) × (table ≡ shared) × (handed.items ≡ seats)
 IsHandedBack shared seats (errors.NoMemory table handed) = (shared.layout.config.seats ≤ length seats) × (table ≡ shared) × (handed.items ≡ seats)
+
+-- the same where some seats have left
+abbrev pub IsLeftBack : TableNow → List SeatNow → List SeatNow → CloseLeftError → Type 0
+IsLeftBack shared seats left (left_errors.SeatMissing table handed gone place) = (length seats + length left < shared.layout.config.seats) × (place ≡ length seats + length left) × (table ≡ shared) × (handed.items ≡ seats) × (gone.items ≡ left)
+IsLeftBack shared seats left (left_errors.NoMemory table handed gone) = (shared.layout.config.seats ≤ length seats + length left) × (table ≡ shared) × (handed.items ≡ seats) × (gone.items ≡ left)

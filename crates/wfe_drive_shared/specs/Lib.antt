@@ -7,7 +7,10 @@ pub use Rattle.wfe_drive_rule.specs.history as history
 pub mod Backs
 pub mod Calls
 pub mod Closing
+pub mod Gone
 pub mod Making
+pub mod Parting
+pub mod Places
 pub mod Public
 pub mod Ruled
 pub mod Sound

@@ -3,7 +3,7 @@ use Rattle.std.specs.Prelude.{All, List, Option, ℕ, ◌≡◌}
 use mathlib.Core.Option.{some}
 use mathlib.Core.Option.{Option as Home}
 use lib.ListN.{get_elem?}
-use Rattle.wfe_core.specs.defs.declared.call.Call.{Call}
+use Rattle.wfe_drive_rule.specs.declared.kept.Kept.{Kept}
 use Rattle.wfe_core.specs.words.declared.layout.Layout.{Layout}
 use Rattle.wfe_drive_rule.specs.drive_cells.Memory.{memory}
 use Rattle.laws.specs.StateAt.{pairs_at}
@@ -29,4 +29,4 @@ pub record ShowsMet (layout : Layout) (list : List ℕ) (views : List View) : Ty
 
 -- of each table that meets the rule
 abbrev pub TablesMeet : Type 0
-TablesMeet = (layout : Layout) (list : List ℕ) (homes : List (Home (Option Call))) (views : List View) → Rules layout list homes views → ShowsMet layout list views
+TablesMeet = (layout : Layout) (list : List ℕ) (homes : List (Home (Option Kept))) (views : List View) → Rules layout list homes views → ShowsMet layout list views

@@ -5,10 +5,16 @@
 
 mod calls;
 mod close;
+mod close_left;
 mod facts;
+mod leaving;
+mod left;
 mod list;
+mod part;
+mod places;
 mod seat;
 mod shared;
+mod take;
 mod words;
 
 pub use calls::{
@@ -16,7 +22,9 @@ pub use calls::{
     Scanned, Taken,
 };
 pub use close::CloseError;
+pub use close_left::CloseLeftError;
 pub use facts::seats_meet_no_more_than_there_is;
+pub use left::LeftSeat;
 pub use seat::Seat;
 pub use shared::{MakeError, Shared};
 pub use wfe_core::{

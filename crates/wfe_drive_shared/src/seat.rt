@@ -1,11 +1,11 @@
 // A seat of the shared table, in the hands of one thread at a time.
-ghost use Rattle.std.specs.Prelude.{◌≡◌, ◌<◌, ◌≤◌, ◌%◌, ◌∷◌, [], All, IfOk, IfSome, true, Some, None};
+ghost use Rattle.std.specs.Prelude.{◌≡◌, ◌≢◌, ◌<◌, ◌≤◌, ◌%◌, ◌∷◌, [], All, IfOk, IfSome, MatchResult, true, Some, None};
+ghost use Rattle.wfe_core.specs.Keep.{not_taken};
 ghost use Rattle.wfe_core.specs.words.Place.{is_valid};
 ghost use Rattle.wfe_core.specs.Held.{notes_of, report_of};
-ghost use Rattle.wfe_core.specs.Locals.{may_begin};
-ghost use Rattle.wfe_core.specs.defs.declared.call.Answer.TheVariants.{Got as GotAnswer};
-ghost use Rattle.wfe_core.specs.defs.declared.call.Call.TheVariants.{Get as GetCall};
-ghost use Rattle.wfe_drive_call.specs.call_any.Stays.{stays};
+ghost use Rattle.wfe_core.specs.Locals.{may_begin, stays};
+ghost use Rattle.wfe_core.specs.defs.declared.call.Answer.TheVariants.{Adopted as AdoptedAnswer, Got as GotAnswer};
+ghost use Rattle.wfe_core.specs.defs.declared.call.Call.TheVariants.{Adopt as AdoptCall, Get as GetCall};
 ghost use Rattle.law_all.specs.logs.Versions.{met_by, met_in, seen_in, version_told};
 ghost use Rattle.wfe_drive_rule.specs.Handles.{IsGathered, IsResting, IsSeated, IsSized};
 ghost use Rattle.wfe_drive_rule.specs.Views.{fresh_track, own, seat_of};
@@ -17,6 +17,7 @@ ghost use Rattle.wfe_drive_shared.specs.Sound.{IsMet};
 
 use crate::calls::Got;
 use crate::list::zeros;
+use crate::take::take_list;
 use crate::words::TableWords;
 use std::alloc::Global;
 use std::marker::Model;
@@ -30,10 +31,10 @@ use wfe_drive_rule::{Handle, Ledger, give_slot};
 #[derive(Drop)]
 pub struct Seat {
     pub(crate) handle: Handle,
-    post: Post,
-    desk: Desk,
+    pub(crate) post: Post,
+    pub(crate) desk: Desk,
     // By bucket, the version that a call of this seat told last.
-    seen: Vec<u64>,
+    pub(crate) seen: Vec<u64>,
 }
 
 impl Model for Seat {
@@ -156,6 +157,28 @@ impl Seat {
         };
         meet(&mut self.seen, self.post.layout, call, answer);
         answer
+    }
+
+    // Takes over the list that another seat has left: how many rows are in it, or the place word where
+    // none was left.
+    pub(crate) fn take(&mut self, ledger: &Ledger, place: u32) -> Result<u32, u64>
+        requires table { self.old.table ≡ ledger.now.table_id }
+        requires layout { self.old.track.local.post.layout ≡ ledger.now.key }
+        requires sized { IsSized ledger.now.table_id ledger.now.key }
+        requires place { place < ledger.now.key.config.seats }
+        ensures table { self.new.table ≡ self.old.table }
+        ensures layout { self.new.track.local.post.layout ≡ self.old.track.local.post.layout }
+        ensures made { MatchResult result
+            (λ count. IsMade ledger.now.key self.old self.new (AdoptCall place) (AdoptedAnswer count))
+            (λ found. (found ≢ 1) × IsMade ledger.now.key self.old self.new (AdoptCall place) (not_taken found)) }
+    {
+        take_list(
+            ledger,
+            &mut self.handle,
+            &mut self.post,
+            &mut self.desk,
+            place,
+        )
     }
 
     // The handle alone, without its slot.

@@ -1,8 +1,8 @@
 // The shared table, and how it is made.
 ghost use Rattle.std.specs.Prelude.{◌≡◌, ◌≤◌, [], All, IfErr, IfOk, Ok, length, map, true};
-ghost use Rattle.wfe_core.specs.Locals.{may_begin};
-ghost use Rattle.wfe_drive_call.specs.call_any.Stays.{stays};
+ghost use Rattle.wfe_core.specs.Locals.{may_begin, stays};
 ghost use Rattle.wfe_core.specs.words.Place.{is_valid, layout_of};
+ghost use Rattle.wfe_drive_rule.specs.Handles.{IsSized};
 ghost use Rattle.wfe_drive_shared.specs.Calls.{IsMade};
 ghost use Rattle.wfe_drive_shared.specs.Closing.{IsLeft, track_of};
 ghost use Rattle.wfe_drive_shared.specs.Making.{IsRefused};
@@ -93,6 +93,18 @@ impl Shared {
         ensures { result ≡ self.now.layout }
     {
         self.layout
+    }
+
+    // The table's words, and its layout.
+    pub(crate) fn parts(self) -> (OwnedLedger, Layout)
+        ensures table { result.0.shared.table_id ≡ self.table }
+        ensures layout { result.1 ≡ self.layout }
+        ensures key { result.0.shared.key ≡ self.layout }
+        ensures sized { IsSized self.table self.layout }
+        ensures valid { is_valid self.layout ≡ true }
+    {
+        let Shared { ledger, layout } = self;
+        (ledger, layout)
     }
 
     // Ends the table with its seats, of which there are enough, and reads its words into the room.

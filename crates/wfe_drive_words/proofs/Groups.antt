@@ -7,14 +7,13 @@ use Rattle.wfe_core.specs.defs.declared.event.Event.TheVariants as events
 use Rattle.wfe_core.specs.Calls.{Answers, CallOutcome, CallTurn, GoesOn}
 use Rattle.wfe_core.specs.Desks.{Desk, Notes, noted, noted_all, noting}
 use Rattle.wfe_core.specs.Frames.{SamePlace}
-use Rattle.wfe_core.specs.Locals.{Group, Local, after, begun, busy_in, rounds_told, settled_by, told_by, told_end, turn}
+use Rattle.wfe_core.specs.Locals.{Group, Local, after, begun, busy_in, rounds_told, settled_by, stays, told_by, told_end, turn}
 use Rattle.wfe_core.specs.declared.op.Op.{Op}
 use Rattle.wfe_core.specs.declared.post.Post.{Post}
 use Rattle.wfe_core.proofs.CallFrames.{stays_in_place}
 use Rattle.wfe_core.proofs.Facts.{no_truth_2}
 use Rattle.wfe_core.proofs.Frames.{same, same_along}
 use Rattle.laws.specs.AnswerLaw.{suits}
-use Rattle.wfe_call_any.specs.Stays.{stays}
 use Rattle.wfe_drive_words.specs.Comes.{lent}
 use Rattle.wfe_drive_words.specs.Ran.{Answered, Left, Performs, Ran}
 use Rattle.wfe_drive_words.specs.Readiness.{Settles}

@@ -1,13 +1,13 @@
 -- What a World that a history comes to gives the code of a seat.
+use Rattle.wfe_drive_cells.proofs.Units.{ready_kept}
 use Rattle.std.proofs.Common.{ap, arith, false, subst, sym, true, ℕ, ◌+◌, ◌<◌, ◌^◌, ◌∙◌, ◌≡◌}
 use Rattle.wfe_core.specs.Calls.{CallTurn}
 use Rattle.wfe_core.specs.CallReady.{IsCallPlausible}
-use Rattle.wfe_core.specs.Locals.{Local, after, busy_in, turn}
+use Rattle.wfe_core.specs.Locals.{Local, after, busy_in, stays, turn}
 use Rattle.wfe_core.specs.MayStep.{MayStep}
 use Rattle.wfe_core.specs.World.{World, finds, is_busy}
 use Rattle.laws.specs.AnswerLaw.{suits}
-use Rattle.wfe_call_any.specs.Stays.{stays}
-use Rattle.wfe_drive_cells.specs.Unit.{shown, turned}
+use Rattle.wfe_drive_cells.specs.Unit.{shown, turned, may_adopt}
 use Rattle.law_answers.specs.Heard.{IsCounted}
 use Rattle.law_answers.specs.history.History.{made_of}
 use Rattle.law_answers.proofs.inv.Inv.Reached.{reached_ready}
@@ -16,8 +16,8 @@ use Rattle.law_answers.proofs.AnswersTold.Answering.{Keeps, answers_kept, owes_o
 use Rattle.law_answers.proofs.AnswersTold.Owed.{OutServes}
 use Rattle.law_answers.proofs.Turns.Counted.{histories_count}
 use Rattle.wfe_drive_words.specs.Comes.{Comes, Given, lent}
-use Rattle.wfe_drive_words.specs.Readiness.{MayAsk, MayTake, Settles, may_adopt}
-use Rattle.wfe_drive_words.proofs.Lending.{lent_lone, ready_kept, stays_alone, world}
+use Rattle.wfe_drive_words.specs.Readiness.{MayAsk, MayTake, Settles}
+use Rattle.wfe_drive_words.proofs.Lending.{lent_lone, stays_alone, world}
 
 pub may_step : (l : Local) (c : Comes l) → MayStep (world l c) l.post.seat
 may_step l c = reached_ready l.post.layout c.items l.post.seat c.valid c.below

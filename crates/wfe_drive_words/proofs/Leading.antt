@@ -10,12 +10,12 @@ use Rattle.wfe_core.specs.Posts.{counted}
 use Rattle.wfe_core.specs.Steps.{phase_turn}
 use Rattle.wfe_core.specs.declared.op.Op.{Op}
 use Rattle.wfe_core.specs.declared.post.Post.{Post}
-use Rattle.wfe_drive_cells.specs.Unit.{SeatView, asked, seat_after, shown}
+use Rattle.wfe_drive_cells.specs.Unit.{SeatView, asked, seat_after, shown, may_adopt}
 use Rattle.wfe_drive_words.specs.Called.{Here, LeadsTo, Makes}
 use Rattle.wfe_drive_words.specs.Comes.{Comes, departs, lent}
 use Rattle.wfe_drive_words.specs.Path.{AsksFor, Closes, Leads, StepsOn, left_by, stepped, taken}
 use Rattle.wfe_drive_words.specs.Ran.{Answered, Performs, Ran}
-use Rattle.wfe_drive_words.specs.Readiness.{MayTake, may_adopt}
+use Rattle.wfe_drive_words.specs.Readiness.{MayTake}
 use Rattle.wfe_drive_words.proofs.Groups.{ran_call, ran_stays}
 use Rattle.wfe_drive_words.proofs.Histories.{few_steps}
 use Rattle.wfe_drive_words.proofs.Makes.{Steps, busy_shown, may_ask_at, shown_settled, takes_at, turned_lent}

@@ -5,18 +5,16 @@ use Rattle.wfe_core.specs.defs.declared.lifetime.Lifetime.{Lifetime}
 use Rattle.wfe_core.specs.CallReady.{BackFits, IsCallReady, scan_ready, why_ready}
 use Rattle.wfe_core.specs.Calls.{GiveBack, Idle, Keeping, Phase, ReadGuard, Retires, Runs, ScanAt, Scans, TakeList, Why, Works}
 use Rattle.wfe_core.specs.Desks.{Desk}
-use Rattle.wfe_core.specs.Locals.{Local, busy_in}
+use Rattle.wfe_core.specs.Locals.{Local, busy_in, stays}
 use Rattle.wfe_core.specs.Phases.{Base}
 use Rattle.wfe_core.specs.Phases.Base.{Retire}
 use Rattle.wfe_core.specs.World.{World, gift_at}
 use Rattle.wfe_core.specs.declared.post.Post.{Post}
-use Rattle.wfe_call_any.specs.Stays.{stays}
-use Rattle.wfe_drive_cells.specs.Unit.{kept_desk}
+use Rattle.wfe_drive_cells.specs.Unit.{kept_desk, may_adopt}
 use Rattle.law_answers.specs.history.History.{made_of, world_of}
 use Rattle.law_answers.proofs.AnswersTold.Answering.{Keeps, answers_kept}
 use Rattle.law_answers.proofs.AnswersTold.Owed.{Serves}
 use Rattle.wfe_drive_words.specs.Comes.{Comes, Given, lent}
-use Rattle.wfe_drive_words.specs.Readiness.{may_adopt}
 
 -- the World, and the seat in it
 abbrev pub world : (l : Local) → Comes l → World
@@ -57,19 +55,3 @@ stays_alone l c b s =
     let right = kept.seats l.post.seat in
     let serves : Serves seat.call seat.phase = right.serves (ap (λ (k : Local). busy_in k.phase) c.stands ∙ b) in
     adopts_none l.call l.phase s (subst (λ (k : Local). Serves k.call k.phase) c.stands serves)
-
--- what holds of a desk where a call makes its next step holds of it as code keeps it
-why_kept : (why : Why) (base : Base) (post : Post) (desk : Desk) → why_ready why base post desk → why_ready why base post (kept_desk desk)
-why_kept (Retires answer) (Retire at) post desk h = h
-why_kept (Retires answer) base post desk h = h
-why_kept why base post desk h = h
-
-scan_kept : (at : ScanAt) (post : Post) (desk : Desk) → scan_ready at post desk → scan_ready at post (kept_desk desk)
-scan_kept (ReadGuard number) post desk h = h
-scan_kept (GiveBack place slot) post desk h = let b : BackFits post desk place slot = h.1 in (h.0, record { entry = b.entry; back = b.back })
-
-pub ready_kept : (phase : Phase) (post : Post) (desk : Desk) → IsCallReady phase post desk → IsCallReady phase post (kept_desk desk)
-ready_kept Idle post desk h = h
-ready_kept (Runs why base) post desk h = (h.0, why_kept why base post desk h.1)
-ready_kept (Scans later at) post desk h = (h.0, scan_kept at post desk h.1)
-ready_kept (Works work) post desk h = h

@@ -9,19 +9,18 @@ use Rattle.wfe_core.specs.Calls.{Answers, CallOutcome, CallTurn, GoesOn, Idle, P
 use Rattle.wfe_core.specs.DeskHeld.{Took, desk_of}
 use Rattle.wfe_core.specs.Desks.{Desk, no_notes, noting}
 use Rattle.wfe_core.specs.Frames.{SamePlace}
-use Rattle.wfe_core.specs.Locals.{Local, after, asks, begun, begun_post, busy_in, may_begin, rounds_told, settled_by, told_by, turn}
+use Rattle.wfe_core.specs.Locals.{Local, after, asks, begun, begun_post, busy_in, may_begin, rounds_told, settled_by, stays, told_by, turn}
 use Rattle.wfe_core.specs.Steps.{first_phase}
 use Rattle.wfe_core.specs.declared.desk.Desk.{Desk as HeldDesk}
 use Rattle.wfe_core.specs.declared.op.Op.{Op}
 use Rattle.wfe_core.specs.declared.post.Post.{Post}
 use Rattle.laws.specs.AnswerLaw.{suits}
-use Rattle.wfe_call_any.specs.Stays.{stays}
-use Rattle.wfe_drive_cells.specs.Unit.{Leaves, SeatView, asked, begun_seat, kept_desk, phase_after, seat_left, shown, turned}
+use Rattle.wfe_drive_cells.specs.Unit.{Leaves, SeatView, asked, begun_seat, kept_desk, phase_after, seat_left, shown, turned, may_adopt}
 use Rattle.wfe_drive_cells.proofs.Turns.{leaves}
 use Rattle.wfe_drive_words.specs.Called.{Called, Ends, Here, LeadsTo, Makes, at_phase}
 use Rattle.wfe_drive_words.specs.Comes.{Comes, Given, departs, lent}
 use Rattle.wfe_drive_words.specs.Ran.{Answered, Left, Performs, Ran}
-use Rattle.wfe_drive_words.specs.Readiness.{MayAsk, MayTake, may_adopt}
+use Rattle.wfe_drive_words.specs.Readiness.{MayAsk, MayTake}
 use Rattle.wfe_drive_words.proofs.Groups.{answered_call, left_by, ran_call, ran_stays}
 use Rattle.wfe_drive_words.proofs.Histories.{may_ask, may_take}
 use Rattle.wfe_drive_words.proofs.Lending.{lent_lone}
@@ -41,8 +40,9 @@ abbrev pub Steps : (at_old at_new : Local → Type 0) (op : Op) (n : ℕ) → Ty
 Steps at_old at_new op n = (l : Local) → at_old l → busy_in l.phase ≡ true → op ≡ asks l → (g : Given l n) × at_new (after (lent g) n)
 
 -- the code may make its step
-pub asks_at : (at : Local → Type 0) (seat : SeatView) (op : Op) → Here at seat → busy_in seat.phase ≡ true → op ≡ asked seat → (l : Local) × at l × (busy_in l.phase ≡ true) × (op ≡ asks l)
-asks_at at seat op h b o = (h.local, h.there, busy_shown h.local seat true h.is b, asks_shown h.local seat op h.is o)
+pub asks_at : (at : Local → Type 0) (seat : SeatView) (op : Op) → Here at seat → busy_in seat.phase ≡ true → op ≡ asked seat → (l : Local) × at l × (busy_in l.phase ≡ true) × (op ≡ asks l) × (stays l.call ≡ true)
+asks_at at seat op h b o =
+    let busy : busy_in h.local.phase ≡ true = busy_shown h.local seat true h.is b in (h.local, h.there, busy, asks_shown h.local seat op h.is o, h.staying busy)
 
 pub takes_at : (at_old at_new : Local → Type 0) (seat : SeatView) (op : Op) (n : ℕ) → Here at_old seat → busy_in seat.phase ≡ true → op ≡ asked seat → Steps at_old at_new op n → MayTake seat n
 takes_at at_old at_new seat op n h b o s =

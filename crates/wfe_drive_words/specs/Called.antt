@@ -5,11 +5,10 @@ use Rattle.wfe_core.specs.defs.declared.call.Answer.{Answer}
 use Rattle.wfe_core.specs.defs.declared.call.Call.{Call}
 use Rattle.wfe_core.specs.Calls.{Phase}
 use Rattle.wfe_core.specs.DeskHeld.{desk_of}
-use Rattle.wfe_core.specs.Locals.{Local, begun, busy_in}
+use Rattle.wfe_core.specs.Locals.{Local, begun, busy_in, stays}
 use Rattle.wfe_core.specs.declared.desk.Desk.{Desk as HeldDesk}
 use Rattle.wfe_core.specs.declared.op.Op.{Op}
 use Rattle.wfe_core.specs.declared.post.Post.{Post}
-use Rattle.wfe_call_any.specs.Stays.{stays}
 use Rattle.wfe_drive_cells.specs.Unit.{SeatView, shown}
 use Rattle.wfe_drive_words.specs.Comes.{departs}
 use Rattle.wfe_drive_words.specs.Ran.{Answered, Left}

@@ -5,7 +5,7 @@ use Rattle.wfe_core.specs.CallReady.{IsCallPlausible, IsCallReady, NotesFit}
 use Rattle.wfe_core.specs.Calls.{Answers, GoesOn, Keeping, Phase, TakeList, Works}
 use Rattle.wfe_core.specs.Locals.{Local, after, busy_in, turn}
 use Rattle.wfe_core.specs.Valid.{IsValid}
-use Rattle.wfe_drive_cells.specs.Unit.{SeatView, turned}
+use Rattle.wfe_drive_cells.specs.Unit.{SeatView, may_adopt, turned}
 use Rattle.laws.specs.AnswerLaw.{suits}
 use Rattle.wfe_drive_words.specs.Comes.{Given, lent}
 
@@ -14,11 +14,6 @@ pub record MayAsk (seat : SeatView) : Type 0 where
   pub valid : IsValid seat.post
   pub ready : IsCallReady seat.phase seat.post seat.desk
   pub noted : NotesFit seat.post seat.desk
-
--- the next step takes over another seat's list, where it finds one that was left
-abbrev pub may_adopt : Phase → Bool
-may_adopt (Works (Keeping (TakeList place))) = true
-may_adopt phase = false
 
 -- it may take what was found: that is in range too, no list is taken over, and a step that does not answer leaves the call under way
 pub record MayTake (seat : SeatView) (found : ℕ) : Type 0 where

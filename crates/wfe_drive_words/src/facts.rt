@@ -1,11 +1,10 @@
 // What histories give a seat's code, and what a call leaves of its seat, each law the contract of a
 // function that does nothing.
 ghost use Rattle.std.specs.Prelude.{◌≡◌, List, ℕ, true};
-ghost use Rattle.wfe_core.specs.Locals.{Local, begun, busy_in};
+ghost use Rattle.wfe_core.specs.Locals.{Local, begun, busy_in, stays};
 ghost use Rattle.wfe_core.specs.defs.declared.call.Answer.{Answer};
 ghost use Rattle.wfe_core.specs.defs.declared.call.Call.{Call};
 ghost use Rattle.wfe_core.specs.declared.op.Op.{Op as Operation};
-ghost use Rattle.wfe_call_any.specs.Stays.{stays};
 ghost use Rattle.wfe_drive_cells.specs.Unit.{shown};
 ghost use Rattle.wfe_drive_words.specs.Comes.{Comes, Given};
 ghost use Rattle.wfe_drive_words.specs.Ran.{Answered, Left};

@@ -1,6 +1,6 @@
 // The words of a table in the hands of one seat, so that one loop makes calls on all kinds of them.
 ghost use Rattle.std.specs.Prelude.{◌≡◌, ◌<◌, ◌++◌, ◌∷◌, [], ℕ, List, true, false};
-ghost use Rattle.wfe_core.specs.Locals.{Local, after, asks, begun, busy_in, may_begin};
+ghost use Rattle.wfe_core.specs.Locals.{Local, after, asks, begun, busy_in, may_begin, stays};
 ghost use Rattle.wfe_core.specs.declared.op.Op.{Op as Operation};
 ghost use Rattle.wfe_drive_words.specs.Comes.{Comes, Given, departs, lent};
 
@@ -45,10 +45,12 @@ pub trait Words: Drop {
         ensures stands { (xs : List (Operation × ℕ)) → stands self.old xs → stands self.new xs };
 
     /// Performs the operation that the seat's call asks for, in one atomic step. It answers the
-    /// word before, and 0 for a store.
+    /// word before, and 0 for a store. The seat neither leaves by the call nor takes over what another
+    /// has left: the steps of such calls on place words move a list too, and are the table's own.
     fn perform(&mut self, op: Op) -> u64
         requires valid { valid self.old }
-        requires asks { (l : Local) × at self.old l × (busy_in l.phase ≡ true) × (op ≡ asks l) }
+        requires asks { (l : Local) × at self.old l × (busy_in l.phase ≡ true) × (op ≡ asks l)
+            × (stays l.call ≡ true) }
         ensures valid { valid self.new }
         ensures same { same self.old self.new }
         ensures at { (l : Local) → at self.old l → busy_in l.phase ≡ true → op ≡ asks l

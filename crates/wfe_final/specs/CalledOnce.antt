@@ -3,7 +3,8 @@ use Rattle.std.specs.Prelude.{ℕ, ◌≡◌, ◌<◌, ◌==◌, Bool, true, fal
 use Rattle.std.specs.List.{list_any}
 use Rattle.laws.specs.NoReuse.{NoReuse}
 use Rattle.laws.specs.Once.{Once}
-use Rattle.laws.specs.StateAt.{has_slot, list_of, stands, taken_at}
+use Rattle.laws.specs.Lists.{has_slot, list_of}
+use Rattle.laws.specs.StateAt.{stands, taken_at}
 use Rattle.laws.specs.records.Record.{Past, tells}
 use Rattle.laws.specs.records.Record.Past.{Then}
 use Rattle.wfe_final.specs.defs.Entry.{Entry}

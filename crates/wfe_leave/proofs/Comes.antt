@@ -30,8 +30,8 @@ use Rattle.law_answers.proofs.history.Along.{made_snoc}
 use Rattle.law_answers.proofs.inv.Inv.Kept.{inv_ready}
 use Rattle.law_answers.proofs.inv.Inv.Places.{inv_place_moves, inv_places}
 use Rattle.law_answers.proofs.inv.Inv.Reached.{inv_reached}
-use Rattle.wfe_drive_reached.specs.Reached.{units_left}
-use Rattle.wfe_drive_reached.proofs.Lists.{lists_stay}
+use Rattle.wfe_drive.specs.Reached.{units_left}
+use Rattle.wfe_drive.proofs.Lists.{lists_stay}
 use Rattle.wfe_leave.specs.Comes.{Comes}
 
 -- an item that fits is done

@@ -10,8 +10,8 @@ use Rattle.wfe_core.specs.declared.op.Op.{Op}
 use Rattle.wfe_core.specs.declared.op.Op.TheVariants as ops
 use Rattle.wfe_core.specs.Steps.{call_op}
 use Rattle.wfe_drive_cells.specs.Operations.{performed}
-use Rattle.wfe_drive_reached.specs.Bare.{bare, bare_words, is_place}
-use Rattle.wfe_drive_reached.proofs.Bare.{bare_at, bare_length, number_place}
+use Rattle.wfe_drive.specs.Bare.{bare, bare_words, is_place}
+use Rattle.wfe_drive.proofs.Bare.{bare_at, bare_length, number_place}
 use Rattle.wfe_core.specs.words.Place.Place.{PlaceOf}
 use Rattle.wfe_core.specs.words.declared.config.Config.{Config}
 use Rattle.wfe_core.specs.words.declared.layout.Layout.{Layout}
@@ -20,17 +20,16 @@ use Rattle.wfe_core.specs.defs.declared.call.Call.{Call}
 use Rattle.wfe_core.specs.defs.declared.call.Call.TheVariants as names
 use Rattle.wfe_core.specs.defs.declared.event.Event.{Event}
 use Rattle.wfe_core.specs.Calls.{Keeping, MarkLeft, Phase, Works}
-use Rattle.wfe_core.specs.Locals.{busy_in, may_begin}
+use Rattle.wfe_core.specs.Locals.{busy_in, may_begin, stays}
 use Rattle.wfe_core.specs.Memory.{bump}
 use Rattle.wfe_core.proofs.Facts.{no_truth, number_is}
 use Rattle.wfe_core.proofs.words.Numbers.{number_below}
-use Rattle.wfe_call_any.specs.Stays.{stays}
 use Rattle.wfe_drive_cells.specs.Memory.{HoldsStart}
 use Rattle.wfe_drive_cells.specs.Unit.{IsUnit, SeatView, Shows, TableView, after_start, asked, begun_seat, fresh_seat, is_gone, may_adopt, seat_at, with_seat}
 use Rattle.wfe_drive_cells.proofs.Units.{first-start}
 use Rattle.law_answers.specs.history.History.{world_of}
 use Rattle.law_answers.specs.inv.Places.{is_leaving}
-use Rattle.wfe_drive_reached.specs.Reached.{first_table, units_left}
+use Rattle.wfe_drive.specs.Reached.{first_table, units_left}
 use Rattle.wfe_leave.specs.Comes.{Comes}
 use Rattle.wfe_leave.specs.declared.part.Part.{Part}
 use Rattle.wfe_leave.specs.declared.part.Part.TheVariants.{Marks, Over, Parts, Stays, Takes}

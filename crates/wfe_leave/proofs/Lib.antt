@@ -1,5 +1,5 @@
-pub use Rattle.wfe_drive_reached.proofs.inv as inv
-pub use Rattle.wfe_drive_reached.proofs.history as history
+pub use Rattle.wfe_drive.proofs.inv as inv
+pub use Rattle.wfe_drive.proofs.history as history
 pub use Rattle.wfe_drive_cells.proofs as drive_cells
 pub mod Comes
 pub mod Goes

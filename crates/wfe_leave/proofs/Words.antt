@@ -5,8 +5,8 @@ use Rattle.wfe_core.specs.words.Place.{has, number, words}
 use Rattle.wfe_core.specs.words.Place.Place.{PlaceOf}
 use Rattle.wfe_core.specs.words.declared.layout.Layout.{Layout}
 use Rattle.wfe_core.proofs.words.Numbers.{number_below}
-use Rattle.wfe_drive_reached.specs.Bare.{is_place}
-use Rattle.wfe_drive_reached.proofs.Bare.{number_place}
+use Rattle.wfe_drive.specs.Bare.{is_place}
+use Rattle.wfe_drive.proofs.Bare.{number_place}
 
 -- by the code's setting, and the rig's, which is the same before and after a unit
 pub place_from : (own layout now : Layout) (seat word : ℕ) → own ≡ layout → now ≡ layout → word ≡ number own (PlaceOf seat) → seat < layout.config.seats → is_place now word ≡ true

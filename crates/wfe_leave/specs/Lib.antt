@@ -1,5 +1,5 @@
-pub use Rattle.wfe_drive_reached.specs.inv as inv
-pub use Rattle.wfe_drive_reached.specs.history as history
+pub use Rattle.wfe_drive.specs.inv as inv
+pub use Rattle.wfe_drive.specs.history as history
 pub use Rattle.wfe_drive_cells.specs as drive_cells
 pub use Rattle.wfe_drive.specs as drive
 pub mod Comes

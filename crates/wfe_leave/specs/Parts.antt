@@ -17,9 +17,9 @@ use Rattle.wfe_core.specs.Keep.{not_taken, parting}
 use Rattle.wfe_core.specs.Locals.{busy_in}
 use Rattle.wfe_drive_cells.specs.Operations.{answered, performed}
 use Rattle.wfe_drive_cells.specs.Unit.{IsUnit, SeatView, TableView, after_start, is_gone, may_adopt, seat_at, with_seat}
-use Rattle.wfe_drive_reached.specs.Bare.{bare}
+use Rattle.wfe_drive.specs.Bare.{bare}
 use Rattle.wfe_drive_seat.specs.Leaving.{lets_go, seat_let, told_let, words_let}
-use Rattle.wfe_drive_reached.specs.Leaving.{after_join}
+use Rattle.wfe_drive.specs.Leaving.{after_join}
 use Rattle.wfe_leave.specs.Comes.{Comes}
 use Rattle.wfe_leave.specs.declared.part.Part.{Part}
 use Rattle.wfe_leave.specs.declared.part.Part.TheVariants.{Marks, Over, Parts, Stays, Takes}

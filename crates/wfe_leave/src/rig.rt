@@ -4,7 +4,7 @@ ghost use Rattle.wfe_core.specs.words.Place.{is_valid};
 ghost use Rattle.wfe_core.specs.Locals.{busy_in, may_begin};
 ghost use Rattle.wfe_drive_cells.specs.Memory.{HoldsStart};
 ghost use Rattle.wfe_drive_cells.specs.Unit.{IsUnit, after_start, is_gone, seat_at};
-ghost use Rattle.wfe_drive_reached.specs.Reached.{first_table, units_left};
+ghost use Rattle.wfe_drive.specs.Reached.{first_table, units_left};
 ghost use Rattle.wfe_leave.specs.Parts.{AllStay};
 
 use crate::part::Part;

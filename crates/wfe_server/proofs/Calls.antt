@@ -1,8 +1,7 @@
 -- The calls of a generated trace name no index and no place, so each may begin, and a seat that makes them stays.
 use Rattle.std.proofs.Common.{Bool, ap, false, if◌then◌else◌, refl, true, ℕ, ◌/◌, ◌%◌, ◌∙◌, ◌≡◌}
 use Rattle.std.specs.Prelude.{nat_le, ◌==◌}
-use Rattle.wfe_call_any.specs.Stays.{stays}
-use Rattle.wfe_core.specs.Locals.{may_begin}
+use Rattle.wfe_core.specs.Locals.{may_begin, stays}
 use Rattle.wfe_outside.specs.defs.declared.call.Call.{Call}
 use Rattle.wfe_outside.specs.defs.declared.call.Call.TheVariants as calls
 use Rattle.wfe_server.specs.Turns.{call_of, turn_call, turn_seat, turn_units}

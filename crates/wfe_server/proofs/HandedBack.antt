@@ -5,7 +5,7 @@ use Rattle.wfe_outside.specs.declared.watcher.WatchRow.{WatchRow}
 use Rattle.wfe_server_out.specs.Heard.{Hears, HearsSome, Seen}
 use Rattle.wfe_server_out.specs.Some.{AppendsSome}
 use Rattle.wfe_trace.specs.declared.reason.Status.TheVariants as statuses
-use Rattle.wfe_call_any.specs.Stays.{stays}
+use Rattle.wfe_core.specs.Locals.{stays}
 use Rattle.wfe_server_replay.specs.Given.{IsTaken}
 use Rattle.wfe_server_replay.specs.Sunk.{outside}
 use Rattle.wfe_server_replay.specs.Watched.{watch_text}

@@ -24,7 +24,7 @@ use Rattle.wfe_server_replay.proofs.Units.{layout_made}
 use Rattle.wfe_server_replay.specs.drive.Reached.{IsReached}
 use Rattle.wfe_server_replay.specs.Trace.{why_refused}
 use Rattle.wfe_server.proofs.Staying.{opened_reached, reached_here, started_reached, units_reached}
-use Rattle.wfe_call_any.specs.Stays.{stays}
+use Rattle.wfe_core.specs.Locals.{stays}
 use Rattle.wfe_trace.specs.Body.{IsCommandWithin}
 use Rattle.wfe_server.specs.Generated.{entries_of}
 use Rattle.wfe_server.specs.Tally.{Tells, lines_told}

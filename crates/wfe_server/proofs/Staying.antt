@@ -1,12 +1,11 @@
 -- The table of a generated trace: its seats stay.
 use Rattle.std.proofs.Common.{Bool, ap, ◌∙◌, false, if◌then◌else◌, refl, subst, suc, sym, true, zero, ℕ, ◌<◌, ◌≡◌}
 use Rattle.std.specs.Prelude.{None, not, ◌==◌}
-use Rattle.wfe_call_any.specs.Stays.{stays}
-use Rattle.wfe_core.specs.Locals.{busy_in, may_begin, told_by}
+use Rattle.wfe_core.specs.Locals.{busy_in, may_begin, stays, told_by}
 use Rattle.wfe_outside.specs.defs.declared.call.Call.{Call}
 use Rattle.wfe_server_replay.specs.drive.Reached.{IsReached, first_table}
 use Rattle.wfe_server_replay.specs.drive_cells.Unit.{TableView, after_start, after_unit, answer_in, is_gone, seat_at, unit_turn}
-use Rattle.wfe_drive_reached.proofs.Reached.{first_reached, start_reached, unit_reached}
+use Rattle.wfe_server_replay.proofs.drive.Reached.{first_reached, start_reached, unit_reached}
 use Rattle.wfe_server_replay.specs.Playing.{Played, is_playing, started, unit_made, units_made}
 use Rattle.wfe_server_replay.proofs.Plays.{start_held, valid_of}
 use Rattle.wfe_server.specs.Turns.{setting}

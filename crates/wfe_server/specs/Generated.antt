@@ -1,7 +1,7 @@
 -- What a generated trace comes to, and what is put out of it.
 use Rattle.std.specs.Prelude.{List, ℕ, ◌≡◌}
 use Rattle.std.specs.Io.KnownBytes.{Appends}
-use Rattle.wfe_call_any.specs.Stays.{stays}
+use Rattle.wfe_core.specs.Locals.{stays}
 use Rattle.wfe_outside.specs.defs.declared.command.Command.{Command}
 use Rattle.wfe_outside.specs.defs.Entry.{Entry}
 use Rattle.wfe_server_out.specs.Heard.{Hears, HearsSome, Seen}

@@ -6,7 +6,7 @@ ghost use Rattle.wfe_server_replay.specs.drive.Reached.{first_table};
 ghost use Rattle.wfe_server.specs.Summary.{summary_of};
 ghost use Rattle.wfe_server.specs.Tally.{bare, lines_told};
 ghost use Rattle.wfe_server.specs.Turns.{generated, trace_of};
-ghost use Rattle.wfe_call_any.specs.Stays.{stays};
+ghost use Rattle.wfe_core.specs.Locals.{stays};
 ghost use Rattle.wfe_server_replay.specs.Given.{IsTaken};
 ghost use Rattle.wfe_server.specs.Generated.{Generates, entries_of};
 ghost use Rattle.wfe_outside.specs.Faults.{Rose};

@@ -1,7 +1,6 @@
 // A table that takes the lines of a generated trace.
 ghost use Rattle.std.specs.Prelude.{◌≡◌, ◌<◌, ◌≤◌, [], ◌∷◌, OnOk, OnErr, IfOk, true, false};
-ghost use Rattle.wfe_call_any.specs.Stays.{stays};
-ghost use Rattle.wfe_core.specs.Locals.{may_begin};
+ghost use Rattle.wfe_core.specs.Locals.{may_begin, stays};
 ghost use Rattle.wfe_outside.specs.defs.Entry.{entry};
 ghost use Rattle.wfe_server_replay.specs.drive.Reached.{first_table, units_left};
 ghost use Rattle.wfe_server.specs.Summary.{Counts};

@@ -1,7 +1,6 @@
 -- Scripts whose calls may all begin: the indexes that they name are in their ranges, and they are calls of seats that stay.
 use Rattle.std.specs.Prelude.{All, List, true, ◌≡◌}
-use Rattle.wfe_call_any.specs.Stays.{stays}
-use Rattle.wfe_core.specs.Locals.{may_begin}
+use Rattle.wfe_core.specs.Locals.{may_begin, stays}
 use Rattle.wfe_core.specs.defs.declared.call.Call.{Call}
 use Rattle.wfe_core.specs.words.declared.config.Config.{Config}
 

@@ -1,7 +1,6 @@
 // A worker: one seat with its script.
 ghost use Rattle.std.specs.Prelude.{◌≡◌, ◌<◌, IfOk, OnOk, length, slice_index_or, true};
-ghost use Rattle.wfe_call_any.specs.Stays.{stays};
-ghost use Rattle.wfe_core.specs.Locals.{may_begin};
+ghost use Rattle.wfe_core.specs.Locals.{may_begin, stays};
 ghost use Rattle.wfe_drive_shared.specs.Public.{IsOf};
 ghost use Rattle.wfe_server_run.specs.Fitting.{MayBegin};
 ghost use Rattle.wfe_server_run.specs.Working.{IsCalled, IsWorked};

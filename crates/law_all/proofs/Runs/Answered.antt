@@ -27,7 +27,8 @@ use Rattle.law_logs.specs.Versions.{Counts, counts_of}
 use Rattle.law_logs.specs.laws.AnswerLaw as letter
 use Rattle.law_logs.specs.laws.AnswerLaw.{is_advance, retires_for, suits}
 use Rattle.law_logs.specs.laws.HistoryAnswers.{ClockTally, answer_fits, outcome_fits, plain_clock, retires_ok}
-use Rattle.law_logs.specs.laws.StateAt.{has_told, is_back, is_give, list_of, one, retires_of, times}
+use Rattle.law_logs.specs.laws.Lists.{list_of}
+use Rattle.law_logs.specs.laws.StateAt.{has_told, is_back, is_give, one, retires_of, times}
 use Rattle.law_all.specs.RunLaw.{AnswersLaw, IsCall, IsRight, clock_told, is_allowed, is_due, is_still, retired_by}
 use Rattle.law_all.specs.Runs.{AtRest, logs_of}
 use Rattle.law_all.proofs.Runs.Bare.{none_noted}

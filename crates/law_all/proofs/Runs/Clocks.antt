@@ -21,7 +21,8 @@ use Rattle.law_logs.proofs.laws.Tells.{seen_other, seen_own}
 use Rattle.law_logs.specs.laws.AnswerLaw.{is_advance, retires_for, suits}
 use Rattle.law_logs.specs.laws.HistoryAnswers.{ClockTally, answer_right, answers_ok, no_clock, plain_clock, plain_clock_by, retires_ok}
 use Rattle.law_logs.specs.laws.Standing.{open_ok}
-use Rattle.law_logs.specs.laws.StateAt.{began_of, has_left, is_open, one, opened_by, retires_by, retires_of, told_of}
+use Rattle.law_logs.specs.laws.Lists.{has_left}
+use Rattle.law_logs.specs.laws.StateAt.{began_of, is_open, one, opened_by, retires_by, retires_of, told_of}
 use Rattle.law_all.specs.RunLaw.{retired_by, retired_in}
 use Rattle.law_all.proofs.Runs.Notes.{both_seen, retired_noted}
 

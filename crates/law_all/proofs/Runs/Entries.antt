@@ -29,7 +29,8 @@ use Rattle.law_logs.specs.inv.model.words.Place.{is_valid}
 use Rattle.law_logs.specs.inv.model.words.declared.layout.Layout.{Layout}
 use Rattle.law_logs.proofs.laws.Along.{OfKind, Single, list_own, list_quiet, single_each}
 use Rattle.law_logs.specs.laws.ScanLaw.{is_given_one}
-use Rattle.law_logs.specs.laws.StateAt.{began_of, hands_none, is_dequeue, is_handed, list_of}
+use Rattle.law_logs.specs.laws.Lists.{hands_none, is_handed, list_of}
+use Rattle.law_logs.specs.laws.StateAt.{began_of, is_dequeue}
 use Rattle.law_logs.proofs.inv.Inv.Whole.{covers_of}
 use Rattle.law_logs.proofs.inv.Machines.{is_within, within_of}
 use Rattle.law_logs.proofs.inv.covers.Kept.{before_at}

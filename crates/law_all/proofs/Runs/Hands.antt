@@ -24,7 +24,7 @@ use Rattle.law_logs.specs.inv.history.Record.{Each, Past, Test, tells_of}
 use Rattle.law_logs.specs.inv.history.Record.Past.{Then}
 use Rattle.law_logs.proofs.inv.history.AllOf.{all_of}
 use Rattle.law_logs.proofs.inv.history.Along.{Steady, items_keep}
-use Rattle.law_logs.specs.laws.StateAt.{has_left, list_of}
+use Rattle.law_logs.specs.laws.Lists.{has_left, list_of}
 use Rattle.law_logs.proofs.held.places.answers.Leaving.Told.{is_kept, phase_keeps_lists, told_kept}
 use Rattle.law_logs.proofs.held.reuse.Once.Keeps as once
 use Rattle.law_logs.proofs.held.reuse.Once.Lists.{told_taken}

@@ -21,7 +21,8 @@ use Rattle.law_logs.specs.laws.HistoryHolds.{clears_at, copies_ok, indexes_ok, p
 use Rattle.law_logs.specs.laws.HistoryTable.{is_in_range, ranges_ok}
 use Rattle.law_logs.specs.laws.Standing.{is_copy}
 use Rattle.law_logs.specs.laws.StateAt.RowShows.{LinkedAt, ShowsVersion, Unlinked}
-use Rattle.law_logs.specs.laws.StateAt.{RowShows, began_of, bucket_of, count_of, has_left, has_told, is_open, is_row, shows_of, stood_at, stood_by, told_of}
+use Rattle.law_logs.specs.laws.Lists.{has_left}
+use Rattle.law_logs.specs.laws.StateAt.{RowShows, began_of, bucket_of, count_of, has_told, is_open, is_row, shows_of, stood_at, stood_by, told_of}
 use Rattle.law_logs.specs.inv.history.Record.Past.{Start, Then}
 use Rattle.law_logs.specs.inv.history.Record.{Each, Past, begins, own, tells, told_since}
 use Rattle.law_logs.specs.Answered.{IsRow, IsShown, Says, SaysOfRows}

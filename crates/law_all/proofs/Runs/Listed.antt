@@ -27,7 +27,8 @@ use Rattle.law_logs.specs.laws.HistoryScans.Course.{Plain}
 use Rattle.law_logs.specs.laws.Once.{due_at, due_cut, due_linked, is_adopt, lists_ok, meets_due, order_ok, retiring_ok}
 use Rattle.law_logs.specs.laws.ScanLaw.{guards, is_life_of, is_over, next_back, scan_by, scan_ok}
 use Rattle.law_logs.specs.laws.Standing.{is_leave, open_ok}
-use Rattle.law_logs.specs.laws.StateAt.{Given, adopts, began_of, bucket_at, cuts_of, gained_by, given_of, handed_by, has_left, is_adopted, is_among, is_back, is_dequeue, is_empty, is_open, list_of, read_of, retires_of, scans_of, times, told_of}
+use Rattle.law_logs.specs.laws.Lists.{adopts, gained_by, handed_by, has_left, is_adopted, list_of}
+use Rattle.law_logs.specs.laws.StateAt.{Given, began_of, bucket_at, cuts_of, given_of, is_among, is_back, is_dequeue, is_empty, is_open, read_of, retires_of, scans_of, times, told_of}
 use Rattle.law_logs.proofs.inv.history.Entries.{each_before, each_of_entries}
 use Rattle.law_logs.specs.inv.rows.Hands.{each_once, no_entry}
 use Rattle.law_logs.specs.inv.history.History.{Item, record_of}

@@ -22,7 +22,8 @@ use Rattle.law_logs.specs.laws.AnswerLaw.{adopted_else}
 use Rattle.law_logs.specs.laws.HistoryAnswers.{owes}
 use Rattle.law_logs.specs.laws.Once.{is_adopt, lists_ok}
 use Rattle.law_logs.specs.laws.Standing.{is_leave, open_ok}
-use Rattle.law_logs.specs.laws.StateAt.{adopts, began_of, has_left, is_adopted, is_left, is_open, list_of, one, told, told_of}
+use Rattle.law_logs.specs.laws.Lists.{adopts, has_left, is_adopted, is_left, list_of}
+use Rattle.law_logs.specs.laws.StateAt.{began_of, is_open, one, told, told_of}
 use Rattle.law_logs.specs.inv.history.History.{Item, record_of}
 use Rattle.law_logs.specs.inv.history.Record.{Each, Past, begins, tells}
 use Rattle.law_logs.specs.inv.history.Record.Past.{Start, Then}

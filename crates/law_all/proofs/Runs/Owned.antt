@@ -12,7 +12,8 @@ use Rattle.law_logs.proofs.inv.history.Entries.{each_before}
 use Rattle.law_logs.specs.inv.history.Record.{Each, Past, tells}
 use Rattle.law_logs.specs.inv.history.Record.Past.{Start, Then}
 use Rattle.law_logs.specs.laws.Once.{is_adopt, lists_ok}
-use Rattle.law_logs.specs.laws.StateAt.{adopts, began_of, gained_by, handed_by, has_left, is_adopted, list_by, list_of}
+use Rattle.law_logs.specs.laws.Lists.{adopts, gained_by, handed_by, has_left, is_adopted, list_by, list_of}
+use Rattle.law_logs.specs.laws.StateAt.{began_of}
 
 -- the list that was taken over from a seat: what it was where that was told last
 abbrev pub handed_of : (place : ℕ) → Past → List Lifetime

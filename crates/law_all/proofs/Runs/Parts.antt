@@ -8,7 +8,8 @@ use Rattle.law_logs.specs.inv.model.CallReady.{slots_of}
 use Rattle.law_logs.specs.inv.model.defs.Shown.{Seen, keeps_any}
 use Rattle.law_logs.specs.inv.model.defs.declared.lifetime.Lifetime.{Lifetime}
 use Rattle.law_logs.specs.laws.ScanLaw.{next_back}
-use Rattle.law_logs.specs.laws.StateAt.{is_among, without, without_one}
+use Rattle.law_logs.specs.laws.Lists.{without}
+use Rattle.law_logs.specs.laws.StateAt.{is_among, without_one}
 use Rattle.law_logs.specs.inv.rows.Hands.{each_once, no_entry}
 use Rattle.law_all.specs.RunLaw.{is_part_of, without_all}
 

@@ -6,7 +6,8 @@ use Rattle.law_logs.specs.inv.model.defs.Entry.{Entry}
 use Rattle.law_logs.specs.inv.model.defs.declared.event.Event.{Event}
 use Rattle.law_logs.specs.inv.history.Record.{Past, tells}
 use Rattle.law_logs.specs.inv.history.Record.Past.{Start, Then}
-use Rattle.law_logs.specs.laws.StateAt.{has_left, is_left, one, told}
+use Rattle.law_logs.specs.laws.Lists.{has_left, is_left}
+use Rattle.law_logs.specs.laws.StateAt.{one, told}
 use Rattle.law_all.proofs.Runs.Totals.{own_count}
 
 -- how many seats have left

@@ -14,7 +14,8 @@ use Rattle.law_logs.specs.inv.model.words.declared.layout.Layout.{Layout}
 use Rattle.law_logs.proofs.laws.Tells.{seen_other, seen_own}
 use Rattle.law_logs.specs.laws.HistoryRows.{is_in_hand, is_without, once_ok, places_right, placing_ok}
 use Rattle.law_logs.specs.laws.StateAt.Given.{InHand, Placed, Without}
-use Rattle.law_logs.specs.laws.StateAt.{Given, given_by, given_of, has_slot, list_of, one, taken_at, told}
+use Rattle.law_logs.specs.laws.Lists.{has_slot, list_of}
+use Rattle.law_logs.specs.laws.StateAt.{Given, given_by, given_of, one, taken_at, told}
 use Rattle.law_logs.specs.Ledgers.{Ledger, ledger_by, ledger_of, no_ledger, notes_of}
 use Rattle.law_logs.specs.inv.history.History.{Item, record_of}
 use Rattle.law_logs.specs.inv.history.Record.{Each, Past}

@@ -18,7 +18,8 @@ use Rattle.law_logs.specs.laws.HistoryScans.{Course, Tally, first_course, may_re
 use Rattle.law_logs.specs.laws.HistoryScans.Course.{Advancing, MayScan, MustScan, Plain, Reading}
 use Rattle.law_logs.specs.laws.ScanLaw.{guards, is_given_one, is_life_of, is_over, next_back, scan_by}
 use Rattle.law_logs.specs.laws.Standing.{is_leave}
-use Rattle.law_logs.specs.laws.StateAt.{Given, InHand, Placed, Without, cuts_by, gained_by, given_by, is_dequeue, is_empty, is_scan, opened_by, read_by, retires_by, with_told}
+use Rattle.law_logs.specs.laws.Lists.{gained_by}
+use Rattle.law_logs.specs.laws.StateAt.{Given, InHand, Placed, Without, cuts_by, given_by, is_dequeue, is_empty, is_scan, opened_by, read_by, retires_by, with_told}
 use Rattle.law_logs.proofs.inv.rows.Lists.{once_last}
 use Rattle.law_logs.specs.inv.rows.Hands.{each_once, no_entry}
 use Rattle.law_logs.specs.Ledgers.{Ledger, ledger_by}

@@ -22,7 +22,8 @@ use Rattle.law_logs.specs.laws.HistoryScans.{Course, may_read, moved_course}
 use Rattle.law_logs.specs.laws.HistoryScans.Course.{Advancing, MayScan, MustScan, Plain, Reading}
 use Rattle.law_logs.specs.laws.ScanLaw.{guards, is_given_one, is_life_of, next_back}
 use Rattle.law_logs.specs.laws.Standing.{is_leave}
-use Rattle.law_logs.specs.laws.StateAt.{Given, InHand, Placed, Without, is_dequeue, is_handed, is_left, with_told, without}
+use Rattle.law_logs.specs.laws.Lists.{is_handed, is_left, without}
+use Rattle.law_logs.specs.laws.StateAt.{Given, InHand, Placed, Without, is_dequeue, with_told}
 use Rattle.law_logs.specs.inv.rows.Hands.{each_once}
 use Rattle.law_logs.proofs.Knows.{is_inner}
 use Rattle.law_logs.specs.Ledgers.{left_by}

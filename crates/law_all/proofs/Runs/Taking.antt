@@ -13,7 +13,7 @@ use Rattle.law_logs.specs.inv.model.Steps.{phase_turn}
 use Rattle.law_logs.specs.inv.model.World.{World, finds, offered, told_in}
 use Rattle.law_logs.proofs.inv.model.Facts.{both, first_of, rest_of}
 use Rattle.law_logs.proofs.inv.history.AllOf.{all_of}
-use Rattle.law_logs.specs.laws.StateAt.{hands_none, is_handed}
+use Rattle.law_logs.specs.laws.Lists.{hands_none, is_handed}
 use Rattle.law_logs.proofs.held.places.answers.Leaving.Told.{is_kept, phase_keeps_lists, told_kept}
 
 pub record Takes (told : List Event) : Type 0 where

@@ -13,7 +13,8 @@ use Rattle.law_logs.specs.inv.model.defs.declared.event.Event.{Event}
 use Rattle.law_logs.specs.inv.model.defs.declared.event.Event.TheVariants as events
 use Rattle.law_logs.specs.inv.model.words.declared.config.Config.{Config}
 use Rattle.law_logs.specs.laws.HistoryAnswers.{answer_right}
-use Rattle.law_logs.specs.laws.StateAt.{began_of, has_left, is_open, one, told_of}
+use Rattle.law_logs.specs.laws.Lists.{has_left}
+use Rattle.law_logs.specs.laws.StateAt.{began_of, is_open, one, told_of}
 use Rattle.law_logs.proofs.Knows.{inner_own, is_inner, other_inner, own_log, own_open}
 use Rattle.law_logs.proofs.Ledgers.{ledger_began}
 use Rattle.law_logs.specs.Ledgers.{left_by, log_of, notes_of}

@@ -17,7 +17,7 @@ use Rattle.inv_all.specs.history.Record.Past.{Then}
 use Rattle.inv_all.proofs.history.AllOf.{all_of}
 use Rattle.inv_all.proofs.Machines.{is_within, within_of}
 use Rattle.inv_all.proofs.model.Facts.{first_of, number_is, rest_of}
-use Rattle.laws.specs.StateAt.{has_left}
+use Rattle.laws.specs.Lists.{has_left}
 use Rattle.law_answers.specs.Records.{PlacesSay, RecordPlaces}
 use Rattle.law_answers.proofs.Leaving.Words.{first_placed, step_placed}
 use Rattle.law_answers.proofs.OneStep.Along.{Kept, history_keeps}

@@ -38,7 +38,7 @@ use Rattle.inv_all.proofs.history.AllOf.{all_of, of_along, of_weaker}
 use Rattle.inv_all.proofs.history.MayTell.{base_all, clear_all, work_all}
 use Rattle.inv_all.proofs.history.Passes.{copied_told, keep_told, scan_told, work_told}
 use Rattle.inv_all.proofs.Machines.{is_machine, scan_machine, tells_machine}
-use Rattle.laws.specs.StateAt.{is_handed, is_left}
+use Rattle.laws.specs.Lists.{is_handed, is_left}
 use Rattle.inv_all.specs.model.words.declared.config.SchemeKind.{SchemeKind}
 
 -- a list is neither left nor taken over

@@ -39,7 +39,7 @@ use Rattle.inv_all.proofs.rows.Places.{is_placing, unplaced}
 use Rattle.inv_all.proofs.history.AllOf.{all_of}
 use Rattle.inv_all.specs.history.Record.{Past, tells_of}
 use Rattle.inv_all.specs.history.Record.Past.{Start, Then}
-use Rattle.laws.specs.StateAt.{has_left, is_adopted}
+use Rattle.laws.specs.Lists.{has_left, is_adopted}
 use Rattle.law_answers.specs.Records.{PlacesSay}
 use Rattle.law_answers.proofs.Leaving.Told.{is_kept, phase_keeps_lists, told_kept}
 use Rattle.inv_all.specs.model.World.{World, start, step, is_busy, offered, told_in}

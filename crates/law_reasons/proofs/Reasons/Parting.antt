@@ -13,7 +13,8 @@ use Rattle.law_scans.specs.inv.history.Record.{Past, begins}
 use Rattle.law_scans.specs.inv.history.Record.Past.{Start, Then}
 use Rattle.law_scans.specs.laws.AnswerLaw.{adopt_reason, adopted_else, stayed}
 use Rattle.law_scans.specs.laws.HistoryAnswers.{is_bare_below}
-use Rattle.law_scans.specs.laws.StateAt.{adopts, has_left, is_adopted, stood_at, told_of, with_told}
+use Rattle.law_scans.specs.laws.Lists.{adopts, has_left, is_adopted}
+use Rattle.law_scans.specs.laws.StateAt.{stood_at, told_of, with_told}
 use Rattle.law_reasons.proofs.Full.Since.{held_now}
 
 -- nothing stands at any index

@@ -20,7 +20,8 @@ use Rattle.law_answers.specs.inv.covers.Covers.{is_fresh}
 use Rattle.law_answers.proofs.inv.covers.Fresh.{works_fresh as fresh_work}
 use Rattle.law_answers.specs.inv.history.Record.{Past, Each, tells_of}
 use Rattle.law_answers.specs.inv.history.Record.Past.{Then}
-use Rattle.law_answers.specs.laws.StateAt.{list_of, read_by, read_of, is_scan, scans_of}
+use Rattle.law_answers.specs.laws.Lists.{list_of}
+use Rattle.law_answers.specs.laws.StateAt.{read_by, read_of, is_scan, scans_of}
 use Rattle.law_reuse.proofs.Once.Calm.{is_unread}
 use Rattle.law_reuse.proofs.Once.Desks.{left_desk, left_at, resumed_desk, work_desk, takes_list}
 use Rattle.law_answers.specs.laws.ScanLaw.{is_over, scan_by, scan_ok}

@@ -28,7 +28,8 @@ use Rattle.law_answers.specs.inv.shapes.Seats.{scan_fits}
 use Rattle.law_answers.proofs.inv.shapes.Frame.{seat_stays, seat_steps, begin_stays, begin_begins}
 use Rattle.law_answers.specs.inv.history.Record.{Past, Each, begins, own, tells_of}
 use Rattle.law_answers.specs.inv.history.Record.Past.{Then}
-use Rattle.law_answers.specs.laws.StateAt.{call_of, list_of, without, is_read, is_back, times}
+use Rattle.law_answers.specs.laws.Lists.{list_of, without}
+use Rattle.law_answers.specs.laws.StateAt.{call_of, is_read, is_back, times}
 use Rattle.law_answers.proofs.inv.history.Entries.{entries_of_each}
 use Rattle.law_answers.specs.inv.history.History.{Begins, Steps, Made, done, first_made, record_of}
 use Rattle.law_answers.proofs.inv.history.Along.{Steady, items_keep}

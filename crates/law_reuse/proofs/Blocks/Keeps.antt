@@ -30,7 +30,8 @@ use Rattle.law_answers.specs.inv.history.Record.Past.{Then}
 use Rattle.law_answers.proofs.inv.history.Entries.{entries_of_each}
 use Rattle.law_answers.specs.inv.history.History.{Begins, Steps, Made, done, first_made, record_of}
 use Rattle.law_answers.proofs.inv.history.Along.{Steady, items_keep}
-use Rattle.law_answers.specs.laws.StateAt.{list_of, read_by, read_of, is_scan, scans_of}
+use Rattle.law_answers.specs.laws.Lists.{list_of}
+use Rattle.law_answers.specs.laws.StateAt.{read_by, read_of, is_scan, scans_of}
 use Rattle.law_reuse.proofs.Once.Calm.{is_unread, run_unread, work_unread}
 use Rattle.law_reuse.proofs.Once.Keeps.{Keeps, first_keeps, begin_keeps, step_keeps}
 use Rattle.law_answers.specs.laws.ScanLaw.{scan_by, scan_ok}

@@ -27,7 +27,8 @@ use Rattle.law_answers.proofs.inv.history.Along.{Steady, items_keep}
 use Rattle.law_answers.proofs.inv.history.Entries.{entries_of_each}
 use Rattle.law_answers.specs.laws.Once.{is_adopt, lists_ok}
 use Rattle.law_answers.specs.laws.Standing.{is_leave}
-use Rattle.law_answers.specs.laws.StateAt.{began_of, has_left, is_adopted, list_of}
+use Rattle.law_answers.specs.laws.Lists.{has_left, is_adopted, list_of}
+use Rattle.law_answers.specs.laws.StateAt.{began_of}
 use Rattle.law_answers.proofs.AnswersTold.Answering as answering
 use Rattle.law_answers.proofs.AnswersTold.Owed.{Serves}
 use Rattle.law_answers.proofs.Leaving.Told.{is_kept, phase_keeps_lists, told_kept}

@@ -36,7 +36,8 @@ use Rattle.law_answers.specs.inv.ends.Told.{of_rows, row_events, birth_in, move_
 use Rattle.law_answers.proofs.inv.ends.Told.Rows.{rows_told}
 use Rattle.law_answers.specs.laws.HistoryRows.{once_ok, back_ok}
 use Rattle.law_reuse.specs.Records.{RecordsKeepOnce, RecordsGoBackOnce}
-use Rattle.law_answers.specs.laws.StateAt.{taken_by, taken_at, retired_by, retired_at, list_of, has_slot, cut_by, cut_at, gained_by, is_handed}
+use Rattle.law_answers.specs.laws.Lists.{list_of, has_slot, gained_by, is_handed}
+use Rattle.law_answers.specs.laws.StateAt.{taken_by, taken_at, retired_by, retired_at, cut_by, cut_at}
 use Rattle.law_reuse.specs.Rows.{is_listed, is_cut, Shows, RecordShows}
 use Rattle.law_answers.proofs.laws.Along.{along, along_kind, taken_tells, retired_tells, cut_tells, cut_stays, taken_quiet, retired_quiet, list_quiet, Single, OfKind, single_each}
 use Rattle.law_reuse.proofs.Once.Moves.{taken_made, retired_made, cuts, CutBefore, cut_made, in_has}

@@ -27,7 +27,7 @@ use Rattle.law_answers.specs.inv.model.defs.Events.{is_of_rows}
 use Rattle.law_answers.specs.inv.ends.Told.{birth_in, move_of}
 use Rattle.law_answers.proofs.inv.ends.Told.Rows.{rows_told}
 use Rattle.law_answers.specs.Records.{PlacesSay}
-use Rattle.law_answers.specs.laws.StateAt.{hands_none, is_adopted, is_handed, list_by, list_of}
+use Rattle.law_answers.specs.laws.Lists.{hands_none, is_adopted, is_handed, list_by, list_of}
 use Rattle.law_answers.proofs.Leaving.Told.{is_kept, phase_keeps_lists, told_kept}
 use Rattle.law_answers.proofs.Leaving.Words.{step_placed}
 use Rattle.law_answers.proofs.laws.Along.{along, along_kind, list_quiet, list_stays, list_tells}

@@ -11,7 +11,8 @@ use Rattle.law_answers.specs.inv.rows.Rows.RowMove.{Stays, Claims, Bears, Drops,
 use Rattle.law_answers.proofs.inv.rows.Fits.{MoveFits}
 use Rattle.law_answers.proofs.inv.rows.Made.{passed_taken}
 use Rattle.law_answers.specs.inv.ends.Told.{row_events}
-use Rattle.law_answers.specs.laws.StateAt.{taken_by, retired_by, list_by, without, has_slot}
+use Rattle.law_answers.specs.laws.Lists.{list_by, without, has_slot}
+use Rattle.law_answers.specs.laws.StateAt.{taken_by, retired_by}
 use Rattle.law_reuse.specs.Rows.{is_listed, is_cut}
 use Rattle.law_answers.proofs.laws.Along.{along}
 

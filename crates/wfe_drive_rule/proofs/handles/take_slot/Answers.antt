@@ -6,4 +6,4 @@ use Rattle.wfe_drive_rule.proofs.Slots.{takes_slot}
 use Rattle.wfe_drive_rule.proofs.handles.take_slot.Goals as goal
 
 pub load-requires : goal.load-requires
-load-requires c = (c.requires.ids, some_words _ _ c.requires.sized.words_are, takes_slot _ _ _ _ (step 0 0 0 0 none) c.requires.bare)
+load-requires c = (c.requires.ids, some_words _ _ c.requires.sized.words_are, takes_slot _ _ _ _ (step 0 0 0 0 none) c.requires.bare c.requires.idle c.requires.there)

@@ -7,30 +7,30 @@ use Rattle.wfe_core.specs.Locals.{after as after_step}
 use Rattle.wfe_drive_cells.specs.Unit.{may_adopt}
 use Rattle.wfe_drive_rule.specs.Handles.{IsSeated}
 use Rattle.wfe_drive_rule.specs.Moves.{keeping}
-use Rattle.wfe_drive_rule.specs.Views.{call_in, standing}
+use Rattle.wfe_drive_rule.specs.Views.{call_in, slot_of, standing}
 use Rattle.wfe_drive_rule.proofs.Seated.{first_slot, put_slot, seated_on, stands_on}
 use Rattle.wfe_drive_rule.proofs.steps.step.Goals as goal
 
 pub exchange-requires : goal.exchange-requires
 exchange-requires c = (
   c.perform-found.ensures.ids.0 ∙ c.requires.ids,
-  first_slot c.perform-found.new.handle.me.1 c.args.slot _ (c.perform-found.ensures.slots ∙ c.requires.seated.slots),
+  first_slot c.perform-found.new.handle.me.1 c.args.slot _ _ (c.perform-found.ensures.slots ∙ c.requires.seated.slots),
 )
 
-pub returns-then-first-clause-seated : goal.returns-then-first-clause-seated
-returns-then-first-clause-seated c =
+pub returns-after-exchange-clause-seated : goal.returns-after-exchange-clause-seated
+returns-after-exchange-clause-seated c =
     let after = c.perform-found.new.handle.me in
     subst (IsSeated c.args.table.now.key c.args.slot) (sym c.exchange.ensures.3)
     (seated_on c.args.table.now.key c.args.slot c.perform-found.result c.args.handle.now.me (after.0, (c.args.slot, None) ∷ rest after.1) c.requires.seated c.requires.busy c.perform-found.ensures.told
-    (put_slot after.1 c.args.slot _ None (c.perform-found.ensures.slots ∙ c.requires.seated.slots)))
+    (put_slot after.1 c.args.slot _ None _ (c.perform-found.ensures.slots ∙ c.requires.seated.slots)))
 
 pub returns-else-first-clause-seated : goal.returns-else-first-clause-seated
 returns-else-first-clause-seated c =
-    let slots = c.perform-found.ensures.slots ∙ c.requires.seated.slots ∙ ap (λ (call : Option Call). (c.args.slot, call) ∷ []) (c.requires.later c.if-first.false) in
+    let slots = c.perform-found.ensures.slots ∙ c.requires.seated.slots ∙ ap (λ (call : Option Call). (c.args.slot, slot_of call) ∷ []) (c.requires.later c.if-first.false) in
     seated_on c.args.table.now.key c.args.slot c.perform-found.result c.args.handle.now.me c.perform-found.new.handle.me c.requires.seated c.requires.busy c.perform-found.ensures.told slots
 
-pub returns-then-first-clause-stands : goal.returns-then-first-clause-stands
-returns-then-first-clause-stands c =
+pub returns-after-exchange-clause-stands : goal.returns-after-exchange-clause-stands
+returns-after-exchange-clause-stands c =
     let before = c.args.handle.now.me in
     let after = c.perform-found.new.handle.me in
     subst (λ me. may_adopt (standing before).phase ≡ false → standing me ≡ after_step (keeping (standing before)) c.perform-found.result) (sym c.exchange.ensures.3)

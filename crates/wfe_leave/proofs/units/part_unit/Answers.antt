@@ -1,7 +1,7 @@
 -- Where nothing is left to let go the rig is as before; the word of the place is a place word of the table.
 use Rattle.std.proofs.Common.{Bool, ap, length, ◌∙◌, ◌≡◌}
 use Rattle.wfe_drive_cells.specs.Unit.{TableView}
-use Rattle.wfe_drive_reached.specs.Leaving.{after_clear}
+use Rattle.wfe_drive.specs.Leaving.{after_clear}
 use Rattle.wfe_leave.proofs.Words.{place_from, word_from}
 use Rattle.wfe_leave.proofs.units.part_unit.Goals as goal
 

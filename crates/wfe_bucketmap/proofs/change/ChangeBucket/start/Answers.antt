@@ -3,9 +3,9 @@ use Rattle.wfe_core.specs.Calls.{Changes, Opens, Runs}
 use Rattle.wfe_core.specs.DeskHeld.{desk_of}
 use Rattle.wfe_core.specs.Rounds.{round}
 use Rattle.wfe_core.specs.Phases.Ending.{Protected}
-use Rattle.wfe_call_rounds.specs.iface.Schemes.{round_phases}
-use Rattle.wfe_call_rounds.specs.Rounds.{opening_base, opening_of}
-use Rattle.wfe_call_rounds.proofs.Taken.{starts_at, opens_step, run_ends, steps_along}
+use Rattle.wfe_bucketmap_read.specs.call_rounds.iface.Schemes.{round_phases}
+use Rattle.wfe_bucketmap_read.specs.call_rounds.Rounds.{opening_base, opening_of}
+use Rattle.wfe_bucketmap_read.proofs.call_rounds.Taken.{starts_at, opens_step, run_ends, steps_along}
 use Rattle.wfe_bucketmap.specs.Changes.{kept_of}
 use Rattle.wfe_bucketmap.specs.ChangeStates.{change_phase}
 use Rattle.wfe_bucketmap.proofs.change.ChangeBucket.start.Goals as goal

@@ -3,7 +3,7 @@ use Rattle.wfe_core.specs.Calls.{Changes, Fills}
 use Rattle.wfe_core.specs.Phases.Ending.{Done}
 use Rattle.wfe_slots.specs.Writes.{write_phase}
 use Rattle.wfe_core.specs.DeskHeld.{desk_of}
-use Rattle.wfe_call_rounds.specs.Rounds.{close_at}
+use Rattle.wfe_bucketmap_read.specs.call_rounds.Rounds.{close_at}
 use Rattle.wfe_bucketmap.specs.Changes.{kept_of, next_of}
 use Rattle.wfe_bucketmap.proofs.Turns.{closes_with, closed_with, runs_end}
 use Rattle.wfe_bucketmap.proofs.change.ChangeBucket.step.Goals as goal

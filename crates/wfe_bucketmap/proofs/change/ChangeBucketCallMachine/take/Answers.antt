@@ -5,8 +5,8 @@ use Rattle.wfe_bucketmap.specs.Changes.{kept_of}
 use Rattle.wfe_bucketmap.specs.ChangeStates.{change_phase}
 use Rattle.wfe_bucketmap.proofs.Counts.{change_counted, took_counted}
 use Rattle.wfe_bucketmap.proofs.change.ChangeBucketCallMachine.take.Goals as goal
-use Rattle.wfe_call_rounds.specs.iface.Schemes.{round_phases}
-use Rattle.wfe_call_rounds.proofs.iface.Followed.{bumped}
+use Rattle.wfe_bucketmap_read.specs.call_rounds.iface.Schemes.{round_phases}
+use Rattle.wfe_bucketmap_read.proofs.call_rounds.iface.Followed.{bumped}
 
 pub returns-clause-took : goal.returns-clause-took
 returns-clause-took g c =

@@ -11,28 +11,26 @@ use Rattle.wfe_drive_rule.specs.Views.{own}
 use Rattle.wfe_drive_shared.specs.Calls.{IsMade}
 use Rattle.wfe_drive_shared.specs.Public.{SeatNow}
 use Rattle.wfe_drive_shared.specs.Sound.{IsMet}
+use Rattle.std.proofs.lemmas.Bool.{true≢false}
 use Rattle.wfe_drive_shared.proofs.TableWords.{comes_standing}
 use Rattle.wfe_drive_shared.proofs.Made.{made_by, met_more, over, rests_here, seated_as, still_there}
 use Rattle.wfe_drive_shared.proofs.seat.Seat.make_any.Goals as goal
+
+pub drive_call-answer-requires-clause-valid : goal.drive_call-answer-requires-clause-valid
+drive_call-answer-requires-clause-valid c =
+    let key : c.self.inside.post.layout ≡ c.args.ledger.now.key = sym (ap (λ (v : SeatView). v.post.layout) c.self.invariant.here) ∙ ap (λ (s : SeatNow). s.track.local.post.layout) c.self.view_is ∙ c.requires.layout in
+    record {
+      ids = ap (λ (s : SeatNow). s.table) c.self.view_is ∙ c.requires.table;
+      sized = c.requires.sized;
+      seated = subst (λ (d : Layout). IsSeated d c.self.inside.post.seat c.self.inside.handle.me) key c.self.invariant.seated;
+      comes = comes_standing c.self.inside.post.layout c.self.inside.post.seat c.self.inside.handle.me c.self.invariant.seated;
+      later = λ e. absurd (true≢false e);
+    }
 
 pub drive_call-answer-requires-clause-may : goal.drive_call-answer-requires-clause-may
 drive_call-answer-requires-clause-may c =
     let key : c.self.inside.post.layout ≡ c.args.ledger.now.key = sym (ap (λ (v : SeatView). v.post.layout) c.self.invariant.here) ∙ ap (λ (s : SeatNow). s.track.local.post.layout) c.self.view_is ∙ c.requires.layout in
     subst (λ (d : Layout). may_begin d.config c.args.call ≡ true) (sym key) c.requires.may
-
-pub drive_call-answer-requires-clause-valid : goal.drive_call-answer-requires-clause-valid
-drive_call-answer-requires-clause-valid c =
-    let i = c.self.invariant in
-    let s = c.self.inside in
-    let key : s.post.layout ≡ c.args.ledger.now.key = sym (ap (λ (v : SeatView). v.post.layout) i.here) ∙ ap (λ (seat : SeatNow). seat.track.local.post.layout) c.self.view_is ∙ c.requires.layout in
-    let seated : IsSeated c.args.ledger.now.key s.post.seat s.handle.me = subst (λ (d : Layout). IsSeated d s.post.seat s.handle.me) key i.seated in
-    record {
-      ids = ap (λ (seat : SeatNow). seat.table) c.self.view_is ∙ c.requires.table;
-      sized = c.requires.sized;
-      seated = seated;
-      comes = comes_standing c.args.ledger.now.key s.post.seat s.handle.me seated;
-      later = λ e. absurd (cc);
-    }
 
 pub drive_call-answer-requires-clause-here : goal.drive_call-answer-requires-clause-here
 drive_call-answer-requires-clause-here c =

@@ -6,7 +6,7 @@ use Rattle.wfe_server.proofs.Going.{told_err, told_ok}
 use Rattle.wfe_server.proofs.Bare.{unit_after}
 use Rattle.wfe_server.specs.Summary.{Counts}
 use Rattle.wfe_server_out.specs.Heard.{Gains}
-use Rattle.wfe_drive_reached.proofs.Reached.{unit_reached}
+use Rattle.wfe_server_replay.proofs.drive.Reached.{unit_reached}
 use Rattle.wfe_server.proofs.table.Table.unit.Goals as goal
 
 pub returns-clause-err : goal.returns-clause-err

@@ -1,0 +1,15 @@
+//! Which records are good: what is judged of a record by itself, without the history that made it. No history is named here.
+//! Each function does nothing, and carries a theorem.
+#![tactic(auto)]
+
+ghost use Rattle.laws_good.specs.Good.{CutsAreGood, LawfulIsGood};
+
+/// A good record that is cut after any entry is good.
+pub fn cuts_are_good()
+    ensures { CutsAreGood }
+{}
+
+/// A record that keeps all laws is good, by the laws of the versions from 2 on: so the record of each history is.
+pub fn lawful_is_good()
+    ensures { LawfulIsGood }
+{}

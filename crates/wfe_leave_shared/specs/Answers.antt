@@ -1,0 +1,10 @@
+-- What came of taking over a list, as the answer of a call.
+use Rattle.wfe_drive_shared.specs.history.defs.declared.call.Answer.{Answer}
+use Rattle.wfe_drive_shared.specs.history.defs.declared.call.Answer.TheVariants as answers
+use Rattle.wfe_leave_shared.specs.declared.calls.AdoptEnd.{AdoptEnd}
+use Rattle.wfe_leave_shared.specs.declared.calls.AdoptEnd.TheVariants as adopts
+
+abbrev pub adopt_answer : AdoptEnd → Answer
+adopt_answer (adopts.Adopted count) = answers.Adopted count
+adopt_answer adopts.NotLeft = answers.NotLeft
+adopt_answer adopts.AdoptedBefore = answers.AdoptedBefore

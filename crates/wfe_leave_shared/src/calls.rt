@@ -1,0 +1,46 @@
+// The calls of threads that come and go, each with what its caller is given. A call takes no memory and
+// never waits.
+ghost use Rattle.std.specs.Prelude.{◌≡◌, ◌<◌, length};
+ghost use Rattle.wfe_drive_shared.specs.Calls.{IsMade};
+ghost use Rattle.wfe_drive_shared.specs.Public.{IsOf};
+ghost use Rattle.wfe_drive_shared.specs.history.defs.declared.call.Answer.TheVariants as answers;
+ghost use Rattle.wfe_drive_shared.specs.history.defs.declared.call.Call.TheVariants as calls;
+ghost use Rattle.wfe_leave_shared.specs.Answers.{adopt_answer};
+
+use wfe_drive_shared::{LeftSeat, Seat, Shared};
+
+/// What came of taking over the list of a seat.
+#[derive(Clone, Copy, Debug, PartialEq, Eq)]
+pub enum AdoptEnd {
+    /// So many rows were on it, which are on the adopter's list now.
+    Adopted { count: u32 },
+    /// That seat had not left.
+    NotLeft,
+    /// That seat's list had been taken over.
+    AdoptedBefore,
+}
+
+/// The seat leaves its table: it lets go of all that stands at its indexes, and its list of retired rows
+/// stays with the table, where another seat may adopt it.
+pub fn leave(shared: &Shared, seat: Seat) -> LeftSeat
+    requires of { IsOf seat shared.now }
+    ensures of { IsOf result shared.now }
+    ensures made { IsMade shared.now.layout seat result calls.Leave (answers.Left (length seat.track.local.desk.list)) }
+{
+    shared.set_place(seat)
+}
+
+/// Takes over the list that the seat of this number has left, whole, if no seat has taken it over before:
+/// it comes after the rows that are on the seat's own list.
+pub fn adopt(shared: &Shared, seat: &mut Seat, place: u32) -> AdoptEnd
+    requires of { IsOf seat.old shared.now }
+    requires place { place < shared.now.layout.config.seats }
+    ensures of { IsOf seat.new shared.now }
+    ensures made { IsMade shared.now.layout seat.old seat.new (calls.Adopt place) (adopt_answer result) }
+{
+    match shared.take_place(seat, place) {
+        Ok(count) => AdoptEnd::Adopted { count },
+        Err(0) => AdoptEnd::NotLeft,
+        Err(_) => AdoptEnd::AdoptedBefore,
+    }
+}

@@ -1,0 +1,12 @@
+//! Seats of a shared table that leave, and seats that take over what others have left.
+#![tactic(auto)]
+
+mod calls;
+
+pub use calls::{AdoptEnd, adopt, leave};
+pub use wfe_drive_shared::{
+    Answer, BucketRow, Call, ClockMove, CloseError, CloseLeftError, Closed, Config, Done, Empty,
+    EnqueueRefusal, Got, Layout, LeftSeat, Lifetime, Looked, MakeError, Notes, PutIfRefusal,
+    PutRefusal, Queued, RemoveRefusal, RetireList, ScanReport, Scanned, SchemeKind, Seat, Shared,
+    Taken,
+};

@@ -1,0 +1,155 @@
+// The events of a record.
+ghost use Rattle.std.specs.Prelude.{◌≡◌, ℕ, option_map, IfSome, Some};
+ghost use Rattle.wfe_defs.specs.declared.event.Event.{Event as AnyEvent};
+ghost use Rattle.wfe_trace.specs.Words.{words};
+ghost use Rattle.wfe_record_words.specs.Within.{Small};
+ghost use Rattle.wfe_record.specs.Entry.{IsEntry};
+ghost use Rattle.wfe_record.specs.Reader.{event as event_of, event_by, entry as entry_of, entry_in as entry_by, row_event_by, standing_event_by};
+
+use wfe_defs::Event;
+use wfe_record_answers::read_answer;
+use wfe_record_calls::read_call;
+use wfe_record_contents::read_contents;
+use wfe_record_words::{Words, since};
+use wfe_words::Config;
+
+// An event of a protection, or one of those that follow.
+#[tactic(auto, unfolding(crate::specs::Reader::standing_event_by))]
+fn standing_event(name: &[u8], line: &mut Words<'_>, version: u32, config: &Config) -> Option<Event>
+    ensures { option_map (λ event. (event, line.new)) result ≡ standing_event_by version config.now name.now line.old }
+{
+    if name == b"held".as_slice() {
+        Some(Event::Held {
+            index: line.index(config)?,
+            slot: line.slot(config)?,
+            steps: line.long()?,
+        })
+    } else if name == b"null".as_slice() {
+        Some(Event::Null {
+            index: line.index(config)?,
+            steps: line.long()?,
+        })
+    } else if name == b"clear".as_slice() {
+        Some(Event::Clear {
+            index: line.index(config)?,
+            slot: line.slot(config)?,
+        })
+    } else if name == b"copied".as_slice() {
+        since(2, version)?;
+        Some(Event::Copied {
+            from: line.index(config)?,
+            index: line.index(config)?,
+            slot: line.slot(config)?,
+        })
+    } else {
+        read_contents(name, line, version, config)
+    }
+}
+
+// An event of a row, or one of those that follow.
+#[tactic(auto, unfolding(crate::specs::Reader::row_event_by))]
+fn row_event(name: &[u8], line: &mut Words<'_>, version: u32, config: &Config) -> Option<Event>
+    ensures { option_map (λ event. (event, line.new)) result ≡ row_event_by version config.now name.now line.old }
+{
+    if name == b"give".as_slice() {
+        Some(Event::Give {
+            slot: line.slot(config)?,
+            birth: line.short()?,
+        })
+    } else if name == b"unused".as_slice() {
+        Some(Event::Unused {
+            slot: line.slot(config)?,
+        })
+    } else if name == b"link".as_slice() {
+        Some(Event::Link {
+            root: line.root(config)?,
+            slot: line.slot(config)?,
+        })
+    } else if name == b"cut".as_slice() {
+        Some(Event::Cut {
+            slot: line.slot(config)?,
+        })
+    } else if name == b"retire".as_slice() {
+        Some(Event::Retire {
+            slot: line.slot(config)?,
+            birth: line.short()?,
+            retire: line.short()?,
+        })
+    } else if name == b"back".as_slice() {
+        Some(Event::Back {
+            slot: line.slot(config)?,
+        })
+    } else {
+        standing_event(name, line, version, config)
+    }
+}
+
+// An event of a call, of the clock or of a guard, or one of those that follow.
+#[tactic(auto, unfolding(crate::specs::Reader::event_by))]
+fn call_event(name: &[u8], line: &mut Words<'_>, version: u32, config: &Config) -> Option<Event>
+    ensures { option_map (λ event. (event, line.new)) result ≡ event_by version config.now name.now line.old }
+{
+    if name == b"begin".as_slice() {
+        Some(Event::Begin {
+            call: read_call(line, version, config)?,
+        })
+    } else if name == b"end".as_slice() {
+        Some(Event::End {
+            steps: line.long()?,
+            answer: read_answer(line, version, config)?,
+        })
+    } else if name == b"era".as_slice() {
+        Some(Event::Era { era: line.short()? })
+    } else if name == b"reserve".as_slice() {
+        Some(Event::Reserve {
+            guard: line.guard(config)?,
+            span: line.span()?,
+        })
+    } else if name == b"read".as_slice() {
+        Some(Event::Read {
+            guard: line.guard(config)?,
+            span: line.span()?,
+        })
+    } else {
+        row_event(name, line, version, config)
+    }
+}
+
+fn event(line: &mut Words<'_>, version: u32, config: &Config) -> Option<Event>
+    ensures { option_map (λ event. (event, line.new)) result ≡ event_of version config.now line.old }
+{
+    let name = line.first()?;
+    call_event(name, line, version, config)
+}
+
+fn entry(line: &mut Words<'_>, version: u32, config: &Config) -> Option<(u32, Event)>
+    ensures { option_map (λ entry. (entry, line.new)) result ≡ entry_of version config.now line.old }
+{
+    let seat = line.seat(config)?;
+    let event = event(line, version, config)?;
+    Some((seat, event))
+}
+
+fn entry_in(bytes: &[u8], version: u32, config: &Config) -> Option<(u32, Event)>
+    ensures { result ≡ entry_by version config.now (words bytes.now) }
+{
+    let mut line = Words::of(bytes);
+    let entry = entry(&mut line, version, config)?;
+    if line.is_over() { Some(entry) } else { None }
+}
+
+// The numbers of a setting have 32 bits.
+fn setting_is_small(config: Config)
+    ensures { Small config }
+{}
+
+/// The seat and the event of a line of a record of the version and with the setting: of the line
+/// without its line feed. Some exactly where the line is that of an event which such a record may
+/// have, of one of its seats, with indexes, slots, buckets and places in their ranges.
+pub fn read_event(bytes: &[u8], version: u32, config: &Config) -> Option<(u32, Event)>
+    ensures read { IfSome result (λ entry. IsEntry version config.now bytes.now entry.0 entry.1) }
+    ensures known { (seat : ℕ) (event : AnyEvent) → IsEntry version config.now bytes.now seat event → result ≡ Some (seat, event) }
+{
+    setting_is_small(*config);
+    entry_in(bytes, version, config)
+}

@@ -1,0 +1,6 @@
+pub mod Cuts
+pub mod Found
+pub mod Joined
+pub mod Lines
+pub mod Parts
+pub mod Plain
