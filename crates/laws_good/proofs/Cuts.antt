@@ -14,7 +14,7 @@ tells-both : (p : Past) (xs ys : List Entry) → tells p (xs ++ ys) ≡ tells (t
 tells-both p [] ys = refl
 tells-both p (x ∷ xs) ys = tells-both (Past.Then p x.seat x.event) xs ys
 
-held_cut : (config : Config) (p : Past) (later : List Entry) → HeldThroughout config (tells p later) → HeldThroughout config p
+pub held_cut : (config : Config) (p : Past) (later : List Entry) → HeldThroughout config (tells p later) → HeldThroughout config p
 held_cut config p later h before more k j s cut stands = h before (more ++ later) k j s (ap (λ q. tells q later) cut ∙ sym (tells-both before more later)) stands
 
 pub cuts_good : CutsAreGood

@@ -1,1 +1,3 @@
+pub mod Fits
 pub mod Good
+pub mod Ranges

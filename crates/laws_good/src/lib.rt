@@ -2,6 +2,7 @@
 //! Each function does nothing, and carries a theorem.
 #![tactic(auto)]
 
+ghost use Rattle.laws_good.specs.Fits.{BlankIsGood, GoodGrows};
 ghost use Rattle.laws_good.specs.Good.{CutsAreGood, LawfulIsGood};
 
 /// A good record that is cut after any entry is good.
@@ -12,4 +13,14 @@ pub fn cuts_are_good()
 /// A record that keeps all laws is good, by the laws of the versions from 2 on: so the record of each history is.
 pub fn lawful_is_good()
     ensures { LawfulIsGood }
+{}
+
+/// The record of no entry is good.
+pub fn blank_is_good()
+    ensures { BlankIsGood }
+{}
+
+/// A record with one entry more is good exactly where it was good and the entry meets each test at its position.
+pub fn good_grows()
+    ensures { GoodGrows }
 {}

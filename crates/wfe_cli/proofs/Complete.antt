@@ -34,6 +34,8 @@ complete_in makes seen statuses.Done watched bytes left old new p replays good r
 complete_in makes seen statuses.Usage watched bytes left old new p replays good reads writes = absurd replays.2
 complete_in makes seen (statuses.BadTrace line reason) watched bytes left old new p (taken, consumed, refused) good reads writes =
     absurd (never_bad makes seen watched bytes taken left old new p (record { line = line; reason = reason }) good consumed refused)
+complete_in makes seen (statuses.Unlawful line) watched bytes left old new p replays good reads writes = absurd replays.2
+complete_in makes seen (statuses.BadRecord line reason) watched bytes left old new p replays good reads writes = absurd replays.2
 complete_in makes seen statuses.ReadFault watched bytes left old new p replays good reads writes = absurd (reads refl)
 complete_in makes seen statuses.WriteFault watched bytes left old new p replays good reads writes = absurd (writes refl)
 complete_in makes seen statuses.NoMemory watched bytes left old new p replays good reads writes = inr refl

@@ -84,6 +84,8 @@ promised makes seen (statuses.BadTrace line reason) watched taken left old new r
       heard = heard_all seen old.watchers new.watchers (partial_out (all_lines makes taken)) (Text (bad_text line reason) ∷ []) (entries_in (all_lines makes taken)) refl (told_in (all_lines makes taken) laws) r.put.heard;
       laws = laws;
     }
+promised makes seen (statuses.Unlawful line) watched taken left old new h = h
+promised makes seen (statuses.BadRecord line reason) watched taken left old new h = h
 promised makes seen statuses.ReadFault watched taken left old new r =
     let laws : AreLawful (closed_lines makes taken) = lawful_in makes (closed_lines makes taken) r.are_taken in
     record { cut_off = r; heard = heard_lines seen old.watchers new.watchers (partial_out (closed_lines makes taken)) (entries_in (closed_lines makes taken)) (told_in (closed_lines makes taken) laws) r.put.heard; laws = laws }

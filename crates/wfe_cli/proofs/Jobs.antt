@@ -13,6 +13,7 @@ use Rattle.wfe_trace.specs.declared.reason.Status.TheVariants as statuses
 use Rattle.wfe_server.specs.server_replay.Replay.{Replays}
 use Rattle.wfe_server.specs.server_replay.Sunk.{Outside}
 use Rattle.wfe_server_run.specs.Runs.{Runs}
+use Rattle.wfe_check.specs.lines.Verdicts.{Checks}
 use Rattle.wfe_cli.specs.Command.{Does}
 use Rattle.wfe_cli.specs.Headline.{Keeps, Summarizes}
 use Rattle.wfe_cli.proofs.Headline.{broken_of, summarizes_of}
@@ -36,11 +37,22 @@ pub runs_as : (makes : Call → Bool) {W : Type 0} (seen : Seen W) (job : Job) (
     Some job ≡ a → a ≡ Some jobs.Run → Does makes seen job status watched before left old new → Runs seen status watched before left old new
 runs_as makes seen job a status watched before left old new e h does = rw (job_is job jobs.Run a e h) at does
 
+pub checks_as : (makes : Call → Bool) {W : Type 0} (seen : Seen W) (job : Job) (a : Option Job) (status : Status) (watched : List ℕ) (before left : Option (List ℕ)) (old new : Outside W) →
+    Some job ≡ a → a ≡ Some jobs.Check → Does makes seen job status watched before left old new → Checks status before left old.written new.written
+checks_as makes seen job a status watched before left old new e h does = rw (job_is job jobs.Check a e h) at does
+
+pub untold_by : (job : Job) (a : Option Job) {X : Type 0} → Some job ≡ a → a ≡ Some jobs.Check → (job ≡ jobs.Check → X) → X
+untold_by job a e h x = x (job_is job jobs.Check a e h)
+
 -- a job that reads nothing
-pub unread_by : (job : Job) (a : Option Job) {X : Type 0} → Some job ≡ a → (a ≡ Some jobs.Replay → ⊥) → (a ≡ Some jobs.Run → ⊥) → ((seed turns : ℕ) → job ≡ jobs.Generate seed turns → X) → X
-unread_by jobs.Replay a e replays runs x = absurd (replays (sym e))
-unread_by jobs.Run a e replays runs x = absurd (runs (sym e))
-unread_by (jobs.Generate seed turns) a e replays runs x = x seed turns refl
+pub unread_by : (job : Job) (a : Option Job) {X : Type 0} → Some job ≡ a → (a ≡ Some jobs.Replay → ⊥) → (a ≡ Some jobs.Run → ⊥) → (a ≡ Some jobs.Check → ⊥) → ((seed turns : ℕ) → job ≡ jobs.Generate seed turns → X) → X
+unread_by jobs.Replay a e replays runs checks x = absurd (replays (sym e))
+unread_by jobs.Run a e replays runs checks x = absurd (runs (sym e))
+unread_by jobs.Check a e replays runs checks x = absurd (checks (sym e))
+unread_by (jobs.Generate seed turns) a e replays runs checks x = x seed turns refl
+
+pub nothing_checked : (left written : Option (List ℕ)) → Checks statuses.NoMemory left left written written
+nothing_checked left written = ([], Consumes-nil left, inr (inr (refl, refl)))
 
 pub nothing_run : {W : Type 0} (seen : Seen W) (watched : List ℕ) (left : Option (List ℕ)) (out : Outside W) → Runs seen statuses.NoMemory watched left left out out
 nothing_run seen watched left out = ([], Consumes-nil left, inr refl)

@@ -2,6 +2,7 @@
 use Rattle.wfe_server_out.specs.Heard.{Seen}
 use Rattle.std.specs.Prelude.{Bool, true, ◌≡◌, ◌≤◌, ◌⊎◌, ℕ, List, Option, Some, Ok, codes}
 use Rattle.std.specs.Io.KnownBytes.{Appends}
+use Rattle.wfe_check.specs.lines.Verdicts.{Checks}
 use Rattle.wfe_cli_job.specs.Jobs.{most_turns}
 use Rattle.wfe_cli_job.specs.declared.job.Job.{Job}
 use Rattle.wfe_cli_job.specs.declared.job.Job.TheVariants as jobs
@@ -24,17 +25,19 @@ made_calls call = true
 abbrev pub Allowed : Job → Type 0
 Allowed jobs.Replay = Unit {0}
 Allowed jobs.Run = Unit {0}
+Allowed jobs.Check = Unit {0}
 Allowed (jobs.Generate seed turns) = turns ≤ most_turns
 
 -- what a job does
 abbrev pub Does : (makes : Call → Bool) → {W : Type 0} → Seen W → Job → Status → (watched : List ℕ) → Option (List ℕ) → Option (List ℕ) → Outside W → Outside W → Type 0
 Does makes seen jobs.Replay status watched before left old new = Replays makes seen status watched before left old new
 Does makes seen jobs.Run status watched before left old new = Runs seen status watched before left old new
+Does makes seen jobs.Check status watched before left old new = Checks status before left old.written new.written
 Does makes seen (jobs.Generate seed turns) status watched before left old new = Generates seen status seed turns watched old new
 
 -- the line that lists the commands
 abbrev pub usage_line : List ℕ
-usage_line = codes "usage: wfe replay | run | gen SEED N\n"
+usage_line = codes "usage: wfe replay | run | gen SEED N | check\n"
 
 -- the words are no command: the usage line was written, or a part of it and the sink failed, or memory ran out before
 abbrev pub Refuses : Status → Option (List ℕ) → Option (List ℕ) → Type 0
@@ -56,8 +59,10 @@ IsComplete makes status left read_rose write_rose =
 -- the number with which the program ends
 abbrev pub status_number : Status → ℕ
 status_number statuses.Done = 0
+status_number (statuses.Unlawful line) = 1
 status_number statuses.Usage = 2
 status_number (statuses.BadTrace line reason) = 3
 status_number statuses.ReadFault = 4
 status_number statuses.WriteFault = 5
 status_number statuses.NoMemory = 6
+status_number (statuses.BadRecord line reason) = 7

@@ -65,6 +65,8 @@ abbrev pub Promises : (makes : Call → Bool) → {W : Type 0} → Seen W → St
 Promises makes seen statuses.Done watched taken left old new = IsDone makes seen watched taken left old new
 Promises makes seen statuses.Usage watched taken left old new = ⊥
 Promises makes seen (statuses.BadTrace line reason) watched taken left old new = IsBad makes seen taken left old new (record { line = line; reason = reason })
+Promises makes seen (statuses.Unlawful line) watched taken left old new = ⊥
+Promises makes seen (statuses.BadRecord line reason) watched taken left old new = ⊥
 Promises makes seen statuses.ReadFault watched taken left old new = IsUnread makes seen taken old new
 Promises makes seen statuses.WriteFault watched taken left old new = IsBroken makes seen watched taken left old new
 Promises makes seen statuses.NoMemory watched taken left old new = IsBroken makes seen watched taken left old new

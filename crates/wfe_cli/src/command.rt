@@ -1,6 +1,7 @@
 // The commands of the program, over any source and sink.
 ghost use Rattle.wfe_server_out.specs.Heard.{boxed};
 ghost use Rattle.std.specs.Prelude.{◌≡◌, ◌≢◌, ◌≤◌, Bool, ℕ, None, Some, map, string_bytes};
+ghost use Rattle.wfe_check.specs.lines.Verdicts.{Checks, IsAnswered};
 ghost use Rattle.wfe_cli.specs.Command.{Allowed, Does, IsComplete, IsGenerated, Refuses, made_calls, status_number};
 ghost use Rattle.wfe_cli.specs.Headline.{GivenLawful, Keeps, Summarizes};
 ghost use Rattle.wfe_cli_job.specs.Jobs.{asked};
@@ -12,6 +13,7 @@ ghost use Rattle.wfe_server_run.specs.Runs.{IsComplete as IsRunWhole, Runs as Ru
 
 use std::alloc::Global;
 use std::thread::Threads;
+use wfe_check::check;
 use wfe_cli_job::{Job, job_of};
 use wfe_drive_table::TableCells;
 use wfe_leave::LeaveRig;
@@ -25,7 +27,7 @@ use wfe_trace::Status;
 type Table = LeaveRig<TableCells>;
 
 // The line that lists the commands.
-const USAGE: &[u8] = b"usage: wfe replay | run | gen SEED N\n";
+const USAGE: &[u8] = b"usage: wfe replay | run | gen SEED N | check\n";
 
 // Writes the line that lists the commands.
 fn refuse<K: Sink>(sink: &mut K) -> Status
@@ -52,12 +54,14 @@ fn perform<R: Threads + Sync, S: Source, K: Sink>(
     requires { Allowed job }
     ensures does { Does made_calls (boxed stands) job result (watch_text shown shows watchers.new.items) (S.left source.old) (S.left source.new) (outside (K.written sink.old) watchers.old.items) (outside (K.written sink.new) watchers.new.items) }
     ensures unread { (seed turns : ℕ) → job ≡ Job.Generate seed turns → source.new ≡ source.old }
+    ensures unheard { job ≡ Job.Check → watchers.new ≡ watchers.old }
     ensures source { S.faults source.old ≤ S.faults source.new }
     ensures sink { K.faults sink.old ≤ K.faults sink.new }
     ensures read { result ≡ Status.ReadFault → Rose S.may_stand (S.faults source.old) (S.faults source.new) }
     ensures write { result ≡ Status.WriteFault → Rose K.may_stand (K.faults sink.old) (K.faults sink.new) }
 {
     match job {
+        Job::Check => check(alloc, source, sink),
         Job::Replay => replay::<Table, S, K>(alloc, source, sink, watchers),
         Job::Run => run(rt, alloc, &OpenGate, source, sink, watchers),
         Job::Generate { seed, turns } => generate::<Table, K>(alloc, seed, turns, sink, watchers),
@@ -67,8 +71,9 @@ fn perform<R: Threads + Sync, S: Source, K: Sink>(
 /// Does what the words after the program's name say. `replay` reads a trace from the source, and
 /// prints its record to the sink. `run` reads a trace, makes each seat's calls on a thread of its own,
 /// and prints what came of them. `gen` makes the trace of a seed and a number of turns, and prints its
-/// summary. Any other words are answered by the line that lists the commands. Nothing is read but by
-/// `replay` and `run`.
+/// summary. `check` reads a record, and says in one line whether it is lawful, or which line is the first
+/// that is bad or is not lawful. Any other words are answered by the line that lists the commands. Nothing
+/// is read but by `replay`, `run` and `check`.
 pub fn main_call<R: Threads + Sync, S: Source, K: Sink>(
     rt: &R,
     alloc: Global,
@@ -82,14 +87,18 @@ pub fn main_call<R: Threads + Sync, S: Source, K: Sink>(
     ensures lawful { (makes : Call → Bool) → GivenLawful makes }
     ensures runs { asked (map string_bytes words.now) ≡ Some Job.Run → RunsTrace (boxed stands) result (watch_text shown shows watchers.new.items) (S.left source.old) (S.left source.new) (outside (K.written sink.old) watchers.old.items) (outside (K.written sink.new) watchers.new.items) }
     ensures generates { (seed turns : ℕ) → asked (map string_bytes words.now) ≡ Some (Job.Generate seed turns) → Summarizes (boxed stands) result seed turns (watch_text shown shows watchers.new.items) (outside (K.written sink.old) watchers.old.items) (outside (K.written sink.new) watchers.new.items) }
+    ensures checks { asked (map string_bytes words.now) ≡ Some Job.Check → Checks result (S.left source.old) (S.left source.new) (K.written sink.old) (K.written sink.new) }
     ensures refuses { asked (map string_bytes words.now) ≡ None → Refuses result (K.written sink.old) (K.written sink.new) }
-    ensures unread { asked (map string_bytes words.now) ≢ Some Job.Replay → asked (map string_bytes words.now) ≢ Some Job.Run → source.new ≡ source.old }
+    ensures unread { asked (map string_bytes words.now) ≢ Some Job.Replay → asked (map string_bytes words.now) ≢ Some Job.Run → asked (map string_bytes words.now) ≢ Some Job.Check → source.new ≡ source.old }
     ensures unheard { asked (map string_bytes words.now) ≡ None → watchers.new ≡ watchers.old }
+    ensures untold { asked (map string_bytes words.now) ≡ Some Job.Check → watchers.new ≡ watchers.old }
 
-    // A trace in the grammar is replayed or run whole, and a generated one is summarized, but for a fault of the source or the sink, and for want of memory.
+    // A trace in the grammar is replayed or run whole, a generated one is summarized, and the verdict on a record is written, but for a fault of the source or the sink, and for want of memory.
     ensures complete { asked (map string_bytes words.now) ≡ Some Job.Replay → IsComplete made_calls result (S.left source.old) (Rose S.may_stand (S.faults source.old) (S.faults source.new)) (Rose K.may_stand (K.faults sink.old) (K.faults sink.new)) }
     ensures run_whole { asked (map string_bytes words.now) ≡ Some Job.Run → IsRunWhole result (S.left source.old) (Rose S.may_stand (S.faults source.old) (S.faults source.new)) (Rose K.may_stand (K.faults sink.old) (K.faults sink.new)) }
     ensures generated { (seed turns : ℕ) → asked (map string_bytes words.now) ≡ Some (Job.Generate seed turns) → IsGenerated result (Rose K.may_stand (K.faults sink.old) (K.faults sink.new)) }
+
+    ensures checked { asked (map string_bytes words.now) ≡ Some Job.Check → IsAnswered result (Rose S.may_stand (S.faults source.old) (S.faults source.new)) (Rose K.may_stand (K.faults sink.old) (K.faults sink.new)) }
 
     // A fault is told only where its count rose.
     ensures read { result ≡ Status.ReadFault → Rose S.may_stand (S.faults source.old) (S.faults source.new) }
@@ -110,10 +119,12 @@ pub fn exit_number(status: Status) -> u8
 {
     match status {
         Status::Done => 0,
+        Status::Unlawful { .. } => 1,
         Status::Usage => 2,
         Status::BadTrace { .. } => 3,
         Status::ReadFault => 4,
         Status::WriteFault => 5,
         Status::NoMemory => 6,
+        Status::BadRecord { .. } => 7,
     }
 }

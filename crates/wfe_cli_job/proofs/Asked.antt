@@ -8,7 +8,7 @@ use Rattle.clap.specs.Words.{Text, fault_of, subcommand_of}
 use Rattle.wfe_cli_job.specs.Jobs.{asked, generate_of, named}
 use Rattle.wfe_cli_job.specs.Words.{begins_with_hyphen, job_of_rows, wfe_app}
 use Rattle.wfe_cli_job.proofs.Plain.{plain_word}
-use Rattle.wfe_cli_job.proofs.Reading.{IsFault, gen_alone, gen_both, gen_job, gen_seed, gen_word, no_word, other_word, replay_alone, replay_job, replay_word, run_alone, run_job, run_word}
+use Rattle.wfe_cli_job.proofs.Reading.{IsFault, check_alone, check_job, check_word, gen_alone, gen_both, gen_job, gen_seed, gen_word, no_word, other_word, replay_alone, replay_job, replay_word, run_alone, run_job, run_word}
 use Rattle.wfe_trace.specs.Words.{number_in}
 
 -- one of two tests holds, or neither does
@@ -74,6 +74,12 @@ run_reads (a ∷ []) h = inr (run_word a [] (plain_word a (neither _ _ h).0), re
 run_reads (a ∷ b ∷ []) h = inr (run_word a (b ∷ []) (plain_word a (neither _ _ h).0), refl)
 run_reads (a ∷ b ∷ c ∷ rest) h = inr (run_word a (b ∷ c ∷ rest) (plain_word a (neither _ _ h).0), refl)
 
+check_reads : (rest : List Text) → list_any begins_with_hyphen rest ≡ false → Reads (codes "check" ∷ rest)
+check_reads [] h = inl (check_alone, check_job)
+check_reads (a ∷ []) h = inr (check_word a [] (plain_word a (neither _ _ h).0), refl)
+check_reads (a ∷ b ∷ []) h = inr (check_word a (b ∷ []) (plain_word a (neither _ _ h).0), refl)
+check_reads (a ∷ b ∷ c ∷ rest) h = inr (check_word a (b ∷ c ∷ rest) (plain_word a (neither _ _ h).0), refl)
+
 gen_reads : (rest : List Text) → list_any begins_with_hyphen rest ≡ false → Reads (codes "gen" ∷ rest)
 gen_reads [] h = inr (gen_alone, refl)
 gen_reads (s ∷ []) h = inr (gen_seed s (plain_word s (neither _ _ h).0), refl)
@@ -87,11 +93,11 @@ gen_reads (s ∷ t ∷ a ∷ rest) h =
     let second = neither _ _ first.1 in
     inr (gen_word s (plain_word s first.0) t (plain_word t second.0) a rest (plain_word a (neither _ _ second.1).0), refl)
 
-other_asks : (word : Text) (rest : List Text) → bytes_eq word (codes "replay") ≡ false → bytes_eq word (codes "run") ≡ false → bytes_eq word (codes "gen") ≡ false → asked (word ∷ rest) ≡ None
-other_asks word [] r u g = rw (r, u) refl
-other_asks word (a ∷ []) r u g = refl
-other_asks word (a ∷ b ∷ []) r u g = rw g refl
-other_asks word (a ∷ b ∷ c ∷ rest) r u g = refl
+other_asks : (word : Text) (rest : List Text) → bytes_eq word (codes "replay") ≡ false → bytes_eq word (codes "run") ≡ false → bytes_eq word (codes "check") ≡ false → bytes_eq word (codes "gen") ≡ false → asked (word ∷ rest) ≡ None
+other_asks word [] r u k g = rw (r, u, k) refl
+other_asks word (a ∷ []) r u k g = refl
+other_asks word (a ∷ b ∷ []) r u k g = rw g refl
+other_asks word (a ∷ b ∷ c ∷ rest) r u k g = refl
 
 -- the two texts are not one, either way around
 differ : (a b : Text) → bytes_eq a b ≡ false → bytes_eq b a ≡ false
@@ -111,19 +117,25 @@ reads (word ∷ rest) h = first (bytes_eq (codes "replay") word) refl
     plain : (begins_with_hyphen word ≡ false) × (list_any begins_with_hyphen rest ≡ false)
     plain = neither (begins_with_hyphen word) (list_any begins_with_hyphen rest) h
 
-    other : bytes_eq (codes "replay") word ≡ false → bytes_eq (codes "run") word ≡ false → (b : Bool) → bytes_eq (codes "gen") word ≡ b → Reads (word ∷ rest)
-    other r u true e =
+    other : bytes_eq (codes "replay") word ≡ false → bytes_eq (codes "run") word ≡ false → bytes_eq (codes "check") word ≡ false → (b : Bool) → bytes_eq (codes "gen") word ≡ b → Reads (word ∷ rest)
+    other r u k true e =
         let is : codes "gen" ≡ word = (bytes_eq-Decides (codes "gen") word).0 e in
         subst (λ (w : Text). Reads (w ∷ rest)) is (gen_reads rest plain.1)
-    other r u false e =
-        let asks = other_asks word rest (differ (codes "replay") word r) (differ (codes "run") word u) (differ (codes "gen") word e) in
-        inr (other_word word rest (plain_word word plain.0) r u e, asks)
+    other r u k false e =
+        let asks = other_asks word rest (differ (codes "replay") word r) (differ (codes "run") word u) (differ (codes "check") word k) (differ (codes "gen") word e) in
+        inr (other_word word rest (plain_word word plain.0) r u k e, asks)
+
+    checks : bytes_eq (codes "replay") word ≡ false → bytes_eq (codes "run") word ≡ false → (b : Bool) → bytes_eq (codes "check") word ≡ b → Reads (word ∷ rest)
+    checks r u true e =
+        let is : codes "check" ≡ word = (bytes_eq-Decides (codes "check") word).0 e in
+        subst (λ (w : Text). Reads (w ∷ rest)) is (check_reads rest plain.1)
+    checks r u false e = other r u e (bytes_eq (codes "gen") word) refl
 
     later : bytes_eq (codes "replay") word ≡ false → (b : Bool) → bytes_eq (codes "run") word ≡ b → Reads (word ∷ rest)
     later r true e =
         let is : codes "run" ≡ word = (bytes_eq-Decides (codes "run") word).0 e in
         subst (λ (w : Text). Reads (w ∷ rest)) is (run_reads rest plain.1)
-    later r false e = other r e (bytes_eq (codes "gen") word) refl
+    later r false e = checks r e (bytes_eq (codes "check") word) refl
 
     first : (b : Bool) → bytes_eq (codes "replay") word ≡ b → Reads (word ∷ rest)
     first true e =

@@ -15,7 +15,7 @@ use Rattle.wfe_cli_job.specs.Jobs.{generate_of}
 use Rattle.wfe_cli_job.specs.declared.job.Job.TheVariants as jobs
 use Rattle.wfe_trace.specs.Words.{number_in}
 
--- the program as it is built, and its three commands
+-- the program as it is built, and its four commands
 abbrev app : App
 app = built wfe_app
 
@@ -27,6 +27,9 @@ replay = leaf (new_app (codes "replay")).top
 
 abbrev run : Shape
 run = leaf (new_app (codes "run")).top
+
+abbrev check : Shape
+check = leaf (new_app (codes "check")).top
 
 abbrev gen : Shape
 gen = leaf gen_app.top
@@ -46,6 +49,10 @@ met_replay rest = sym (walk_stopped app.top.rules (names_of app) (walk_at nothin
 met_run : (rest : List Text) → walk app.top.rules (names_of app) nothing_held (codes "run" ∷ rest) ≡ left (codes "run") rest
 unfolding clap_on_literals
 met_run rest = sym (walk_stopped app.top.rules (names_of app) (walk_at nothing_held 1) (codes "run") [] rest)
+
+met_check : (rest : List Text) → walk app.top.rules (names_of app) nothing_held (codes "check" ∷ rest) ≡ left (codes "check") rest
+unfolding clap_on_literals
+met_check rest = sym (walk_stopped app.top.rules (names_of app) (walk_at nothing_held 1) (codes "check") [] rest)
 
 -- the words left to a command are no fault of the program's own
 left_pass : (name : Text) (seen words : List Text) → walk_fault app.top (names_of app) (left name seen) words ≡ []
@@ -78,6 +85,11 @@ run_fault : (rest : List Text) → fault_of wfe_app (codes "run" ∷ rest) ≡ l
 unfolding clap_on_literals
 run_fault rest =
     ap₂ own (left_pass (codes "run") [] rest) (met_run rest) ∙ or_else-nil (level_fault run [] nothing_held rest false [])
+
+check_fault_of : (rest : List Text) → fault_of wfe_app (codes "check" ∷ rest) ≡ level_fault check [] nothing_held rest false []
+unfolding clap_on_literals
+check_fault_of rest =
+    ap₂ own (left_pass (codes "check") [] rest) (met_check rest) ∙ or_else-nil (level_fault check [] nothing_held rest false [])
 
 -- ---- a command's own words
 
@@ -126,6 +138,24 @@ run_alone = refl
 pub run_job : job_of_rows (subcommand_of wfe_app (codes "run" ∷ [])) ≡ Some jobs.Run
 unfolding clap_on_literals
 run_job = refl
+
+-- nor does `check`
+pub check_word : (word : Text) (rest : List Text) → IsPlain word → IsFault (fault_of wfe_app (codes "check" ∷ word ∷ rest))
+check_word word rest p e =
+    let all : Kinds = own_of check (or_else (UnknownArgument ∷ []) (walk_fault check [] (walk_past check.rules nothing_held 1 word) rest))
+    (walk check.rules [] nothing_held (word ∷ rest)) in
+    let is : all ≡ [] =
+    sym (ap (λ f. own_of check f (walk check.rules [] nothing_held (word ∷ rest))) (fault_next word p [] refl check nothing_held 1 rest))
+    ∙ sym (check_fault_of (word ∷ rest)) ∙ e in
+    cc
+
+pub check_alone : fault_of wfe_app (codes "check" ∷ []) ≡ []
+unfolding clap_on_literals
+check_alone = refl
+
+pub check_job : job_of_rows (subcommand_of wfe_app (codes "check" ∷ [])) ≡ Some jobs.Check
+unfolding clap_on_literals
+check_job = refl
 
 -- `gen` wants both words
 pub gen_alone : IsFault (fault_of wfe_app (codes "gen" ∷ []))
@@ -181,11 +211,11 @@ module _ (seed : Text) (plain : IsPlain seed) where
 
 -- ---- other words
 
-pub other_word : (word : Text) (rest : List Text) → IsPlain word → bytes_eq (codes "replay") word ≡ false → bytes_eq (codes "run") word ≡ false → bytes_eq (codes "gen") word ≡ false
+pub other_word : (word : Text) (rest : List Text) → IsPlain word → bytes_eq (codes "replay") word ≡ false → bytes_eq (codes "run") word ≡ false → bytes_eq (codes "check") word ≡ false → bytes_eq (codes "gen") word ≡ false
     → IsFault (fault_of wfe_app (word ∷ rest))
-other_word word rest p no_replay no_run no_gen e =
+other_word word rest p no_replay no_run no_check no_gen e =
     let all : Walk = walk app.top.rules (names_of app) nothing_held (word ∷ rest) in
-    let other : subcommand_met (names_of app) idle word ≡ None = rw (no_replay, no_run, no_gen) refl in
+    let other : subcommand_met (names_of app) idle word ≡ None = rw (no_replay, no_run, no_check, no_gen) refl in
     let last : Kinds = walk_fault app.top (names_of app) (walk_past app.top.rules nothing_held 1 word) rest in
     let is : own (or_else (UnknownArgument ∷ InvalidSubcommand ∷ []) last) all ≡ [] =
     sym (ap (λ f. own f all) (fault_next word p (names_of app) other app.top nothing_held 1 rest)) ∙ e in

@@ -21,9 +21,13 @@ generate_of (Some seed) turns = with_turns seed turns
 
 -- the job of one word
 abbrev pub named : List ℕ → Option Job
-named word = if bytes_eq word (codes "replay") then Some jobs.Replay else if bytes_eq word (codes "run") then Some jobs.Run else None
+named word =
+    if bytes_eq word (codes "replay") then Some jobs.Replay
+    else if bytes_eq word (codes "run") then Some jobs.Run
+    else if bytes_eq word (codes "check") then Some jobs.Check
+    else None
 
--- the words are `replay` or `run` alone, or `gen` with a seed and a number of turns
+-- the words are `replay`, `run` or `check` alone, or `gen` with a seed and a number of turns
 abbrev pub asked : List (List ℕ) → Option Job
 asked [] = None
 asked (word ∷ []) = named word

@@ -35,7 +35,8 @@ bare_app =
 
 -- the program with its commands
 abbrev pub wfe_app : App
-wfe_app = with_subcommand (with_subcommand (with_subcommand bare_app (new_app (codes "replay")).top) (new_app (codes "run")).top) gen_app.top
+wfe_app =
+    with_subcommand (with_subcommand (with_subcommand (with_subcommand bare_app (new_app (codes "replay")).top) (new_app (codes "run")).top) (new_app (codes "check")).top) gen_app.top
 
 -- a generated trace, where both words are there
 abbrev pub generate_from : Option Text → Option Text → Option Job
@@ -53,4 +54,5 @@ job_of_rows None = None
 job_of_rows (Some p) =
     if bytes_eq p.0 (codes "replay") then Some jobs.Replay
     else if bytes_eq p.0 (codes "run") then Some jobs.Run
+    else if bytes_eq p.0 (codes "check") then Some jobs.Check
     else if bytes_eq p.0 (codes "gen") then generate_of_rows p.1 else None

@@ -25,6 +25,8 @@ pub enum Job {
     Replay,
     /// Reads a trace, makes each seat's calls on a thread of its own, and prints what came of them.
     Run,
+    /// Reads a record, and says whether it is lawful.
+    Check,
     /// Makes the trace of so many turns from a seed, and prints its summary.
     Generate { seed: u64, turns: u64 },
 }
@@ -50,6 +52,7 @@ fn program<'a>(alloc: Global) -> Result<Command<'a>, AllocError>
         .subcommand_required(true)
         .subcommand(Command::new(alloc, "replay"))?
         .subcommand(Command::new(alloc, "run"))?
+        .subcommand(Command::new(alloc, "check"))?
         .subcommand(gen_command(alloc)?)
 }
 
@@ -104,6 +107,7 @@ fn job_in(matches: &ArgMatches<'_>) -> Option<Job>
     match matches.subcommand() {
         Some(("replay", _)) => Some(Job::Replay),
         Some(("run", _)) => Some(Job::Run),
+        Some(("check", _)) => Some(Job::Check),
         Some(("gen", words)) => generate_in(words),
         _ => None,
     }

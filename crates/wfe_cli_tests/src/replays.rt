@@ -1,4 +1,5 @@
 // Whole replays over memory: worked records, bad input, and sources and sinks that fail.
+mod checking;
 mod hostile;
 mod leaving;
 
@@ -349,7 +350,7 @@ fn other_words_are_answered_by_the_usage_line(rt: HostRuntime) -> Result<(), Fai
         &["replays"],
         &["--help"],
         &["-h"],
-        &["check"],
+        &["check", "check"],
         &["replay", "replay"],
         &["run", "replay"],
         &["gen"],
@@ -360,7 +361,7 @@ fn other_words_are_answered_by_the_usage_line(rt: HostRuntime) -> Result<(), Fai
         &["gen", "1", "5", "2"],
     ];
     for (i, words) in lists.iter().enumerate() {
-        let usage = b"usage: wfe replay | run | gen SEED N\n";
+        let usage = b"usage: wfe replay | run | gen SEED N | check\n";
         expect_answer(&rt, words, &[], (Status::Usage, usage), i)?;
     }
     expect_answer(&rt, &["none"], &[1], (Status::WriteFault, b""), 14)

@@ -16,8 +16,7 @@ use wfe_core::{Answer, Call, CallMachine, Change, Desk, Post, SchemeKind};
 use wfe_drive_change::change_bucket;
 use wfe_drive_change::queue::on_words::{
     Advance, CopyIndex, Dequeue, DropIndex, Enqueue, Get, He, Hold, Ibr, Look, Put, PutIf, Release,
-    Remove, Scan, Scheme, Wfe, Words, bucket_for, drive_apart, drive_on, get_he, get_he_in,
-    get_ibr_in, get_wfe, get_wfe_in,
+    Remove, Scan, Scheme, Wfe, Words, drive_apart, drive_on, get_he_in, get_ibr_in, get_wfe_in,
 };
 use wfe_drive_change::queue::{dequeue_item, enqueue_item};
 
@@ -52,8 +51,9 @@ pub fn drive_call<W: Words>(words: &mut W, post: &mut Post, desk: &mut Desk, cal
     }
 }
 
-/// Makes a get, of a key whose bucket is known, as `drive_call` does. Its code hands the words to no
-/// function that is compiled apart, and so a compiler can keep them out of memory.
+/// Makes a get, of a key whose bucket is known, as `drive_call` does, but without a machine. Its code hands
+/// the words to no function that is compiled apart, and stands nowhere else in a program, and so a compiler
+/// can keep them out of memory.
 #[inline(always)]
 pub fn drive_get<W: Words>(
     words: &mut W,
@@ -87,8 +87,8 @@ pub fn drive_get<W: Words>(
     }
 }
 
-/// Makes the steps of a call that has begun under Hazard Eras. A get, a put, a put that names a version,
-/// a remove, an enqueue and a dequeue make them without a machine.
+/// Makes the steps of a call that has begun under Hazard Eras. A put, a put that names a version, a remove,
+/// an enqueue and a dequeue make them without a machine; a get does so in `drive_get`.
 #[inline(always)]
 fn drive_he<W: Words>(words: &mut W, post: &mut Post, desk: &mut Desk, call: Call) -> Answer
     requires valid { W.valid words.old }
@@ -104,7 +104,6 @@ fn drive_he<W: Words>(words: &mut W, post: &mut Post, desk: &mut Desk, call: Cal
         (at_phase (first_phase call post.old) post.old desk.old) (at_phase Idle post.new desk.new) }
 {
     match call {
-        Call::Get { key } => get_he(words, post, desk, key),
         Call::Put { key, value } => {
             change_bucket(words, post, desk, Change::Put { key, value }, None)
         }
@@ -120,9 +119,9 @@ fn drive_he<W: Words>(words: &mut W, post: &mut Post, desk: &mut Desk, call: Cal
     }
 }
 
-/// Makes the steps of a call that has begun under Wait-Free Eras. A get makes them without a machine up
-/// to its request for help, and a put, a put that names a version, a remove, an enqueue and a dequeue make
-/// them without their machine.
+/// Makes the steps of a call that has begun under Wait-Free Eras. A put, a put that names a version, a
+/// remove, an enqueue and a dequeue make them without their machine; a get does so in `drive_get`, up to its
+/// request for help.
 #[inline(always)]
 fn drive_wfe<W: Words>(words: &mut W, post: &mut Post, desk: &mut Desk, call: Call) -> Answer
     requires valid { W.valid words.old }
@@ -138,7 +137,6 @@ fn drive_wfe<W: Words>(words: &mut W, post: &mut Post, desk: &mut Desk, call: Ca
         (at_phase (first_phase call post.old) post.old desk.old) (at_phase Idle post.new desk.new) }
 {
     match call {
-        Call::Get { key } => get_wfe(words, post, desk, key),
         Call::Put { key, value } => {
             change_bucket(words, post, desk, Change::Put { key, value }, None)
         }
@@ -176,8 +174,8 @@ fn drive_ibr<W: Words>(words: &mut W, post: &mut Post, desk: &mut Desk, call: Ca
     }
 }
 
-/// Makes the steps of a call that has begun under 2GE, of a seat that keeps no row. A get, a put, a put
-/// that names a version, a remove, an enqueue and a dequeue make them without a machine.
+/// Makes the steps of a call that has begun under 2GE, of a seat that keeps no row. A put, a put that names
+/// a version, a remove, an enqueue and a dequeue make them without a machine; a get does so in `drive_get`.
 #[inline(always)]
 fn drive_free<W: Words>(words: &mut W, post: &mut Post, desk: &mut Desk, call: Call) -> Answer
     requires valid { W.valid words.old }
@@ -194,10 +192,6 @@ fn drive_free<W: Words>(words: &mut W, post: &mut Post, desk: &mut Desk, call: C
         (at_phase (first_phase call post.old) post.old desk.old) (at_phase Idle post.new desk.new) }
 {
     match call {
-        Call::Get { key } => {
-            let bucket = bucket_for(key, &post.layout);
-            get_free(words, post, desk, key, bucket, call)
-        }
         Call::Put { key, value } => {
             change_bucket(words, post, desk, Change::Put { key, value }, None)
         }

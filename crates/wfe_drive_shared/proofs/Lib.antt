@@ -2,6 +2,7 @@ pub use Rattle.wfe_drive_closed.proofs as closed
 pub use Rattle.law_all.proofs as all
 pub use Rattle.law_all.proofs.logs as logs
 pub mod Adopted
+pub mod Adopts
 pub mod Backs
 pub mod Bounded
 pub mod Departs

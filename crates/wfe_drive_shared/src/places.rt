@@ -4,7 +4,7 @@ ghost use Rattle.wfe_core.specs.Keep.{not_taken};
 ghost use Rattle.wfe_core.specs.defs.declared.call.Answer.TheVariants as answers;
 ghost use Rattle.wfe_core.specs.defs.declared.call.Call.TheVariants as calls;
 ghost use Rattle.wfe_drive_shared.specs.Calls.{IsMade};
-ghost use Rattle.wfe_drive_shared.specs.Public.{IsOf};
+ghost use Rattle.wfe_drive_shared.specs.Public.{IsOf, steps_of};
 
 use crate::seat::Seat;
 use crate::shared::Shared;
@@ -20,6 +20,7 @@ impl Shared {
         ensures made { MatchResult result
             (λ count. IsMade self.now.layout seat.old seat.new (calls.Adopt place) (answers.Adopted count))
             (λ found. (found ≢ 1) × IsMade self.now.layout seat.old seat.new (calls.Adopt place) (not_taken found)) }
+        ensures bound { MatchResult result (λ _. steps_of seat.new ≡ 2) (λ _. steps_of seat.new ≡ 1) }
     {
         seat.take(&self.ledger.shared, place)
     }

@@ -27,24 +27,7 @@ use wfe_call_any::{Get, Wfe};
 use wfe_core::{Answer, Desk, Layout, Post, Root};
 use wfe_fast::WfeProtect;
 
-/// Makes a get under Hazard Eras from its first step to its answer.
-#[inline(always)]
-pub fn get_he<W: Words>(words: &mut W, post: &mut Post, desk: &mut Desk, key: u64) -> Answer
-    requires valid { W.valid words.old }
-    requires scheme { post.old.layout.config.scheme ≡ HeKind }
-    requires here { Here (W.at words.old) (at_phase (first_phase (GetCall key) post.old) post.old desk.old) }
-    requires room { HasRoom desk.old post.old.layout }
-    ensures valid { W.valid words.new }
-    ensures same { W.same words.old words.new }
-    ensures room { HasRoom desk.new post.new.layout }
-    ensures made { Closes result (W.at words.old) (W.at words.new) (W.stands words.old) (W.stands words.new)
-        (at_phase (first_phase (GetCall key) post.old) post.old desk.old) (at_phase Idle post.new desk.new) }
-{
-    let bucket = bucket_for(key, &post.layout);
-    get_he_in(words, post, desk, key, bucket)
-}
-
-/// The same, of a key whose bucket is known.
+/// Makes a get under Hazard Eras, of a key whose bucket is known, from its first step to its answer.
 #[inline(always)]
 pub fn get_he_in<W: Words>(
     words: &mut W,
@@ -73,24 +56,7 @@ pub fn get_he_in<W: Words>(
     close_get(words, &place, post, desk, found, guarded.steps)
 }
 
-/// Makes a get under Wait-Free Eras from its first step to its answer.
-#[inline(always)]
-pub fn get_wfe<W: Words>(words: &mut W, post: &mut Post, desk: &mut Desk, key: u64) -> Answer
-    requires valid { W.valid words.old }
-    requires scheme { post.old.layout.config.scheme ≡ WfeKind }
-    requires here { Here (W.at words.old) (at_phase (first_phase (GetCall key) post.old) post.old desk.old) }
-    requires room { HasRoom desk.old post.old.layout }
-    ensures valid { W.valid words.new }
-    ensures same { W.same words.old words.new }
-    ensures room { HasRoom desk.new post.new.layout }
-    ensures made { Closes result (W.at words.old) (W.at words.new) (W.stands words.old) (W.stands words.new)
-        (at_phase (first_phase (GetCall key) post.old) post.old desk.old) (at_phase Idle post.new desk.new) }
-{
-    let bucket = bucket_for(key, &post.layout);
-    get_wfe_in(words, post, desk, key, bucket)
-}
-
-/// The same, of a key whose bucket is known.
+/// Makes a get under Wait-Free Eras, of a key whose bucket is known, from its first step to its answer.
 #[inline(always)]
 pub fn get_wfe_in<W: Words>(
     words: &mut W,

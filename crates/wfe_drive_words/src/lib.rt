@@ -17,7 +17,7 @@ mod words;
 pub use apart::drive_apart;
 pub use asking::{Bounded, protect_wfe, try_within};
 pub use facts::{answers_leave_groups, histories_ready_seats};
-pub use get::{bucket_for, get_he, get_he_in, get_wfe, get_wfe_in, note_steps, root_for};
+pub use get::{bucket_for, get_he_in, get_wfe_in, note_steps, root_for};
 pub use get_span::{begin_span, get_ibr_in, store_none};
 pub use machine::drive_on;
 pub use path::{load_cell, load_clock, load_link, publish, step};

@@ -2,10 +2,10 @@
 // never waits.
 ghost use Rattle.std.specs.Prelude.{◌≡◌, ◌<◌, length};
 ghost use Rattle.wfe_drive_shared.specs.Calls.{IsMade};
-ghost use Rattle.wfe_drive_shared.specs.Public.{IsOf};
+ghost use Rattle.wfe_drive_shared.specs.Public.{IsOf, steps_of};
 ghost use Rattle.wfe_drive_shared.specs.history.defs.declared.call.Answer.TheVariants as answers;
 ghost use Rattle.wfe_drive_shared.specs.history.defs.declared.call.Call.TheVariants as calls;
-ghost use Rattle.wfe_leave_shared.specs.Answers.{adopt_answer};
+ghost use Rattle.wfe_leave_shared.specs.Answers.{adopt_answer, adopt_steps};
 
 use wfe_drive_shared::{LeftSeat, Seat, Shared};
 
@@ -37,6 +37,7 @@ pub fn adopt(shared: &Shared, seat: &mut Seat, place: u32) -> AdoptEnd
     requires place { place < shared.now.layout.config.seats }
     ensures of { IsOf seat.new shared.now }
     ensures made { IsMade shared.now.layout seat.old seat.new (calls.Adopt place) (adopt_answer result) }
+    ensures bound { steps_of seat.new ≡ adopt_steps result }
 {
     match shared.take_place(seat, place) {
         Ok(count) => AdoptEnd::Adopted { count },

@@ -149,6 +149,7 @@ fn setting_is_small(config: Config)
 pub fn read_event(bytes: &[u8], version: u32, config: &Config) -> Option<(u32, Event)>
     ensures read { IfSome result (λ entry. IsEntry version config.now bytes.now entry.0 entry.1) }
     ensures known { (seat : ℕ) (event : AnyEvent) → IsEntry version config.now bytes.now seat event → result ≡ Some (seat, event) }
+    ensures words { result ≡ entry_by version config.now (words bytes.now) }
 {
     setting_is_small(*config);
     entry_in(bytes, version, config)

@@ -95,8 +95,9 @@ fn config(line: &mut Words<'_>, pairs: u32) -> Option<Config>
     })
 }
 
+/// Nothing, where the word has this name.
 #[tactic(auto, unfolding(crate::specs::Reader::exactly))]
-fn exactly(word: &[u8], name: &[u8]) -> Option<()>
+pub fn exactly(word: &[u8], name: &[u8]) -> Option<()>
     ensures { result ≡ exactly_by name.now word.now }
 {
     if word == name { Some(()) } else { None }
@@ -125,6 +126,7 @@ fn header_in(bytes: &[u8]) -> Option<(u32, Config)>
 pub fn read_header(bytes: &[u8]) -> Option<(u32, Config)>
     ensures read { IfSome result (λ header. IsHeader bytes.now header.0 header.1) }
     ensures known { (version : ℕ) (config : AnyConfig) → IsHeader bytes.now version config → result ≡ Some (version, config) }
+    ensures words { result ≡ header_by (words bytes.now) }
 {
     header_in(bytes)
 }

@@ -4,4 +4,4 @@
 
 mod words;
 
-pub use words::{Words, since};
+pub use words::{Words, number_below, since};

@@ -50,9 +50,9 @@ fn cut(bytes: &[u8], at: u8) -> (&[u8], Option<&[u8]>)
     }
 }
 
-// The number that the word writes, where it is below the limit.
+/// The number that the word writes, where it is below the limit, which is 4,294,967,296 at most.
 #[tactic(auto, unfolding(crate::specs::Reader::number_below))]
-fn number_below(word: &[u8], limit: u64) -> Option<u32>
+pub fn number_below(word: &[u8], limit: u64) -> Option<u32>
     requires { limit ≤ 4294967296 }
     ensures { result ≡ below_in limit word.now }
 {

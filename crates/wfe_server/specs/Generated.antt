@@ -23,6 +23,8 @@ abbrev pub Says : {W : Type 0} → Seen W → Status → (watched : List ℕ) �
 Says seen statuses.Done watched told old new = Appends old.written new.written (report (summary_of told) watched) × Hears seen old.watchers new.watchers told
 Says seen statuses.Usage watched told old new = ⊥
 Says seen (statuses.BadTrace line reason) watched told old new = ⊥
+Says seen (statuses.Unlawful line) watched told old new = ⊥
+Says seen (statuses.BadRecord line reason) watched told old new = ⊥
 Says seen statuses.ReadFault watched told old new = ⊥
 Says seen statuses.WriteFault watched told old new = AppendsSome old.written new.written (report (summary_of told) watched) × Hears seen old.watchers new.watchers told
 Says seen statuses.NoMemory watched told old new = (new.written ≡ old.written) × HearsSome seen old.watchers new.watchers told

@@ -112,6 +112,8 @@ says_of_player makes seen (statuses.BadTrace line reason) watched taken left old
       are_taken = all_taken makes taken;
       put = subst (Puts seen old new) (whole_output-player makes watched taken ∙ ap (λ r. partial_out (all_lines makes taken) ++ closing watched r) here) put;
     }
+says_of_player makes seen (statuses.Unlawful line) watched taken left old new h = h
+says_of_player makes seen (statuses.BadRecord line reason) watched taken left old new h = h
 says_of_player makes seen statuses.ReadFault watched taken left old new (q, good, put) =
     let here = came-ok makes taken q good in
     record { progress = here.0; good = here.1; are_taken = closed_taken makes taken; put = subst (Puts seen old new) (closed_output-player makes taken) put }

@@ -76,6 +76,8 @@ abbrev pub Says : (makes : Call → Bool) → {W : Type 0} → Seen W → Status
 Says makes seen statuses.Done watched taken left old new = IsReplayed makes seen watched taken old new × IsAtEnd left
 Says makes seen statuses.Usage watched taken left old new = ⊥
 Says makes seen (statuses.BadTrace line reason) watched taken left old new = IsRefused makes seen taken left old new (record { line = line; reason = reason })
+Says makes seen (statuses.Unlawful line) watched taken left old new = ⊥
+Says makes seen (statuses.BadRecord line reason) watched taken left old new = ⊥
 Says makes seen statuses.ReadFault watched taken left old new = IsCutOff makes seen taken old new
 Says makes seen statuses.WriteFault watched taken left old new = IsStopped makes seen watched taken left old new
 Says makes seen statuses.NoMemory watched taken left old new = IsStopped makes seen watched taken left old new

@@ -30,6 +30,8 @@ PlayerSays makes seen (statuses.BadTrace line reason) watched taken left old new
     (after_trace (player makes) modes.Replay taken ≡ Err (record { line = line; reason = reason }))
     × ((after_bytes (player makes) (Ok (progress_start modes.Replay)) taken ≡ Err (record { line = line; reason = reason })) ⊎ IsAtEnd left)
     × Puts seen old new (trace_output (player makes) modes.Replay watched taken)
+PlayerSays makes seen (statuses.Unlawful line) watched taken left old new = ⊥
+PlayerSays makes seen (statuses.BadRecord line reason) watched taken left old new = ⊥
 PlayerSays makes seen statuses.ReadFault watched taken left old new =
     (q : Progress Played) × (after_bytes (player makes) (Ok (progress_start modes.Replay)) taken ≡ Ok q) × Puts seen old new (bytes_output (player makes) (Ok (progress_start modes.Replay)) taken)
 PlayerSays makes seen statuses.WriteFault watched taken left old new = PlayerStops makes seen watched taken left old new

@@ -33,6 +33,8 @@ complete_in : {W : Type 0} (seen : Seen W) (status : Status) (watched bytes : Li
 complete_in seen statuses.Done watched bytes left old new p runs good reads writes = inl refl
 complete_in seen statuses.Usage watched bytes left old new p runs good reads writes = absurd runs.2
 complete_in seen (statuses.BadTrace line reason) watched bytes left old new p (taken, consumed, refused) good reads writes = absurd (never_bad bytes taken left p (record { line = line; reason = reason }) good consumed refused.is_bad)
+complete_in seen (statuses.Unlawful line) watched bytes left old new p runs good reads writes = absurd runs.2
+complete_in seen (statuses.BadRecord line reason) watched bytes left old new p runs good reads writes = absurd runs.2
 complete_in seen statuses.ReadFault watched bytes left old new p runs good reads writes = absurd (reads refl)
 complete_in seen statuses.WriteFault watched bytes left old new p runs good reads writes = absurd (writes refl)
 complete_in seen statuses.NoMemory watched bytes left old new p runs good reads writes = inr refl

@@ -35,6 +35,10 @@ says_made seen statuses.Usage watched taken left old new given read config scrip
 says_made seen statuses.Usage watched taken left old new given read config scripts (inr (e, same)) = absurd (cc)
 says_made seen (statuses.BadTrace line reason) watched taken left old new given read config scripts (inl p) = absurd p.prints
 says_made seen (statuses.BadTrace line reason) watched taken left old new given read config scripts (inr (e, same)) = absurd (cc)
+says_made seen (statuses.Unlawful line) watched taken left old new given read config scripts (inl p) = p.prints
+says_made seen (statuses.Unlawful line) watched taken left old new given read config scripts (inr (e, same)) = absurd (cc)
+says_made seen (statuses.BadRecord line reason) watched taken left old new given read config scripts (inl p) = p.prints
+says_made seen (statuses.BadRecord line reason) watched taken left old new given read config scripts (inr (e, same)) = absurd (cc)
 says_made seen statuses.ReadFault watched taken left old new given read config scripts (inl p) = absurd p.prints
 says_made seen statuses.ReadFault watched taken left old new given read config scripts (inr (e, same)) = absurd (cc)
 says_made seen statuses.WriteFault watched taken left old new given read config scripts (inl p) = inl (run_of seen statuses.WriteFault watched taken left old new given read config scripts p)

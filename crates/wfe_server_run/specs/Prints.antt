@@ -17,6 +17,8 @@ abbrev pub Prints : {W : Type 0} → Seen W → Status → (watched : List ℕ) 
 Prints seen statuses.Done watched old new run = Puts seen old new (run ++ end_pieces watched)
 Prints seen statuses.Usage watched old new run = ⊥
 Prints seen (statuses.BadTrace line reason) watched old new run = ⊥
+Prints seen (statuses.Unlawful line) watched old new run = ⊥
+Prints seen (statuses.BadRecord line reason) watched old new run = ⊥
 Prints seen statuses.ReadFault watched old new run = ⊥
 Prints seen statuses.WriteFault watched old new run = PutsPart seen old new run ⊎ StopsLast seen run (end_pieces watched) old new
 Prints seen statuses.NoMemory watched old new run = PutsPart seen old new run

@@ -58,6 +58,8 @@ abbrev pub Says : {W : Type 0} → Seen W → Status → (watched taken : List �
 Says seen statuses.Done watched taken left old new = HasRun seen statuses.Done watched taken left old new
 Says seen statuses.Usage watched taken left old new = ⊥
 Says seen (statuses.BadTrace line reason) watched taken left old new = IsRefused seen taken left old new (record { line = line; reason = reason })
+Says seen (statuses.Unlawful line) watched taken left old new = ⊥
+Says seen (statuses.BadRecord line reason) watched taken left old new = ⊥
 Says seen statuses.ReadFault watched taken left old new = IsCut taken × (new ≡ old)
 Says seen statuses.WriteFault watched taken left old new = HasRun seen statuses.WriteFault watched taken left old new ⊎ IsHalfRefused seen taken left old new
 Says seen statuses.NoMemory watched taken left old new = HasRun seen statuses.NoMemory watched taken left old new ⊎ (new ≡ old)

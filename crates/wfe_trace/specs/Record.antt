@@ -19,6 +19,8 @@ use Rattle.wfe_defs.specs.declared.event.Event.{Event}
 use Rattle.wfe_defs.specs.declared.event.Event.TheVariants as events
 use Rattle.wfe_trace.specs.declared.reason.Reason.{Reason}
 use Rattle.wfe_trace.specs.declared.reason.Reason.TheVariants as reasons
+use Rattle.wfe_trace.specs.declared.reason.RecordReason.{RecordReason}
+use Rattle.wfe_trace.specs.declared.reason.RecordReason.TheVariants as record_reasons
 
 -- each word after a space
 abbrev pub spaced : List (List ℕ) → List ℕ
@@ -209,3 +211,13 @@ reason_word reasons.Gone = codes "gone"
 -- the line that names the first bad line of a trace
 abbrev pub bad_line : ℕ → Reason → List ℕ
 bad_line line reason = line_of (codes "bad") (decimal line ∷ reason_word reason ∷ [])
+
+abbrev pub record_reason_word : RecordReason → List ℕ
+record_reason_word record_reasons.Header = codes "header"
+record_reason_word record_reasons.Form = codes "form"
+record_reason_word record_reasons.LongLine = codes "long-line"
+record_reason_word record_reasons.LongRecord = codes "long-record"
+
+-- the line that names the first bad line of a record that is read
+abbrev pub bad_record_line : ℕ → RecordReason → List ℕ
+bad_record_line line reason = line_of (codes "bad") (decimal line ∷ record_reason_word reason ∷ [])

@@ -18,8 +18,10 @@ pub use law::{
     event_line_is_of_one_event, lines_are_judged, record_lines_are_short, versions_have_their_lines,
 };
 pub use line::Line;
-pub use print::{print_bad, print_count, print_event, print_header, print_table, print_watch};
+pub use print::{
+    print_bad, print_bad_record, print_count, print_event, print_header, print_table, print_watch,
+};
 pub use read::{TraceState, read_line};
-pub use reason::{BadLine, Reason, Status};
+pub use reason::{BadLine, Reason, RecordReason, Status};
 pub use wfe_words::{Config, Layout, SchemeKind};
 pub use words::number_of;

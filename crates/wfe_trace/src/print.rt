@@ -1,10 +1,10 @@
 // Prints the lines of a record: its first line, the lines of events, of counts and of watchers,
-// and the line that names the first bad line of a trace.
+// and the lines that name the first bad line of a trace and of a record.
 ghost use Rattle.std.specs.Prelude.{◌≡◌, ◌≤◌, ◌+◌, ◌*◌, IsTrue, map, [], ◌∷◌, ◌++◌, List, length};
 ghost use Rattle.std.specs.Fmt.{decimal};
-ghost use Rattle.wfe_trace.specs.Record.{spaced, later_words, guard_word, span_words, value_words, root_word, clock_words, call_words, answer_words, tells_outcome, event_words, tells_contents, tells_standing, event_line, seat_word, table_line, watch_line, count_line, scheme_word, setting_words, header_line, reason_word, bad_line};
+ghost use Rattle.wfe_trace.specs.Record.{spaced, later_words, guard_word, span_words, value_words, root_word, clock_words, call_words, answer_words, tells_outcome, event_words, tells_contents, tells_standing, event_line, seat_word, table_line, watch_line, count_line, scheme_word, setting_words, header_line, reason_word, bad_line, bad_record_line, record_reason_word};
 
-use crate::{BadLine, Line, Reason};
+use crate::{BadLine, Line, Reason, RecordReason};
 use wfe_defs::{Answer, Call, ClockMove, Event, Guard, Interval, Root};
 use wfe_words::{Config, SchemeKind};
 
@@ -492,5 +492,29 @@ pub fn print_bad(bad: &BadLine, line: &mut Line)
     line.text(b"bad");
     number(line, bad.line);
     word(line, reason_name(bad.reason));
+    line.text(b"\n");
+}
+
+fn record_reason_name(reason: RecordReason) -> &'static [u8]
+    ensures name { result.now ≡ record_reason_word reason }
+    ensures short { length result.now ≤ 20 }
+{
+    match reason {
+        RecordReason::Header => b"header",
+        RecordReason::Form => b"form",
+        RecordReason::LongLine => b"long-line",
+        RecordReason::LongRecord => b"long-record",
+    }
+}
+
+/// Sets the line to the one that names the first bad line of a record that is read, counted from 1.
+pub fn print_bad_record(at: u64, reason: RecordReason, line: &mut Line)
+    ensures text { line.new ≡ bad_record_line at reason }
+    ensures room { length line.new ≤ 1024 }
+{
+    line.clear();
+    line.text(b"bad");
+    number(line, at);
+    word(line, record_reason_name(reason));
     line.text(b"\n");
 }

@@ -40,7 +40,20 @@ pub struct BadLine {
     pub reason: Reason,
 }
 
-/// How a command ended.
+/// What is bad in a line of a record that is read.
+#[derive(Clone, Copy, Debug, PartialEq, Eq)]
+pub enum RecordReason {
+    /// The first line is no header of a record of a version that is read here, or there is no line.
+    Header,
+    /// A later line has none of the forms of a record's lines, or comes after its last line.
+    Form,
+    /// A line has more than 200 bytes.
+    LongLine,
+    /// The record has more than 1,073,741,824 bytes.
+    LongRecord,
+}
+
+/// How a command ended. Lines are counted from 1.
 #[derive(Clone, Copy, Debug, PartialEq, Eq)]
 pub enum Status {
     /// The work is done, and what it reads was read to its end.
@@ -48,6 +61,10 @@ pub enum Status {
     /// The words are no command.
     Usage,
     BadTrace { line: u64, reason: Reason },
+    /// The entries of a record up to this line are not good, and those before it are.
+    Unlawful { line: u64 },
+    /// The first bad line of a record.
+    BadRecord { line: u64, reason: RecordReason },
     ReadFault,
     WriteFault,
     NoMemory,

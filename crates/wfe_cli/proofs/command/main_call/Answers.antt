@@ -1,7 +1,8 @@
 use Rattle.std.proofs.Common.{rules}
 use Rattle.wfe_cli.proofs.Complete.{complete}
 use Rattle.wfe_cli.proofs.Headline.{given_lawful, keeps_of}
-use Rattle.wfe_cli.proofs.Jobs.{nothing_kept, nothing_run, nothing_summarized, replays_as, runs_as, summarizes_as, unread_by}
+use Rattle.wfe_cli.proofs.Jobs.{checks_as, nothing_checked, nothing_kept, nothing_run, nothing_summarized, replays_as, runs_as, summarizes_as, unread_by, untold_by}
+use Rattle.wfe_check.proofs.lines.Answered.{answered}
 use Rattle.wfe_server_run.proofs.Complete.{complete as run_whole}
 use Rattle.wfe_cli.proofs.command.main_call.Goals as goal
 
@@ -18,7 +19,17 @@ pub returns-in-Ok-Some-clause-runs : goal.returns-in-Ok-Some-clause-runs
 returns-in-Ok-Some-clause-runs g c asks = runs_as _ _ _ _ c.perform.result _ _ _ _ _ (search rules) asks c.perform.ensures.does
 
 pub returns-in-Ok-Some-clause-unread : goal.returns-in-Ok-Some-clause-unread
-returns-in-Ok-Some-clause-unread g c replays runs = unread_by _ _ (search rules) replays runs c.perform.ensures.unread
+returns-in-Ok-Some-clause-unread g c replays runs checks = unread_by _ _ (search rules) replays runs checks c.perform.ensures.unread
+
+pub returns-in-Ok-Some-clause-untold : goal.returns-in-Ok-Some-clause-untold
+returns-in-Ok-Some-clause-untold g c asks = untold_by _ _ (search rules) asks c.perform.ensures.unheard
+
+pub returns-in-Ok-Some-clause-checks : goal.returns-in-Ok-Some-clause-checks
+returns-in-Ok-Some-clause-checks g c asks = checks_as _ _ _ _ c.perform.result _ _ _ _ _ (search rules) asks c.perform.ensures.does
+
+pub returns-in-Ok-Some-clause-checked : goal.returns-in-Ok-Some-clause-checked
+returns-in-Ok-Some-clause-checked g c asks =
+    answered c.perform.result _ _ _ _ (checks_as _ _ _ _ c.perform.result _ _ _ _ _ (search rules) asks c.perform.ensures.does) c.perform.ensures.read c.perform.ensures.write
 
 pub returns-in-Ok-Some-clause-run_whole : goal.returns-in-Ok-Some-clause-run_whole
 returns-in-Ok-Some-clause-run_whole g c asks =
@@ -34,6 +45,9 @@ returns-in-Ok-None-clause-lawful g c = given_lawful
 
 pub returns-in-Err-clause-replays : goal.returns-in-Err-clause-replays
 returns-in-Err-clause-replays g c asks = nothing_kept _ _ _ _ _
+
+pub returns-in-Err-clause-checks : goal.returns-in-Err-clause-checks
+returns-in-Err-clause-checks g c asks = nothing_checked _ _
 
 pub returns-in-Err-clause-runs : goal.returns-in-Err-clause-runs
 returns-in-Err-clause-runs g c asks = nothing_run _ _ _ _

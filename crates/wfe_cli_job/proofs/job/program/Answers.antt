@@ -13,8 +13,11 @@ returns c =
     let run : app_of c.new-3.result ≡ new_app (codes "run") = search rules in
     let two : app_of c.in_ok-subcommand-2.field-0 ≡ with_subcommand (with_subcommand bare_app (new_app (codes "replay")).top) (new_app (codes "run")).top =
     c.in_ok-subcommand-2.ensures.shape (search rules) ∙ ap₂ with_subcommand one (ap (λ (a : App). a.top) run) in
+    let check : app_of c.new-4.result ≡ new_app (codes "check") = search rules in
+    let three : app_of c.in_ok-subcommand-3.field-0 ≡ with_subcommand (with_subcommand (with_subcommand bare_app (new_app (codes "replay")).top) (new_app (codes "run")).top) (new_app (codes "check")).top =
+    c.in_ok-subcommand-3.ensures.shape (search rules) ∙ ap₂ with_subcommand two (ap (λ (a : App). a.top) check) in
     record {
-      app = IfOk-weaker c.subcommand-3.result _ _
-          (λ command h. h.shape c.in_ok-gen_command.ensures.local ∙ ap₂ with_subcommand two (ap (λ (a : App). a.top) c.in_ok-gen_command.ensures.app))
-          c.subcommand-3.ensures;
+      app = IfOk-weaker c.subcommand-4.result _ _
+          (λ command h. h.shape c.in_ok-gen_command.ensures.local ∙ ap₂ with_subcommand three (ap (λ (a : App). a.top) c.in_ok-gen_command.ensures.app))
+          c.subcommand-4.ensures;
     }

@@ -1,0 +1,13 @@
+//! What a record says of each seat's calls: whether one is under way, which it is, what it has done
+//! with its row, which rows it has cut, and how its scans come to blocks. An entry is judged by this
+//! alone, at a cost that does not grow with the record.
+#![tactic(auto)]
+
+mod blocks;
+mod calls;
+mod grant;
+mod seat;
+#[cfg(test)]
+mod tests;
+
+pub use calls::Calls;

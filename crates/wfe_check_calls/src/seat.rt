@@ -1,0 +1,220 @@
+// What a record says of the calls of one seat, with the changes that an event of the seat makes.
+ghost use Rattle.std.specs.Prelude.{◌≡◌, ◌<◌, ◌||◌, IfOk, OnOk};
+ghost use Rattle.laws.specs.Lists.{is_left as is_leaving};
+ghost use Rattle.laws.specs.Once.{retires_right};
+ghost use Rattle.laws.specs.StateAt.{began_by, cuts_by, has_root as has_root_call, is_among as is_among_rows, opened_by, rooted_by, without_one as without_row};
+ghost use Rattle.wfe_check_calls.specs.Seats.{IsFresh, finds_right, no_calls, null_told_by, opens_right, seat_by, seat_right, shown_seat};
+
+use crate::blocks::Blocks;
+use crate::grant::Grant;
+use std::alloc::Global;
+use wfe_defs::{Call, Event, NoMemory};
+
+#[derive(Drop)]
+pub(crate) struct Seat {
+    // Whether the seat is in a call.
+    pub in_call: bool,
+    // Whether it has left its list.
+    pub left: bool,
+    // The call that it began last.
+    pub began: Option<Call>,
+    // Whether that call has told at index 0 that a row stands, or that there is none.
+    pub rooted: bool,
+    // Whether it has told there that there is none.
+    pub null: bool,
+    pub grant: Grant,
+    pub blocks: Blocks,
+    // The rows that it has cut and not retired since, the last one first.
+    pub cuts: Vec<u32>,
+}
+
+fn open_after(event: &Event, before: bool) -> bool
+    ensures { result ≡ opened_by event.now before }
+{
+    match event {
+        Event::Begin { .. } => true,
+        Event::End { .. } => false,
+        _ => before,
+    }
+}
+
+fn left_after(event: &Event, before: bool) -> bool
+    ensures { result ≡ (is_leaving event.now || before) }
+{
+    match event {
+        Event::Left { .. } => true,
+        _ => before,
+    }
+}
+
+fn began_after(event: &Event, before: Option<Call>) -> Option<Call>
+    ensures { result ≡ began_by event.now before }
+{
+    match *event {
+        Event::Begin { call } => Some(call),
+        _ => before,
+    }
+}
+
+fn rooted_after(event: &Event, before: bool) -> bool
+    ensures { result ≡ rooted_by event.now before }
+{
+    match *event {
+        Event::Begin { .. } => false,
+        Event::Held { index, .. } | Event::Null { index, .. } => index == 0 || before,
+        _ => before,
+    }
+}
+
+fn null_after(event: &Event, before: bool) -> bool
+    ensures { result ≡ null_told_by event.now before }
+{
+    match *event {
+        Event::Begin { .. } => false,
+        Event::Null { index, .. } => index == 0 || before,
+        _ => before,
+    }
+}
+
+// Takes the first of these rows out, where it is among them.
+fn take_out(cuts: &mut Vec<u32>, slot: u32)
+    ensures { cuts.new.items ≡ without_row slot cuts.old.items }
+{
+    for place in 0..cuts.len() {
+        if cuts[place] == slot {
+            cuts.remove(place);
+            return;
+        }
+    }
+}
+
+fn note_cuts(cuts: &mut Vec<u32>, event: &Event) -> Result<(), NoMemory>
+    ensures { OnOk result (cuts.new.items ≡ cuts_by event.now cuts.old.items) }
+{
+    match *event {
+        Event::Begin { .. } => cuts.clear(),
+        Event::Cut { slot } => {
+            if cuts.insert(0, slot).is_err() {
+                return Err(NoMemory);
+            }
+        }
+        Event::Retire { slot, .. } => take_out(cuts, slot),
+        _ => {}
+    }
+    Ok(())
+}
+
+// Whether the call looks for a root at index 0.
+fn has_root(call: Option<Call>) -> bool
+    ensures { result ≡ has_root_call call }
+{
+    matches!(
+        call,
+        Some(
+            Call::Get { .. }
+                | Call::Put { .. }
+                | Call::Remove { .. }
+                | Call::PutIf { .. }
+                | Call::Enqueue { .. }
+                | Call::Dequeue
+        )
+    )
+}
+
+impl Seat {
+    /// A seat that has told nothing.
+    pub fn new(alloc: Global) -> Seat
+        ensures { shown_seat result ≡ no_calls }
+    {
+        Seat {
+            in_call: false,
+            left: false,
+            began: None,
+            rooted: false,
+            null: false,
+            grant: Grant::none(),
+            blocks: Blocks::none(),
+            cuts: Vec::new(alloc),
+        }
+    }
+
+    /// Takes an event of the seat, where there are `all` guards, and a block is due at each `every`
+    /// retirements. NoMemory: a count has passed the numbers of 64 bits, or there is none for a row.
+    pub fn note(&mut self, event: &Event, all: u32, every: u32) -> Result<(), NoMemory>
+        requires { 0 < every }
+        ensures { OnOk result (shown_seat self.new ≡ seat_by all every event.now (shown_seat self.old)) }
+    {
+        note_cuts(&mut self.cuts, event)?;
+        self.blocks = self.blocks.after(event, all, every)?;
+        self.grant = self.grant.after(event);
+        self.in_call = open_after(event, self.in_call);
+        self.left = left_after(event, self.left);
+        self.began = began_after(event, self.began);
+        self.rooted = rooted_after(event, self.rooted);
+        self.null = null_after(event, self.null);
+        Ok(())
+    }
+
+    fn opens(&self, event: &Event) -> bool
+        ensures { result ≡ opens_right event.now self.now.in_call self.now.left }
+    {
+        match event {
+            Event::Begin { .. } => !self.in_call && !self.left,
+            _ => self.in_call,
+        }
+    }
+
+    fn retires(&self, event: &Event) -> bool
+        ensures { result ≡ retires_right event.now self.now.cuts.items }
+    {
+        match *event {
+            Event::Retire { slot, .. } => is_among(&self.cuts, slot),
+            Event::End { .. } => self.cuts.is_empty(),
+            _ => true,
+        }
+    }
+
+    fn finds(&self, event: &Event) -> bool
+        ensures { result ≡ finds_right event.now self.now.began self.now.rooted }
+    {
+        match event {
+            Event::End { .. } => !has_root(self.began) || self.rooted,
+            _ => true,
+        }
+    }
+
+    /// Whether the seat may tell the event.
+    pub fn fits(&self, event: &Event) -> bool
+        ensures { result ≡ seat_right event.now (shown_seat self.now) }
+    {
+        self.opens(event)
+            && self.grant.fits(event)
+            && self.retires(event)
+            && self.blocks.fits(self.began, event)
+            && self.blocks.moves_fit(self.began, event)
+            && self.finds(event)
+    }
+}
+
+// Whether the row is among these.
+#[tactic(auto, using(crate::proofs::Cuts::among_any))]
+fn is_among(cuts: &[u32], slot: u32) -> bool
+    ensures { result ≡ is_among_rows slot cuts.now }
+{
+    cuts.contains(&slot)
+}
+
+/// So many seats that have told nothing. NoMemory: there is none for them.
+pub(crate) fn new_seats(alloc: Global, seats: u32) -> Result<Vec<Seat>, NoMemory>
+    ensures { IfOk result (λ all. IsFresh seats all.items) }
+{
+    let Ok(mut all) = Vec::with_capacity(alloc, seats as usize) else {
+        return Err(NoMemory);
+    };
+    for _ in 0..seats {
+        if all.push(Seat::new(alloc)).is_err() {
+            return Err(NoMemory);
+        }
+    }
+    Ok(all)
+}

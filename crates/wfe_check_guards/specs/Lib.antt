@@ -1,0 +1,4 @@
+pub mod All
+pub mod Protections
+pub mod Rows
+pub mod Shown

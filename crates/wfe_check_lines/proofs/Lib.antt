@@ -1,0 +1,7 @@
+pub mod Answered
+pub mod Bytes
+pub mod Lines
+pub mod Standing
+pub mod Telling
+pub mod Texts
+pub mod Within

@@ -1,0 +1,86 @@
+-- How a line of a record after its first one is read, word by word.
+use Rattle.std.specs.Prelude.{ℕ, List, Option, Some, None, codes, if◌then◌else◌}
+use Rattle.std.specs.Str.{bytes_eq}
+use Rattle.wfe_words.specs.declared.config.Config.{Config}
+use Rattle.wfe_defs.specs.declared.event.Event.{Event}
+use Rattle.wfe_record.specs.record_words.Reader.{Read, given, ◌>>=◌, done, first, whole, word, long, number_below}
+use Rattle.wfe_record.specs.record_header.Reader.{exactly}
+use Rattle.wfe_record.specs.Reader.{entry_in}
+use Rattle.laws_good.specs.Ranges.{EntryIn}
+use Rattle.wfe_check_lines.specs.declared.kind.Kind.{Kind}
+use Rattle.wfe_check_lines.specs.declared.kind.Kind.TheVariants as kinds
+
+-- of which seat a line of counts is: of one, or of all
+unfoldable pub counted_in : Config → List ℕ → Option (Unit {0})
+counted_in config w = if bytes_eq w (codes "all") then Some tt else given (number_below config.seats w) (λ seat. Some tt)
+
+-- counts of rows: how many were retired, went back, and wait
+abbrev pub counts : Config → Read Kind
+counts config = do
+  seat ← word (counted_in config)
+  retired_name ← word (exactly (codes "retired"))
+  retired ← long
+  back_name ← word (exactly (codes "back"))
+  back ← long
+  waiting_name ← word (exactly (codes "waiting"))
+  waiting ← long
+  done kinds.Shown
+
+-- a watcher's row: its place, and three numbers
+abbrev pub row : Read Kind
+row = do
+  place ← long
+  a ← long
+  b ← long
+  c ← long
+  done kinds.Shown
+
+-- the word is a reason for which a line of a trace is bad
+unfoldable pub reason_in : List ℕ → Option (Unit {0})
+reason_in w =
+    if bytes_eq w (codes "first") then Some tt else
+    if bytes_eq w (codes "config") then Some tt else
+    if bytes_eq w (codes "form") then Some tt else
+    if bytes_eq w (codes "number") then Some tt else
+    if bytes_eq w (codes "run-line") then Some tt else
+    if bytes_eq w (codes "seat") then Some tt else
+    if bytes_eq w (codes "range") then Some tt else
+    if bytes_eq w (codes "busy") then Some tt else
+    if bytes_eq w (codes "long-line") then Some tt else
+    if bytes_eq w (codes "long-trace") then Some tt else
+    if bytes_eq w (codes "no-end") then Some tt else
+    if bytes_eq w (codes "after-end") then Some tt else
+    if bytes_eq w (codes "not-yet") then Some tt else
+    if bytes_eq w (codes "gone") then Some tt else None
+
+-- the first bad line of a trace, and why it is bad
+abbrev pub refusal : Read Kind
+refusal = do
+  line ← long
+  reason ← word reason_in
+  done kinds.Last
+
+-- the end of a record that has come to its end
+abbrev pub ending : Read Kind
+ending = done kinds.Last
+
+abbrev pub entry_kind : Option (ℕ × Event) → Option Kind
+entry_kind None = None
+entry_kind (Some entry) = Some (kinds.Entry entry.0 entry.1)
+
+-- by a line's first word, the words after it, and all words
+unfoldable pub kind_by : ℕ → Config → (name : List ℕ) → (rest all : List (List ℕ)) → Option Kind
+kind_by version config name rest all =
+    if bytes_eq name (codes "table") then whole (counts config rest) else
+    if bytes_eq name (codes "watch") then whole (row rest) else
+    if bytes_eq name (codes "done") then whole (ending rest) else
+    if bytes_eq name (codes "bad") then whole (refusal rest) else entry_kind (entry_in version config all)
+
+-- the kind of a line's words
+abbrev pub kind_in : ℕ → Config → List (List ℕ) → Option Kind
+kind_in version config ws = given (first ws) (λ p. kind_by version config p.0 p.1 ws)
+
+-- an entry's numbers are in the setting's ranges
+abbrev pub KindIn : Config → Kind → Type 0
+KindIn config (kinds.Entry seat event) = EntryIn config seat event
+KindIn config kind = Unit {0}

@@ -1,0 +1,137 @@
+// The kinds of lines that follow a record's first one, and how they are read.
+ghost use Rattle.std.specs.Prelude.{◌≡◌, IfSome, None, Some, if◌then◌else◌, option_map};
+ghost use Rattle.wfe_record.specs.record_words.Reader.{is_over};
+ghost use Rattle.wfe_trace.specs.Words.{words};
+ghost use Rattle.wfe_check_lines.specs.Kinds.{KindIn, counted_in, counts as counts_of, kind_by, kind_in, reason_in, refusal as refusal_of, row as row_of};
+
+use wfe_defs::Event;
+use wfe_record::read_event;
+use wfe_record_header::exactly;
+use wfe_record_words::{Words, number_below};
+use wfe_words::Config;
+
+/// What a line of a record after its first one is.
+#[derive(Clone, Copy, Debug, PartialEq, Eq)]
+pub enum Kind {
+    /// An event of a seat.
+    Entry { seat: u32, event: Event },
+    /// Counts of rows that a trace asked for, or a watcher's row.
+    Shown,
+    /// The last line: that all is done, or the first bad line of a trace.
+    Last,
+}
+
+// Of which seat a line of counts is: of one, or of all.
+#[tactic(auto, unfolding(crate::specs::Kinds::counted_in))]
+fn counted(word: &[u8], config: &Config) -> Option<()>
+    ensures { result ≡ counted_in config.now word.now }
+{
+    if word == b"all".as_slice() {
+        return Some(());
+    }
+    number_below(word, config.seats as u64)?;
+    Some(())
+}
+
+// The words after `table`.
+fn counts(line: &mut Words<'_>, config: &Config) -> Option<Kind>
+    ensures { option_map (λ kind. (kind, line.new)) result ≡ counts_of config.now line.old }
+{
+    counted(line.first()?, config)?;
+    exactly(line.first()?, b"retired")?;
+    line.long()?;
+    exactly(line.first()?, b"back")?;
+    line.long()?;
+    exactly(line.first()?, b"waiting")?;
+    line.long()?;
+    Some(Kind::Shown)
+}
+
+// The words after `watch`.
+fn row(line: &mut Words<'_>) -> Option<Kind>
+    ensures { option_map (λ kind. (kind, line.new)) result ≡ row_of line.old }
+{
+    line.long()?;
+    line.long()?;
+    line.long()?;
+    line.long()?;
+    Some(Kind::Shown)
+}
+
+// A reason for which a line of a trace is bad.
+#[tactic(auto, unfolding(crate::specs::Kinds::reason_in))]
+fn reason(word: &[u8]) -> Option<()>
+    ensures { result ≡ reason_in word.now }
+{
+    let is_reason = word == b"first".as_slice()
+        || word == b"config".as_slice()
+        || word == b"form".as_slice()
+        || word == b"number".as_slice()
+        || word == b"run-line".as_slice()
+        || word == b"seat".as_slice()
+        || word == b"range".as_slice()
+        || word == b"busy".as_slice()
+        || word == b"long-line".as_slice()
+        || word == b"long-trace".as_slice()
+        || word == b"no-end".as_slice()
+        || word == b"after-end".as_slice()
+        || word == b"not-yet".as_slice()
+        || word == b"gone".as_slice();
+    if is_reason { Some(()) } else { None }
+}
+
+// The words after `bad`.
+fn refusal(line: &mut Words<'_>) -> Option<Kind>
+    ensures { option_map (λ kind. (kind, line.new)) result ≡ refusal_of line.old }
+{
+    line.long()?;
+    reason(line.first()?)?;
+    Some(Kind::Last)
+}
+
+// The kind where all words were read.
+fn whole(line: &Words<'_>, kind: Kind) -> Option<Kind>
+    ensures { result ≡ (if is_over line.now then Some kind else None) }
+{
+    if line.is_over() { Some(kind) } else { None }
+}
+
+// The kind of a line with this first word.
+#[tactic(auto, using(crate::proofs::Within::entry_in_range), unfolding(crate::specs::Kinds::kind_by))]
+fn named(
+    name: &[u8],
+    line: &mut Words<'_>,
+    bytes: &[u8],
+    version: u32,
+    config: &Config,
+) -> Option<Kind>
+    ensures kind { result ≡ kind_by version config.now name.now line.old (words bytes.now) }
+    ensures within { IfSome result (λ kind. KindIn config.now kind) }
+{
+    if name == b"table".as_slice() {
+        let kind = counts(line, config)?;
+        whole(line, kind)
+    } else if name == b"watch".as_slice() {
+        let kind = row(line)?;
+        whole(line, kind)
+    } else if name == b"done".as_slice() {
+        whole(line, Kind::Last)
+    } else if name == b"bad".as_slice() {
+        let kind = refusal(line)?;
+        whole(line, kind)
+    } else {
+        let (seat, event) = read_event(bytes, version, config)?;
+        Some(Kind::Entry { seat, event })
+    }
+}
+
+/// The kind of a line of a record of the version and with the setting, after its first line: of the
+/// line without its line feed. None where it is none of a record's.
+pub fn read_kind(bytes: &[u8], version: u32, config: &Config) -> Option<Kind>
+    ensures kind { result ≡ kind_in version config.now (words bytes.now) }
+    ensures within { IfSome result (λ kind. KindIn config.now kind) }
+{
+    let mut line = Words::of(bytes);
+    let name = line.first()?;
+    named(name, &mut line, bytes, version, config)
+}

@@ -1,0 +1,2 @@
+pub use Rattle.laws_good.specs as good
+pub mod Blank

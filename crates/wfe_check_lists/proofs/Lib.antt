@@ -1,0 +1,3 @@
+pub mod SpansLemmas
+pub mod SeatsLemmas
+pub mod StepsLemmas

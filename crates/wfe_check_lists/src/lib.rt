@@ -1,0 +1,11 @@
+//! What the record says of retire lists and of scans: which lives each seat's list has, what the seat has
+//! read of its block of guards, and which life goes back next.
+#![tactic(auto)]
+
+mod guards;
+mod lists;
+mod seat;
+#[cfg(test)]
+mod tests;
+
+pub use lists::Lists;

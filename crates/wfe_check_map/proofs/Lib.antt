@@ -1,0 +1,4 @@
+pub mod StepsLemmas
+pub mod ValuesLemmas
+pub mod StampsLemmas
+pub mod MarksLemmas

@@ -1,0 +1,4 @@
+pub mod Due
+pub mod Row
+pub mod Rows
+pub mod Shown

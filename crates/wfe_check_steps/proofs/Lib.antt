@@ -1,0 +1,3 @@
+pub mod Right
+pub mod Tables
+pub mod Words

@@ -1,0 +1,6 @@
+pub mod Grids
+pub mod Positions
+pub mod Roots
+pub mod Steps
+pub mod Tests
+pub mod Times
