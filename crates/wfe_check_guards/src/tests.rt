@@ -71,7 +71,7 @@ fn end() -> Event {
     }
 }
 
-// Seat 0 links the row 0 at a bucket's root, where seat 1 protects it, and lets go.
+// Seat 0 links a row at a bucket's root, where seat 1 protects it, and lets go.
 fn good() -> [(u32, Event); 8] {
     [
         (0, Event::Give { slot: 0, birth: 1 }),

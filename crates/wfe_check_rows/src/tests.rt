@@ -60,8 +60,8 @@ fn queued() -> Event {
     }
 }
 
-// Seat 0 queues the row 0, seat 1 takes its value and gives back the queue's first row, and seat 0
-// puts two pairs into a bucket, the second in the row of the first entry given back.
+// Seat 0 queues a row, and seat 1 takes its value and gives back the queue's first row. Then seat 0 puts
+// a pair into a bucket, and seat 1 another one, in the row that was given back.
 fn good() -> [(u32, Event); 16] {
     [
         (0, give(0)),
