@@ -20,7 +20,7 @@ use Rattle.wfe_cli.proofs.Headline.{broken_of, summarizes_of}
 use Rattle.wfe_defs.specs.declared.call.Call.{Call}
 
 -- the job is the one that the words ask for
-job_is : (job other : Job) (a : Option Job) → Some job ≡ a → a ≡ Some other → job ≡ other
+pub job_is : (job other : Job) (a : Option Job) → Some job ≡ a → a ≡ Some other → job ≡ other
 job_is job other a e h = let both : Some job ≡ Some other = cc in cc
 
 pub replays_as : (makes : Call → Bool) {W : Type 0} (seen : Seen W) (job : Job) (a : Option Job) (status : Status) (watched : List ℕ) (before left : Option (List ℕ)) (old new : Outside W) →

@@ -1,6 +1,7 @@
 -- What the commands promise: that a record is the record of one history of the model, which is lawful.
 use Rattle.wfe_server_out.specs.Heard.{Hears, Seen}
-use Rattle.std.specs.Prelude.{Bool, List, None, Option, Some, [], ℕ, ◌++◌, ◌≡◌, length, ◌<◌}
+use Rattle.law_printed.specs.Printed.{WritesLawful}
+use Rattle.std.specs.Prelude.{Bool, List, None, Ok, Option, Some, [], ℕ, ◌++◌, ◌≡◌, length, ◌<◌}
 use Rattle.std.specs.Io.KnownBytes.{Consumes, IsAtEnd}
 use Rattle.wfe_defs.specs.Entry.{Entry}
 use Rattle.wfe_server.specs.Generated.{Generates}
@@ -10,8 +11,9 @@ use Rattle.wfe_trace.specs.declared.reason.BadLine.{BadLine}
 use Rattle.wfe_trace.specs.declared.reason.Status.{Status}
 use Rattle.wfe_trace.specs.declared.reason.Status.TheVariants as statuses
 use Rattle.wfe_server.specs.server_replay.Given.{Given, IsTaken, given_out, given_record, given_waiting, items, layout_of, past_entries}
-use Rattle.wfe_server.specs.server_replay.Replay.{IsCutOff, IsRefused, IsReplayed, IsStopped, all_lines, closed_lines}
+use Rattle.wfe_server.specs.server_replay.Replay.{IsCutOff, IsRefused, IsReplayed, IsStopped, all_lines, closed_lines, whole}
 use Rattle.wfe_server.specs.server_replay.Sunk.{Outside}
+use Rattle.wfe_server.specs.server_replay.Trace.{Progress}
 use Rattle.wfe_server_run.specs.all.Whole.{IsLawful}
 use Rattle.law_lists.specs.laws.Lists.{list_of}
 use Rattle.law_lists.specs.watch.Lists.{waiting_at}
@@ -83,3 +85,16 @@ GivenLawful makes = (given : Given) → IsTaken makes given → HasLaws given
 pub record Summarizes {W : Type 0} (seen : Seen W) (status : Status) (seed turns : ℕ) (watched : List ℕ) (old new : Outside W) : Type 0 where
   pub made : Generates seen status seed turns watched old new
   pub laws : HasLaws (trace_of (generated seed turns))
+
+-- What a replay has written, where its work is done, a check finds lawful, if it is no longer than a record may be: it has as many
+-- entries as the record of the trace's lines.
+pub record IsReadBack (makes : Call → Bool) (taken : List ℕ) (old new : Option (List ℕ)) : Type 0 where
+  pub given : Given
+  pub progress : Progress Given
+  pub good : whole makes taken ≡ Ok progress
+  pub is_given : progress.engine ≡ Some given
+  pub lawful : WritesLawful old new (length (past_entries (given_record given)))
+
+-- so it is with the trace that was taken from the source
+abbrev pub ReadsBack : (makes : Call → Bool) → Option (List ℕ) → Option (List ℕ) → (old new : Option (List ℕ)) → Type 0
+ReadsBack makes before left old new = (taken : List ℕ) × Consumes before left taken × IsReadBack makes taken old new

@@ -3,12 +3,12 @@ ghost use Rattle.wfe_server_out.specs.Heard.{boxed};
 ghost use Rattle.std.specs.Prelude.{◌≡◌, ◌≢◌, ◌≤◌, Bool, ℕ, None, Some, map, string_bytes};
 ghost use Rattle.wfe_check.specs.lines.Verdicts.{Checks, IsAnswered};
 ghost use Rattle.wfe_cli.specs.Command.{Allowed, Does, IsComplete, IsGenerated, Refuses, made_calls, status_number};
-ghost use Rattle.wfe_cli.specs.Headline.{GivenLawful, Keeps, Summarizes};
+ghost use Rattle.wfe_cli.specs.Headline.{GivenLawful, Keeps, ReadsBack, Summarizes};
 ghost use Rattle.wfe_cli_job.specs.Jobs.{asked};
 ghost use Rattle.wfe_defs.specs.declared.call.Call.{Call};
 ghost use Rattle.wfe_outside.specs.Faults.{Rose};
 ghost use Rattle.wfe_server.specs.server_replay.Sunk.{outside};
-ghost use Rattle.wfe_server.specs.server_replay.Watched.{watch_text};
+ghost use Rattle.wfe_server.specs.server_replay.Watched.{WatchersFit, watch_text};
 ghost use Rattle.wfe_server_run.specs.Runs.{IsComplete as IsRunWhole, Runs as RunsTrace};
 
 use std::alloc::Global;
@@ -53,6 +53,7 @@ fn perform<R: Threads + Sync, S: Source, K: Sink>(
 ) -> Status
     requires { Allowed job }
     ensures does { Does made_calls (boxed stands) job result (watch_text shown shows watchers.new.items) (S.left source.old) (S.left source.new) (outside (K.written sink.old) watchers.old.items) (outside (K.written sink.new) watchers.new.items) }
+    ensures fits { job ≡ Job.Replay → result ≡ Status.Done → WatchersFit shown shows watchers.new.items }
     ensures unread { (seed turns : ℕ) → job ≡ Job.Generate seed turns → source.new ≡ source.old }
     ensures unheard { job ≡ Job.Check → watchers.new ≡ watchers.old }
     ensures source { S.faults source.old ≤ S.faults source.new }
@@ -85,6 +86,8 @@ pub fn main_call<R: Threads + Sync, S: Source, K: Sink>(
     // The words are judged first.
     ensures replays { asked (map string_bytes words.now) ≡ Some Job.Replay → Keeps made_calls (boxed stands) result (watch_text shown shows watchers.new.items) (S.left source.old) (S.left source.new) (outside (K.written sink.old) watchers.old.items) (outside (K.written sink.new) watchers.new.items) }
     ensures lawful { (makes : Call → Bool) → GivenLawful makes }
+    // What is printed of a trace is read back: a check finds it lawful.
+    ensures read_back { asked (map string_bytes words.now) ≡ Some Job.Replay → result ≡ Status.Done → ReadsBack made_calls (S.left source.old) (S.left source.new) (K.written sink.old) (K.written sink.new) }
     ensures runs { asked (map string_bytes words.now) ≡ Some Job.Run → RunsTrace (boxed stands) result (watch_text shown shows watchers.new.items) (S.left source.old) (S.left source.new) (outside (K.written sink.old) watchers.old.items) (outside (K.written sink.new) watchers.new.items) }
     ensures generates { (seed turns : ℕ) → asked (map string_bytes words.now) ≡ Some (Job.Generate seed turns) → Summarizes (boxed stands) result seed turns (watch_text shown shows watchers.new.items) (outside (K.written sink.old) watchers.old.items) (outside (K.written sink.new) watchers.new.items) }
     ensures checks { asked (map string_bytes words.now) ≡ Some Job.Check → Checks result (S.left source.old) (S.left source.new) (K.written sink.old) (K.written sink.new) }

@@ -6,6 +6,7 @@ use Rattle.wfe_server_out.specs.Emits.{Emits, Writes}
 use Rattle.wfe_server_out.specs.Heard.{Hears, Seen}
 use Rattle.wfe_server_out.specs.Pieces.{Piece, heard_of, text_of}
 use Rattle.wfe_server_out.proofs.Hearing.{hears_none}
+use Rattle.wfe_server_out.proofs.Sizes.{sized_quiet}
 use Rattle.wfe_server_out.proofs.Puts.{puts_along, puts_lines_some, puts_none, puts_some_more, puts_then_some}
 
 -- nothing is done
@@ -49,7 +50,7 @@ emits_within rest came split one two = emits_fault came (emits_of (sym split) (e
 
 text_only : {K W T : Type 0} {seen : Seen W} {written : K → Option (List ℕ)} {faults : K → ℕ} {may_stand : Bool} (result : Result T Fault) {old new : K} {watchers : List W} {out : List Piece} → heard_of out ≡ [] →
     Writes written faults may_stand result old new (text_of out) → Emits seen written faults may_stand result old new watchers watchers out
-text_only (Ok x) none one = record { put = record { wrote = one.wrote; heard = subst (Hears _ _ _) (sym none) (hears_none _ _) }; some = tt; later = one.later; cause = tt }
+text_only (Ok x) {out = out} none one = record { put = record { wrote = one.wrote; heard = subst (Hears _ _ _) (sym none) (hears_none _ _); sized = sized_quiet out none }; some = tt; later = one.later; cause = tt }
 text_only (Err fault) none one = record { put = tt; some = puts_lines_some _ _ _ _ _ none one.some; later = one.later; cause = λ at_write. one.cause }
 
 -- a text is written, and no watcher hears of it

@@ -2,6 +2,7 @@ pub mod Boxes
 pub mod Emits
 pub mod Hearing
 pub mod Puts
+pub mod Sizes
 pub mod Stops
 pub mod Texts
 pub mod Turns

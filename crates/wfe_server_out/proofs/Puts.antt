@@ -7,16 +7,17 @@ use Rattle.wfe_server_out.specs.Some.{AppendsSome}
 use Rattle.wfe_server_out.specs.Pieces.{Piece, Text, Told, text_of, heard_of}
 use Rattle.wfe_server_out.specs.Heard.{Hears, HearsSome, Seen}
 use Rattle.wfe_server_out.specs.PutOut.{PutsInOrder, PutsOut, PutsSome, StopsIn}
+use Rattle.wfe_server_out.proofs.Sizes.{sized_along}
 use Rattle.wfe_server_out.proofs.Texts.{text_of-append, heard_of-append, AppendsSome-all, AppendsSome-then, AppendsSome-first}
 use Rattle.wfe_server_out.proofs.Hearing.{hears_none, hears_along, hears_out_some, hears_some_none, hears_then_some, hears_some_more}
 
 -- no piece, and nothing changed
 pub puts_none : {W : Type 0} (seen : Seen W) (old : Option (List ℕ)) (ws : List W) → PutsOut seen old old ws ws []
-puts_none seen old ws = record { wrote = Appends-nil old; heard = hears_none seen ws }
+puts_none seen old ws = record { wrote = Appends-nil old; heard = hears_none seen ws; sized = tt }
 
 -- a text is written, and no watcher hears of it
 pub puts_text : {W : Type 0} (seen : Seen W) (old new : Option (List ℕ)) (ws : List W) (bytes : List ℕ) → Appends old new bytes → PutsOut seen old new ws ws (Text bytes ∷ [])
-puts_text seen old new ws bytes wrote = record { wrote = subst (Appends old new) (sym (append-nil bytes)) wrote; heard = hears_none seen ws }
+puts_text seen old new ws bytes wrote = record { wrote = subst (Appends old new) (sym (append-nil bytes)) wrote; heard = hears_none seen ws; sized = tt }
 
 -- one after the other
 pub puts_along : {W : Type 0} (seen : Seen W) (old mid new : Option (List ℕ)) (a b c : List W) (xs ys : List Piece) →
@@ -24,6 +25,7 @@ pub puts_along : {W : Type 0} (seen : Seen W) (old mid new : Option (List ℕ)) 
 puts_along seen old mid new a b c xs ys one two = record {
   wrote = subst (Appends old new) (sym (text_of-append xs ys)) (Appends-trans old mid new (text_of xs) (text_of ys) one.wrote two.wrote);
   heard = subst (Hears seen a c) (sym (heard_of-append xs ys)) (hears_along seen a b c (heard_of xs) (heard_of ys) one.heard two.heard);
+  sized = sized_along xs ys one.sized two.sized;
 }
 
 -- what is put out in order is put out in part

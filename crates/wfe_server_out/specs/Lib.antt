@@ -2,4 +2,5 @@ pub mod Emits
 pub mod Heard
 pub mod Pieces
 pub mod PutOut
+pub mod Sizes
 pub mod Some

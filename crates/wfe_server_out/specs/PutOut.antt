@@ -4,11 +4,13 @@ use Rattle.std.specs.Io.KnownBytes.{Appends, Keeps}
 use Rattle.wfe_server_out.specs.Some.{AppendsSome}
 use Rattle.wfe_server_out.specs.Pieces.{Piece, text_of, heard_of}
 use Rattle.wfe_server_out.specs.Heard.{Hears, HearsSome, Seen}
+use Rattle.wfe_server_out.specs.Sizes.{AreSized}
 
--- the pieces were put out, and nothing else
+-- the pieces were put out, and nothing else; each number of an event has the bits of its type
 pub record PutsOut {W : Type 0} (seen : Seen W) (old new : Option (List ℕ)) (before after : List W) (out : List Piece) : Type 0 where
   pub wrote : Appends old new (text_of out)
   pub heard : Hears seen before after (heard_of out)
+  pub sized : AreSized out
 
 -- Nothing more was written of the next piece, though some watchers may have heard of it; or each watcher has heard of it, and a part of it was written.
 abbrev pub StopsIn : {W : Type 0} → Seen W → (old new : Option (List ℕ)) → (before after : List W) → List Piece → Type 0

@@ -3,6 +3,7 @@
 #![tactic(auto)]
 
 mod fault;
+mod size;
 mod telling;
 mod write;
 

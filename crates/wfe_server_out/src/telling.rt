@@ -9,6 +9,7 @@ ghost use Rattle.wfe_server_out.specs.Pieces.{Told as told_piece, text_of, told_
 ghost use Rattle.wfe_server_out.specs.PutOut.{FailsToWrite, FailsToTell};
 
 use crate::Fault;
+use crate::size::size;
 use crate::write::put_line;
 use wfe_core::Told;
 use wfe_outside::{Event, Failed, NoMemory, Sink, Watcher};
@@ -61,6 +62,7 @@ pub fn tell<K: Sink>(
     ensures unwritten { IfErr result (λ fault. fault ≡ Fault.Memory → Keeps (K.written sink.old) (K.written sink.new)) }
     ensures needs_a_watcher { IfErr result (λ fault. fault ≡ Fault.Memory → 0 < length watchers.old) }
 {
+    size(*event);
     tell_watchers(watchers, seat, event)?;
     put_event(sink, seat, event)?;
     Ok(())

@@ -3,7 +3,7 @@ use Rattle.wfe_server_out.specs.Heard.{Hears, Seen}
 use Rattle.std.proofs.Common.{Bool, Err, List, Ok, Option, [], ap, ap₂, append-nil, arith, drop, inl, inr, length, subst, sym, take, take_all, ℕ, ◌++◌, ◌∙◌, ◌≡◌, ◌⊎◌}
 use Rattle.std.proofs.lemmas.List.{drop_all}
 use Rattle.wfe_outside.specs.declared.watcher.WatchRow.{WatchRow}
-use Rattle.wfe_server_replay.specs.Watched.{watch_text}
+use Rattle.wfe_server_replay.specs.Watched.{WatchersFit, watch_text}
 use Rattle.std.specs.Io.KnownBytes.{IsAtEnd}
 use Rattle.wfe_server_out.specs.Pieces.{Piece, heard_of}
 use Rattle.wfe_server_out.proofs.Puts.{puts_some_none}
@@ -137,3 +137,7 @@ replays_back makes {W = W} seen shown shows status before left old new ws vs us 
     subst (λ (fs : List W). Replays makes seen status (watch_text shown shows fs) before left (outside old vs) (outside new fs)) (sym (back_again us vs n l m))
     (subst (λ (xs : List W). Replays makes seen status (watch_text shown shows us) before left (outside old xs) (outside new us)) e
     (replays_of_player makes seen status (watch_text shown shows us) before left (outside old ws) (outside new us) r))
+
+-- and the rows that they show, of numbers that have the bits of their type
+pub fits_back : {W : Type 0} (shown : W → ℕ) (shows : W → ℕ → WatchRow) (vs us : List W) (n : ℕ) → length us ≡ length vs → n ≡ length vs → WatchersFit shown shows us → WatchersFit shown shows (take n (us ++ drop (length us) vs))
+fits_back {W = W} shown shows vs us n l m fits = subst (λ (fs : List W). WatchersFit shown shows fs) (sym (back_again us vs n l m)) fits

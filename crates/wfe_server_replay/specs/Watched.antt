@@ -1,7 +1,8 @@
 -- The rows of watchers, as the last lines of a record print them.
-use Rattle.std.specs.Prelude.{List, [], map, ℕ, ◌+◌, ◌++◌, ◌∷◌}
+use Rattle.std.specs.Prelude.{List, Some, [], map, slice_get, ℕ, ◌+◌, ◌++◌, ◌<◌, ◌≡◌, ◌∷◌}
 use Rattle.std.specs.List.{range_with_len}
 use Rattle.wfe_outside.specs.declared.watcher.WatchRow.{WatchRow}
+use Rattle.wfe_trace.specs.Fits.{NumberFits}
 use Rattle.wfe_trace.specs.Record.{watch_line}
 
 -- a watcher's rows, by how many it shows and which
@@ -20,3 +21,15 @@ watch_from rows place (watcher ∷ watchers) = rows_text place (rows watcher) ++
 
 abbrev pub watch_text : {W : Type 0} → (W → ℕ) → (W → ℕ → WatchRow) → List W → List ℕ
 watch_text shown shows watchers = watch_from (rows_of shown shows) 0 watchers
+
+-- the numbers of a row have the bits of their type
+abbrev pub RowFits : WatchRow → Type 0
+RowFits row = NumberFits row.a × NumberFits row.b × NumberFits row.c
+
+-- so it is with each row that a watcher shows
+abbrev pub RowsFit : {W : Type 0} → (W → ℕ) → (W → ℕ → WatchRow) → W → Type 0
+RowsFit shown shows watcher = (row : ℕ) → row < shown watcher → RowFits (shows watcher row)
+
+-- so it is with watchers, and with their places
+abbrev pub WatchersFit : {W : Type 0} → (W → ℕ) → (W → ℕ → WatchRow) → List W → Type 0
+WatchersFit {W} shown shows watchers = (place : ℕ) (watcher : W) → slice_get watchers place ≡ Some watcher → NumberFits place × RowsFit shown shows watcher

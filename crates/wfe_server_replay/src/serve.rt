@@ -7,7 +7,7 @@ ghost use Rattle.wfe_server_replay.specs.Replay.{Replays};
 ghost use Rattle.wfe_server_replay.specs.Run.{PlayerReplays};
 ghost use Rattle.wfe_server_replay.specs.Sunk.{Outside, outside};
 ghost use Rattle.wfe_server_replay.specs.Trace.{progress_start};
-ghost use Rattle.wfe_server_replay.specs.Watched.{watch_text};
+ghost use Rattle.wfe_server_replay.specs.Watched.{WatchersFit, watch_text};
 ghost use Rattle.wfe_server_out.specs.Pieces.{Text};
 
 use crate::progress::Work;
@@ -61,6 +61,7 @@ fn close<K: Sink>(
     status: Status,
 ) -> Status
     ensures closed { Closes (boxed stands) result status (outside (K.written sink.old) watchers.now) (outside (K.written sink.new) watchers.now) (Text line.now ∷ []) }
+    ensures one { (result ≡ status) ⊎ (result ≡ Status.WriteFault) }
     ensures later { K.faults sink.old ≤ K.faults sink.new }
     ensures cause { result ≡ Status.WriteFault → (status ≡ Status.WriteFault) ⊎ Rose K.may_stand (K.faults sink.old) (K.faults sink.new) }
 {
@@ -73,6 +74,7 @@ fn close<K: Sink>(
 // Writes the rows of the watchers and that the work is done.
 fn close_done<K: Sink>(sink: &mut K, watchers: &[Box<dyn Watcher>]) -> Status
     ensures closed { Closes (boxed stands) result Status.Done (outside (K.written sink.old) watchers.now) (outside (K.written sink.new) watchers.now) (Text (watch_text shown shows watchers.now) ∷ Text (codes "done\n") ∷ []) }
+    ensures fits { result ≡ Status.Done → WatchersFit shown shows watchers.now }
     ensures later { K.faults sink.old ≤ K.faults sink.new }
     ensures cause { result ≡ Status.WriteFault → Rose K.may_stand (K.faults sink.old) (K.faults sink.new) }
     ensures read { result ≢ Status.ReadFault }
@@ -86,6 +88,7 @@ fn close_done<K: Sink>(sink: &mut K, watchers: &[Box<dyn Watcher>]) -> Status
 // The status after a stop: a bad line is written down.
 fn stopped<K: Sink>(sink: &mut K, watchers: &[Box<dyn Watcher>], stop: Stop) -> Status
     ensures closed { StopCloses (boxed stands) stop result (outside (K.written sink.old) watchers.now) (outside (K.written sink.new) watchers.now) }
+    ensures undone { result ≢ Status.Done }
     ensures later { K.faults sink.old ≤ K.faults sink.new }
     ensures read { result ≢ Status.ReadFault }
     ensures cause { result ≡ Status.WriteFault → (stop ≡ Stop.Fault Fault.Write) ⊎ Rose K.may_stand (K.faults sink.old) (K.faults sink.new) }
@@ -123,6 +126,7 @@ fn conclude<E: Engine, K: Sink>(
 ) -> Status
     ensures said { (before left written : Option (List ℕ)) (ws : List _) → Ends E.taken (boxed stands) ending before left (outside written ws) (outside (K.written sink.old) watchers.old) (progress_start Mode.Replay) work.old
         → PlayerReplays E.taken (boxed stands) result (watch_text shown shows watchers.new) before left (outside written ws) (outside (K.written sink.new) watchers.new) }
+    ensures fits { result ≡ Status.Done → WatchersFit shown shows watchers.new }
     ensures later { K.faults sink.old ≤ K.faults sink.new }
     ensures read { result ≡ Status.ReadFault → ending ≡ Ending.NoRead }
     ensures write { result ≡ Status.WriteFault → (ending ≡ Ending.Stopped (Stop.Fault Fault.Write)) ⊎ Rose K.may_stand (K.faults sink.old) (K.faults sink.new) }
@@ -173,6 +177,7 @@ fn replay_in<E: Engine, S: Source, K: Sink>(
 ) -> Status
     requires { 0 < length piece.old }
     ensures said { PlayerReplays E.taken (boxed stands) result (watch_text shown shows watchers.new) (S.left source.old) (S.left source.new) (outside (K.written sink.old) watchers.old) (outside (K.written sink.new) watchers.new) }
+    ensures fits { result ≡ Status.Done → WatchersFit shown shows watchers.new }
     ensures source { S.faults source.old ≤ S.faults source.new }
     ensures sink { K.faults sink.old ≤ K.faults sink.new }
     ensures read { result ≡ Status.ReadFault → Rose S.may_stand (S.faults source.old) (S.faults source.new) }
@@ -193,6 +198,7 @@ pub fn replay<E: Engine, S: Source, K: Sink>(
     watchers: &mut Vec<Box<dyn Watcher>>,
 ) -> Status
     ensures said { Replays E.taken (boxed stands) result (watch_text shown shows watchers.new.items) (S.left source.old) (S.left source.new) (outside (K.written sink.old) watchers.old.items) (outside (K.written sink.new) watchers.new.items) }
+    ensures fits { result ≡ Status.Done → WatchersFit shown shows watchers.new.items }
     ensures source { S.faults source.old ≤ S.faults source.new }
     ensures sink { K.faults sink.old ≤ K.faults sink.new }
     ensures read { result ≡ Status.ReadFault → Rose S.may_stand (S.faults source.old) (S.faults source.new) }

@@ -32,7 +32,7 @@ text_fails wrote = emits_text refl (writes_fault refl (writes_of (sym (append-ni
 pub prints_done : {W : Type 0} (seen : Seen W) (old mid new : Option (List ℕ)) (before after : List W) (watched : List ℕ) (run : List Piece) → PutsOut seen old mid before after run → Appends mid new (watched ++ codes "done\n")
     → Prints seen statuses.Done watched (outside old before) (outside new after) run
 prints_done seen old mid new before after watched run put wrote =
-    puts_trans seen (outside old before) (outside mid after) (outside new after) run (end_pieces watched) put (record { wrote = wrote; heard = hears_none seen after })
+    puts_trans seen (outside old before) (outside mid after) (outside new after) run (end_pieces watched) put (record { wrote = wrote; heard = hears_none seen after; sized = tt })
 
 -- or a part of them
 pub prints_last : {W : Type 0} (seen : Seen W) (old mid new : Option (List ℕ)) (before after : List W) (watched : List ℕ) (run : List Piece) → PutsOut seen old mid before after run → AppendsSome mid new (watched ++ codes "done\n")

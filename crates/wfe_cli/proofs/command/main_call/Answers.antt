@@ -2,6 +2,7 @@ use Rattle.std.proofs.Common.{rules}
 use Rattle.wfe_cli.proofs.Complete.{complete}
 use Rattle.wfe_cli.proofs.Headline.{given_lawful, keeps_of}
 use Rattle.wfe_cli.proofs.Jobs.{checks_as, nothing_checked, nothing_kept, nothing_run, nothing_summarized, replays_as, runs_as, summarizes_as, unread_by, untold_by}
+use Rattle.wfe_cli.proofs.ReadBack.{reads_back_as}
 use Rattle.wfe_check.proofs.lines.Answered.{answered}
 use Rattle.wfe_server_run.proofs.Complete.{complete as run_whole}
 use Rattle.wfe_cli.proofs.command.main_call.Goals as goal
@@ -11,6 +12,10 @@ returns-in-Ok-Some-clause-replays g c asks = keeps_of _ _ c.perform.result _ _ _
 
 pub returns-in-Ok-Some-clause-lawful : goal.returns-in-Ok-Some-clause-lawful
 returns-in-Ok-Some-clause-lawful g c = given_lawful
+
+pub returns-in-Ok-Some-clause-read_back : goal.returns-in-Ok-Some-clause-read_back
+returns-in-Ok-Some-clause-read_back g c asks done =
+    reads_back_as _ _ (λ b. (goal.Watcher-dyn g (b.vtable, b.value)).shown b.value) (λ b. (goal.Watcher-dyn g (b.vtable, b.value)).shows b.value) _ _ c.perform.result _ _ _ _ (search rules) asks done c.perform.ensures.fits c.perform.ensures.does
 
 pub returns-in-Ok-Some-clause-generates : goal.returns-in-Ok-Some-clause-generates
 returns-in-Ok-Some-clause-generates g c seed turns asks = summarizes_as _ _ _ _ seed turns c.perform.result _ _ _ _ _ (search rules) asks c.perform.ensures.does

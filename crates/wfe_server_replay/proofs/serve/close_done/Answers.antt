@@ -7,8 +7,8 @@ use Rattle.wfe_server_replay.proofs.serve.close_done.Goals as goal
 pub returns-in-Ok-clause-closed : goal.returns-in-Ok-clause-closed
 returns-in-Ok-clause-closed g c =
     closes_after _ c.close.result _ (outside (g.K.Sink.written c.args.sink.now) c.args.watchers.now) (outside (g.K.Sink.written c.put_watched.new.sink) c.args.watchers.now) (outside (g.K.Sink.written c.close.new.sink) c.args.watchers.now) _ _
-    (puts_line _ _ _ c.args.watchers.now _ c.in-Ok.ensures.wrote) c.close.ensures.closed
+    (puts_line _ _ _ c.args.watchers.now _ c.in-Ok.ensures.writes.wrote) c.close.ensures.closed
 
 pub returns-in-Err-clause-closed : goal.returns-in-Err-clause-closed
 returns-in-Err-clause-closed g c =
-    inr (refl, part_first _ (outside (g.K.Sink.written c.args.sink.now) c.args.watchers.now) (outside (g.K.Sink.written c.put_watched.new.sink) c.args.watchers.now) _ _ (part_line _ _ _ c.args.watchers.now _ c.in-Err.ensures.some))
+    inr (refl, part_first _ (outside (g.K.Sink.written c.args.sink.now) c.args.watchers.now) (outside (g.K.Sink.written c.put_watched.new.sink) c.args.watchers.now) _ _ (part_line _ _ _ c.args.watchers.now _ c.in-Err.ensures.writes.some))

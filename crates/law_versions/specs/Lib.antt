@@ -1,0 +1,2 @@
+pub use Rattle.laws.specs as laws
+pub mod Versions

@@ -1,0 +1,2 @@
+pub use Rattle.wfe_check_lines.specs as lines
+pub mod Printed
