@@ -2,6 +2,7 @@
 -- has, and the version has it.
 use Rattle.std.proofs.Common.{◌≡◌, ◌&&◌, ℕ, Bool, false, true, Option, None, Some, arith, nat_le, refl}
 use Rattle.std.proofs.lemmas.Bool.Decides.{nat_tests}
+use Rattle.wfe_defs.proofs.Facts.{first_of}
 use Rattle.wfe_check_printed.specs.lines.out.Sizes.{AnswerSized, CallSized, ClockSized, EventSized, SpanSized}
 use Rattle.wfe_check_printed.specs.lines.records.Entry.{IsEvent}
 use Rattle.wfe_check_printed.specs.lines.records.record_answers.Answers.{IsAnswer, IsClock}
@@ -24,11 +25,6 @@ use Rattle.wfe_server_given.specs.versions.laws.defs.declared.event.Root.{Root}
 use Rattle.wfe_server_given.specs.versions.laws.defs.declared.event.Root.TheVariants as roots
 use Rattle.wfe_server_given.specs.versions.laws.defs.declared.lifetime.Interval.{Interval}
 use Rattle.wfe_server_given.specs.versions.laws.words.declared.config.Config.{Config}
-
-pub both : (a b : Bool) → (a && b) ≡ true → (a ≡ true) × (b ≡ true)
-both true true h = (refl, refl)
-both true false h = absurd (cc)
-both false b h = absurd (cc)
 
 -- the call of a Begin names what the setting has
 abbrev pub BeginNames : Config → Event → Type 0
@@ -106,7 +102,7 @@ event_of version config (events.Read guard span) sized names told guarded has = 
 event_of version config (events.Give slot birth) sized names told guarded has = (grind (arith, nat_tests), sized.1)
 event_of version config (events.Unused slot) sized names told guarded has = grind (arith, nat_tests)
 event_of version config (events.Link root slot) sized names told guarded has =
-    (root_of config root (both (is_root config root) (nat_le slot config.slots) told).0, grind (arith, nat_tests))
+    (root_of config root (first_of (is_root config root) (nat_le slot config.slots) told), grind (arith, nat_tests))
 event_of version config (events.Cut slot) sized names told guarded has = grind (arith, nat_tests)
 event_of version config (events.Retire slot birth retire) sized names told guarded has = (grind (arith, nat_tests), sized.1, sized.2)
 event_of version config (events.Back slot) sized names told guarded has = grind (arith, nat_tests)

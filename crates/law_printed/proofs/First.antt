@@ -2,6 +2,7 @@
 use Rattle.std.proofs.Common.{◌≡◌, ◌≤◌, ◌&&◌, ◌||◌, ◌==◌, ◌∙◌, if◌then◌else◌, List, [], ℕ, zero, suc, Bool, true, false, Option, Some, ap, arith, inl, inr, is_none, nat_lt, refl, subst}
 use Rattle.std.proofs.lemmas.Bool.{cases_lt}
 use Rattle.std.proofs.lemmas.Bool.Decides.{nat_tests}
+use Rattle.wfe_defs.proofs.Facts.{rest_of}
 use Rattle.laws_good.proofs.Lawful.{lawful_good}
 use Rattle.laws_good.specs.Good.{Good, rests_of}
 use Rattle.wfe_server_given.specs.versions.Versions.{AreOf}
@@ -71,14 +72,10 @@ keeps_first i p (suc n) high bare = elim (cases_lt 2 n) [
   | inr last ↦ let here : suc n ≡ 3 = omega (arith, high, last) in ap (keeps_none i p) here
 ]
 
-second : (a b : Bool) → (a && b) ≡ true → b ≡ true
-second true b h = h
-second false b h = absurd (cc)
-
 rest_first : (i : ℕ) (p : Past) (n : ℕ) → 3 ≤ n → indexes_rest i p n ≡ true → indexes_rest i p 3 ≡ true
 rest_first i p zero high h = absurd (omega (arith, high))
 rest_first i p (suc n) high h = elim (cases_lt 2 n) [
-  | inl more ↦ rest_first i p n (omega (arith, more)) (second (index_rests i p n) (indexes_rest i p n) h)
+  | inl more ↦ rest_first i p n (omega (arith, more)) (rest_of (index_rests i p n) (indexes_rest i p n) h)
   | inr last ↦ let here : suc n ≡ 3 = omega (arith, high, last) in subst (λ m. indexes_rest i p m ≡ true) here h
 ]
 

@@ -1,6 +1,7 @@
 -- The pieces that a replay puts out are lines of a record: those of entries by what is known of the record, all others by their text.
 use Rattle.std.proofs.Common.{◌≡◌, ◌<◌, ◌++◌, List, [], ◌∷◌, ℕ, true, arith, nat_lt}
 use Rattle.std.proofs.lemmas.Bool.Decides.{nat_tests}
+use Rattle.wfe_defs.proofs.Facts.{rest_of}
 use Rattle.wfe_check_printed.specs.Printed.{ArePrinted, IsPrinted}
 use Rattle.wfe_check_printed.specs.lines.out.Pieces.{Piece, Text, Told, heard_of}
 use Rattle.wfe_check_printed.specs.lines.out.Sizes.{AreSized}
@@ -14,7 +15,7 @@ use Rattle.wfe_server_given.specs.versions.laws.defs.declared.event.Event.TheVar
 use Rattle.wfe_server_given.specs.versions.laws.records.Record.{Each, Past}
 use Rattle.wfe_server_given.specs.versions.laws.records.Record.Past.{Start, Then}
 use Rattle.wfe_server_given.specs.versions.laws.words.declared.config.Config.{Config}
-use Rattle.law_printed.proofs.Events.{BeginNames, both, event_of}
+use Rattle.law_printed.proofs.Events.{BeginNames, event_of}
 
 -- an entry is of a seat of the setting, names what the setting has, and its version has it
 pub record IsIn (version : ℕ) (config : Config) (x : Entry) : Type 0 where
@@ -44,11 +45,11 @@ names_before config i event p h = h
 pub entries_in : (version : ℕ) (config : Config) (p : Past) → BeginsAll (CallNames config) p → Each (ranges_ok config) p → Each (guards_ok config) p → AreOf version p → AreIn version config (past_entries p)
 entries_in version config Start names ranges guarded of = tt
 entries_in version config (Then p i event) names ranges guarded of =
-    let r = both (nat_lt i config.seats) (is_in_range config event) ranges.0 in
+    let told : is_in_range config event ≡ true = rest_of (nat_lt i config.seats) (is_in_range config event) ranges.0 in
     let before : AreIn version config (past_entries p) = entries_in version config p (names_before config i event p names) ranges.1 guarded.1 of.0 in
     let seat : i < config.seats = grind (arith, nat_tests) in
     in_along version config (past_entries p) (entry i event ∷ []) before
-    (record { seat = seat; names = names_last config i event p names; told = r.1; guarded = guarded.0; has = of.1 }, tt)
+    (record { seat = seat; names = names_last config i event p names; told = told; guarded = guarded.0; has = of.1 }, tt)
 
 -- each text of pieces is lines of counts or of watchers' rows
 abbrev pub TextsAre : ℕ → Config → List Piece → Type 0

@@ -1,5 +1,6 @@
 -- What a call may tell and answer its version has, where it has the call.
-use Rattle.std.proofs.Common.{ℕ, ◌≡◌, ◌≤◌, ◌==◌, ◌&&◌, if◌then◌else◌, Bool, true, false, Option, Some, None, refl}
+use Rattle.std.proofs.Common.{ℕ, ◌≡◌, ◌≤◌, ◌==◌, if◌then◌else◌, Bool, true, false, Option, Some, None}
+use Rattle.wfe_defs.proofs.Facts.{first_of}
 use Rattle.laws.proofs.records.Entries.{each_of_entries}
 use Rattle.laws.specs.defs.declared.call.Answer.{Answer}
 use Rattle.laws.specs.defs.declared.call.Answer.TheVariants as answers
@@ -36,10 +37,6 @@ began_has version i (Then p k event) h = began_next version i k event p h (began
 begins_before : (version k : ℕ) (event : Event) (p : Past) → BeginsOf version (Then p k event) → BeginsOf version p
 begins_before version k (events.Begin call) p h = h.0
 begins_before version k event p h = h
-
-first_true : (a b : Bool) → (a && b) ≡ true → a ≡ true
-first_true true b h = refl
-first_true false b h = h
 
 -- each of the later answers is of a call of its own
 copied_has : (version : ℕ) (call : Call) (slot : ℕ) → suits call (answers.Copied slot) ≡ true → HasCall version call → 2 ≤ version
@@ -87,7 +84,7 @@ answer_has version call answer e h = tt
 
 end_has : (version n i : ℕ) (p : Past) (began : Option Call) (answer : Answer) → answer_right n i p began answer ≡ true → HasBegan version began → HasAnswer version answer
 end_has version n i p None answer e h = absurd (cc)
-end_has version n i p (Some call) answer e h = answer_has version call answer (first_true (suits call answer) _ e) h
+end_has version n i p (Some call) answer e h = answer_has version call answer (first_of (suits call answer) _ e) h
 
 -- and so are the later events
 copy_has : (version from index : ℕ) (began : Option Call) → is_copy from index began ≡ true → HasBegan version began → 2 ≤ version
@@ -108,9 +105,9 @@ adopt_has version place (Some call) e h = absurd (cc)
 event_has : (version n : ℕ) (p : Past) (i : ℕ) (event : Event) → answers_ok n p i event ≡ true → copies_ok p i event ≡ true → lists_ok p i event ≡ true → BeginsOf version (Then p i event) → HasEvent version event
 event_has version n p i (events.Begin call) a c l h = h.1
 event_has version n p i (events.End steps answer) a c l h = end_has version n i p (began_of i p) answer a (began_has version i p h)
-event_has version n p i (events.Copied from index slot) a c l h = copy_has version from index (began_of i p) (first_true (is_copy from index (began_of i p)) _ c) (began_has version i p h)
-event_has version n p i (events.Left count) a c l h = leave_has version (began_of i p) (first_true (is_leave (began_of i p)) _ l) (began_has version i p h)
-event_has version n p i (events.Adopted place count) a c l h = adopt_has version place (began_of i p) (first_true (is_adopt place (began_of i p)) _ l) (began_has version i p h)
+event_has version n p i (events.Copied from index slot) a c l h = copy_has version from index (began_of i p) (first_of (is_copy from index (began_of i p)) _ c) (began_has version i p h)
+event_has version n p i (events.Left count) a c l h = leave_has version (began_of i p) (first_of (is_leave (began_of i p)) _ l) (began_has version i p h)
+event_has version n p i (events.Adopted place count) a c l h = adopt_has version place (began_of i p) (first_of (is_adopt place (began_of i p)) _ l) (began_has version i p h)
 event_has version n p i event a c l h = tt
 
 all_has : (version n : ℕ) (p : Past) → Each (answers_ok n) p → Each copies_ok p → Each lists_ok p → BeginsOf version p → AreOf version p

@@ -5,6 +5,7 @@ ghost use Rattle.laws.specs.ScanLaw.{blocks_by, blocks_right, begun_block, is_gi
 ghost use Rattle.wfe_check_calls.specs.Seats.{shown_blocks};
 ghost use Rattle.wfe_check_calls.specs.Sought.{seeks_by};
 
+use wfe_check_counts::raised;
 use wfe_defs::{Call, Event, NoMemory};
 
 #[derive(Clone, Copy, Drop)]
@@ -23,16 +24,6 @@ pub(crate) struct Blocks {
     pub left: u32,
     // The eras that the call has told and that no block after them has taken.
     pub moves: u64,
-}
-
-// One more, where a number of 64 bits has it.
-fn raised(count: u64) -> Result<u64, NoMemory>
-    ensures { IfOk result (λ next. next ≡ count + 1) }
-{
-    match count.checked_add(1) {
-        Some(next) => Ok(next),
-        None => Err(NoMemory),
-    }
 }
 
 // Whether the call is given a row.

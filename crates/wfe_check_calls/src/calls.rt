@@ -5,8 +5,9 @@ ghost use Rattle.wfe_words.specs.Config.{bad_field};
 
 use crate::seat::{Seat, new_seats};
 use std::alloc::Global;
+use wfe_check_counts::guard_count;
 use wfe_defs::{Call, Event, NoMemory};
-use wfe_words::{Config, SchemeKind};
+use wfe_words::Config;
 
 /// What a record says of each seat's calls, under one setting. It grows only by the rows that a call
 /// has cut and not retired yet.
@@ -22,18 +23,6 @@ pub struct Calls {
     ghost spaced: { 0 < config.every },
     ghost seated: { length seats.items ≡ config.seats },
     ghost placed: { length adopted.items ≡ config.seats },
-}
-
-// How many guards a scan reads.
-fn guard_count(config: &Config) -> u32
-    requires { is_none (bad_field config.now) ≡ true }
-    ensures { result ≡ guards config.now }
-{
-    match config.scheme {
-        SchemeKind::He => config.seats * config.indexes,
-        SchemeKind::Ibr => config.seats,
-        SchemeKind::Wfe => config.seats + config.seats * config.indexes,
-    }
 }
 
 impl Calls {

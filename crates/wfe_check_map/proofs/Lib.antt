@@ -1,4 +1,3 @@
 pub mod StepsLemmas
 pub mod ValuesLemmas
-pub mod StampsLemmas
 pub mod MarksLemmas

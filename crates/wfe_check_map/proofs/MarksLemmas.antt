@@ -14,9 +14,9 @@ use Rattle.wfe_defs.specs.declared.fold.Change.{Change}
 use Rattle.wfe_defs.specs.Pairs.{pairs_after, value_in}
 use Rattle.wfe_check_map.specs.declared.bucket.Mark.{Mark}
 use Rattle.wfe_check_map.specs.Marks.{change_in, changes_in}
-use Rattle.wfe_check_map.specs.Stamps.{entries_of, stamp_since}
+use Rattle.wfe_check_counts.specs.Positions.{entries, since}
 use Rattle.wfe_check_map.specs.Told.{current_in, marks_of, numbered_in, row_in, value_of_key, with_mark}
-use Rattle.wfe_check_map.proofs.StampsLemmas.{since_le}
+use Rattle.wfe_check_counts.proofs.Positions.{since-at_most}
 
 pushed_if : (put : Bool) (marks : List Mark) (mark : Mark) → changes_in (if put then marks ++ mark ∷ [] else marks) ≡ (if put then changes_in marks ++ change_in mark ∷ [] else changes_in marks)
 pushed_if true marks mark = map_push change_in marks mark
@@ -29,7 +29,7 @@ changes_with b event row stamp marks = refl
 
 pub changes_marked : (b : ℕ) (p : Past) → changes_in (marks_of b p) ≡ changes_of b p
 changes_marked b Start = refl
-changes_marked b (Then p i event) = changes_with b event (bucket_at b p) (entries_of p) (marks_of b p) ∙ ap (λ (cs : List Change). with_change b cs event) (changes_marked b p)
+changes_marked b (Then p i event) = changes_with b event (bucket_at b p) (entries p) (marks_of b p) ∙ ap (λ (cs : List Change). with_change b cs event) (changes_marked b p)
 
 pub counted : (b : ℕ) (p : Past) → length (marks_of b p) ≡ count_of b p
 counted b p = sym (length-map (marks_of b p) change_in) ∙ ap length (changes_marked b p)
@@ -64,9 +64,9 @@ below_with b (events.Put bucket version key value) row stamp marks h = below_if 
 below_with b (events.Removed bucket version key) row stamp marks h = below_if (b == bucket) stamp marks _ refl h
 below_with b event row stamp marks h = below_more stamp marks h
 
-stamps_below : (b : ℕ) (p : Past) → Below (entries_of p) (marks_of b p)
+stamps_below : (b : ℕ) (p : Past) → Below (entries p) (marks_of b p)
 stamps_below b Start = tt
-stamps_below b (Then p i event) = below_with b event (bucket_at b p) (entries_of p) (marks_of b p) (stamps_below b p)
+stamps_below b (Then p i event) = below_with b event (bucket_at b p) (entries p) (marks_of b p) (stamps_below b p)
 
 -- Versions that were current since a stamp. `IsCurrent`: the versions from the one that was the last at the stamp on
 abbrev IsCurrent : List Mark → (since first version : ℕ) → Type 0
@@ -124,9 +124,9 @@ current_if false marks mark since first version h k e = e
 is_start : (version : ℕ) → (version == 0) ≡ (nat_le 0 version && nat_le version 0)
 is_start version = grind (arith, nat_tests)
 
-current_if_begun : (own : Bool) (i b version : ℕ) (p : Past) → IsCurrent (marks_of b p) (stamp_since (begins i) p) (value_since (begins i) (count_of b) p) version
-    → IsCurrent (marks_of b p) (if own then entries_of p + 1 else stamp_since (begins i) p) (if own then count_of b p else value_since (begins i) (count_of b) p) version
-current_if_begun true i b version p e = rw (← counted b p) (current_begun (marks_of b p) (entries_of p + 1) version (below_more (entries_of p) (marks_of b p) (stamps_below b p)))
+current_if_begun : (own : Bool) (i b version : ℕ) (p : Past) → IsCurrent (marks_of b p) (since (begins i) p) (value_since (begins i) (count_of b) p) version
+    → IsCurrent (marks_of b p) (if own then entries p + 1 else since (begins i) p) (if own then count_of b p else value_since (begins i) (count_of b) p) version
+current_if_begun true i b version p e = rw (← counted b p) (current_begun (marks_of b p) (entries p + 1) version (below_more (entries p) (marks_of b p) (stamps_below b p)))
 current_if_begun false i b version p e = e
 
 length_if : (put : Bool) (changes : List Change) (change : Change) → length changes ≤ length (if put then changes ++ change ∷ [] else changes)
@@ -149,15 +149,15 @@ value_le i b (Then p k event) = chosen_below (begins i p k event) (count_of b (T
 first_le : (i b : ℕ) (p : Past) → value_since (begins i) (count_of b) p ≤ length (marks_of b p)
 first_le i b p = rw (counted b p) (value_le i b p)
 
-current_from : (i b version : ℕ) (p : Past) → IsCurrent (marks_of b p) (stamp_since (begins i) p) (value_since (begins i) (count_of b) p) version
+current_from : (i b version : ℕ) (p : Past) → IsCurrent (marks_of b p) (since (begins i) p) (value_since (begins i) (count_of b) p) version
 current_from i b version Start = is_start version
 current_from i b version (Then p k (events.Begin call)) = current_if_begun (i == k) i b version p (current_from i b version p)
-current_from i b version (Then p k (events.Put bucket v key value)) = current_if (b == bucket) (marks_of b p) _ (stamp_since (begins i) p) _ version (since_le (begins i) p) (first_le i b p) (current_from i b version p)
-current_from i b version (Then p k (events.Removed bucket v key)) = current_if (b == bucket) (marks_of b p) _ (stamp_since (begins i) p) _ version (since_le (begins i) p) (first_le i b p) (current_from i b version p)
+current_from i b version (Then p k (events.Put bucket v key value)) = current_if (b == bucket) (marks_of b p) _ (since (begins i) p) _ version (since-at_most (begins i) p) (first_le i b p) (current_from i b version p)
+current_from i b version (Then p k (events.Removed bucket v key)) = current_if (b == bucket) (marks_of b p) _ (since (begins i) p) _ version (since-at_most (begins i) p) (first_le i b p) (current_from i b version p)
 current_from i b version (Then p k event) = current_from i b version p
 
 -- the version that was the last when the seat's call began, and the versions since
-pub current_marked : (i b version : ℕ) (p : Past) → current_in (marks_of b p) version (stamp_since (begins i) p) ≡ was_current i b version p
+pub current_marked : (i b version : ℕ) (p : Past) → current_in (marks_of b p) version (since (begins i) p) ≡ was_current i b version p
 current_marked i b version p = current_from i b version p ∙ ap (λ (n : ℕ). nat_le (value_since (begins i) (count_of b) p) version && nat_le version n) (counted b p)
 
 -- the rows of versions

@@ -1,6 +1,5 @@
 pub mod Marks
 pub mod Steps
 pub mod Linked
-pub mod Stamps
 pub mod Told
 pub mod Standing

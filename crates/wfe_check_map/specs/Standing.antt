@@ -4,7 +4,7 @@ use Rattle.laws.specs.words.declared.config.Config.{Config}
 use Rattle.laws.specs.records.Record.{Past, begins}
 use Rattle.laws.specs.StateAt.{queued_of, taken_of, all_taken}
 use Rattle.wfe_check_map.specs.declared.contents.Contents.{Contents}
-use Rattle.wfe_check_map.specs.Stamps.{entries_of, stamp_since, ceased}
+use Rattle.wfe_check_counts.specs.Positions.{entries, since, ceased}
 use Rattle.wfe_check_map.specs.Told.{Waiting, marks_of}
 
 pub record IsQueue (queue : Waiting) (p : Past) : Type 0 where
@@ -17,10 +17,10 @@ pub record IsQueue (queue : Waiting) (p : Past) : Type 0 where
 
 pub record IsContents (config : Config) (contents : Contents) (p : Past) : Type 0 where
   pub setting : contents.config ≡ config
-  pub entries : contents.entries ≡ entries_of p
+  pub entries : contents.entries ≡ entries p
   pub seats : length contents.begun.items ≡ config.seats
   -- where each seat's last call began
-  pub begun : (i : ℕ) → i < config.seats → slice_index contents.begun.items i ≡ stamp_since (begins i) p
+  pub begun : (i : ℕ) → i < config.seats → slice_index contents.begun.items i ≡ since (begins i) p
   pub buckets : length contents.buckets.items ≡ config.buckets
   -- the changes of each bucket
   pub marks : (b : ℕ) → b < config.buckets → slice_index_or contents.buckets.items b [] ≡ marks_of b p

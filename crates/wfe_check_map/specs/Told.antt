@@ -8,7 +8,7 @@ use Rattle.laws.specs.StateAt.{bucket_at, same_value}
 use Rattle.wfe_defs.specs.Pairs.{pairs_after, value_in}
 use Rattle.wfe_check_map.specs.declared.bucket.Mark.{Mark}
 use Rattle.wfe_check_map.specs.Marks.{changes_in}
-use Rattle.wfe_check_map.specs.Stamps.{entries_of}
+use Rattle.wfe_check_counts.specs.Positions.{entries}
 
 -- the change that an event tells of a bucket, after those before
 abbrev pub with_mark : (bucket : ℕ) → Event → (row : Option ℕ) → (stamp : ℕ) → List Mark → List Mark
@@ -21,7 +21,7 @@ with_mark b event row stamp before = before
 -- the changes of bucket b, in order
 abbrev pub marks_of : ℕ → Past → List Mark
 marks_of b Start = []
-marks_of b (Then p i event) = with_mark b event (bucket_at b p) (entries_of p) (marks_of b p)
+marks_of b (Then p i event) = with_mark b event (bucket_at b p) (entries p) (marks_of b p)
 
 -- what the change after a version says of the version's being current since a stamp
 abbrev pub current_by : Option Mark → (is_last : Bool) → (since : ℕ) → Bool

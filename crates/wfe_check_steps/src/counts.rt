@@ -1,18 +1,6 @@
 // Numbers of 64 bits that count.
 ghost use Rattle.std.specs.Prelude.{◌≡◌, ◌<◌, ◌+◌, ◌*◌, ◌==◌, IfOk};
 
-use wfe_defs::NoMemory;
-
-// One more, where a number of 64 bits has it.
-pub(crate) fn raised(count: u64) -> Result<u64, NoMemory>
-    ensures { IfOk result (λ next. next ≡ count + 1) }
-{
-    match count.checked_add(1) {
-        Some(next) => Ok(next),
-        None => Err(NoMemory),
-    }
-}
-
 // Whether the steps are three for each of a count, and some more.
 pub(crate) fn is_thrice(steps: u64, count: u64, more: u32) -> bool
     ensures { result ≡ (steps == 3 * count + more) }

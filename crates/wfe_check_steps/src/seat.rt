@@ -4,7 +4,8 @@ ghost use Rattle.laws.specs.StateAt.{backs_by, is_found as is_found_event, raise
 ghost use Rattle.laws.specs.StepLaw.{number_raised, withdraws as does_withdraw};
 ghost use Rattle.wfe_check_steps.specs.Seats.{new_seat, seat_by};
 
-use crate::counts::{is_thrice, raised};
+use crate::counts::is_thrice;
+use wfe_check_counts::raised;
 use wfe_defs::{Event, Guard, NoMemory};
 
 /// What is known of a seat.

@@ -8,6 +8,7 @@ use crate::counts::{is_sum, wide};
 use crate::seat::Seat;
 use crate::word::{Word, named_place};
 use std::alloc::Global;
+use wfe_check_counts::guard_count;
 use wfe_defs::{Answer, Call, Event, Guard, Interval, NoMemory};
 use wfe_words::{Config, SchemeKind};
 
@@ -27,18 +28,6 @@ pub struct Steps {
     ghost few: { config.indexes ≤ 8 },
     ghost placed: { length words.items ≡ config.seats * 8 },
     ghost seated: { length seats.items ≡ config.seats },
-}
-
-// How many guards a scan reads.
-fn guard_count(config: &Config) -> u32
-    requires { is_none (bad_field config.now) ≡ true }
-    ensures { result ≡ guards config.now }
-{
-    match config.scheme {
-        SchemeKind::He => config.seats * config.indexes,
-        SchemeKind::Ibr => config.seats,
-        SchemeKind::Wfe => config.seats + config.seats * config.indexes,
-    }
 }
 
 // Whether a protection of Wait-Free Eras may end with the event: it has taken few steps.

@@ -5,7 +5,8 @@ ghost use Rattle.wfe_check_steps.specs.Places.{named_place as place_named};
 ghost use Rattle.wfe_check_steps.specs.Right.{tries_right};
 ghost use Rattle.wfe_check_steps.specs.Words.{begun_anew, new_word, published as word_published, word_by};
 
-use crate::counts::{is_thrice, raised};
+use crate::counts::is_thrice;
+use wfe_check_counts::raised;
 use wfe_defs::{Event, Guard, Interval, NoMemory};
 
 /// An index word.

@@ -1,5 +1,4 @@
 pub mod Grids
-pub mod Positions
 pub mod Roots
 pub mod Steps
 pub mod Tests

@@ -11,7 +11,7 @@ ghost use Rattle.laws_good.specs.Ranges.{EntryIn, EventIn};
 ghost use Rattle.wfe_words.specs.Config.{bad_field};
 ghost use Rattle.wfe_defs.specs.declared.event.Event.TheVariants as events;
 ghost use Rattle.wfe_check_times.specs.Grids.{IsGrid, cell_at};
-ghost use Rattle.wfe_check_times.specs.Positions.{entries as entries_of};
+ghost use Rattle.wfe_check_counts.specs.Positions.{entries as entries_of};
 ghost use Rattle.wfe_check_times.specs.Roots.{RowIn, last_row};
 ghost use Rattle.wfe_check_times.specs.Steps.{IsFound, IsNext, cut_after};
 ghost use Rattle.wfe_check_times.specs.Tests.{AreAmong, IsBirth, IsSource, IsSought, clock_at, copied_at, cut_at, fits_at, had_at, room_at, upper_at, was_last_at, was_taken_at};

@@ -1,0 +1,14 @@
+// Numbers of 64 bits that count.
+ghost use Rattle.std.specs.Prelude.{◌≡◌, ◌+◌, IfOk};
+
+use wfe_defs::NoMemory;
+
+/// One more. NoMemory where no number of 64 bits is.
+pub fn raised(count: u64) -> Result<u64, NoMemory>
+    ensures { IfOk result (λ next. next ≡ count + 1) }
+{
+    match count.checked_add(1) {
+        Some(next) => Ok(next),
+        None => Err(NoMemory),
+    }
+}
