@@ -1,24 +1,11 @@
 // The guards in the order in which a scan reads them.
-ghost use Rattle.std.specs.Prelude.{◌≡◌, ◌<◌, ◌/◌, ◌%◌, ◌==◌, ◌&&◌, IfSome};
-ghost use Rattle.laws.specs.ScanLaw.{guard_at, guards as guard_count};
+ghost use Rattle.std.specs.Prelude.{◌≡◌, ◌<◌, ◌/◌, ◌%◌, ◌==◌, ◌&&◌};
+ghost use Rattle.laws.specs.ScanLaw.{guard_at};
 ghost use Rattle.laws.specs.StateAt.{same_guard};
 ghost use Rattle.laws_good.specs.Ranges.{GuardIn};
 
 use wfe_defs::Guard;
 use wfe_words::{Config, SchemeKind};
-
-/// How many there are; None where that is more than a u64 counts.
-pub fn guards(config: Config) -> Option<u64>
-    ensures { IfSome result (λ all. all ≡ guard_count config) }
-{
-    let seats = config.seats as u64;
-    let words = seats.checked_mul(config.indexes as u64)?;
-    match config.scheme {
-        SchemeKind::He => Some(words),
-        SchemeKind::Ibr => Some(seats),
-        SchemeKind::Wfe => seats.checked_add(words),
-    }
-}
 
 /// Whether it is the guard that is read after so many.
 pub fn is_guard(config: Config, guard: Guard, number: u64) -> bool

@@ -11,9 +11,10 @@ ghost use Rattle.wfe_words.specs.Config.{bad_field};
 ghost use Rattle.wfe_check_lists.specs.Seats.{NotesOwn, adopted, fits_in, no_scanning};
 ghost use Rattle.wfe_check_lists.specs.Standing.{IsLists, LeftIs, AdoptedIs};
 
-use crate::guards::{guards, is_guard};
+use crate::guards::is_guard;
 use crate::seat::Seat;
 use std::alloc::Global;
+use wfe_check_counts::guard_count;
 use wfe_defs::{Call, Event, Lifetime, NoMemory};
 use wfe_words::Config;
 
@@ -33,9 +34,7 @@ impl Lists {
         requires valid { is_none (bad_field config) ≡ true }
         ensures { IfOk result (λ made. IsLists config made Start) }
     {
-        let Some(guards) = guards(config) else {
-            return Err(NoMemory);
-        };
+        let guards = guard_count(&config) as u64;
         let seats = no_seats(alloc, config.seats)?;
         Ok(Lists {
             alloc,

@@ -3,7 +3,7 @@ ghost use Rattle.std.specs.Prelude.{◌≡◌, ◌<◌};
 ghost use Rattle.laws_good.specs.Ranges.{EntryIn};
 
 use crate::Lists;
-use crate::guards::{guards, is_guard};
+use crate::guards::is_guard;
 use std::test::Fail;
 use wfe_defs::{Call, Event, Guard, Interval, NoMemory};
 use wfe_words::{Config, SchemeKind};
@@ -118,8 +118,6 @@ fn a_list_is_taken_over_whole(rt: HostRuntime) -> Result<(), Fail> {
 #[test]
 fn helper_words_are_read_before_index_words(rt: HostRuntime) -> Result<(), Fail> {
     let word = Guard::Index { seat: 1, index: 2 };
-    assert_eq!(rt; guards(WITH_HELPERS), Some(8));
-    assert_eq!(rt; guards(SMALL), Some(2));
     assert!(rt; is_guard(WITH_HELPERS, Guard::Helper { seat: 1 }, 1));
     assert!(rt; is_guard(WITH_HELPERS, word, 7));
     assert!(rt; !is_guard(WITH_HELPERS, word, 1));
