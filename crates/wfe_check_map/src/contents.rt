@@ -14,6 +14,7 @@ ghost use Rattle.wfe_check_map.specs.Told.{RootIs, begun_after, buckets_after, c
 use crate::bucket::{Bucket, Mark};
 use crate::queue::Queue;
 use std::alloc::Global;
+use wfe_check_counts::raised;
 use wfe_defs::{Answer, Call, Event, NoMemory};
 use wfe_words::Config;
 
@@ -106,9 +107,7 @@ impl Contents {
         ensures noted { OnOk result ((config : Config) (p : Past) → IsContents config self.old p → RootIs root event.now p
             → queue_ok p seat event.now ≡ true → IsContents config self.new (Then p seat event.now)) }
     {
-        let Some(entries) = self.entries.checked_add(1) else {
-            return Err(NoMemory);
-        };
+        let entries = raised(self.entries)?;
         note_change(&mut self.buckets, event, root, self.entries)?;
         self.queue.note(event, entries)?;
         note_begin(&mut self.begun, seat, event, entries);

@@ -5,6 +5,7 @@ ghost use Rattle.wfe_check_map.specs.Told.{is_first, queue_after, queue_fits, qu
 use std::alloc::Global;
 use std::collections::VecDeque;
 use std::marker::Model;
+use wfe_check_counts::raised;
 use wfe_defs::{Event, NoMemory};
 
 /// The values that wait, how many were queued and taken, and the stamp at which it ceased last that none
@@ -72,9 +73,7 @@ impl Queue {
     fn queue(&mut self, value: u64, stamp: u64) -> Result<(), NoMemory>
         ensures { OnOk result (self.new ≡ queued_more self.old value stamp) }
     {
-        let Some(queued) = self.queued.checked_add(1) else {
-            return Err(NoMemory);
-        };
+        let queued = raised(self.queued)?;
         if self.waiting.push_back(value).is_err() {
             return Err(NoMemory);
         }
@@ -88,9 +87,7 @@ impl Queue {
     fn take(&mut self) -> Result<(), NoMemory>
         ensures { OnOk result (self.new ≡ taken_more self.old) }
     {
-        let Some(taken) = self.taken.checked_add(1) else {
-            return Err(NoMemory);
-        };
+        let taken = raised(self.taken)?;
         self.waiting.pop_front();
         self.taken = taken;
         Ok(())
