@@ -1,9 +1,8 @@
 pub use Rattle.inv_ends.proofs.model as model
-pub use Rattle.inv_steps_left.proofs.contents as contents
+pub use Rattle.inv_contents.proofs as contents
 pub use Rattle.inv_ends.proofs.covers as covers
 pub use Rattle.inv_ends.proofs as ends
-pub use Rattle.inv_ends.proofs.handover as handover
-pub use Rattle.inv_steps_left.proofs.links as links
+pub use Rattle.inv_links.proofs as links
 pub use Rattle.inv_ends.proofs.requests as requests
 pub use Rattle.inv_steps_left.proofs.rows as rows
 pub use Rattle.inv_ends.proofs.shapes as shapes
@@ -14,3 +13,4 @@ pub mod Finish
 pub mod Inv
 pub mod Machines
 pub mod Outcomes
+pub mod Rounds

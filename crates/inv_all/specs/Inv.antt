@@ -17,8 +17,8 @@ use Rattle.inv_steps_left.specs.rows.Rows.{View}
 use Rattle.inv_ends.specs.covers.Covers.{eras_shown, takes_or_frees}
 use Rattle.inv_ends.specs.model.Guards.{one_era, own_guard}
 use Rattle.inv_ends.specs.covers.Held.{Holds}
-use Rattle.inv_steps_left.specs.contents.Told.{AllRight, LookRight}
-use Rattle.inv_steps_left.specs.contents.Gives.{AllQueueRight}
+use Rattle.inv_contents.specs.Told.{AllRight, LookRight}
+use Rattle.inv_contents.specs.Gives.{AllQueueRight}
 use Rattle.inv_all.specs.Known.{Known}
 
 -- views exist of which all parts hold

@@ -17,14 +17,14 @@ use Rattle.inv_steps_left.specs.rows.Tries.{Whole}
 use Rattle.inv_ends.specs.covers.Covers.{Scanning}
 use Rattle.inv_ends.specs.covers.Held.{Held}
 use Rattle.inv_ends.specs.covers.Rests.{Rests}
-use Rattle.inv_ends.specs.handover.Helped.{Helped}
-use Rattle.inv_steps_left.specs.links.Links.{Links}
-use Rattle.inv_steps_left.specs.contents.Contents.{Contents}
-use Rattle.inv_steps_left.specs.contents.Stands.{Stands}
-use Rattle.inv_steps_left.specs.contents.Bounded.{Bounded}
-use Rattle.inv_steps_left.specs.contents.Items.{Items}
+use Rattle.inv_ends.specs.Helped.{Helped}
+use Rattle.inv_links.specs.Links.{Links}
+use Rattle.inv_contents.specs.Contents.{Contents}
+use Rattle.inv_contents.specs.Stands.{Stands}
+use Rattle.inv_contents.specs.Bounded.{Bounded}
+use Rattle.inv_contents.specs.Items.{Items}
 use Rattle.inv_steps_left.specs.Losses.{Losses}
-use Rattle.inv_steps_left.specs.Rounds.{Rounds}
+use Rattle.inv_all.specs.Rounds.{Rounds}
 
 -- `v` are the rows, `l` what no word shows of the queue, and `z` the requests
 pub record Known (w : World) (v : View) (l : Line) (z : Asked) : Type 0 where

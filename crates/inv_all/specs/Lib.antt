@@ -1,9 +1,8 @@
 pub use Rattle.inv_ends.specs.model as model
-pub use Rattle.inv_steps_left.specs.contents as contents
+pub use Rattle.inv_contents.specs as contents
 pub use Rattle.inv_ends.specs.covers as covers
 pub use Rattle.inv_ends.specs as ends
-pub use Rattle.inv_ends.specs.handover as handover
-pub use Rattle.inv_steps_left.specs.links as links
+pub use Rattle.inv_links.specs as links
 pub use Rattle.inv_ends.specs.requests as requests
 pub use Rattle.inv_steps_left.specs.rows as rows
 pub use Rattle.inv_ends.specs.shapes as shapes
@@ -17,5 +16,7 @@ pub mod Joins
 pub mod Known
 pub mod Outcomes
 pub mod Places
+pub mod Rounds
 pub mod Shows
 pub mod Sights
+pub mod Tallies

@@ -10,6 +10,7 @@ ghost use Rattle.inv_all.specs.Joins.{InvJoins, JoinsFit, ListingAdds};
 ghost use Rattle.inv_all.specs.Outcomes.{MachinesEnd};
 ghost use Rattle.inv_all.specs.Places.{InvPlaceMoves, InvPlaces};
 ghost use Rattle.inv_all.specs.Shows.{InvShows, InvTimes};
+ghost use Rattle.inv_all.specs.Rounds.{RoundsBegin, RoundsGive, RoundsKept, RoundsStart};
 
 /// The invariant holds at the start of a table with a valid setting.
 pub fn inv_start()
@@ -108,4 +109,27 @@ pub fn machines_end()
 /// a seat than its call has left, the call ends.
 pub fn calls_finish()
     ensures { CallsFinish }
+{}
+
+/// At the start no call has lost a round.
+pub fn rounds_start()
+    ensures { RoundsStart }
+{}
+
+/// A call begins with no round lost.
+pub fn rounds_begin()
+    ensures { RoundsBegin }
+{}
+
+/// Each step keeps it: a put or a remove has lost no more rounds than its bucket was changed, an
+/// enqueue no more than rows were queued and the tail was moved, a dequeue no more than rows were taken
+/// and the tail was moved, each with one more for a walk that failed; and where a call goes on with a
+/// root whose word is another by now, one round more may be lost.
+pub fn rounds_kept()
+    ensures { RoundsKept }
+{}
+
+/// So a call that loses a round has not lost as many as its task may.
+pub fn rounds_give()
+    ensures { RoundsGive }
 {}

@@ -1,10 +1,11 @@
-pub use Rattle.inv_handover.specs as handover
-pub use Rattle.inv_handover.specs.covers as covers
-pub use Rattle.inv_handover.specs.covers.shapes as shapes
-pub use Rattle.inv_handover.specs.covers.model as model
+pub use Rattle.inv_covers.specs as covers
+pub use Rattle.inv_covers.specs.shapes as shapes
+pub use Rattle.inv_covers.specs.model as model
 pub use Rattle.model_history.specs as history
-pub use Rattle.inv_handover.specs.requests as requests
+pub use Rattle.inv_requests.specs as requests
 pub mod Births
+pub mod Handover
+pub mod Helped
 pub mod Lists
 pub mod Moves
 pub mod Nulls

@@ -1,14 +1,14 @@
 -- Where a step tells Null: the link that a try has checked, or that an answer has, is null.
 use Rattle.std.specs.Prelude.{Bool, false, ℕ, ◌==◌, ◌&&◌, ◌≡◌}
-use Rattle.inv_handover.specs.covers.model.Phases.ProtectAt.{CheckClock, CheckUpper, TakeAnswer}
-use Rattle.inv_handover.specs.covers.model.declared.post.Post.{Post}
-use Rattle.inv_handover.specs.covers.model.Phases.{ProtectAt, Base}
-use Rattle.inv_handover.specs.covers.model.Posts.{upper}
-use Rattle.inv_handover.specs.covers.model.Phases.Base.{Protect}
-use Rattle.inv_handover.specs.covers.model.Calls.{Phase, Runs}
-use Rattle.inv_handover.specs.covers.model.World.{World, finds, told_in}
+use Rattle.inv_covers.specs.model.Phases.ProtectAt.{CheckClock, CheckUpper, TakeAnswer}
+use Rattle.inv_covers.specs.model.declared.post.Post.{Post}
+use Rattle.inv_covers.specs.model.Phases.{ProtectAt, Base}
+use Rattle.inv_covers.specs.model.Posts.{upper}
+use Rattle.inv_covers.specs.model.Phases.Base.{Protect}
+use Rattle.inv_covers.specs.model.Calls.{Phase, Runs}
+use Rattle.inv_covers.specs.model.World.{World, finds, told_in}
 use Rattle.std.specs.List.{list_any}
-use Rattle.inv_handover.specs.covers.defs.Events.{is_null}
+use Rattle.inv_covers.specs.defs.Events.{is_null}
 
 -- the link of a try whose era is the clock, or of the answer, is null
 abbrev pub null_at : Post → ProtectAt → ℕ → Bool

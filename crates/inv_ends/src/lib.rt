@@ -9,6 +9,7 @@ ghost use Rattle.inv_ends.specs.Nulls.{NullTold};
 ghost use Rattle.inv_ends.specs.Standing.{ClearStood, CopiedCovered, CopiedStands, CopiedTold, HeldCovered, HeldStands, HeldTold, StandingTold};
 ghost use Rattle.inv_ends.specs.Told.{NoReuse, RowsTold, RowsWere};
 ghost use Rattle.inv_ends.specs.Walks.{FullSeen, SeenTaken, WalkingBegin, WalkingKept, WalkingStart};
+ghost use Rattle.inv_ends.specs.Handover.{AnsweredRowsStay, FollowedRowsStand, HandoverBegin, HandoverKept, HandoverStart};
 
 /// What a step tells of rows is its move of rows: which row is given, unused, retired or back. A row
 /// that is given was free, and one that is unused or back was the seat's own. A row is retired with
@@ -87,4 +88,24 @@ pub fn moves_meet_requests()
     ensures step { MeetingKept }
     ensures seen { MetOpen }
     ensures answered { MetAnswered }
+{}
+
+/// Under Wait-Free Eras what stands at an index of a seat is covered by the word of that index, over
+/// every step of every seat. From a load on the row is covered by the word of the seat that loaded
+/// the link: by a helper word until the answer is handed over or taken, and then by the index word.
+pub fn answers_are_covered()
+    ensures start { HandoverStart }
+    ensures begin { HandoverBegin }
+    ensures step { HandoverKept }
+{}
+
+/// A row that a word holds is neither made free nor claimed by the next step of any seat: one that
+/// stands, one that a try or a turn has loaded, and one that an answer leads to.
+pub fn answered_rows_stay()
+    ensures { AnsweredRowsStay }
+{}
+
+/// Under every scheme the row whose next link a dequeue follows stands at index 0 of its seat.
+pub fn parents_of_links_stand()
+    ensures { FollowedRowsStand }
 {}

@@ -1,14 +1,14 @@
 -- That the steps which a call has left fall at each of its own steps, and rise at no step of another seat.
 use Rattle.std.specs.Prelude.{ℕ, ◌≡◌, ◌≤◌, ◌<◌, ◌+◌, ◌^◌, ◌==◌, true, false, length}
-use Rattle.inv_contents.specs.words.Place.{is_valid}
-use Rattle.inv_contents.specs.words.Place.Place.{Clock}
-use Rattle.inv_contents.specs.words.declared.layout.Layout.{Layout}
-use Rattle.inv_contents.specs.defs.declared.call.Call.{Call}
-use Rattle.inv_contents.specs.model.Rest.{rest}
-use Rattle.inv_contents.specs.model.World.{World, start, begin, step, is_busy}
-use Rattle.inv_links.specs.shapes.Seats.{Seats}
-use Rattle.inv_links.specs.shapes.Eras.{Eras}
-use Rattle.inv_links.specs.shapes.Slots.{Slots, SlotsNeeds}
+use Rattle.inv_covers.specs.words.Place.{is_valid}
+use Rattle.inv_covers.specs.words.Place.Place.{Clock}
+use Rattle.inv_covers.specs.words.declared.layout.Layout.{Layout}
+use Rattle.inv_covers.specs.defs.declared.call.Call.{Call}
+use Rattle.inv_covers.specs.model.Rest.{rest}
+use Rattle.inv_covers.specs.model.World.{World, start, begin, step, is_busy}
+use Rattle.inv_covers.specs.shapes.Seats.{Seats}
+use Rattle.inv_covers.specs.shapes.Eras.{Eras}
+use Rattle.inv_covers.specs.shapes.Slots.{Slots, SlotsNeeds}
 use Rattle.inv_steps_left.specs.Losses.{Losses, LossNeeds}
 
 -- what the other parts give: shape, eras and ranges before and after the step, and what a scan finds of its list

@@ -1,16 +1,16 @@
 -- How many rounds a call has lost, by where it stands: no more than its task may lose.
 use Rattle.std.specs.Prelude.{ℕ, ◌≡◌, ◌≤◌, ◌+◌, ◌==◌, Bool, true, false, None}
-use Rattle.inv_contents.specs.words.declared.config.Config.{Config}
-use Rattle.inv_contents.specs.model.declared.ends.ProtectEnd.TheVariants as protect_ends
-use Rattle.inv_contents.specs.model.Rest.{rounds_most, is_told, has_walked}
-use Rattle.inv_contents.specs.model.Machine as machine
-use Rattle.inv_contents.specs.model.Posts.{counted}
-use Rattle.inv_contents.specs.model.Phases.{Base, Walk, Ends, Protected}
-use Rattle.inv_contents.specs.model.Phases.AllocateAt.{ClaimSlot}
-use Rattle.inv_contents.specs.model.Phases.Base.{Allocate, Reload}
-use Rattle.inv_contents.specs.model.Calls.{ChangeKept, EnqueueKept, Task, Gets, Changes, Holds, Enqueues, Dequeues, Next, Again, MakeRoom, Answering, Retiring, AfterScan, Answered, Repeated, Counted, Why, Opens, FollowsHead, Fills, ClearsNext, Clears, Finishes, GivesUp, Retires, Tidies, Advances, Releases, ExchangeRoot, PassTail, ExchangeNext, SwingTail, ExchangeHead, Work, Getting, Changing, Enqueuing, Dequeuing, Keeping, Phase, Idle, Runs, Scans, Works}
-use Rattle.inv_contents.specs.model.World.{World, finds}
-use Rattle.inv_contents.specs.words.Schemes.{has_one_interval}
+use Rattle.inv_covers.specs.words.declared.config.Config.{Config}
+use Rattle.inv_covers.specs.model.declared.ends.ProtectEnd.TheVariants as protect_ends
+use Rattle.inv_covers.specs.model.Rest.{rounds_most, is_told, has_walked}
+use Rattle.inv_covers.specs.model.Machine as machine
+use Rattle.inv_covers.specs.model.Posts.{counted}
+use Rattle.inv_covers.specs.model.Phases.{Base, Walk, Ends, Protected}
+use Rattle.inv_covers.specs.model.Phases.AllocateAt.{ClaimSlot}
+use Rattle.inv_covers.specs.model.Phases.Base.{Allocate, Reload}
+use Rattle.inv_covers.specs.model.Calls.{ChangeKept, EnqueueKept, Task, Gets, Changes, Holds, Enqueues, Dequeues, Next, Again, MakeRoom, Answering, Retiring, AfterScan, Answered, Repeated, Counted, Why, Opens, FollowsHead, Fills, ClearsNext, Clears, Finishes, GivesUp, Retires, Tidies, Advances, Releases, ExchangeRoot, PassTail, ExchangeNext, SwingTail, ExchangeHead, Work, Getting, Changing, Enqueuing, Dequeuing, Keeping, Phase, Idle, Runs, Scans, Works}
+use Rattle.inv_covers.specs.model.World.{World, finds}
+use Rattle.inv_covers.specs.words.Schemes.{has_one_interval}
 
 -- a round has found its root, and those before it are no more than may be lost
 pub record InRound (most rounds : ℕ) : Type 0 where

@@ -3,7 +3,6 @@
 #![tactic(auto)]
 
 ghost use Rattle.inv_steps_left.specs.Falls.{LossesBegin, LossesKept, LossesStart, RestFalls, RestIsSmall, RestStays};
-ghost use Rattle.inv_steps_left.specs.Rounds.{RoundsBegin, RoundsGive, RoundsKept, RoundsStart};
 
 /// A step that does not end its call leaves fewer steps of the call than were left before it.
 pub fn rest_falls()
@@ -27,27 +26,4 @@ pub fn rounds_are_few()
     ensures start { LossesStart }
     ensures begin { LossesBegin }
     ensures step { LossesKept }
-{}
-
-/// At the start no call has lost a round.
-pub fn rounds_start()
-    ensures { RoundsStart }
-{}
-
-/// A call begins with no round lost.
-pub fn rounds_begin()
-    ensures { RoundsBegin }
-{}
-
-/// Each step keeps it: a put or a remove has lost no more rounds than its bucket was changed, an
-/// enqueue no more than rows were queued and the tail was moved, a dequeue no more than rows were taken
-/// and the tail was moved, each with one more for a walk that failed; and where a call goes on with a
-/// root whose word is another by now, one round more may be lost.
-pub fn rounds_kept()
-    ensures { RoundsKept }
-{}
-
-/// So a call that loses a round has not lost as many as its task may.
-pub fn rounds_give()
-    ensures { RoundsGive }
 {}

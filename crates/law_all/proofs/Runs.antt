@@ -8,9 +8,7 @@ pub mod Changes
 pub mod Clocks
 pub mod Closes
 pub mod Early
-pub mod Entries
 pub mod Eras
-pub mod Hands
 pub mod Keeping
 pub mod Keeps
 pub mod Kept
@@ -18,9 +16,7 @@ pub mod Lawful
 pub mod Listed
 pub mod Lists
 pub mod Moves
-pub mod Notes
 pub mod Numbers
-pub mod Owned
 pub mod Parts
 pub mod Queues
 pub mod Ranks
@@ -32,7 +28,6 @@ pub mod Seats
 pub mod Shelves
 pub mod Stages
 pub mod Sums
-pub mod Taking
 pub mod Tellings
 pub mod Ticks
 pub mod Totals

@@ -1,6 +1,6 @@
 -- The laws on the clock at the positions of a call, over records: which eras a call gives, retires and publishes.
-use Rattle.law_reuse.specs.inv.history.Record.{Past, Test, value_since}
-use Rattle.law_reuse.specs.laws.StateAt.{clock_of, was_clock}
+use Rattle.law_scans.specs.laws.records.Record.{Past, Test, value_since}
+use Rattle.law_scans.specs.laws.StateAt.{clock_of, was_clock}
 use Rattle.std.specs.Prelude.{nat_le, ℕ, ◌≡◌, ◌&&◌}
 
 -- these positions by the clock at the first of them and the present one: the clock rises by one, so each era between was the clock

@@ -1,6 +1,5 @@
-pub use Rattle.law_reuse.specs.inv as inv
-pub use Rattle.law_reuse.specs.laws as laws
-pub use Rattle.law_reuse.specs.answers as answers
-pub use Rattle.law_reuse.specs as reuse
+pub use Rattle.law_scans.specs.inv as inv
+pub use Rattle.law_scans.specs.laws as laws
+pub use Rattle.law_scans.specs.reuse as reuse
 pub mod Current
 pub mod Records

@@ -1,12 +1,12 @@
 -- What the record and the turns of each history keep, whatever calls begin and whichever seats make their steps.
 use Rattle.std.specs.Prelude.{List, true, ◌≡◌}
-use Rattle.law_reuse.specs.inv.model.words.Place.{is_valid}
-use Rattle.law_reuse.specs.inv.model.words.Place.Place.{Clock}
-use Rattle.law_reuse.specs.inv.model.words.declared.layout.Layout.{Layout}
-use Rattle.law_reuse.specs.inv.history.History.{Item, record_of, world_of}
-use Rattle.law_reuse.specs.laws.HistoryEras.{ClockLaw, GuardLaw, BirthsCurrent, RetiresCurrent, ReservesCurrent}
-use Rattle.law_reuse.specs.laws.StateAt.{clock_of}
-use Rattle.law_reuse.specs.laws.HistoryTable.{GuardsOfTable}
+use Rattle.law_scans.specs.laws.words.Place.{is_valid}
+use Rattle.law_scans.specs.laws.words.Place.Place.{Clock}
+use Rattle.law_scans.specs.laws.words.declared.layout.Layout.{Layout}
+use Rattle.law_scans.specs.inv.history.History.{Item, record_of, world_of}
+use Rattle.law_scans.specs.laws.HistoryEras.{ClockLaw, GuardLaw, BirthsCurrent, RetiresCurrent, ReservesCurrent}
+use Rattle.law_scans.specs.laws.StateAt.{clock_of}
+use Rattle.law_scans.specs.laws.HistoryTable.{GuardsOfTable}
 
 -- each history's record keeps it, whatever calls begin and whichever seats make their steps
 abbrev pub RecordsKeepEras : Type 0

@@ -4,6 +4,7 @@
 
 ghost use Rattle.law_eras.specs.Current.{ClockBetween};
 ghost use Rattle.law_eras.specs.Records.{RecordClock, RecordsGiveCurrent, RecordsKeepEras, RecordsKeepGuards, RecordsNameGuards, RecordsReserveCurrent, RecordsRetireCurrent};
+ghost use Rattle.law_scans.specs.Records.{RecordsKeepTimes};
 
 /// The clock's word is 1 plus the number of Era entries.
 pub fn record_clock()
@@ -52,4 +53,11 @@ pub fn records_reserve_current()
 /// its scheme has.
 pub fn records_name_guards()
     ensures { RecordsNameGuards }
+{}
+
+/// An era that another moved the clock to is later than the clock where the call began, or where it
+/// has retired a row since, and at most the clock where it ends; a last era is the clock where it
+/// ends.
+pub fn records_keep_times()
+    ensures { RecordsKeepTimes }
 {}

@@ -1,7 +1,7 @@
 pub use Rattle.law_turns.proofs.inv as inv
 pub use Rattle.law_turns.proofs.laws as laws
-pub use Rattle.law_places.proofs as places
-pub use Rattle.law_places.proofs.reuse as reuse
+pub use Rattle.law_scans.proofs as scans
+pub use Rattle.law_scans.proofs.reuse as reuse
 pub use Rattle.law_turns.proofs as turns
 pub mod GotRows
 pub mod Held

@@ -2,7 +2,7 @@
 use Rattle.std.specs.Prelude.{List, true, ◌≡◌}
 use Rattle.law_turns.specs.inv.model.words.Place.{is_valid}
 use Rattle.law_turns.specs.inv.model.words.declared.layout.Layout.{Layout}
-use Rattle.law_places.specs.inv.history.History.{Item, record_of}
+use Rattle.law_scans.specs.inv.history.History.{Item, record_of}
 use Rattle.law_turns.specs.laws.HistoryHolds.{StoodThroughout, SourceLaw, FindLaw, GotLaw, LinkLaw, FollowLaw, BehindLaw, RestLaw}
 use Rattle.law_turns.specs.laws.HistoryHolds.{LoneLaw}
 use Rattle.law_turns.specs.laws.HistoryHolds.{ClearLaw, CopyLaw, IndexLaw}

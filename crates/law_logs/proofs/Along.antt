@@ -2,18 +2,18 @@
 use Rattle.std.proofs.Common.{ℕ, ◌≡◌, Bool, true, false, List, [], ◌∷◌, ◌++◌, refl, sym, ap, ◌∙◌, subst}
 use Rattle.std.proofs.lemmas.List.{append-nil, append_assoc, append_cancel_left}
 use Rattle.std.specs.Prelude.{◌==◌}
-use Rattle.law_steps.proofs.inv.model.Facts.{number_is}
-use Rattle.law_steps.specs.inv.model.Desks.{noted}
-use Rattle.law_steps.specs.inv.model.Locals.{Group}
-use Rattle.law_steps.specs.inv.model.defs.Entry.{Entry}
-use Rattle.law_steps.specs.inv.model.defs.declared.call.Answer.{Answer}
-use Rattle.law_steps.specs.inv.model.defs.declared.event.Event.{Event}
-use Rattle.law_steps.specs.inv.model.defs.declared.event.Event.TheVariants as events
-use Rattle.law_steps.specs.inv.model.words.declared.config.Config.{Config}
-use Rattle.law_steps.specs.laws.StateAt.{is_open}
-use Rattle.law_steps.specs.inv.history.Record.{Past, tells}
-use Rattle.law_steps.specs.inv.history.Record.Past.{Then}
-use Rattle.law_steps.proofs.inv.history.Entries.{each_before}
+use Rattle.law_scans.proofs.laws.records.defs.Facts.{number_is}
+use Rattle.law_scans.specs.inv.model.Desks.{noted}
+use Rattle.law_scans.specs.inv.model.Locals.{Group}
+use Rattle.law_scans.specs.laws.defs.Entry.{Entry}
+use Rattle.law_scans.specs.laws.defs.declared.call.Answer.{Answer}
+use Rattle.law_scans.specs.laws.defs.declared.event.Event.{Event}
+use Rattle.law_scans.specs.laws.defs.declared.event.Event.TheVariants as events
+use Rattle.law_scans.specs.laws.words.declared.config.Config.{Config}
+use Rattle.law_scans.specs.laws.StateAt.{is_open}
+use Rattle.law_scans.specs.laws.records.Record.{Past, tells}
+use Rattle.law_scans.specs.laws.records.Record.Past.{Then}
+use Rattle.law_scans.proofs.laws.records.Entries.{each_before}
 use Rattle.law_logs.specs.Answered.{Says}
 use Rattle.law_logs.specs.Ledgers.{log_of, notes_of}
 use Rattle.law_logs.specs.Versions.{AtMost, Counts, counts_of, met_in}

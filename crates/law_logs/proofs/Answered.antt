@@ -1,19 +1,19 @@
 -- What an answer says stays so in a later record, and by lower counts at the call's beginning.
 use Rattle.std.proofs.Common.{ℕ, ◌≡◌, ◌≤◌, ◌<◌, ◌-◌, ◌++◌, Bool, true, false, List, [], ◌∷◌, Option, length, refl, sym, ap, ◌∙◌, arith}
-use Rattle.law_steps.specs.inv.model.defs.Pairs.{Pair, changed, pairs_after, value_in}
-use Rattle.law_steps.specs.inv.model.defs.declared.call.Answer.{Answer}
-use Rattle.law_steps.specs.inv.model.defs.declared.call.Answer.TheVariants as answers
-use Rattle.law_steps.specs.inv.model.defs.declared.call.Call.{Call}
-use Rattle.law_steps.specs.inv.model.defs.declared.call.Call.TheVariants as calls
-use Rattle.law_steps.specs.inv.model.defs.declared.fold.Change.{Change}
-use Rattle.law_steps.specs.inv.model.defs.declared.fold.Change.TheVariants as changes
-use Rattle.law_steps.specs.inv.model.words.declared.config.Config.{Config}
-use Rattle.law_steps.specs.laws.Lists.{adopts, has_left, is_adopted, is_left}
-use Rattle.law_steps.specs.laws.StateAt.{bucket_of, count_of, pairs_at, queued_of, value_at}
+use Rattle.law_scans.specs.laws.defs.Pairs.{Pair, changed, pairs_after, value_in}
+use Rattle.law_scans.specs.laws.defs.declared.call.Answer.{Answer}
+use Rattle.law_scans.specs.laws.defs.declared.call.Answer.TheVariants as answers
+use Rattle.law_scans.specs.laws.defs.declared.call.Call.{Call}
+use Rattle.law_scans.specs.laws.defs.declared.call.Call.TheVariants as calls
+use Rattle.law_scans.specs.laws.defs.declared.fold.Change.{Change}
+use Rattle.law_scans.specs.laws.defs.declared.fold.Change.TheVariants as changes
+use Rattle.law_scans.specs.laws.words.declared.config.Config.{Config}
+use Rattle.law_scans.specs.laws.Lists.{adopts, has_left, is_adopted, is_left}
+use Rattle.law_scans.specs.laws.StateAt.{bucket_of, count_of, pairs_at, queued_of, value_at}
 use Rattle.std.specs.Prelude.{◌==◌, ◌&&◌, ◌||◌, is_some}
-use Rattle.law_steps.specs.inv.model.defs.Entry.{Entry}
-use Rattle.law_steps.specs.inv.history.Record.{Past, tells}
-use Rattle.law_steps.specs.inv.history.Record.Past.{Then}
+use Rattle.law_scans.specs.laws.defs.Entry.{Entry}
+use Rattle.law_scans.specs.laws.records.Record.{Past, tells}
+use Rattle.law_scans.specs.laws.records.Record.Past.{Then}
 use Rattle.law_logs.specs.Answered.{IsAbsent, IsDone, IsDoneAt, IsEmpty, IsFull, IsFullAt, IsGot, IsKept, IsLast, IsLooked, IsMet, IsQueued, IsRow, IsSpent, IsSpentAt, IsStale, IsStaying, IsTaken, Says}
 use Rattle.law_logs.specs.Versions.{AtMost, Counts, counts_of}
 use Rattle.law_logs.proofs.Counts.{most_along}

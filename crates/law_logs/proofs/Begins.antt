@@ -1,17 +1,17 @@
 -- A call that is under way has a position at which it began, and what is counted since it began was counted there.
 use Rattle.std.proofs.Common.{ℕ, ◌≡◌, Bool, true, false, [], ◌∷◌, ◌++◌, Option, Some, refl, sym, ap, ◌∙◌, subst}
 use Rattle.std.specs.Prelude.{◌==◌, not}
-use Rattle.law_steps.proofs.inv.model.Facts.{false_of_not, first_of, number_is}
-use Rattle.law_steps.specs.inv.model.defs.Entry.{Entry}
-use Rattle.law_steps.specs.inv.model.defs.declared.call.Call.{Call}
-use Rattle.law_steps.specs.inv.model.defs.declared.event.Event.{Event}
-use Rattle.law_steps.specs.inv.model.defs.declared.event.Event.TheVariants as events
-use Rattle.law_steps.specs.laws.Standing.{open_ok}
-use Rattle.law_steps.specs.laws.Lists.{has_left}
-use Rattle.law_steps.specs.laws.StateAt.{began_of, is_open}
-use Rattle.law_steps.specs.inv.history.Record.{Past, Each}
-use Rattle.law_steps.specs.inv.history.Record.Past.{Start, Then}
-use Rattle.law_steps.proofs.held.places.answers.AnswersTold.Answering.{own_began}
+use Rattle.law_scans.proofs.laws.records.defs.Facts.{false_of_not, first_of, number_is}
+use Rattle.law_scans.specs.laws.defs.Entry.{Entry}
+use Rattle.law_scans.specs.laws.defs.declared.call.Call.{Call}
+use Rattle.law_scans.specs.laws.defs.declared.event.Event.{Event}
+use Rattle.law_scans.specs.laws.defs.declared.event.Event.TheVariants as events
+use Rattle.law_scans.specs.laws.Standing.{open_ok}
+use Rattle.law_scans.specs.laws.Lists.{has_left}
+use Rattle.law_scans.specs.laws.StateAt.{began_of, is_open}
+use Rattle.law_scans.specs.laws.records.Record.{Past, Each}
+use Rattle.law_scans.specs.laws.records.Record.Past.{Start, Then}
+use Rattle.law_scans.proofs.reuse.AnswersTold.Answering.{own_began}
 use Rattle.law_logs.specs.Records.{IsBegun}
 use Rattle.law_logs.specs.Versions.{counts_of}
 use Rattle.law_logs.proofs.Counts.{begun_counts}

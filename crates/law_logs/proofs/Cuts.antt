@@ -2,17 +2,17 @@
 use Rattle.std.proofs.Common.{ℕ, ◌≡◌, ◌⊎◌, inl, inr, Bool, true, false, List, [], ◌∷◌, ◌++◌, Option, Some, None, refl, sym, ap, ◌∙◌, subst}
 use Rattle.std.proofs.lemmas.List.{append-nil, append_assoc}
 use Rattle.std.specs.Prelude.{◌==◌, if◌then◌else◌}
-use Rattle.law_steps.proofs.inv.model.Facts.{number_is}
-use Rattle.law_steps.specs.inv.model.Desks.{Notes, noted}
-use Rattle.law_steps.specs.inv.model.Locals.{Group}
-use Rattle.law_steps.specs.inv.model.defs.Entry.{Entry}
-use Rattle.law_steps.specs.inv.model.defs.declared.call.Answer.{Answer}
-use Rattle.law_steps.specs.inv.model.defs.declared.call.Call.{Call}
-use Rattle.law_steps.specs.inv.model.defs.declared.event.Event.{Event}
-use Rattle.law_steps.specs.inv.model.defs.declared.event.Event.TheVariants as events
-use Rattle.law_steps.proofs.laws.Tells.{seen_other, seen_own}
-use Rattle.law_steps.specs.inv.history.Record.{Past, tells}
-use Rattle.law_steps.specs.inv.history.Record.Past.{Start, Then}
+use Rattle.law_scans.proofs.laws.records.defs.Facts.{number_is}
+use Rattle.law_scans.specs.inv.model.Desks.{Notes, noted}
+use Rattle.law_scans.specs.inv.model.Locals.{Group}
+use Rattle.law_scans.specs.laws.defs.Entry.{Entry}
+use Rattle.law_scans.specs.laws.defs.declared.call.Answer.{Answer}
+use Rattle.law_scans.specs.laws.defs.declared.call.Call.{Call}
+use Rattle.law_scans.specs.laws.defs.declared.event.Event.{Event}
+use Rattle.law_scans.specs.laws.defs.declared.event.Event.TheVariants as events
+use Rattle.law_scans.proofs.laws.Tells.{seen_other, seen_own}
+use Rattle.law_scans.specs.laws.records.Record.{Past, tells}
+use Rattle.law_scans.specs.laws.records.Record.Past.{Start, Then}
 use Rattle.law_logs.specs.Ledgers.{Ledger, left_by, ledger_by, ledger_of, log_of, no_ledger, notes_of}
 use Rattle.law_logs.specs.Records.{Extends, IsEnded, LogsAreCut}
 use Rattle.law_logs.proofs.Grows.{snoc_tells}

@@ -3,17 +3,17 @@ use Rattle.std.proofs.Common.{ℕ, ◌≡◌, ◌≤◌, ◌<◌, ◌+◌, Bool,
 use Rattle.std.proofs.lemmas.Bool.Decides.{nat_tests}
 use Rattle.std.proofs.lemmas.List.{append-nil, append_assoc, take-append-le, get_or_append_left}
 use Rattle.std.specs.Prelude.{◌==◌, if◌then◌else◌, slice_index_or}
-use Rattle.law_steps.specs.inv.model.World.{told_in}
-use Rattle.law_steps.specs.inv.model.defs.Entry.{Entry}
-use Rattle.law_steps.specs.inv.model.defs.declared.event.Event.{Event}
-use Rattle.law_steps.specs.inv.model.defs.declared.event.Event.TheVariants as events
-use Rattle.law_steps.specs.inv.model.defs.declared.fold.Change.{Change}
-use Rattle.law_steps.specs.inv.model.defs.declared.fold.Change.TheVariants as the_changes
-use Rattle.law_steps.specs.laws.StateAt.{bucket_at, changes_of, count_of, queued_of, row_at, taken_of, with_change}
-use Rattle.law_steps.specs.inv.history.History.{Item, Begins, Steps, Made, did, done_if, fits, first_made, made_from, made_of}
-use Rattle.law_steps.specs.inv.history.Record.{Past, tells, tells_of}
-use Rattle.law_steps.specs.inv.history.Record.Past.{Then}
-use Rattle.law_steps.proofs.inv.Finish.{made_along}
+use Rattle.law_scans.specs.inv.model.World.{told_in}
+use Rattle.law_scans.specs.laws.defs.Entry.{Entry}
+use Rattle.law_scans.specs.laws.defs.declared.event.Event.{Event}
+use Rattle.law_scans.specs.laws.defs.declared.event.Event.TheVariants as events
+use Rattle.law_scans.specs.laws.defs.declared.fold.Change.{Change}
+use Rattle.law_scans.specs.laws.defs.declared.fold.Change.TheVariants as the_changes
+use Rattle.law_scans.specs.laws.StateAt.{bucket_at, changes_of, count_of, queued_of, row_at, taken_of, with_change}
+use Rattle.law_scans.specs.inv.history.History.{Item, Begins, Steps, Made, did, done_if, fits, first_made, made_from, made_of}
+use Rattle.law_scans.specs.laws.records.Record.{Past, tells, tells_of}
+use Rattle.law_scans.specs.laws.records.Record.Past.{Then}
+use Rattle.law_scans.proofs.inv.Finish.{made_along}
 use Rattle.law_logs.specs.Records.{IsBeginning, RecordsGrow}
 
 -- a later position, and what it has of the map and of the queue

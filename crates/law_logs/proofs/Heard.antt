@@ -3,19 +3,19 @@ use Rattle.std.proofs.Common.{ℕ, ◌≡◌, ◌≤◌, ◌<◌, ◌+◌, ◌-�
 use Rattle.std.proofs.Math.Seq.{get_or-append_seam}
 use Rattle.std.proofs.lemmas.List.{get_or_append_left}
 use Rattle.std.specs.Prelude.{◌==◌, ◌&&◌, nat_le, slice_index_or}
-use Rattle.law_steps.proofs.inv.model.Facts.{first_of, rest_of, number_is, le_of_test, same_number}
-use Rattle.law_steps.specs.inv.model.defs.declared.event.Event.{Event}
-use Rattle.law_steps.specs.inv.model.defs.declared.event.Event.TheVariants as events
-use Rattle.law_steps.specs.inv.model.defs.declared.fold.Change.{Change}
-use Rattle.law_steps.specs.inv.model.defs.declared.fold.Change.TheVariants as changes
-use Rattle.law_steps.specs.laws.AnswerLaw.{same_event}
-use Rattle.law_steps.specs.laws.HistoryAnswers.{same_told}
-use Rattle.law_steps.specs.laws.MapLaw.{map_ok}
-use Rattle.law_steps.specs.laws.QueueLaw.{queue_ok}
-use Rattle.law_steps.specs.laws.StateAt.{begun_at, bucket_of, changes_of, count_of, queued_of, same_value, taken_of, value_at, was_current, with_told}
-use Rattle.law_steps.specs.inv.history.Record.{Past}
-use Rattle.law_steps.specs.inv.history.Record.Past.{Then}
-use Rattle.law_steps.proofs.inv.Machines.{is_within}
+use Rattle.law_scans.proofs.laws.records.defs.Facts.{first_of, rest_of, number_is, le_of_test, same_number}
+use Rattle.law_scans.specs.laws.defs.declared.event.Event.{Event}
+use Rattle.law_scans.specs.laws.defs.declared.event.Event.TheVariants as events
+use Rattle.law_scans.specs.laws.defs.declared.fold.Change.{Change}
+use Rattle.law_scans.specs.laws.defs.declared.fold.Change.TheVariants as changes
+use Rattle.law_scans.specs.laws.AnswerLaw.{same_event}
+use Rattle.law_scans.specs.laws.HistoryAnswers.{same_told}
+use Rattle.law_scans.specs.laws.MapLaw.{map_ok}
+use Rattle.law_scans.specs.laws.QueueLaw.{queue_ok}
+use Rattle.law_scans.specs.laws.StateAt.{begun_at, bucket_of, changes_of, count_of, queued_of, same_value, taken_of, value_at, was_current, with_told}
+use Rattle.law_scans.specs.laws.records.Record.{Past}
+use Rattle.law_scans.specs.laws.records.Record.Past.{Then}
+use Rattle.law_scans.proofs.inv.Machines.{is_within}
 use Rattle.law_logs.specs.Answered.{IsGot, IsMet, IsTaken}
 use Rattle.law_logs.specs.Versions.{AtMost, Counts, counts_of}
 use Rattle.law_logs.proofs.Answered.{got_on, met_on, taken_on}

@@ -1,27 +1,27 @@
 -- The phases that a hold comes to, and that its step which answers Nothing leaves nothing at index 2.
 use Rattle.std.proofs.Common.{ℕ, ◌≡◌, Bool, true, false, List, ◌++◌, Option, Some, None, refl}
 use Rattle.std.specs.Prelude.{if◌then◌else◌}
-use Rattle.law_steps.specs.inv.model.Calls.{Holds, Next, Answering, Rehold, Keeping, Loosens, Why, Opens, Clears, Finishes, Releases, Phase, Idle, Runs, Works, CallOutcome, Answers}
-use Rattle.law_steps.specs.inv.model.Desks.{Desk}
-use Rattle.law_steps.specs.inv.model.Machine as machine
-use Rattle.law_steps.specs.inv.model.Phases.{Base, Ending, Outcome, Goes, Ends}
-use Rattle.law_steps.specs.inv.model.Phases.Ending.{Protected}
-use Rattle.law_steps.specs.inv.model.Rounds as rounds
-use Rattle.law_steps.specs.inv.model.Rounds.{scheme_of}
-use Rattle.law_steps.specs.inv.model.Steps as steps
-use Rattle.law_steps.specs.inv.model.declared.ends.ProtectEnd.TheVariants as protect_ends
-use Rattle.law_steps.specs.inv.model.declared.post.Post.{Post}
-use Rattle.law_steps.specs.inv.model.defs.declared.event.Event.{Event}
-use Rattle.law_steps.specs.inv.model.defs.declared.call.Answer.{Answer}
-use Rattle.law_steps.specs.inv.model.defs.declared.call.Answer.TheVariants as answers
-use Rattle.law_steps.specs.inv.model.Phases.Base.{Clear, Finish}
-use Rattle.law_steps.specs.inv.model.Posts.{stands, withdrawn}
-use Rattle.law_steps.specs.inv.model.words.Schemes.{has_one_interval}
-use Rattle.law_steps.specs.inv.model.words.declared.layout.Layout.{Layout}
-use Rattle.law_steps.proofs.inv.model.Standing.{stands-withdrawn_same}
-use Rattle.law_steps.specs.inv.covers.Rests.{Vacant, vacant, vacant_why}
-use Rattle.law_steps.specs.inv.shapes.Frame.{phase_left}
-use Rattle.law_steps.specs.inv.shapes.Seats.{Run, kind_of, suits}
+use Rattle.law_scans.specs.inv.model.Calls.{Holds, Next, Answering, Rehold, Keeping, Loosens, Why, Opens, Clears, Finishes, Releases, Phase, Idle, Runs, Works, CallOutcome, Answers}
+use Rattle.law_scans.specs.inv.model.Desks.{Desk}
+use Rattle.law_scans.specs.inv.model.Machine as machine
+use Rattle.law_scans.specs.inv.model.Phases.{Base, Ending, Outcome, Goes, Ends}
+use Rattle.law_scans.specs.inv.model.Phases.Ending.{Protected}
+use Rattle.law_scans.specs.inv.model.Rounds as rounds
+use Rattle.law_scans.specs.inv.model.Rounds.{scheme_of}
+use Rattle.law_scans.specs.inv.model.Steps as steps
+use Rattle.law_scans.specs.inv.model.declared.ends.ProtectEnd.TheVariants as protect_ends
+use Rattle.law_scans.specs.inv.model.declared.post.Post.{Post}
+use Rattle.law_scans.specs.laws.defs.declared.event.Event.{Event}
+use Rattle.law_scans.specs.laws.defs.declared.call.Answer.{Answer}
+use Rattle.law_scans.specs.laws.defs.declared.call.Answer.TheVariants as answers
+use Rattle.law_scans.specs.inv.model.Phases.Base.{Clear, Finish}
+use Rattle.law_scans.specs.inv.model.Posts.{stands, withdrawn}
+use Rattle.law_scans.specs.laws.words.Schemes.{has_one_interval}
+use Rattle.law_scans.specs.laws.words.declared.layout.Layout.{Layout}
+use Rattle.law_scans.proofs.inv.model.Standing.{stands-withdrawn_same}
+use Rattle.law_scans.specs.inv.covers.Rests.{Vacant, vacant, vacant_why}
+use Rattle.law_scans.specs.inv.shapes.Frame.{phase_left}
+use Rattle.law_scans.specs.inv.shapes.Seats.{Run, kind_of, suits}
 
 abbrev next_answers : Next → Bool
 next_answers (Answering answer) = true

@@ -2,20 +2,20 @@
 -- the call, and there it was that of the bucket's version, or became that of the next one.
 use Rattle.std.proofs.Common.{ℕ, ◌≡◌, ◌+◌, ◌⊎◌, inl, inr, Bool, true, false, Option, Some, refl, sym, ◌∙◌, subst, arith}
 use Rattle.std.specs.Prelude.{◌==◌, ◌&&◌, ◌||◌, if◌then◌else◌, nat_lt, not}
-use Rattle.law_steps.proofs.inv.model.Facts.{either_true, false_of_not, first_of, if_false, number_is, rest_of}
-use Rattle.law_steps.specs.inv.model.defs.Events.{is_held}
-use Rattle.law_steps.specs.inv.model.defs.declared.call.Call.{Call}
-use Rattle.law_steps.specs.inv.model.defs.declared.call.Call.TheVariants as calls
-use Rattle.law_steps.specs.inv.model.defs.declared.event.Event.{Event}
-use Rattle.law_steps.specs.inv.model.defs.declared.event.Event.TheVariants as events
-use Rattle.law_steps.specs.inv.model.defs.declared.event.Root.TheVariants as roots
-use Rattle.law_steps.specs.inv.model.words.declared.config.Config.{Config}
-use Rattle.law_steps.specs.laws.HistoryHolds.{sources_ok}
-use Rattle.law_steps.specs.laws.HoldLaw.{has_had}
-use Rattle.law_steps.specs.laws.Once.{order_ok}
-use Rattle.law_steps.specs.laws.StateAt.{began_of, bucket_at, bucket_of, count_of, has_told, row_at, same_value}
-use Rattle.law_steps.specs.inv.history.Record.{Past, Each, begins, held_since, own, told_since}
-use Rattle.law_steps.specs.inv.history.Record.Past.{Start, Then}
+use Rattle.law_scans.proofs.laws.records.defs.Facts.{either_true, false_of_not, first_of, if_false, number_is, rest_of}
+use Rattle.law_scans.specs.laws.defs.Events.{is_held}
+use Rattle.law_scans.specs.laws.defs.declared.call.Call.{Call}
+use Rattle.law_scans.specs.laws.defs.declared.call.Call.TheVariants as calls
+use Rattle.law_scans.specs.laws.defs.declared.event.Event.{Event}
+use Rattle.law_scans.specs.laws.defs.declared.event.Event.TheVariants as events
+use Rattle.law_scans.specs.laws.defs.declared.event.Root.TheVariants as roots
+use Rattle.law_scans.specs.laws.words.declared.config.Config.{Config}
+use Rattle.law_scans.specs.laws.HistoryHolds.{sources_ok}
+use Rattle.law_scans.specs.laws.HoldLaw.{has_had}
+use Rattle.law_scans.specs.laws.Once.{order_ok}
+use Rattle.law_scans.specs.laws.StateAt.{began_of, bucket_at, bucket_of, count_of, has_told, row_at, same_value}
+use Rattle.law_scans.specs.laws.records.Record.{Past, Each, begins, held_since, own, told_since}
+use Rattle.law_scans.specs.laws.records.Record.Past.{Start, Then}
 use Rattle.law_logs.specs.Answered.{IsRow}
 use Rattle.law_logs.specs.Versions.{Counts}
 use Rattle.law_logs.proofs.Answered.{row_on}

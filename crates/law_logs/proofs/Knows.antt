@@ -2,26 +2,26 @@
 -- beyond what was counted where the call began.
 use Rattle.std.proofs.Common.{ℕ, ◌≡◌, ◌≤◌, Bool, true, false, List, [], ◌∷◌, ◌++◌, Option, Some, None, refl, sym, ap, ◌∙◌, subst}
 use Rattle.std.specs.Prelude.{◌==◌}
-use Rattle.law_steps.proofs.inv.model.Facts.{rest_of, number_is, same_number}
-use Rattle.law_steps.specs.inv.model.Desks.{noted}
-use Rattle.law_steps.specs.inv.model.Locals.{Group}
-use Rattle.law_steps.specs.inv.model.defs.declared.call.Answer.{Answer}
-use Rattle.law_steps.specs.inv.model.defs.declared.call.Call.{Call}
-use Rattle.law_steps.specs.inv.model.defs.declared.event.Event.{Event}
-use Rattle.law_steps.specs.inv.model.defs.declared.event.Event.TheVariants as events
-use Rattle.law_steps.specs.inv.model.words.declared.config.Config.{Config}
-use Rattle.law_steps.proofs.laws.Tells.{seen_other, seen_own}
-use Rattle.law_steps.specs.laws.AnswerLaw.{full_ok, suits}
-use Rattle.law_steps.specs.laws.HistoryAnswers.{answer_right, answers_ok, owes, reason, reasons_ok, same_told}
-use Rattle.law_steps.specs.laws.HistoryHolds.{sources_ok}
-use Rattle.law_steps.specs.laws.Once.{lists_ok, order_ok}
-use Rattle.law_steps.specs.laws.Standing.{open_ok}
-use Rattle.law_steps.specs.laws.MapLaw.{map_ok}
-use Rattle.law_steps.specs.laws.QueueLaw.{queue_ok}
-use Rattle.law_steps.specs.laws.StateAt.{began_of, is_open, told_of, with_told, opened_by}
-use Rattle.law_steps.specs.inv.history.Record.{Past, Each, begins}
-use Rattle.law_steps.specs.inv.history.Record.Past.{Start, Then}
-use Rattle.law_steps.proofs.inv.Machines.{is_within}
+use Rattle.law_scans.proofs.laws.records.defs.Facts.{rest_of, number_is, same_number}
+use Rattle.law_scans.specs.inv.model.Desks.{noted}
+use Rattle.law_scans.specs.inv.model.Locals.{Group}
+use Rattle.law_scans.specs.laws.defs.declared.call.Answer.{Answer}
+use Rattle.law_scans.specs.laws.defs.declared.call.Call.{Call}
+use Rattle.law_scans.specs.laws.defs.declared.event.Event.{Event}
+use Rattle.law_scans.specs.laws.defs.declared.event.Event.TheVariants as events
+use Rattle.law_scans.specs.laws.words.declared.config.Config.{Config}
+use Rattle.law_scans.proofs.laws.Tells.{seen_other, seen_own}
+use Rattle.law_scans.specs.laws.AnswerLaw.{full_ok, suits}
+use Rattle.law_scans.specs.laws.HistoryAnswers.{answer_right, answers_ok, owes, reason, reasons_ok, same_told}
+use Rattle.law_scans.specs.laws.HistoryHolds.{sources_ok}
+use Rattle.law_scans.specs.laws.Once.{lists_ok, order_ok}
+use Rattle.law_scans.specs.laws.Standing.{open_ok}
+use Rattle.law_scans.specs.laws.MapLaw.{map_ok}
+use Rattle.law_scans.specs.laws.QueueLaw.{queue_ok}
+use Rattle.law_scans.specs.laws.StateAt.{began_of, is_open, told_of, with_told, opened_by}
+use Rattle.law_scans.specs.laws.records.Record.{Past, Each, begins}
+use Rattle.law_scans.specs.laws.records.Record.Past.{Start, Then}
+use Rattle.law_scans.proofs.inv.Machines.{is_within}
 use Rattle.law_logs.specs.Answered.{Says, SaysOfRows}
 use Rattle.law_logs.specs.Ledgers.{Ledger, left_by, ledger_by, ledger_of, log_of, no_ledger, notes_of}
 use Rattle.law_logs.specs.Versions.{AtMost, Counts, counts_of, met_in}

@@ -2,41 +2,41 @@
 use Rattle.std.proofs.Common.{ℕ, zero, suc, ◌≡◌, Bool, true, false, List, [], ◌∷◌, ◌++◌, length, Option, Some, None, refl, sym, ap, ◌∙◌, subst, arith}
 use Rattle.std.proofs.lemmas.Bool.Decides.{nat_tests}
 use Rattle.std.specs.Prelude.{◌==◌, ◌||◌}
-use Rattle.law_steps.specs.inv.model.Calls.{AfterScan, Answered, Repeated, Counted, ScanAt, ReadGuard, GiveBack, Phase, Idle, Runs, Scans, Works, CallTurn, CallOutcome, GoesOn, Answers}
-use Rattle.law_steps.specs.inv.model.Desks.{Desk, Report, noting}
-use Rattle.law_steps.specs.inv.model.Guards.{guards}
-use Rattle.law_steps.specs.inv.model.Locals.{Local, after, begun, begun_post, busy_in, rounds_told, told_by, told_end, turn}
-use Rattle.law_steps.specs.inv.model.Posts.{counted}
-use Rattle.law_steps.specs.inv.model.Scan.{Entry, giving_back, scanned, scan_turn, unmet_from, with_back, with_kept}
-use Rattle.law_steps.specs.inv.model.Steps.{first_phase, phase_turn}
-use Rattle.law_steps.specs.inv.model.World.{World, begin, finds, is_busy, offered, step, told_in}
-use Rattle.law_steps.specs.inv.model.declared.post.Post.{Post}
-use Rattle.law_steps.specs.inv.model.defs.Shown.{Seen}
-use Rattle.law_steps.specs.inv.model.defs.declared.call.Call.{Call}
-use Rattle.law_steps.specs.inv.model.defs.declared.event.Event.{Event}
-use Rattle.law_steps.specs.inv.model.defs.declared.event.Event.TheVariants as events
-use Rattle.law_steps.specs.inv.model.defs.declared.lifetime.Lifetime.{Lifetime}
-use Rattle.law_steps.specs.inv.model.words.declared.layout.Layout.{Layout}
-use Rattle.law_steps.specs.laws.StateAt.{read_by, read_of}
-use Rattle.law_steps.specs.inv.Inv.{Inv}
-use Rattle.law_steps.specs.inv.covers.Covers.{is_fresh}
-use Rattle.law_steps.specs.inv.history.History.{Made, first_made}
-use Rattle.law_steps.specs.inv.history.Record.{Past, tells_of}
-use Rattle.law_steps.specs.inv.history.Record.Past.{Then}
-use Rattle.law_steps.specs.inv.shapes.Frame.{phase_left}
-use Rattle.law_steps.specs.inv.shapes.Seats.{scan_fits}
-use Rattle.law_steps.proofs.inv.Inv.Begun.{inv_start, inv_begin}
-use Rattle.law_steps.proofs.inv.Inv.Kept.{inv_kept}
-use Rattle.law_steps.proofs.inv.covers.Begun.{first_begins}
-use Rattle.law_steps.proofs.inv.covers.Fresh.{round_fresh}
-use Rattle.law_steps.proofs.inv.covers.Held.{settled_phase}
-use Rattle.law_steps.proofs.inv.history.AllOf.{all_of}
-use Rattle.law_steps.proofs.inv.history.Along.{Steady, items_keep}
-use Rattle.law_steps.proofs.inv.shapes.Frame.{seat_stays, seat_steps, begin_stays, begin_begins}
-use Rattle.law_steps.proofs.held.reuse.Blocks.Calm.{read_other, read_own, run_fresh, run_report, told_same, unread_same, work_report, works_fresh}
-use Rattle.law_steps.proofs.held.reuse.Blocks.Keeps.{ScanFits, after_desk, scans_fit}
-use Rattle.law_steps.proofs.held.reuse.Blocks.Placed.{Placed, PlacedAt, scan_event, scan_placed, scan_reads, scan_tells}
-use Rattle.law_steps.proofs.held.reuse.Once.Calm.{is_unread, run_unread, work_unread}
+use Rattle.law_scans.specs.inv.model.Calls.{AfterScan, Answered, Repeated, Counted, ScanAt, ReadGuard, GiveBack, Phase, Idle, Runs, Scans, Works, CallTurn, CallOutcome, GoesOn, Answers}
+use Rattle.law_scans.specs.inv.model.Desks.{Desk, Report, noting}
+use Rattle.law_scans.specs.inv.model.Guards.{guards}
+use Rattle.law_scans.specs.inv.model.Locals.{Local, after, begun, begun_post, busy_in, rounds_told, told_by, told_end, turn}
+use Rattle.law_scans.specs.inv.model.Posts.{counted}
+use Rattle.law_scans.specs.inv.model.Scan.{Entry, giving_back, scanned, scan_turn, unmet_from, with_back, with_kept}
+use Rattle.law_scans.specs.inv.model.Steps.{first_phase, phase_turn}
+use Rattle.law_scans.specs.inv.model.World.{World, begin, finds, is_busy, offered, step, told_in}
+use Rattle.law_scans.specs.inv.model.declared.post.Post.{Post}
+use Rattle.law_scans.specs.laws.defs.Shown.{Seen}
+use Rattle.law_scans.specs.laws.defs.declared.call.Call.{Call}
+use Rattle.law_scans.specs.laws.defs.declared.event.Event.{Event}
+use Rattle.law_scans.specs.laws.defs.declared.event.Event.TheVariants as events
+use Rattle.law_scans.specs.laws.defs.declared.lifetime.Lifetime.{Lifetime}
+use Rattle.law_scans.specs.laws.words.declared.layout.Layout.{Layout}
+use Rattle.law_scans.specs.laws.StateAt.{read_by, read_of}
+use Rattle.law_scans.specs.inv.Inv.{Inv}
+use Rattle.law_scans.specs.inv.covers.Covers.{is_fresh}
+use Rattle.law_scans.specs.inv.history.History.{Made, first_made}
+use Rattle.law_scans.specs.laws.records.Record.{Past, tells_of}
+use Rattle.law_scans.specs.laws.records.Record.Past.{Then}
+use Rattle.law_scans.specs.inv.shapes.Frame.{phase_left}
+use Rattle.law_scans.specs.inv.shapes.Seats.{scan_fits}
+use Rattle.law_scans.proofs.inv.Inv.Begun.{inv_start, inv_begin}
+use Rattle.law_scans.proofs.inv.Inv.Kept.{inv_kept}
+use Rattle.law_scans.proofs.inv.covers.Begun.{first_begins}
+use Rattle.law_scans.proofs.inv.covers.Fresh.{round_fresh}
+use Rattle.law_scans.proofs.inv.covers.Held.{settled_phase}
+use Rattle.law_scans.proofs.reuse.history.AllOf.{all_of}
+use Rattle.law_scans.proofs.reuse.history.Along.{Steady, items_keep}
+use Rattle.law_scans.proofs.reuse.shapes.Frame.{seat_stays, seat_steps, begin_stays, begin_begins}
+use Rattle.law_scans.proofs.reuse.Blocks.Calm.{read_other, read_own, run_fresh, run_report, told_same, unread_same, work_report, works_fresh}
+use Rattle.law_scans.proofs.reuse.Blocks.Keeps.{ScanFits, after_desk, scans_fit}
+use Rattle.law_scans.proofs.reuse.Blocks.Placed.{Placed, PlacedAt, scan_event, scan_placed, scan_reads, scan_tells}
+use Rattle.law_scans.proofs.reuse.Once.Calm.{is_unread, run_unread, work_unread}
 use Rattle.law_logs.specs.Records.{RecordReads}
 
 -- nothing was read yet, or a whole block

@@ -2,33 +2,33 @@
 use Rattle.std.proofs.Common.{ℕ, ◌≡◌, Bool, true, false, List, [], ◌∷◌, ◌++◌, Option, Some, refl, sym, ap, ◌∙◌, subst, arith}
 use Rattle.std.proofs.lemmas.Bool.Decides.{nat_tests}
 use Rattle.std.specs.Prelude.{◌==◌, if◌then◌else◌}
-use Rattle.law_steps.proofs.inv.model.Facts.{first_of, rest_of}
-use Rattle.law_steps.specs.inv.model.Calls.{Phase, Idle, Runs, Scans, Works, CallTurn, CallOutcome, GoesOn, Answers}
-use Rattle.law_steps.specs.inv.model.Desks.{Desk, Notes, noted, noted_all, noting}
-use Rattle.law_steps.specs.inv.model.Locals.{Local, begun, begun_post, busy_in, rounds_told, settled_by, told_by, told_end, turn}
-use Rattle.law_steps.specs.inv.model.Steps.{first_phase}
-use Rattle.law_steps.specs.inv.model.World.{World, begin, finds, is_busy, offered, step, told_in}
-use Rattle.law_steps.specs.inv.model.declared.post.Post.{Post}
-use Rattle.law_steps.specs.inv.model.defs.declared.call.Call.{Call}
-use Rattle.law_steps.specs.inv.model.defs.declared.event.Event.{Event}
-use Rattle.law_steps.specs.inv.model.defs.declared.event.Event.TheVariants as events
-use Rattle.law_steps.specs.inv.model.words.Place.{is_valid}
-use Rattle.law_steps.specs.inv.model.words.declared.layout.Layout.{Layout}
-use Rattle.law_steps.proofs.laws.Along.{along}
-use Rattle.law_steps.proofs.laws.Tells.{seen_own, seen_stays, seen_tells}
-use Rattle.law_steps.specs.laws.StateAt.{began_by, began_of, is_open, opened_by, seen}
-use Rattle.law_steps.specs.inv.history.History.{Made, first_made, made_of}
-use Rattle.law_steps.specs.inv.history.Record.{Past, tells_of}
-use Rattle.law_steps.specs.inv.history.Record.Past.{Start, Then}
-use Rattle.law_steps.proofs.inv.Machines.{is_within, within_of}
-use Rattle.law_steps.proofs.inv.history.AllOf.{all_of}
-use Rattle.law_steps.proofs.inv.history.Along.{Steady, items_keep}
-use Rattle.law_steps.proofs.inv.shapes.Frame.{seat_stays, seat_steps, begin_stays, begin_begins}
-use Rattle.law_steps.proofs.held.places.answers.AnswersTold.Answering as answering
-use Rattle.law_steps.proofs.held.places.answers.AnswersTold.Answering.{first_all, owes_of}
-use Rattle.law_steps.proofs.held.places.answers.AnswersTold.Owed as owed
-use Rattle.law_steps.proofs.held.places.answers.AnswersTold.Owed.{OutServes, Owes, Serves}
-use Rattle.law_steps.proofs.held.places.answers.AnswersTold.Owing.{first_serves}
+use Rattle.law_scans.proofs.laws.records.defs.Facts.{first_of, rest_of}
+use Rattle.law_scans.specs.inv.model.Calls.{Phase, Idle, Runs, Scans, Works, CallTurn, CallOutcome, GoesOn, Answers}
+use Rattle.law_scans.specs.inv.model.Desks.{Desk, Notes, noted, noted_all, noting}
+use Rattle.law_scans.specs.inv.model.Locals.{Local, begun, begun_post, busy_in, rounds_told, settled_by, told_by, told_end, turn}
+use Rattle.law_scans.specs.inv.model.Steps.{first_phase}
+use Rattle.law_scans.specs.inv.model.World.{World, begin, finds, is_busy, offered, step, told_in}
+use Rattle.law_scans.specs.inv.model.declared.post.Post.{Post}
+use Rattle.law_scans.specs.laws.defs.declared.call.Call.{Call}
+use Rattle.law_scans.specs.laws.defs.declared.event.Event.{Event}
+use Rattle.law_scans.specs.laws.defs.declared.event.Event.TheVariants as events
+use Rattle.law_scans.specs.laws.words.Place.{is_valid}
+use Rattle.law_scans.specs.laws.words.declared.layout.Layout.{Layout}
+use Rattle.law_scans.proofs.laws.Along.{along}
+use Rattle.law_scans.proofs.laws.Tells.{seen_own, seen_stays, seen_tells}
+use Rattle.law_scans.specs.laws.StateAt.{began_by, began_of, is_open, opened_by, seen}
+use Rattle.law_scans.specs.inv.history.History.{Made, first_made, made_of}
+use Rattle.law_scans.specs.laws.records.Record.{Past, tells_of}
+use Rattle.law_scans.specs.laws.records.Record.Past.{Start, Then}
+use Rattle.law_scans.proofs.inv.Machines.{is_within, within_of}
+use Rattle.law_scans.proofs.reuse.history.AllOf.{all_of}
+use Rattle.law_scans.proofs.reuse.history.Along.{Steady, items_keep}
+use Rattle.law_scans.proofs.reuse.shapes.Frame.{seat_stays, seat_steps, begin_stays, begin_begins}
+use Rattle.law_scans.proofs.reuse.AnswersTold.Answering as answering
+use Rattle.law_scans.proofs.reuse.AnswersTold.Answering.{first_all, owes_of}
+use Rattle.law_scans.proofs.reuse.AnswersTold.Owed as owed
+use Rattle.law_scans.proofs.reuse.AnswersTold.Owed.{OutServes, Owes, Serves}
+use Rattle.law_scans.proofs.reuse.AnswersTold.Owing.{first_serves}
 use Rattle.law_logs.specs.Ledgers.{Ledger, ledger_by, ledger_of, no_ledger}
 use Rattle.law_logs.specs.Records.{RecordsKeepLogs}
 use Rattle.law_logs.proofs.Notes.{turns_leave_notes}

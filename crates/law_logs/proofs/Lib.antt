@@ -1,9 +1,6 @@
-pub use Rattle.law_steps.proofs.laws as laws
-pub use Rattle.law_steps.proofs.held as held
-pub use Rattle.law_steps.proofs.inv as inv
+pub use Rattle.law_scans.proofs.laws as laws
+pub use Rattle.law_scans.proofs.inv as inv
 pub use Rattle.law_letter.proofs as letter
-pub use Rattle.law_reasons.proofs as reasons
-pub use Rattle.law_steps.proofs as steps
 pub mod Along
 pub mod Answered
 pub mod Begins
@@ -11,7 +8,6 @@ pub mod Counts
 pub mod Cuts
 pub mod Grows
 pub mod Heard
-pub mod HeldRows
 pub mod HoldPhases
 pub mod Holds
 pub mod Knows
@@ -21,9 +17,7 @@ pub mod Links
 pub mod Lists
 pub mod Meets
 pub mod Notes
-pub mod Records
 pub mod Roots
+pub mod Runs
 pub mod Says
-pub mod Shown
 pub mod Shows
-pub mod Steps

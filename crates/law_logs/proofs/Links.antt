@@ -1,36 +1,36 @@
 -- A row that stands at an index of a seat is linked at no bucket's root; and each call that has begun may begin.
 use Rattle.std.proofs.Common.{ℕ, ◌≡◌, Bool, true, false, List, [], ◌∷◌, ◌++◌, ◌+◌, ◌-◌, append_assoc, Some, refl, sym, ap, ◌∙◌, subst}
 use Rattle.std.specs.Prelude.{◌==◌, ◌&&◌, if◌then◌else◌, not}
-use Rattle.law_steps.proofs.inv.model.Facts.{first_of, rest_of}
-use Rattle.law_steps.specs.inv.model.Calls.{ChangeKept, EnqueueKept, LoadVersion, LoadCount, LoadKey, LoadValue, ExchangeRoot, LoadNumber, LoadNext, PassTail, ExchangeNext, ExchangeTail, LoadTail, SwingTail, TakeNumber, TakeValue, ExchangeHead, Getting, Keeping, Changing, Enqueuing, Dequeuing, Phase, Idle, Runs, Scans, Works, CallTurn, CallOutcome, GoesOn, Answers}
-use Rattle.law_steps.specs.inv.model.Change.{changed_bucket, told_change, told_cut}
-use Rattle.law_steps.specs.inv.model.Enqueue.{told_link}
-use Rattle.law_steps.specs.inv.model.Locals.{may_begin, told_end, turn}
-use Rattle.law_steps.specs.inv.model.Posts.{counted, stands}
-use Rattle.law_steps.specs.inv.model.World.{World, finds, is_here, offered, told_in}
-use Rattle.law_steps.specs.inv.model.declared.post.Post.{Post}
-use Rattle.law_steps.specs.inv.model.defs.declared.event.Event.TheVariants as events
-use Rattle.law_steps.specs.inv.model.defs.declared.event.Event.{Event}
-use Rattle.law_steps.specs.inv.model.defs.declared.event.Root.TheVariants as roots
-use Rattle.law_steps.specs.inv.model.defs.declared.fold.Change.TheVariants as changes
-use Rattle.law_steps.specs.inv.model.defs.declared.fold.Change.{Change}
-use Rattle.law_steps.specs.inv.model.words.declared.config.Config.{Config}
-use Rattle.law_steps.specs.inv.model.words.declared.layout.Layout.{Layout}
-use Rattle.law_steps.proofs.laws.Along.{row_of}
-use Rattle.law_steps.specs.laws.StateAt.{is_row, stood_at}
-use Rattle.law_steps.specs.inv.Inv.{Inv}
-use Rattle.law_steps.specs.inv.covers.Covers.{takes_or_frees}
-use Rattle.law_steps.specs.inv.history.History.{Item, Made, first_made, record_of}
-use Rattle.law_steps.specs.inv.history.Record.Past.{Then}
-use Rattle.law_steps.specs.inv.history.Record.{Each, Past, tells_of}
-use Rattle.law_steps.specs.inv.rows.Hands.{linked_row, row_move}
-use Rattle.law_steps.specs.inv.rows.Rows.RowMove.{Links, Replaces, Stays}
-use Rattle.law_steps.proofs.inv.Inv.Tells.{inv_stays}
-use Rattle.law_steps.proofs.inv.Machines.{is_within, within_of}
-use Rattle.law_steps.proofs.inv.history.Along.{Steady, items_keep}
-use Rattle.law_steps.proofs.inv.history.AllOf.{all_of, of_along, of_weaker}
-use Rattle.law_steps.proofs.held.places.Placing.Fronts.{linked_front, queued_front, taken_front}
-use Rattle.law_steps.proofs.held.places.Placing.Marks.{InOrder, is_common, ordered, step_order}
+use Rattle.law_scans.proofs.laws.records.defs.Facts.{first_of, rest_of}
+use Rattle.law_scans.specs.inv.model.Calls.{ChangeKept, EnqueueKept, LoadVersion, LoadCount, LoadKey, LoadValue, ExchangeRoot, LoadNumber, LoadNext, PassTail, ExchangeNext, ExchangeTail, LoadTail, SwingTail, TakeNumber, TakeValue, ExchangeHead, Getting, Keeping, Changing, Enqueuing, Dequeuing, Phase, Idle, Runs, Scans, Works, CallTurn, CallOutcome, GoesOn, Answers}
+use Rattle.law_scans.specs.inv.model.Change.{changed_bucket, told_change, told_cut}
+use Rattle.law_scans.specs.inv.model.Enqueue.{told_link}
+use Rattle.law_scans.specs.inv.model.Locals.{may_begin, told_end, turn}
+use Rattle.law_scans.specs.inv.model.Posts.{counted, stands}
+use Rattle.law_scans.specs.inv.model.World.{World, finds, is_here, offered, told_in}
+use Rattle.law_scans.specs.inv.model.declared.post.Post.{Post}
+use Rattle.law_scans.specs.laws.defs.declared.event.Event.TheVariants as events
+use Rattle.law_scans.specs.laws.defs.declared.event.Event.{Event}
+use Rattle.law_scans.specs.laws.defs.declared.event.Root.TheVariants as roots
+use Rattle.law_scans.specs.laws.defs.declared.fold.Change.TheVariants as changes
+use Rattle.law_scans.specs.laws.defs.declared.fold.Change.{Change}
+use Rattle.law_scans.specs.laws.words.declared.config.Config.{Config}
+use Rattle.law_scans.specs.laws.words.declared.layout.Layout.{Layout}
+use Rattle.law_scans.proofs.laws.Along.{row_of}
+use Rattle.law_scans.specs.laws.StateAt.{is_row, stood_at}
+use Rattle.law_scans.specs.inv.Inv.{Inv}
+use Rattle.law_scans.specs.inv.covers.Covers.{takes_or_frees}
+use Rattle.law_scans.specs.inv.history.History.{Item, Made, first_made, record_of}
+use Rattle.law_scans.specs.laws.records.Record.Past.{Then}
+use Rattle.law_scans.specs.laws.records.Record.{Each, Past, tells_of}
+use Rattle.law_scans.specs.inv.rows.Hands.{linked_row, row_move}
+use Rattle.law_scans.specs.inv.rows.Rows.RowMove.{Links, Replaces, Stays}
+use Rattle.law_scans.proofs.inv.Inv.Tells.{inv_stays}
+use Rattle.law_scans.proofs.inv.Machines.{is_within, within_of}
+use Rattle.law_scans.proofs.reuse.history.Along.{Steady, items_keep}
+use Rattle.law_scans.proofs.reuse.history.AllOf.{all_of, of_along, of_weaker}
+use Rattle.law_scans.proofs.Placing.Fronts.{linked_front, queued_front, taken_front}
+use Rattle.law_scans.proofs.Placing.Marks.{InOrder, is_common, ordered, step_order}
 use Rattle.law_logs.specs.Shown.{is_bucket_link, links_ok, starts_ok}
 
 abbrev is_apart : ℕ → Event → Bool

@@ -2,21 +2,21 @@
 use Rattle.std.proofs.Common.{ℕ, ◌≡◌, ◌<◌, ◌⊎◌, inl, inr, zero, suc, Bool, true, false, List, [], ◌∷◌, ◌++◌, length, Option, Some, None, refl, sym, ap, ◌∙◌, subst, arith}
 use Rattle.std.proofs.lemmas.Bool.Decides.{nat_tests}
 use Rattle.std.specs.Prelude.{◌==◌, ◌&&◌, ◌||◌, not, is_none, if◌then◌else◌}
-use Rattle.law_steps.proofs.inv.model.Facts.{either_true, false_of_not, first_of, number_is, rest_of, same_number}
-use Rattle.law_steps.specs.inv.model.defs.Entry.{Entry}
-use Rattle.law_steps.specs.inv.model.defs.declared.call.Call.{Call}
-use Rattle.law_steps.specs.inv.model.defs.declared.call.Call.TheVariants as calls
-use Rattle.law_steps.specs.inv.model.defs.declared.event.Event.{Event}
-use Rattle.law_steps.specs.inv.model.defs.declared.event.Event.TheVariants as events
-use Rattle.law_steps.specs.inv.model.words.declared.config.Config.{Config}
-use Rattle.law_steps.specs.laws.AnswerLaw.{adopted_else, same_event, stayed}
-use Rattle.law_steps.specs.laws.HistoryAnswers.{is_bare_below, same_told}
-use Rattle.law_steps.specs.laws.Once.{is_adopt, lists_ok}
-use Rattle.law_steps.specs.laws.Standing.{is_leave, open_ok}
-use Rattle.law_steps.specs.laws.Lists.{adopts, has_left, is_adopted, is_left, list_of}
-use Rattle.law_steps.specs.laws.StateAt.{began_by, began_of, is_open, opened_by, stood_at, told_of, with_told}
-use Rattle.law_steps.specs.inv.history.Record.{Each, Past, begins, held_since, tells}
-use Rattle.law_steps.specs.inv.history.Record.Past.{Start, Then}
+use Rattle.law_scans.proofs.laws.records.defs.Facts.{either_true, false_of_not, first_of, number_is, rest_of, same_number}
+use Rattle.law_scans.specs.laws.defs.Entry.{Entry}
+use Rattle.law_scans.specs.laws.defs.declared.call.Call.{Call}
+use Rattle.law_scans.specs.laws.defs.declared.call.Call.TheVariants as calls
+use Rattle.law_scans.specs.laws.defs.declared.event.Event.{Event}
+use Rattle.law_scans.specs.laws.defs.declared.event.Event.TheVariants as events
+use Rattle.law_scans.specs.laws.words.declared.config.Config.{Config}
+use Rattle.law_scans.specs.laws.AnswerLaw.{adopted_else, same_event, stayed}
+use Rattle.law_scans.specs.laws.HistoryAnswers.{is_bare_below, same_told}
+use Rattle.law_scans.specs.laws.Once.{is_adopt, lists_ok}
+use Rattle.law_scans.specs.laws.Standing.{is_leave, open_ok}
+use Rattle.law_scans.specs.laws.Lists.{adopts, has_left, is_adopted, is_left, list_of}
+use Rattle.law_scans.specs.laws.StateAt.{began_by, began_of, is_open, opened_by, stood_at, told_of, with_told}
+use Rattle.law_scans.specs.laws.records.Record.{Each, Past, begins, held_since, tells}
+use Rattle.law_scans.specs.laws.records.Record.Past.{Start, Then}
 use Rattle.law_logs.specs.Answered.{IsGone, IsHanded, IsStaying, IsTakenOver}
 use Rattle.law_logs.specs.Versions.{Counts, counts_of}
 use Rattle.law_logs.proofs.Answered.{adopted_tells, left_tells, staying_on}

@@ -1,15 +1,15 @@
 -- What a log has met rises with each call that tells a version or a number, up to what the record counts.
 use Rattle.std.proofs.Common.{ℕ, ◌≡◌, ◌≤◌, Bool, true, false, List, [], ◌∷◌, ◌++◌, length, Option, Some, None, refl, sym, subst, arith}
 use Rattle.std.specs.Prelude.{◌==◌, if◌then◌else◌}
-use Rattle.law_steps.proofs.inv.model.Facts.{number_is}
-use Rattle.law_steps.specs.inv.model.Locals.{Group}
-use Rattle.law_steps.specs.inv.model.defs.declared.call.Answer.{Answer}
-use Rattle.law_steps.specs.inv.model.defs.declared.call.Answer.TheVariants as answers
-use Rattle.law_steps.specs.inv.model.defs.declared.call.Call.{Call}
-use Rattle.law_steps.specs.inv.model.defs.declared.call.Call.TheVariants as calls
-use Rattle.law_steps.specs.inv.model.words.declared.config.Config.{Config}
-use Rattle.law_steps.specs.laws.StateAt.{bucket_of, count_of, queued_of, taken_of}
-use Rattle.law_steps.specs.inv.history.Record.{Past}
+use Rattle.law_scans.proofs.laws.records.defs.Facts.{number_is}
+use Rattle.law_scans.specs.inv.model.Locals.{Group}
+use Rattle.law_scans.specs.laws.defs.declared.call.Answer.{Answer}
+use Rattle.law_scans.specs.laws.defs.declared.call.Answer.TheVariants as answers
+use Rattle.law_scans.specs.laws.defs.declared.call.Call.{Call}
+use Rattle.law_scans.specs.laws.defs.declared.call.Call.TheVariants as calls
+use Rattle.law_scans.specs.laws.words.declared.config.Config.{Config}
+use Rattle.law_scans.specs.laws.StateAt.{bucket_of, count_of, queued_of, taken_of}
+use Rattle.law_scans.specs.laws.records.Record.{Past}
 use Rattle.law_logs.specs.Answered.{IsMet, Says}
 use Rattle.law_logs.specs.Records.{LogsExtend}
 use Rattle.law_logs.specs.Versions.{AtMost, Counts, counts_of, met_by, met_from, no_counts, number_by, number_queued, number_taken, version_by, version_told}

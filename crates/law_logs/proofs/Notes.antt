@@ -1,22 +1,22 @@
 -- A turn leaves the notes of its desk.
 use Rattle.std.proofs.Common.{ℕ, ◌≡◌, ◌+◌, Bool, true, false, List, [], ◌∷◌, Option, Some, None, refl, ap, ◌∙◌}
 use Rattle.std.specs.Prelude.{◌==◌, nat_lt}
-use Rattle.law_steps.specs.inv.model.Calls.{AfterScan, Answered, Repeated, Counted, ScanAt, ReadGuard, GiveBack, Why, Retires, KeepAt, TakeList, Work, Keeping, Phase, Idle, Runs, Scans, Works}
-use Rattle.law_steps.specs.inv.model.Desks.{Desk}
-use Rattle.law_steps.specs.inv.model.Guards.{guards, guard_at, eras_in}
-use Rattle.law_steps.specs.inv.model.Keep.{keep_turn, taking}
-use Rattle.law_steps.specs.inv.model.Machine as machine
-use Rattle.law_steps.specs.inv.model.Phases.{Ending, Outcome, Goes, Ends}
-use Rattle.law_steps.specs.inv.model.Phases.Ending.{Retired}
-use Rattle.law_steps.specs.inv.model.Posts.{counted}
-use Rattle.law_steps.specs.inv.model.Scan as scan
-use Rattle.law_steps.specs.inv.model.Scan.{Entry}
-use Rattle.law_steps.specs.inv.model.Steps.{phase_turn, work_turn}
-use Rattle.law_steps.specs.inv.model.declared.post.Post.{Post}
-use Rattle.law_steps.specs.inv.model.defs.Shown.{shown}
-use Rattle.law_steps.specs.inv.model.defs.declared.event.Event.{Event}
-use Rattle.law_steps.specs.inv.model.defs.declared.event.Event.TheVariants as events
-use Rattle.law_steps.proofs.held.reuse.Once.Desks.{left_at, left_desk, resumed_desk, work_desk}
+use Rattle.law_scans.specs.inv.model.Calls.{AfterScan, Answered, Repeated, Counted, ScanAt, ReadGuard, GiveBack, Why, Retires, KeepAt, TakeList, Work, Keeping, Phase, Idle, Runs, Scans, Works}
+use Rattle.law_scans.specs.inv.model.Desks.{Desk}
+use Rattle.law_scans.specs.inv.model.Guards.{guards, guard_at, eras_in}
+use Rattle.law_scans.specs.inv.model.Keep.{keep_turn, taking}
+use Rattle.law_scans.specs.inv.model.Machine as machine
+use Rattle.law_scans.specs.inv.model.Phases.{Ending, Outcome, Goes, Ends}
+use Rattle.law_scans.specs.inv.model.Phases.Ending.{Retired}
+use Rattle.law_scans.specs.inv.model.Posts.{counted}
+use Rattle.law_scans.specs.inv.model.Scan as scan
+use Rattle.law_scans.specs.inv.model.Scan.{Entry}
+use Rattle.law_scans.specs.inv.model.Steps.{phase_turn, work_turn}
+use Rattle.law_scans.specs.inv.model.declared.post.Post.{Post}
+use Rattle.law_scans.specs.laws.defs.Shown.{shown}
+use Rattle.law_scans.specs.laws.defs.declared.event.Event.{Event}
+use Rattle.law_scans.specs.laws.defs.declared.event.Event.TheVariants as events
+use Rattle.law_scans.proofs.reuse.Once.Desks.{left_at, left_desk, resumed_desk, work_desk}
 use Rattle.law_logs.specs.Records.{TurnsLeaveNotes}
 
 ending_notes : (why : Why) (ending : Ending) (desk : Desk) → (left_desk why ending desk).notes ≡ desk.notes

@@ -1,17 +1,17 @@
 -- The row at a bucket's root is that of the bucket's version, but between its link and the change that it makes.
 use Rattle.std.proofs.Common.{ℕ, ◌≡◌, ◌+◌, Bool, true, false, [], ◌∷◌, ◌++◌, length, Option, Some, None, refl, sym, subst, length-append}
 use Rattle.std.specs.Prelude.{◌==◌, ◌&&◌, if◌then◌else◌}
-use Rattle.law_steps.proofs.inv.model.Facts.{number_is, rest_of, same_test}
-use Rattle.law_steps.specs.inv.model.defs.declared.event.Event.{Event}
-use Rattle.law_steps.specs.inv.model.defs.declared.event.Event.TheVariants as events
-use Rattle.law_steps.specs.inv.model.defs.declared.event.Root.TheVariants as roots
-use Rattle.law_steps.specs.inv.model.defs.declared.fold.Change.{Change}
-use Rattle.law_steps.specs.inv.model.defs.declared.fold.Change.TheVariants as changes
-use Rattle.law_steps.specs.laws.Once.{Due, due_at, due_cut, due_linked, meets_due, order_ok}
-use Rattle.law_steps.specs.laws.Once.Due.{ChangeDue, CutDue}
-use Rattle.law_steps.specs.laws.StateAt.{bucket_at, changes_of, count_of, row_at}
-use Rattle.law_steps.specs.inv.history.Record.{Past, Each}
-use Rattle.law_steps.specs.inv.history.Record.Past.{Start, Then}
+use Rattle.law_scans.proofs.laws.records.defs.Facts.{number_is, rest_of, same_test}
+use Rattle.law_scans.specs.laws.defs.declared.event.Event.{Event}
+use Rattle.law_scans.specs.laws.defs.declared.event.Event.TheVariants as events
+use Rattle.law_scans.specs.laws.defs.declared.event.Root.TheVariants as roots
+use Rattle.law_scans.specs.laws.defs.declared.fold.Change.{Change}
+use Rattle.law_scans.specs.laws.defs.declared.fold.Change.TheVariants as changes
+use Rattle.law_scans.specs.laws.Once.{Due, due_at, due_cut, due_linked, meets_due, order_ok}
+use Rattle.law_scans.specs.laws.Once.Due.{ChangeDue, CutDue}
+use Rattle.law_scans.specs.laws.StateAt.{bucket_at, changes_of, count_of, row_at}
+use Rattle.law_scans.specs.laws.records.Record.{Past, Each}
+use Rattle.law_scans.specs.laws.records.Record.Past.{Start, Then}
 
 -- the last entry links a row at the bucket's root
 abbrev pub is_linking : ℕ → Past → Bool

@@ -3,28 +3,28 @@ use Rattle.std.proofs.Common.{ℕ, ◌≡◌, ◌≤◌, ◌<◌, ◌+◌, ◌-�
 use Rattle.std.proofs.lemmas.List.{take_more}
 use Rattle.std.specs.Prelude.{◌==◌, ◌&&◌, ◌||◌, not, nat_le, nat_lt, is_none, is_some}
 use Rattle.std.proofs.lemmas.Bool.Decides.{nat_tests}
-use Rattle.law_steps.proofs.inv.model.Facts.{either_true, false_of_not, first_of, rest_of, number_is, le_of_test, same_number}
-use Rattle.law_steps.proofs.laws.Along.{row_of}
-use Rattle.law_steps.proofs.laws.records.defs.Values.{pairs_from-append, value_in-changed}
-use Rattle.law_steps.specs.inv.model.defs.Events.{is_held, is_null}
-use Rattle.law_steps.specs.inv.model.defs.Pairs.{Pair, changed, pairs_after, value_in, value_after}
-use Rattle.law_steps.specs.inv.model.defs.declared.call.Answer.{Answer}
-use Rattle.law_steps.specs.inv.model.defs.declared.call.Answer.TheVariants as answers
-use Rattle.law_steps.specs.inv.model.defs.declared.call.Call.{Call}
-use Rattle.law_steps.specs.inv.model.defs.declared.call.Call.TheVariants as calls
-use Rattle.law_steps.specs.inv.model.defs.declared.call.ClockMove.{ClockMove}
-use Rattle.law_steps.specs.inv.model.defs.declared.event.Event.{Event}
-use Rattle.law_steps.specs.inv.model.defs.declared.event.Event.TheVariants as events
-use Rattle.law_steps.specs.inv.model.defs.declared.fold.Change.{Change}
-use Rattle.law_steps.specs.inv.model.defs.declared.fold.Change.TheVariants as changes
-use Rattle.law_steps.specs.inv.model.words.declared.config.Config.{Config}
-use Rattle.law_steps.specs.laws.AnswerLaw.{full_ok, shows_value, tells_none}
-use Rattle.law_steps.specs.laws.HistoryAnswers.{look_reason, owes, put_if_reason, reason, same_told}
-use Rattle.law_steps.specs.laws.ScanLaw.{guards}
-use Rattle.law_steps.specs.laws.StateAt.{all_taken, begun_at, bucket_of, changes_of, count_of, had_version, has_told, is_give, is_read, is_row, is_there, pairs_at, queued_of, same_value, shows_of, stood_at, RowShows, taken_of, taken_since, times, value_at, was_current, was_empty}
-use Rattle.law_steps.specs.laws.StateAt.RowShows.{LinkedAt, ShowsVersion, Unlinked}
-use Rattle.law_steps.specs.inv.history.Record.{Past, begins}
-use Rattle.law_steps.specs.inv.history.Record.Past.{Start, Then}
+use Rattle.law_scans.proofs.laws.records.defs.Facts.{either_true, false_of_not, first_of, rest_of, number_is, le_of_test, same_number}
+use Rattle.law_scans.proofs.laws.Along.{row_of}
+use Rattle.law_scans.proofs.laws.records.defs.Values.{pairs_from-append, value_in-changed}
+use Rattle.law_scans.specs.laws.defs.Events.{is_held, is_null}
+use Rattle.law_scans.specs.laws.defs.Pairs.{Pair, changed, pairs_after, value_in, value_after}
+use Rattle.law_scans.specs.laws.defs.declared.call.Answer.{Answer}
+use Rattle.law_scans.specs.laws.defs.declared.call.Answer.TheVariants as answers
+use Rattle.law_scans.specs.laws.defs.declared.call.Call.{Call}
+use Rattle.law_scans.specs.laws.defs.declared.call.Call.TheVariants as calls
+use Rattle.law_scans.specs.laws.defs.declared.call.ClockMove.{ClockMove}
+use Rattle.law_scans.specs.laws.defs.declared.event.Event.{Event}
+use Rattle.law_scans.specs.laws.defs.declared.event.Event.TheVariants as events
+use Rattle.law_scans.specs.laws.defs.declared.fold.Change.{Change}
+use Rattle.law_scans.specs.laws.defs.declared.fold.Change.TheVariants as changes
+use Rattle.law_scans.specs.laws.words.declared.config.Config.{Config}
+use Rattle.law_scans.specs.laws.AnswerLaw.{full_ok, shows_value, tells_none}
+use Rattle.law_scans.specs.laws.HistoryAnswers.{look_reason, owes, put_if_reason, reason, same_told}
+use Rattle.law_scans.specs.laws.ScanLaw.{guards}
+use Rattle.law_scans.specs.laws.StateAt.{all_taken, begun_at, bucket_of, changes_of, count_of, had_version, has_told, is_give, is_read, is_row, is_there, pairs_at, queued_of, same_value, shows_of, stood_at, RowShows, taken_of, taken_since, times, value_at, was_current, was_empty}
+use Rattle.law_scans.specs.laws.StateAt.RowShows.{LinkedAt, ShowsVersion, Unlinked}
+use Rattle.law_scans.specs.laws.records.Record.{Past, begins}
+use Rattle.law_scans.specs.laws.records.Record.Past.{Start, Then}
 use Rattle.law_logs.specs.Answered.{IsAbsent, IsCrowded, IsDone, IsDoneAt, IsEmpty, IsFull, IsFullAt, IsGot, IsKept, IsLast, IsLooked, IsQueued, IsRow, IsSpent, IsSpentAt, IsStale, Says, SaysOfRows, value_left}
 use Rattle.law_logs.specs.Versions.{AtMost, Counts, counts_of}
 use Rattle.law_logs.proofs.Answered.{empty_on}

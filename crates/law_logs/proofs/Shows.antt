@@ -2,19 +2,19 @@
 use Rattle.std.proofs.Common.{ℕ, ◌≡◌, ◌≤◌, ◌<◌, ◌+◌, Bool, true, false, List, [], ◌∷◌, ◌++◌, length, Option, Some, None, refl, sym, ap, ◌∙◌, subst, arith, length-append}
 use Rattle.std.proofs.lemmas.Bool.Decides.{nat_tests}
 use Rattle.std.specs.Prelude.{◌==◌, if◌then◌else◌, nat_le}
-use Rattle.law_steps.proofs.inv.model.Facts.{first_of, le_of_test, number_is, rest_of, same_number, same_test}
-use Rattle.law_steps.specs.inv.model.defs.declared.event.Event.{Event}
-use Rattle.law_steps.specs.inv.model.defs.declared.event.Event.TheVariants as events
-use Rattle.law_steps.specs.inv.model.defs.declared.event.Root.TheVariants as roots
-use Rattle.law_steps.specs.inv.model.defs.declared.fold.Change.{Change}
-use Rattle.law_steps.specs.inv.model.defs.declared.fold.Change.TheVariants as changes
-use Rattle.law_steps.specs.laws.MapLaw.{map_ok}
-use Rattle.law_steps.specs.laws.Once.Due.{ChangeDue, CutDue}
-use Rattle.law_steps.specs.laws.Once.{Due, due_at, due_cut, due_linked, is_free, meets_due, order_ok}
-use Rattle.law_steps.specs.laws.StateAt.RowShows.{LinkedAt, ShowsVersion, Unlinked}
-use Rattle.law_steps.specs.laws.StateAt.{RowShows, bucket_at, bucket_of, changed_to, changes_of, count_of, row_at, row_changed, shows_of}
-use Rattle.law_steps.specs.inv.history.Record.Past.{Start, Then}
-use Rattle.law_steps.specs.inv.history.Record.{Each, Past}
+use Rattle.law_scans.proofs.laws.records.defs.Facts.{first_of, le_of_test, number_is, rest_of, same_number, same_test}
+use Rattle.law_scans.specs.laws.defs.declared.event.Event.{Event}
+use Rattle.law_scans.specs.laws.defs.declared.event.Event.TheVariants as events
+use Rattle.law_scans.specs.laws.defs.declared.event.Root.TheVariants as roots
+use Rattle.law_scans.specs.laws.defs.declared.fold.Change.{Change}
+use Rattle.law_scans.specs.laws.defs.declared.fold.Change.TheVariants as changes
+use Rattle.law_scans.specs.laws.MapLaw.{map_ok}
+use Rattle.law_scans.specs.laws.Once.Due.{ChangeDue, CutDue}
+use Rattle.law_scans.specs.laws.Once.{Due, due_at, due_cut, due_linked, is_free, meets_due, order_ok}
+use Rattle.law_scans.specs.laws.StateAt.RowShows.{LinkedAt, ShowsVersion, Unlinked}
+use Rattle.law_scans.specs.laws.StateAt.{RowShows, bucket_at, bucket_of, changed_to, changes_of, count_of, row_at, row_changed, shows_of}
+use Rattle.law_scans.specs.laws.records.Record.Past.{Start, Then}
+use Rattle.law_scans.specs.laws.records.Record.{Each, Past}
 use Rattle.law_logs.proofs.Grows.{grows_entry, more_count, same_row}
 use Rattle.law_logs.proofs.Roots.{is_change, is_linking}
 

@@ -1,24 +1,24 @@
 -- What a call's answer says of the map, of the queue and of lists that are left, by the counts where the call began and a record that has
 -- its end; and what it says of rows and of the seat's own list, at its end.
 use Rattle.std.specs.Prelude.{ℕ, ◌≡◌, ◌≤◌, ◌<◌, ◌+◌, ◌-◌, ◌==◌, List, [], ◌++◌, length, slice_index_or, Option, None, Some, true, false}
-use Rattle.law_steps.specs.inv.model.defs.Entry.{Entry}
-use Rattle.law_steps.specs.inv.model.defs.Events.{is_held}
-use Rattle.law_steps.specs.inv.model.defs.Pairs.{changed}
-use Rattle.law_steps.specs.inv.model.defs.declared.call.Answer.{Answer}
-use Rattle.law_steps.specs.inv.model.defs.declared.call.Answer.TheVariants as answers
-use Rattle.law_steps.specs.inv.model.defs.declared.call.Call.{Call}
-use Rattle.law_steps.specs.inv.model.defs.declared.call.Call.TheVariants as calls
-use Rattle.law_steps.specs.inv.model.defs.declared.fold.Change.{Change}
-use Rattle.law_steps.specs.inv.model.defs.declared.fold.Change.TheVariants as changes
-use Rattle.law_steps.specs.inv.model.words.declared.config.Config.{Config}
-use Rattle.law_steps.specs.inv.model.defs.declared.event.Event.TheVariants as events
-use Rattle.law_steps.specs.laws.AnswerLaw.{adopted_else, stayed}
-use Rattle.law_steps.specs.laws.ScanLaw.{guards}
-use Rattle.law_steps.specs.laws.Lists.{has_left, is_adopted, list_of}
-use Rattle.law_steps.specs.laws.StateAt.{bucket_of, count_of, has_told, is_give, is_read, is_there, pairs_at, queued_of, row_at, shows_of, stood_at, taken_of, taken_since, times, value_at}
-use Rattle.law_steps.specs.laws.StateAt.RowShows.{ShowsVersion}
-use Rattle.law_steps.specs.inv.history.Record.{Past, begins, held_since, tells}
-use Rattle.law_steps.specs.inv.history.Record.Past.{Then}
+use Rattle.law_scans.specs.laws.defs.Entry.{Entry}
+use Rattle.law_scans.specs.laws.defs.Events.{is_held}
+use Rattle.law_scans.specs.laws.defs.Pairs.{changed}
+use Rattle.law_scans.specs.laws.defs.declared.call.Answer.{Answer}
+use Rattle.law_scans.specs.laws.defs.declared.call.Answer.TheVariants as answers
+use Rattle.law_scans.specs.laws.defs.declared.call.Call.{Call}
+use Rattle.law_scans.specs.laws.defs.declared.call.Call.TheVariants as calls
+use Rattle.law_scans.specs.laws.defs.declared.fold.Change.{Change}
+use Rattle.law_scans.specs.laws.defs.declared.fold.Change.TheVariants as changes
+use Rattle.law_scans.specs.laws.words.declared.config.Config.{Config}
+use Rattle.law_scans.specs.laws.defs.declared.event.Event.TheVariants as events
+use Rattle.law_scans.specs.laws.AnswerLaw.{adopted_else, stayed}
+use Rattle.law_scans.specs.laws.ScanLaw.{guards}
+use Rattle.law_scans.specs.laws.Lists.{has_left, is_adopted, list_of}
+use Rattle.law_scans.specs.laws.StateAt.{bucket_of, count_of, has_told, is_give, is_read, is_there, pairs_at, queued_of, row_at, shows_of, stood_at, taken_of, taken_since, times, value_at}
+use Rattle.law_scans.specs.laws.StateAt.RowShows.{ShowsVersion}
+use Rattle.law_scans.specs.laws.records.Record.{Past, begins, held_since, tells}
+use Rattle.law_scans.specs.laws.records.Record.Past.{Then}
 use Rattle.law_logs.specs.Versions.{AtMost, Counts, counts_of}
 
 -- a version that bucket b had at a position from the beginning on

@@ -1,13 +1,13 @@
 -- The calls that a seat has ended, and the notes of its last call, as the seat's entries tell them.
 use Rattle.std.specs.Prelude.{ℕ, List, [], ◌∷◌, ◌++◌, Option, None, Some}
-use Rattle.law_steps.specs.inv.model.Desks.{Notes, no_notes, noted}
-use Rattle.law_steps.specs.inv.model.Locals.{Group}
-use Rattle.law_steps.specs.inv.model.defs.declared.call.Answer.{Answer}
-use Rattle.law_steps.specs.inv.model.defs.declared.call.Call.{Call}
-use Rattle.law_steps.specs.inv.model.defs.declared.event.Event.{Event}
-use Rattle.law_steps.specs.inv.model.defs.declared.event.Event.TheVariants as events
-use Rattle.law_steps.specs.laws.StateAt.{seen}
-use Rattle.law_steps.specs.inv.history.Record.{Past}
+use Rattle.law_scans.specs.inv.model.Desks.{Notes, no_notes, noted}
+use Rattle.law_scans.specs.inv.model.Locals.{Group}
+use Rattle.law_scans.specs.laws.defs.declared.call.Answer.{Answer}
+use Rattle.law_scans.specs.laws.defs.declared.call.Call.{Call}
+use Rattle.law_scans.specs.laws.defs.declared.event.Event.{Event}
+use Rattle.law_scans.specs.laws.defs.declared.event.Event.TheVariants as events
+use Rattle.law_scans.specs.laws.StateAt.{seen}
+use Rattle.law_scans.specs.laws.records.Record.{Past}
 
 -- what a seat's entries come to: the call that it began last, the notes of that call, and the calls that it has ended, in order
 pub record Ledger : Type 0 where

@@ -1,23 +1,23 @@
 -- What the record of each history says of the logs, the book and the scans of seats, and what the answers in a log say of the record.
 use Rattle.std.specs.Prelude.{ℕ, ◌≡◌, ◌==◌, ◌-◌, true, false, if◌then◌else◌, List, [], ◌∷◌, ◌++◌, length, Option, None, Some}
-use Rattle.law_steps.specs.inv.model.Desks.{Notes, noted}
-use Rattle.law_steps.specs.inv.model.Guards.{guards}
-use Rattle.law_steps.specs.inv.model.Locals.{Group, Local, turn}
-use Rattle.law_steps.specs.inv.model.World.{World, is_busy}
-use Rattle.law_steps.specs.inv.model.defs.Entry.{Entry}
-use Rattle.law_steps.specs.inv.model.defs.declared.call.Answer.TheVariants as answers
-use Rattle.law_steps.specs.inv.model.defs.declared.call.Call.TheVariants as calls
-use Rattle.law_steps.specs.inv.model.defs.declared.call.Call.{Call}
-use Rattle.law_steps.specs.inv.model.defs.declared.call.ClockMove.{ClockMove}
-use Rattle.law_steps.specs.inv.model.defs.declared.event.Event.TheVariants as events
-use Rattle.law_steps.specs.inv.model.words.Place.{is_valid}
-use Rattle.law_steps.specs.inv.model.words.declared.config.Config.{Config}
-use Rattle.law_steps.specs.inv.model.words.declared.layout.Layout.{Layout}
-use Rattle.law_steps.specs.laws.StateAt.{began_of, bucket_of, is_open, read_of, value_at}
-use Rattle.law_steps.specs.laws.StepLaw.{steps_right}
-use Rattle.law_steps.specs.inv.history.History.{Item, record_of, world_of}
-use Rattle.law_steps.specs.inv.history.Record.{Past, tells}
-use Rattle.law_steps.specs.inv.history.Record.Past.{Then}
+use Rattle.law_scans.specs.inv.model.Desks.{Notes, noted}
+use Rattle.law_scans.specs.inv.model.Guards.{guards}
+use Rattle.law_scans.specs.inv.model.Locals.{Group, Local, turn}
+use Rattle.law_scans.specs.inv.model.World.{World, is_busy}
+use Rattle.law_scans.specs.laws.defs.Entry.{Entry}
+use Rattle.law_scans.specs.laws.defs.declared.call.Answer.TheVariants as answers
+use Rattle.law_scans.specs.laws.defs.declared.call.Call.TheVariants as calls
+use Rattle.law_scans.specs.laws.defs.declared.call.Call.{Call}
+use Rattle.law_scans.specs.laws.defs.declared.call.ClockMove.{ClockMove}
+use Rattle.law_scans.specs.laws.defs.declared.event.Event.TheVariants as events
+use Rattle.law_scans.specs.laws.words.Place.{is_valid}
+use Rattle.law_scans.specs.laws.words.declared.config.Config.{Config}
+use Rattle.law_scans.specs.laws.words.declared.layout.Layout.{Layout}
+use Rattle.law_scans.specs.laws.StateAt.{began_of, bucket_of, is_open, read_of, value_at}
+use Rattle.law_scans.specs.laws.StepLaw.{steps_right}
+use Rattle.law_scans.specs.inv.history.History.{Item, record_of, world_of}
+use Rattle.law_scans.specs.laws.records.Record.{Past, tells}
+use Rattle.law_scans.specs.laws.records.Record.Past.{Then}
 use Rattle.law_logs.specs.Answered.{Says, SaysOfRows}
 use Rattle.law_logs.specs.Ledgers.{log_of, notes_of}
 use Rattle.law_logs.specs.Versions.{AtMost, counts_of, met_by, met_in, seen_in}

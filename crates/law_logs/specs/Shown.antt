@@ -1,20 +1,20 @@
 -- What rows that are kept show of buckets, by a record: a row that stands is linked at no root, and a hold's row shows a version of the
 -- bucket of its key.
 use Rattle.std.specs.Prelude.{Bool, Option, Some, false, is_none, not, true, ℕ, ◌&&◌, ◌==◌, ◌≡◌, List}
-use Rattle.law_steps.specs.inv.model.Locals.{may_begin}
-use Rattle.law_steps.specs.inv.model.defs.declared.call.Answer.TheVariants as answers
-use Rattle.law_steps.specs.inv.model.defs.declared.call.Call.TheVariants as calls
-use Rattle.law_steps.specs.inv.model.defs.declared.call.Call.{Call}
-use Rattle.law_steps.specs.inv.model.defs.declared.event.Event.TheVariants as events
-use Rattle.law_steps.specs.inv.model.defs.declared.event.Event.{Event}
-use Rattle.law_steps.specs.inv.model.defs.declared.event.Root.TheVariants as roots
-use Rattle.law_steps.specs.inv.model.words.Place.{is_valid}
-use Rattle.law_steps.specs.inv.model.words.declared.config.Config.{Config}
-use Rattle.law_steps.specs.inv.model.words.declared.layout.Layout.{Layout}
-use Rattle.law_steps.specs.laws.StateAt.RowShows.{ShowsVersion}
-use Rattle.law_steps.specs.laws.StateAt.{RowShows, began_of, bucket_of, is_row, shows_of, stood_at}
-use Rattle.law_steps.specs.inv.history.History.{Item, record_of}
-use Rattle.law_steps.specs.inv.history.Record.{Each, Test}
+use Rattle.law_scans.specs.inv.model.Locals.{may_begin}
+use Rattle.law_scans.specs.laws.defs.declared.call.Answer.TheVariants as answers
+use Rattle.law_scans.specs.laws.defs.declared.call.Call.TheVariants as calls
+use Rattle.law_scans.specs.laws.defs.declared.call.Call.{Call}
+use Rattle.law_scans.specs.laws.defs.declared.event.Event.TheVariants as events
+use Rattle.law_scans.specs.laws.defs.declared.event.Event.{Event}
+use Rattle.law_scans.specs.laws.defs.declared.event.Root.TheVariants as roots
+use Rattle.law_scans.specs.laws.words.Place.{is_valid}
+use Rattle.law_scans.specs.laws.words.declared.config.Config.{Config}
+use Rattle.law_scans.specs.laws.words.declared.layout.Layout.{Layout}
+use Rattle.law_scans.specs.laws.StateAt.RowShows.{ShowsVersion}
+use Rattle.law_scans.specs.laws.StateAt.{RowShows, began_of, bucket_of, is_row, shows_of, stood_at}
+use Rattle.law_scans.specs.inv.history.History.{Item, record_of}
+use Rattle.law_scans.specs.laws.records.Record.{Each, Test}
 
 -- the row is linked at a bucket's root
 abbrev pub is_bucket_link : ℕ → Event → Bool

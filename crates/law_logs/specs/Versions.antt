@@ -1,12 +1,12 @@
 -- What a seat has met of versions and numbers: those that the answers of its calls tell.
 use Rattle.std.specs.Prelude.{ℕ, ◌≤◌, ◌==◌, if◌then◌else◌, List, [], ◌∷◌, length, Option, None, Some}
-use Rattle.law_steps.specs.inv.model.Locals.{Group}
-use Rattle.law_steps.specs.inv.model.defs.declared.call.Answer.{Answer}
-use Rattle.law_steps.specs.inv.model.defs.declared.call.Answer.TheVariants as answers
-use Rattle.law_steps.specs.inv.model.defs.declared.call.Call.{Call}
-use Rattle.law_steps.specs.inv.model.defs.declared.call.Call.TheVariants as calls
-use Rattle.law_steps.specs.laws.StateAt.{bucket_of, count_of, queued_of, taken_of}
-use Rattle.law_steps.specs.inv.history.Record.{Past}
+use Rattle.law_scans.specs.inv.model.Locals.{Group}
+use Rattle.law_scans.specs.laws.defs.declared.call.Answer.{Answer}
+use Rattle.law_scans.specs.laws.defs.declared.call.Answer.TheVariants as answers
+use Rattle.law_scans.specs.laws.defs.declared.call.Call.{Call}
+use Rattle.law_scans.specs.laws.defs.declared.call.Call.TheVariants as calls
+use Rattle.law_scans.specs.laws.StateAt.{bucket_of, count_of, queued_of, taken_of}
+use Rattle.law_scans.specs.laws.records.Record.{Past}
 
 -- the changes of each bucket, the values queued, and how many of them were taken
 pub record Counts : Type 0 where

@@ -9,21 +9,21 @@ use Rattle.wfe_check_printed.specs.lines.Verdicts.{IsLawful}
 use Rattle.wfe_check_printed.specs.lines.out.Heard.{Seen}
 use Rattle.wfe_check_printed.specs.lines.out.Pieces.{Piece, Text, Told, heard_of, text_of}
 use Rattle.wfe_check_printed.specs.lines.out.Sizes.{AreSized}
-use Rattle.wfe_server_given.proofs.Begins.{records_begin}
-use Rattle.wfe_server_given.proofs.Kept.{given_of_version}
-use Rattle.wfe_server_given.proofs.versions.Told.{records_are_of}
-use Rattle.wfe_server_given.specs.replay.Given.{Given, given_out, given_record, lines_out, no_lines, past_entries}
-use Rattle.wfe_server_given.specs.replay.Replay.{IsReplayed}
-use Rattle.wfe_server_given.specs.replay.Sunk.{Outside}
-use Rattle.wfe_server_given.specs.replay.Watched.{WatchersFit, watch_text}
-use Rattle.wfe_server_given.specs.versions.Versions.{AreOf}
-use Rattle.wfe_server_given.specs.versions.laws.HistoryTable.{guards_ok, ranges_ok}
-use Rattle.wfe_server_given.specs.versions.laws.defs.Entry.{Entry, entry}
-use Rattle.wfe_server_given.specs.versions.laws.defs.declared.call.Call.{Call}
-use Rattle.wfe_server_given.specs.versions.laws.records.Record.{Past, tells}
-use Rattle.wfe_server_given.specs.versions.laws.records.Record.Past.{Start, Then}
-use Rattle.wfe_server_given.specs.versions.laws.words.Config.{bad_field}
-use Rattle.wfe_server_given.specs.versions.laws.words.declared.config.Config.{Config}
+use Rattle.law_printed.proofs.Begins.{records_begin}
+use Rattle.law_printed.proofs.Kept.{given_of_version}
+use Rattle.law_versions.proofs.Told.{records_are_of}
+use Rattle.wfe_server_replay.specs.Given.{Given, given_out, given_record, lines_out, no_lines, past_entries}
+use Rattle.wfe_server_replay.specs.Replay.{IsReplayed}
+use Rattle.wfe_server_replay.specs.Sunk.{Outside}
+use Rattle.wfe_server_replay.specs.Watched.{WatchersFit, watch_text}
+use Rattle.law_versions.specs.Versions.{AreOf}
+use Rattle.laws.specs.HistoryTable.{guards_ok, ranges_ok}
+use Rattle.wfe_defs.specs.Entry.{Entry, entry}
+use Rattle.wfe_defs.specs.declared.call.Call.{Call}
+use Rattle.laws.specs.records.Record.{Past, tells}
+use Rattle.laws.specs.records.Record.Past.{Start, Then}
+use Rattle.laws.specs.words.Config.{bad_field}
+use Rattle.laws.specs.words.declared.config.Config.{Config}
 use Rattle.wfe_server_out.proofs.Sizes.{sized_along}
 use Rattle.wfe_server_out.proofs.Texts.{heard_of-append, text_of-append}
 use Rattle.wfe_outside.specs.declared.watcher.WatchRow.{WatchRow}

@@ -8,23 +8,23 @@ use Rattle.wfe_check_printed.specs.lines.records.Entry.{IsEvent}
 use Rattle.wfe_check_printed.specs.lines.records.record_answers.Answers.{IsAnswer, IsClock}
 use Rattle.wfe_check_printed.specs.lines.records.record_calls.Calls.{IsCall}
 use Rattle.wfe_check_printed.specs.lines.records.record_words.Within.{IsGuard, IsRoot, IsSpan}
-use Rattle.wfe_server_given.specs.Versions.{CallNames}
-use Rattle.wfe_server_given.specs.versions.Versions.{HasAnswer, HasCall, HasEvent}
-use Rattle.wfe_server_given.specs.versions.laws.HistoryTable.{is_answer, is_guard, is_guarded, is_in_range, is_root}
-use Rattle.wfe_server_given.specs.versions.laws.defs.declared.call.Answer.{Answer}
-use Rattle.wfe_server_given.specs.versions.laws.defs.declared.call.Answer.TheVariants as answers
-use Rattle.wfe_server_given.specs.versions.laws.defs.declared.call.Call.{Call}
-use Rattle.wfe_server_given.specs.versions.laws.defs.declared.call.Call.TheVariants as calls
-use Rattle.wfe_server_given.specs.versions.laws.defs.declared.call.ClockMove.{ClockMove}
-use Rattle.wfe_server_given.specs.versions.laws.defs.declared.call.ClockMove.TheVariants as clocks
-use Rattle.wfe_server_given.specs.versions.laws.defs.declared.event.Event.{Event}
-use Rattle.wfe_server_given.specs.versions.laws.defs.declared.event.Event.TheVariants as events
-use Rattle.wfe_server_given.specs.versions.laws.defs.declared.event.Guard.{Guard}
-use Rattle.wfe_server_given.specs.versions.laws.defs.declared.event.Guard.TheVariants as guards
-use Rattle.wfe_server_given.specs.versions.laws.defs.declared.event.Root.{Root}
-use Rattle.wfe_server_given.specs.versions.laws.defs.declared.event.Root.TheVariants as roots
-use Rattle.wfe_server_given.specs.versions.laws.defs.declared.lifetime.Interval.{Interval}
-use Rattle.wfe_server_given.specs.versions.laws.words.declared.config.Config.{Config}
+use Rattle.law_printed.specs.Versions.{CallNames}
+use Rattle.law_versions.specs.Versions.{HasAnswer, HasCall, HasEvent}
+use Rattle.laws.specs.HistoryTable.{is_answer, is_guard, is_guarded, is_in_range, is_root}
+use Rattle.wfe_defs.specs.declared.call.Answer.{Answer}
+use Rattle.wfe_defs.specs.declared.call.Answer.TheVariants as answers
+use Rattle.wfe_defs.specs.declared.call.Call.{Call}
+use Rattle.wfe_defs.specs.declared.call.Call.TheVariants as calls
+use Rattle.wfe_defs.specs.declared.call.ClockMove.{ClockMove}
+use Rattle.wfe_defs.specs.declared.call.ClockMove.TheVariants as clocks
+use Rattle.wfe_defs.specs.declared.event.Event.{Event}
+use Rattle.wfe_defs.specs.declared.event.Event.TheVariants as events
+use Rattle.wfe_defs.specs.declared.event.Guard.{Guard}
+use Rattle.wfe_defs.specs.declared.event.Guard.TheVariants as guards
+use Rattle.wfe_defs.specs.declared.event.Root.{Root}
+use Rattle.wfe_defs.specs.declared.event.Root.TheVariants as roots
+use Rattle.wfe_defs.specs.declared.lifetime.Interval.{Interval}
+use Rattle.laws.specs.words.declared.config.Config.{Config}
 
 -- the call of a Begin names what the setting has
 abbrev pub BeginNames : Config → Event → Type 0

@@ -5,20 +5,20 @@ use Rattle.std.proofs.lemmas.Bool.Decides.{nat_tests}
 use Rattle.wfe_defs.proofs.Facts.{rest_of}
 use Rattle.laws_good.proofs.Lawful.{lawful_good}
 use Rattle.laws_good.specs.Good.{Good, rests_of}
-use Rattle.wfe_server_given.specs.versions.Versions.{AreOf}
-use Rattle.wfe_server_given.specs.versions.laws.HistoryHolds.{IndexLaw, indexes_ok, protects_at}
-use Rattle.wfe_server_given.specs.versions.laws.HoldLaw.{guards_rest, indexes_rest, index_rests, is_alike, keeps_none, rests_ok, words_rest}
-use Rattle.wfe_server_given.specs.versions.laws.Laws.{Laws}
-use Rattle.wfe_server_given.specs.versions.laws.StateAt.{began_of, is_bare, is_empty, standing_by, standing_of, value_of, without_row}
-use Rattle.wfe_server_given.specs.versions.laws.defs.declared.call.Call.{Call}
-use Rattle.wfe_server_given.specs.versions.laws.defs.declared.call.Call.TheVariants as calls
-use Rattle.wfe_server_given.specs.versions.laws.defs.declared.event.Event.{Event}
-use Rattle.wfe_server_given.specs.versions.laws.defs.declared.event.Event.TheVariants as events
-use Rattle.wfe_server_given.specs.versions.laws.defs.declared.event.Guard.TheVariants.{Helper, Whole}
-use Rattle.wfe_server_given.specs.versions.laws.records.Record.{Each, Past}
-use Rattle.wfe_server_given.specs.versions.laws.records.Record.Past.{Start, Then}
-use Rattle.wfe_server_given.specs.versions.laws.words.Schemes.{has_one_interval}
-use Rattle.wfe_server_given.specs.versions.laws.words.declared.config.Config.{Config}
+use Rattle.law_versions.specs.Versions.{AreOf}
+use Rattle.laws.specs.HistoryHolds.{IndexLaw, indexes_ok, protects_at}
+use Rattle.laws.specs.HoldLaw.{guards_rest, indexes_rest, index_rests, is_alike, keeps_none, rests_ok, words_rest}
+use Rattle.laws.specs.Laws.{Laws}
+use Rattle.laws.specs.StateAt.{began_of, is_bare, is_empty, standing_by, standing_of, value_of, without_row}
+use Rattle.wfe_defs.specs.declared.call.Call.{Call}
+use Rattle.wfe_defs.specs.declared.call.Call.TheVariants as calls
+use Rattle.wfe_defs.specs.declared.event.Event.{Event}
+use Rattle.wfe_defs.specs.declared.event.Event.TheVariants as events
+use Rattle.wfe_defs.specs.declared.event.Guard.TheVariants.{Helper, Whole}
+use Rattle.laws.specs.records.Record.{Each, Past}
+use Rattle.laws.specs.records.Record.Past.{Start, Then}
+use Rattle.laws.specs.words.Schemes.{has_one_interval}
+use Rattle.laws.specs.words.declared.config.Config.{Config}
 use Rattle.laws.proofs.records.Entries.{each_of_entries, entries_of_each}
 
 low : (call : Option Call) (index : ℕ) → protects_at call index ≡ true → index ≤ 2

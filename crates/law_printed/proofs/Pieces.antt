@@ -5,16 +5,16 @@ use Rattle.wfe_defs.proofs.Facts.{rest_of}
 use Rattle.wfe_check_printed.specs.Printed.{ArePrinted, IsPrinted}
 use Rattle.wfe_check_printed.specs.lines.out.Pieces.{Piece, Text, Told, heard_of}
 use Rattle.wfe_check_printed.specs.lines.out.Sizes.{AreSized}
-use Rattle.wfe_server_given.specs.Versions.{CallNames}
-use Rattle.wfe_server_given.specs.replay.Given.{past_entries}
-use Rattle.wfe_server_given.specs.versions.Versions.{AreOf, BeginsAll, HasEvent}
-use Rattle.wfe_server_given.specs.versions.laws.HistoryTable.{guards_ok, is_guarded, is_in_range, ranges_ok}
-use Rattle.wfe_server_given.specs.versions.laws.defs.Entry.{Entry, entry}
-use Rattle.wfe_server_given.specs.versions.laws.defs.declared.event.Event.{Event}
-use Rattle.wfe_server_given.specs.versions.laws.defs.declared.event.Event.TheVariants as events
-use Rattle.wfe_server_given.specs.versions.laws.records.Record.{Each, Past}
-use Rattle.wfe_server_given.specs.versions.laws.records.Record.Past.{Start, Then}
-use Rattle.wfe_server_given.specs.versions.laws.words.declared.config.Config.{Config}
+use Rattle.law_printed.specs.Versions.{CallNames}
+use Rattle.wfe_server_replay.specs.Given.{past_entries}
+use Rattle.law_versions.specs.Versions.{AreOf, BeginsAll, HasEvent}
+use Rattle.laws.specs.HistoryTable.{guards_ok, is_guarded, is_in_range, ranges_ok}
+use Rattle.wfe_defs.specs.Entry.{Entry, entry}
+use Rattle.wfe_defs.specs.declared.event.Event.{Event}
+use Rattle.wfe_defs.specs.declared.event.Event.TheVariants as events
+use Rattle.laws.specs.records.Record.{Each, Past}
+use Rattle.laws.specs.records.Record.Past.{Start, Then}
+use Rattle.laws.specs.words.declared.config.Config.{Config}
 use Rattle.law_printed.proofs.Events.{BeginNames, event_of}
 
 -- an entry is of a seat of the setting, names what the setting has, and its version has it

@@ -3,16 +3,16 @@ use Rattle.std.proofs.Common.{◌≡◌, ◌≤◌, ◌+◌, ◌-◌, ◌++◌, 
 use Rattle.wfe_check_printed.specs.Printed.{IsPrinted, lines_text}
 use Rattle.wfe_check_printed.specs.lines.Texts.{IsCounted}
 use Rattle.wfe_check_printed.specs.lines.out.Pieces.{Text, told_pieces}
-use Rattle.wfe_server_given.specs.replay.Counts.{seat_lines, table_pieces, total_line}
-use Rattle.wfe_server_given.specs.replay.Given.{Given, fit_pieces, given_garbage, given_made, given_record, given_waiting, items_of, line_pieces, lines_out, made_pieces, past_entries, with_line}
-use Rattle.wfe_server_given.specs.replay.history.History.{Begins, Item, Made, Steps, did, fits}
-use Rattle.wfe_server_given.specs.replay.history.model.World.{World, told_in}
-use Rattle.wfe_server_given.specs.versions.laws.defs.Entry.{Entry}
-use Rattle.wfe_server_given.specs.versions.laws.defs.declared.command.Command.{Command}
-use Rattle.wfe_server_given.specs.versions.laws.defs.declared.command.Command.TheVariants as commands
-use Rattle.wfe_server_given.specs.versions.laws.defs.declared.event.Event.{Event}
-use Rattle.wfe_server_given.specs.versions.laws.defs.declared.event.Event.TheVariants as events
-use Rattle.wfe_server_given.specs.versions.laws.words.declared.config.Config.{Config}
+use Rattle.wfe_server_replay.specs.Counts.{seat_lines, table_pieces, total_line}
+use Rattle.wfe_server_replay.specs.Given.{Given, fit_pieces, given_garbage, given_made, given_record, given_waiting, items_of, line_pieces, lines_out, made_pieces, past_entries, with_line}
+use Rattle.wfe_server_replay.specs.history.History.{Begins, Item, Made, Steps, did, fits}
+use Rattle.wfe_server_replay.specs.history.model.World.{World, told_in}
+use Rattle.wfe_defs.specs.Entry.{Entry}
+use Rattle.wfe_defs.specs.declared.command.Command.{Command}
+use Rattle.wfe_defs.specs.declared.command.Command.TheVariants as commands
+use Rattle.wfe_defs.specs.declared.event.Event.{Event}
+use Rattle.wfe_defs.specs.declared.event.Event.TheVariants as events
+use Rattle.laws.specs.words.declared.config.Config.{Config}
 use Rattle.wfe_trace.specs.Fits.{NumberFits}
 use Rattle.wfe_trace.specs.Record.{line_of, seat_word, spaced, table_line}
 use Rattle.wfe_outside.specs.declared.watcher.WatchRow.{WatchRow}

@@ -4,8 +4,8 @@ use Rattle.std.specs.List.{range_with_len}
 use Rattle.std.specs.Fmt.{decimal}
 use Rattle.wfe_check_printed.specs.Printed.{AreShown, IsPrinted, lines_text}
 use Rattle.wfe_check_printed.specs.lines.out.Pieces.{Text}
-use Rattle.wfe_server_given.specs.replay.Watched.{RowFits, RowsFit, WatchersFit, rows_of, rows_text, watch_from, watch_text}
-use Rattle.wfe_server_given.specs.versions.laws.words.declared.config.Config.{Config}
+use Rattle.wfe_server_replay.specs.Watched.{RowFits, RowsFit, WatchersFit, rows_of, rows_text, watch_from, watch_text}
+use Rattle.laws.specs.words.declared.config.Config.{Config}
 use Rattle.wfe_trace.specs.Fits.{NumberFits}
 use Rattle.wfe_trace.specs.Record.{spaced, watch_line}
 use Rattle.wfe_outside.specs.declared.watcher.WatchRow.{WatchRow}

@@ -7,14 +7,14 @@ use Rattle.wfe_check_printed.specs.lines.declared.verdict.Verdict.{Verdict}
 use Rattle.wfe_check_printed.specs.lines.declared.verdict.Verdict.TheVariants as verdicts
 use Rattle.wfe_check_printed.specs.lines.out.Pieces.{Text, heard_of, text_of}
 use Rattle.wfe_check_printed.specs.lines.out.Sizes.{AreSized}
-use Rattle.wfe_server_given.specs.Versions.{BeginsIn, IsOfVersion}
-use Rattle.wfe_server_given.specs.replay.Given.{Given, given_out, given_record, past_entries}
-use Rattle.wfe_server_given.specs.versions.laws.HistoryHolds.{IndexLaw}
-use Rattle.wfe_server_given.specs.versions.laws.HistoryTable.{GuardsOfTable, RangeLaw}
-use Rattle.wfe_server_given.specs.versions.laws.Laws.{Laws}
-use Rattle.wfe_server_given.specs.versions.laws.records.Record.{Past}
-use Rattle.wfe_server_given.specs.versions.laws.words.Config.{bad_field}
-use Rattle.wfe_server_given.specs.versions.laws.words.declared.config.Config.{Config}
+use Rattle.law_printed.specs.Versions.{BeginsIn, IsOfVersion}
+use Rattle.wfe_server_replay.specs.Given.{Given, given_out, given_record, past_entries}
+use Rattle.laws.specs.HistoryHolds.{IndexLaw}
+use Rattle.laws.specs.HistoryTable.{GuardsOfTable, RangeLaw}
+use Rattle.laws.specs.Laws.{Laws}
+use Rattle.laws.specs.records.Record.{Past}
+use Rattle.laws.specs.words.Config.{bad_field}
+use Rattle.laws.specs.words.declared.config.Config.{Config}
 use Rattle.wfe_trace.specs.declared.reason.Status.{Status}
 use Rattle.wfe_trace.specs.declared.reason.Status.TheVariants as statuses
 

@@ -3,9 +3,21 @@
 #![tactic(auto)]
 
 ghost use Rattle.law_printed.specs.Printed.{PrintsLawful};
+ghost use Rattle.law_printed.specs.Versions.{GivenOfVersion, RecordsBegin};
 
 /// What a replay of a trace prints where its work is done, and where that is no longer than a record may be, is a record
 /// that a check finds lawful.
 pub fn prints_a_lawful_record()
     ensures { PrintsLawful }
+{}
+
+/// The lines that a trace gives are of a version that is read: their setting has its number of pairs, and they begin
+/// only calls that it has.
+pub fn lines_are_of_their_version()
+    ensures { GivenOfVersion }
+{}
+
+/// The record of lines begins only calls of their version, and these name only indexes and places of the setting.
+pub fn records_begin_calls_of_their_lines()
+    ensures { RecordsBegin }
 {}

@@ -2,17 +2,17 @@
 -- life.
 use Rattle.std.specs.Prelude.{ℕ, ◌≡◌, ◌/◌, ◌%◌, true, Some, List}
 use Rattle.std.specs.Int.{bit_at}
-use Rattle.law_answers.specs.inv.model.words.Packed.{life_word}
-use Rattle.law_answers.specs.inv.model.words.Place.{is_valid}
-use Rattle.law_answers.specs.inv.model.words.Place.Place.{Claim, Life}
-use Rattle.law_answers.specs.inv.model.words.declared.layout.Layout.{Layout}
-use Rattle.law_answers.specs.inv.model.defs.Shown.{keeps}
-use Rattle.law_answers.specs.inv.model.Posts.{stands}
-use Rattle.law_answers.specs.inv.model.World.{World}
-use Rattle.law_answers.specs.inv.covers.Covers.{shown, life_of}
-use Rattle.law_answers.specs.inv.model.Guards.{own_guard}
-use Rattle.law_answers.specs.inv.history.History.{Item, world_of}
-use Rattle.law_answers.specs.inv.Inv.{Inv}
+use Rattle.laws.specs.words.Packed.{life_word}
+use Rattle.laws.specs.words.Place.{is_valid}
+use Rattle.laws.specs.words.Place.Place.{Claim, Life}
+use Rattle.laws.specs.words.declared.layout.Layout.{Layout}
+use Rattle.laws.specs.defs.Shown.{keeps}
+use Rattle.inv_all.specs.model.Posts.{stands}
+use Rattle.inv_all.specs.model.World.{World}
+use Rattle.inv_all.specs.covers.Covers.{shown, life_of}
+use Rattle.inv_all.specs.model.Guards.{own_guard}
+use Rattle.inv_all.specs.history.History.{Item, world_of}
+use Rattle.inv_all.specs.Inv.{Inv}
 
 pub record RowShown (w : World) (k j s : ℕ) : Type 0 where
   pub birth : ℕ

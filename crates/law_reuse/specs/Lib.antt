@@ -1,7 +1,10 @@
-pub use Rattle.law_answers.specs.laws as laws
-pub use Rattle.law_answers.specs as answers
-pub use Rattle.law_answers.specs.inv as inv
+pub use Rattle.laws.specs as laws
+pub use Rattle.inv_all.specs as inv
+pub use Rattle.inv_all.specs.history as history
+pub mod Answers
+pub mod Heard
 pub mod Holds
+pub mod MapKept
 pub mod Records
 pub mod Reuse
 pub mod Rows

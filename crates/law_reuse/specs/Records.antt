@@ -1,17 +1,17 @@
 -- What the record and the turns of each history keep, whatever calls begin and whichever seats make their steps.
 use Rattle.std.specs.Prelude.{List, true, ◌≡◌, ℕ, Some}
-use Rattle.law_answers.specs.inv.model.Posts.{stands}
-use Rattle.law_answers.specs.inv.model.defs.declared.event.Guard.{Guard}
-use Rattle.law_answers.specs.inv.model.words.Place.{is_valid}
-use Rattle.law_answers.specs.inv.model.words.declared.layout.Layout.{Layout}
-use Rattle.law_answers.specs.inv.covers.Covers.{eras_shown}
-use Rattle.law_answers.specs.inv.history.History.{Item, record_of, world_of}
-use Rattle.law_answers.specs.laws.HistoryEras.{BirthLaw}
-use Rattle.law_answers.specs.laws.HoldLaw.{is_held}
-use Rattle.law_answers.specs.laws.HistoryHolds.{ReuseLaw}
-use Rattle.law_answers.specs.laws.HistoryRows.{FreeLaw, BackOnce, ListLaw}
-use Rattle.law_answers.specs.laws.HistoryScans.{BlockLaw, CountLaw, ReadLaw}
-use Rattle.law_answers.specs.laws.StateAt.{stood_at, value_of}
+use Rattle.inv_all.specs.model.Posts.{stands}
+use Rattle.laws.specs.defs.declared.event.Guard.{Guard}
+use Rattle.laws.specs.words.Place.{is_valid}
+use Rattle.laws.specs.words.declared.layout.Layout.{Layout}
+use Rattle.inv_all.specs.covers.Covers.{eras_shown}
+use Rattle.inv_all.specs.history.History.{Item, record_of, world_of}
+use Rattle.laws.specs.HistoryEras.{BirthLaw}
+use Rattle.laws.specs.HoldLaw.{is_held}
+use Rattle.laws.specs.HistoryHolds.{BareLaw, ReuseLaw}
+use Rattle.laws.specs.HistoryRows.{FreeLaw, BackOnce, ListLaw}
+use Rattle.laws.specs.HistoryScans.{BlockLaw, CountLaw, ReadLaw}
+use Rattle.laws.specs.StateAt.{stood_at, value_of}
 
 -- each history's record keeps it, whatever calls begin and whichever seats make their steps
 abbrev pub RecordsKeepReuse : Type 0
@@ -65,3 +65,7 @@ RecordValues =
     (layout : Layout) (items : List Item) (guard : Guard)
     → is_valid layout ≡ true
     → value_of guard (record_of layout items) ≡ eras_shown (world_of layout items) guard
+
+-- each history's record keeps it, whatever calls begin and whichever seats make their steps
+abbrev pub RecordsEndBare : Type 0
+RecordsEndBare = (layout : Layout) (items : List Item) → is_valid layout ≡ true → BareLaw (record_of layout items)

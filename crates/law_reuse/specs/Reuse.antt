@@ -1,14 +1,14 @@
 -- No row is used again while it stands at an index of a seat: in no history does a step of any seat give it, give it up or
 -- give it back.
 use Rattle.std.specs.Prelude.{Bool, List, false, ℕ, ◌||◌, [], ◌∷◌, Some, ◌≡◌, true}
-use Rattle.law_answers.specs.inv.model.defs.declared.event.Event.{Event}
-use Rattle.law_answers.specs.laws.NoReuse.{is_reuse}
-use Rattle.law_answers.specs.inv.Inv.{Inv}
-use Rattle.law_answers.specs.inv.model.World.{World, told_in}
-use Rattle.law_answers.specs.inv.model.Posts.{stands}
-use Rattle.law_answers.specs.inv.history.History.{Item, world_of}
-use Rattle.law_answers.specs.inv.model.words.declared.layout.Layout.{Layout}
-use Rattle.law_answers.specs.inv.model.words.Place.{is_valid}
+use Rattle.laws.specs.defs.declared.event.Event.{Event}
+use Rattle.laws.specs.NoReuse.{is_reuse}
+use Rattle.inv_all.specs.Inv.{Inv}
+use Rattle.inv_all.specs.model.World.{World, told_in}
+use Rattle.inv_all.specs.model.Posts.{stands}
+use Rattle.inv_all.specs.history.History.{Item, world_of}
+use Rattle.laws.specs.words.declared.layout.Layout.{Layout}
+use Rattle.laws.specs.words.Place.{is_valid}
 
 -- one of these events says so
 abbrev pub reuses : ℕ → List Event → Bool

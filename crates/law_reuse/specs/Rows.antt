@@ -1,16 +1,16 @@
 -- What a record says of rows: which of them are taken, which are in the list of a seat, and which a seat has cut and not retired.
 use Rattle.std.specs.Prelude.{Bool, false, true, ℕ, ◌==◌, ◌≡◌, List}
-use Rattle.law_answers.specs.inv.rows.Rows.Status.{Born, Claimed, Cut, Free, InQueue, Linked, Listed, Sealed}
-use Rattle.law_answers.specs.inv.rows.Rows.{Status, View, is_taken}
-use Rattle.law_answers.specs.inv.history.Record.{Past}
-use Rattle.law_answers.specs.Records.{PlacesSay}
-use Rattle.law_answers.specs.inv.model.World.{World, list_in}
-use Rattle.law_answers.specs.laws.Lists.{list_of}
-use Rattle.law_answers.specs.laws.StateAt.{cut_at, retired_at, taken_at}
-use Rattle.law_answers.specs.inv.rows.Agree.{Agree}
-use Rattle.law_answers.specs.inv.history.History.{Item, record_of, world_of}
-use Rattle.law_answers.specs.inv.model.words.declared.layout.Layout.{Layout}
-use Rattle.law_answers.specs.inv.model.words.Place.{is_valid}
+use Rattle.inv_all.specs.rows.Rows.Status.{Born, Claimed, Cut, Free, InQueue, Linked, Listed, Sealed}
+use Rattle.inv_all.specs.rows.Rows.{Status, View, is_taken}
+use Rattle.laws.specs.records.Record.{Past}
+use Rattle.law_reuse.specs.Answers.{PlacesSay}
+use Rattle.inv_all.specs.model.World.{World, list_in}
+use Rattle.laws.specs.Lists.{list_of}
+use Rattle.laws.specs.StateAt.{cut_at, retired_at, taken_at}
+use Rattle.inv_all.specs.rows.Agree.{Agree}
+use Rattle.inv_all.specs.history.History.{Item, record_of, world_of}
+use Rattle.laws.specs.words.declared.layout.Layout.{Layout}
+use Rattle.laws.specs.words.Place.{is_valid}
 
 -- the row is in a list
 abbrev pub is_listed : Status → Bool

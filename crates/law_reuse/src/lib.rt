@@ -3,8 +3,11 @@
 //! a theorem.
 #![tactic(auto)]
 
+ghost use Rattle.law_reuse.specs.Heard.{HistoriesCount};
+ghost use Rattle.law_reuse.specs.MapKept.{RecordsKeepMap};
+ghost use Rattle.law_reuse.specs.Answers.{RecordBooks, RecordPlaces, RecordsKeepAnswers, RecordsKeepQueue, RecordsKeepSteps, RecordsOpenCalls, TurnsTellOne};
 ghost use Rattle.law_reuse.specs.Holds.{AlwaysShown, StandsShown};
-ghost use Rattle.law_reuse.specs.Records.{RecordStands, RecordValues, RecordsCountScans, RecordsGoBackOnce, RecordsHold, RecordsKeepBirths, RecordsKeepLists, RecordsKeepOnce, RecordsKeepReuse, RecordsKeepScans, RecordsReadGuards};
+ghost use Rattle.law_reuse.specs.Records.{RecordStands, RecordValues, RecordsCountScans, RecordsEndBare, RecordsGoBackOnce, RecordsHold, RecordsKeepBirths, RecordsKeepLists, RecordsKeepOnce, RecordsKeepReuse, RecordsKeepScans, RecordsReadGuards};
 ghost use Rattle.law_reuse.specs.Reuse.{NeverReused, NoReuse};
 ghost use Rattle.law_reuse.specs.Rows.{RecordShows};
 
@@ -103,4 +106,67 @@ pub fn record_values()
 /// interval that meets the row's life, all as the record says.
 pub fn records_hold()
     ensures { RecordsHold }
+{}
+
+/// Under Wait-Free Eras each protection tells the row that it holds, or null, within
+/// `3 * tries + 12` of its steps, and one that follows the head's next link within three more.
+pub fn records_keep_steps()
+    ensures { RecordsKeepSteps }
+{}
+
+/// Each change of a bucket tells the next version, and lies in its key's bucket. A get tells its key's
+/// value at a version that was current at some position of its call, from its beginning on.
+pub fn records_keep_map()
+    ensures { RecordsKeepMap }
+{}
+
+/// The n-th value of the queue is queued under number n, and values are taken by their numbers, each
+/// once and after it was queued.
+pub fn records_keep_queue()
+    ensures { RecordsKeepQueue }
+{}
+
+/// Where a call ends, in the record of any history, its answer is one that such a call may have, and
+/// since its beginning it has told of the map, of the queue and of copies just the event that the
+/// answer says, or nothing where the answer says none.
+pub fn records_keep_answers()
+    ensures { RecordsKeepAnswers }
+{}
+
+/// Each history of the machines is a schedule: a call starts only on a seat that is not busy, only a
+/// busy seat takes turns, and an End comes last in its turn and counts the turns of its call. It tells
+/// the same record, and the same seats are busy after it. What a call has made and what it has left
+/// are fewer than 2 ^ 62 steps together.
+pub fn histories_count()
+    ensures { HistoriesCount }
+{}
+
+/// A turn tells at most one event of those that change or read a word of the table. What it tells is
+/// told by its own seat, as the record of a history says.
+pub fn turns_tell_one()
+    ensures { TurnsTellOne }
+{}
+
+/// A seat begins a call only where it is in none and has not left, and tells anything else only while
+/// it is in one, which its End closes.
+pub fn records_open_calls()
+    ensures { RecordsOpenCalls }
+{}
+
+/// The changes of each bucket, the values queued and how many of them were taken are in the book what
+/// they are by the record.
+pub fn record_books()
+    ensures { RecordBooks }
+{}
+
+/// By the record a seat has left where its place word is not 0, and its list is taken over where that
+/// is greater than 1.
+pub fn record_places()
+    ensures { RecordPlaces }
+{}
+
+/// Where a call of a seat ends, nothing stands at any index of the seat but those from 2 on, at which
+/// kept rows stay.
+pub fn records_end_bare()
+    ensures { RecordsEndBare }
 {}

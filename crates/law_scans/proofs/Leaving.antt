@@ -1,16 +1,16 @@
 -- What a seat that leaves goes on with, and one that takes a list over.
 use Rattle.std.proofs.Common.{ℕ, Bool, true, false, length, Option, Some, None}
 use Rattle.std.specs.Prelude.{◌==◌, drop, if◌then◌else◌}
-use Rattle.law_places.specs.inv.model.defs.declared.call.Answer.TheVariants as answers
-use Rattle.law_places.specs.inv.model.defs.declared.lifetime.Interval.{Interval}
-use Rattle.law_places.specs.inv.model.declared.post.Post.{Post}
-use Rattle.law_places.specs.inv.model.Calls.{Phase, Runs, Works, Keeping, HideSpan, MarkLeft, MarkTaken, Releases, Parting, CallOutcome, GoesOn, Answers}
-use Rattle.law_places.specs.inv.model.Desks.{Desk}
-use Rattle.law_places.specs.inv.model.Keep as keeps
-use Rattle.law_places.specs.inv.model.Phases.Base.{Clear}
-use Rattle.law_places.specs.inv.model.Posts.{standing_from}
-use Rattle.law_places.specs.inv.model.Rounds.{scheme_of}
-use Rattle.law_places.specs.inv.model.words.Schemes.{has_one_interval}
+use Rattle.law_reuse.specs.laws.defs.declared.call.Answer.TheVariants as answers
+use Rattle.law_reuse.specs.laws.defs.declared.lifetime.Interval.{Interval}
+use Rattle.law_reuse.specs.inv.model.declared.post.Post.{Post}
+use Rattle.law_reuse.specs.inv.model.Calls.{Phase, Runs, Works, Keeping, HideSpan, MarkLeft, MarkTaken, Releases, Parting, CallOutcome, GoesOn, Answers}
+use Rattle.law_reuse.specs.inv.model.Desks.{Desk}
+use Rattle.law_reuse.specs.inv.model.Keep as keeps
+use Rattle.law_reuse.specs.inv.model.Phases.Base.{Clear}
+use Rattle.law_reuse.specs.inv.model.Posts.{standing_from}
+use Rattle.law_reuse.specs.inv.model.Rounds.{scheme_of}
+use Rattle.law_reuse.specs.laws.words.Schemes.{has_one_interval}
 
 -- a seat that leaves lets go of what stands, by one index after the other or with its interval, and then marks its place
 pub record Parts (P : Phase → Type 0) : Type 0 where

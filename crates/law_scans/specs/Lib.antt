@@ -1,7 +1,8 @@
-pub use Rattle.law_places.specs.laws as laws
-pub use Rattle.law_places.specs.inv as inv
-pub use Rattle.law_places.specs.answers as answers
+pub use Rattle.law_reuse.specs.laws as laws
+pub use Rattle.law_reuse.specs.inv as inv
+pub use Rattle.law_reuse.specs as reuse
 pub mod Outcomes
+pub mod Places
 pub mod Plain
 pub mod Records
 pub mod Scans

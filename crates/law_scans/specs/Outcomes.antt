@@ -1,12 +1,12 @@
 -- The law on what a call answers of the clock, over records.
-use Rattle.law_places.specs.inv.history.Record.{Past, Test, EachEntry}
-use Rattle.law_places.specs.laws.StateAt.{seen}
+use Rattle.law_reuse.specs.laws.records.Record.{Past, Test, EachEntry}
+use Rattle.law_reuse.specs.laws.StateAt.{seen}
 use Rattle.std.specs.Prelude.{ℕ, None, ◌%◌, ◌==◌}
-use Rattle.law_places.specs.laws.HistoryAnswers.{ClockTally, plain_clock_by, no_clock, clock_right}
-use Rattle.law_places.specs.inv.model.Memory.{bump}
-use Rattle.law_places.specs.inv.model.defs.declared.event.Event.{Event}
-use Rattle.law_places.specs.inv.model.defs.declared.event.Event.TheVariants as events
-use Rattle.law_places.specs.inv.model.words.declared.config.Config.{Config}
+use Rattle.law_reuse.specs.laws.HistoryAnswers.{ClockTally, plain_clock_by, no_clock, clock_right}
+use Rattle.law_reuse.specs.inv.model.Memory.{bump}
+use Rattle.law_reuse.specs.laws.defs.declared.event.Event.{Event}
+use Rattle.law_reuse.specs.laws.defs.declared.event.Event.TheVariants as events
+use Rattle.law_reuse.specs.laws.words.declared.config.Config.{Config}
 
 -- the tally of a seat whose count of retirements stays at the greatest number of 64 bits
 abbrev pub clock_by : (every : ℕ) → Event → ClockTally → ClockTally

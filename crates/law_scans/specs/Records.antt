@@ -1,11 +1,11 @@
 -- What the record and the turns of each history keep, whatever calls begin and whichever seats make their steps.
 use Rattle.std.specs.Prelude.{List, true, ◌≡◌}
-use Rattle.law_places.specs.inv.model.words.Place.{is_valid}
-use Rattle.law_places.specs.inv.model.words.declared.layout.Layout.{Layout}
-use Rattle.law_places.specs.inv.history.History.{Item, record_of}
-use Rattle.law_places.specs.laws.HistoryAnswers.{PlainOutcomes, ClockTimes}
-use Rattle.law_places.specs.laws.HistoryEras.{PlainMoves}
-use Rattle.law_places.specs.laws.HistoryScans.{FewRetired, PlainScans}
+use Rattle.law_reuse.specs.laws.words.Place.{is_valid}
+use Rattle.law_reuse.specs.laws.words.declared.layout.Layout.{Layout}
+use Rattle.law_reuse.specs.history.History.{Item, record_of}
+use Rattle.law_reuse.specs.laws.HistoryAnswers.{PlainOutcomes, ClockTimes}
+use Rattle.law_reuse.specs.laws.HistoryEras.{PlainMoves}
+use Rattle.law_reuse.specs.laws.HistoryScans.{FewRetired, PlainScans}
 use Rattle.law_scans.specs.Outcomes.{ClockOutcomes}
 use Rattle.law_scans.specs.Plain.{CountsPlainly}
 use Rattle.law_scans.specs.Scans.{DueScans, DueMoves}

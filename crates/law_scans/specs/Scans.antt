@@ -1,14 +1,14 @@
 -- The laws on which calls scan and which move the clock, over records.
-use Rattle.law_places.specs.inv.history.Record.{Past, Test, EachEntry}
-use Rattle.law_places.specs.laws.StateAt.{seen}
+use Rattle.law_reuse.specs.laws.records.Record.{Past, Test, EachEntry}
+use Rattle.law_reuse.specs.laws.StateAt.{seen}
 use Rattle.std.specs.Prelude.{ℕ, ◌%◌, ◌==◌}
-use Rattle.law_places.specs.laws.HistoryScans.{Tally, no_tally, plain_by, retired_course, scan_right}
-use Rattle.law_places.specs.inv.model.Memory.{bump}
-use Rattle.law_places.specs.inv.model.defs.declared.event.Event.{Event}
-use Rattle.law_places.specs.inv.model.defs.declared.event.Event.TheVariants as events
-use Rattle.law_places.specs.inv.model.words.declared.config.Config.{Config}
-use Rattle.law_places.specs.inv.model.Guards.{guards}
-use Rattle.law_places.specs.laws.HistoryEras.{move_right}
+use Rattle.law_reuse.specs.laws.HistoryScans.{Tally, no_tally, plain_by, retired_course, scan_right}
+use Rattle.law_reuse.specs.inv.model.Memory.{bump}
+use Rattle.law_reuse.specs.laws.defs.declared.event.Event.{Event}
+use Rattle.law_reuse.specs.laws.defs.declared.event.Event.TheVariants as events
+use Rattle.law_reuse.specs.laws.words.declared.config.Config.{Config}
+use Rattle.law_reuse.specs.inv.model.Guards.{guards}
+use Rattle.law_reuse.specs.laws.HistoryEras.{move_right}
 
 -- the tally of a seat whose count of retirements stays at the greatest number of 64 bits
 abbrev pub tally_by : (every : ℕ) → Event → Tally → Tally

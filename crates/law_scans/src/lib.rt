@@ -2,7 +2,8 @@
 //! a theorem.
 #![tactic(auto)]
 
-ghost use Rattle.law_scans.specs.Records.{RecordsAnswerPlainly, RecordsCountPlainly, RecordsKeepOutcomes, RecordsKeepTimes, RecordsMovePlainly, RecordsMoveWhereDue, RecordsRetireFew, RecordsScanPlainly, RecordsScanWhereDue};
+ghost use Rattle.law_scans.specs.Places.{RecordsCountRetires, RecordsKeepOrder, RecordsLinkNexts, RecordsPlaceRows, RecordsRefuse, RecordsRetireCuts, RecordsRetireOne};
+ghost use Rattle.law_scans.specs.Records.{RecordsAnswerPlainly, RecordsCountPlainly, RecordsKeepOutcomes, RecordsMovePlainly, RecordsMoveWhereDue, RecordsRetireFew, RecordsScanPlainly, RecordsScanWhereDue};
 
 /// A call that only scans reads each guard once. A call in which the number of its seat's
 /// retirements became a multiple of `every` does so once after that. A put, a remove or an enqueue
@@ -23,13 +24,6 @@ pub fn records_move_where_due()
 /// where it has told none since it had to.
 pub fn records_keep_outcomes()
     ensures { RecordsKeepOutcomes }
-{}
-
-/// An era that another moved the clock to is later than the clock where the call began, or where it
-/// has retired a row since, and at most the clock where it ends; a last era is the clock where it
-/// ends.
-pub fn records_keep_times()
-    ensures { RecordsKeepTimes }
 {}
 
 /// No more rows are retired than the map was changed and values were taken, which is at most
@@ -61,4 +55,48 @@ pub fn records_move_plainly()
 /// retirements did not become a multiple of `every` in it.
 pub fn records_answer_plainly()
     ensures { RecordsAnswerPlainly }
+{}
+
+/// A call is given one row at most. Where it ends, that row was linked by it, or told unused by the
+/// same seat, and not both. What it links at a bucket's root or at a next link is that row, and it
+/// has not linked it before.
+pub fn records_place_rows()
+    ensures { RecordsPlaceRows }
+{}
+
+/// After a link to a bucket's root the next entries, of the same seat, are the cut of the row that the
+/// root had, if it had one, and a change of the bucket; after a link to a next link a value queued;
+/// after a link to the head the cut of the row that the head had, and a value taken. Cuts and changes
+/// come nowhere else.
+pub fn records_keep_order()
+    ensures { RecordsKeepOrder }
+{}
+
+/// A row is linked at a next link only while that is null, what the head is linked to is the next row
+/// of the head's row, and what the tail is linked to is the next row of the tail's row.
+pub fn records_link_nexts()
+    ensures { RecordsLinkNexts }
+{}
+
+/// A row is retired only by a call that has cut it and not retired it since, and where a call ends
+/// it has retired each row that it has cut.
+pub fn records_retire_cuts()
+    ensures { RecordsRetireCuts }
+{}
+
+/// Where a call ends it has retired one row if it took a value, or if it changed a bucket that was
+/// changed before, so that its version is above 1; and else none.
+pub fn records_count_retires()
+    ensures { RecordsCountRetires }
+{}
+
+/// A call retires one row at most, and only a put, a remove or a dequeue retires one.
+pub fn records_retire_one()
+    ensures { RecordsRetireOne }
+{}
+
+/// Only a call that answers Done, Queued or Taken has told a change of the map or of the queue, or a
+/// link that is not to the tail. So a refused call has told none.
+pub fn records_refuse()
+    ensures { RecordsRefuse }
 {}

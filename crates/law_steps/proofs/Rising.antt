@@ -1,5 +1,4 @@
 pub mod Free
-pub mod RiseKeeps
 pub mod RiseSteps
 pub mod RiseTells
 pub mod Rises

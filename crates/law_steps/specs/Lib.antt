@@ -1,6 +1,5 @@
 pub use Rattle.law_scans.specs.laws as laws
-pub use Rattle.law_held.specs.turns.inv as inv
-pub use Rattle.law_held.specs.turns.answers as answers
+pub use Rattle.law_scans.specs.inv as inv
+pub use Rattle.law_scans.specs.reuse as reuse
 pub use Rattle.law_scans.specs as scans
-pub use Rattle.law_held.specs as held
 pub mod Records

@@ -3,7 +3,7 @@ use Rattle.std.specs.Prelude.{List, true, ◌≡◌}
 use Rattle.law_scans.specs.inv.model.words.Place.{is_valid}
 use Rattle.law_scans.specs.inv.model.words.Schemes.{is_wfe, is_he, is_ibr}
 use Rattle.law_scans.specs.inv.model.words.declared.layout.Layout.{Layout}
-use Rattle.law_held.specs.turns.inv.history.History.{Item, record_of}
+use Rattle.law_scans.specs.inv.history.History.{Item, record_of}
 use Rattle.law_scans.specs.laws.HistorySteps.{AskLaw}
 use Rattle.law_scans.specs.laws.HistoryEras.{SpansRise}
 use Rattle.law_scans.specs.laws.HistorySteps.{ErasRise, HelperLaw, ShowLaw, TakeLaw, RaiseLaw, EndLaw}

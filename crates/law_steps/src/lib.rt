@@ -2,25 +2,12 @@
 //! a theorem.
 #![tactic(auto)]
 
-ghost use Rattle.law_steps.specs.Records.{RecordsAskLate, RecordsCountTries, RecordsKeepEnds, RecordsKeepHelpers, RecordsKeepRaises, RecordsRaiseEras, RecordsRaiseSpans, RecordsRaiseTries, RecordsShowLate, RecordsTakeLate};
+ghost use Rattle.law_steps.specs.Records.{RecordsAskLate, RecordsKeepEnds, RecordsKeepHelpers, RecordsKeepRaises, RecordsShowLate, RecordsTakeLate};
 
 /// Under 2GE the number in a Held or Null is two more than three times the number of times that the seat has
 /// raised its interval since its last Begin, Held, Null or Clear, and for a row held at index 1 one more.
 pub fn records_keep_raises()
     ensures { RecordsKeepRaises }
-{}
-
-/// An interval of 2GE begins with one era. Until it is withdrawn its lower end is kept, and each
-/// change raises its upper end.
-pub fn records_raise_spans()
-    ensures { RecordsRaiseSpans }
-{}
-
-/// The eras that a seat whose helper word publishes nothing tells of an index word rise until that
-/// publishes nothing: under Hazard Eras in each protection, under Wait-Free Eras in the tries of
-/// each.
-pub fn records_raise_eras()
-    ensures { RecordsRaiseEras }
 {}
 
 /// A release takes one step; a call that only scans takes one for each guard and one for each row that goes
@@ -50,19 +37,6 @@ pub fn records_take_late()
 /// has published more eras in the protection's index word than it has tries.
 pub fn records_keep_helpers()
     ensures { RecordsKeepHelpers }
-{}
-
-/// The eras that are told of an index word rise until it publishes nothing, but for those that a seat tells
-/// under Wait-Free Eras while its helper word publishes.
-pub fn records_raise_tries()
-    ensures { RecordsRaiseTries }
-{}
-
-/// Under Hazard Eras the number in a Held or Null is one more than three times the number of eras that the index
-/// word has published before that entry, since it published nothing, and for a row held at index 1 one more still;
-/// and each of these eras is later than the one before it.
-pub fn records_count_tries()
-    ensures { RecordsCountTries }
 {}
 
 /// Under Wait-Free Eras a seat whose protection is under way publishes an era in its helper word only after it has

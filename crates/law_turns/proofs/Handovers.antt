@@ -2,43 +2,43 @@
 use Rattle.std.proofs.Common.{ℕ, ◌≡◌, ◌<◌, ◌+◌, Bool, true, false, List, [], ◌∷◌, ◌++◌, Option, Some, None, refl, arith, subst}
 use Rattle.std.proofs.lemmas.Bool.Decides.{nat_tests}
 use Rattle.std.specs.Prelude.{◌==◌, ◌&&◌, ◌||◌, nat_le, if◌then◌else◌, nat_lt}
-use Rattle.law_answers.specs.inv.model.words.Packed.{reservation_word}
-use Rattle.law_answers.specs.inv.model.words.declared.layout.Layout.{Layout}
-use Rattle.law_answers.specs.inv.model.defs.declared.event.Event.{Event}
-use Rattle.law_answers.specs.inv.model.declared.post.Post.{Post}
-use Rattle.law_answers.specs.inv.model.Posts.{cleared, reserves_index, stands, counted}
-use Rattle.law_answers.specs.inv.model.Rounds.{scheme_of, clear_told, let_index}
-use Rattle.law_answers.specs.inv.model.World.{World, finds, offered, told_in}
-use Rattle.law_answers.specs.inv.model.Phases.{ProtectAt, Base}
-use Rattle.law_answers.specs.inv.model.Phases.ProtectAt.{LoadOwnClock, PublishHelper, LoadOwnLink, CheckOwnClock, AnswerOwn, LoadAnswer, TakeAnswer}
-use Rattle.law_answers.specs.inv.model.Phases.MoveAt.{HandOver}
-use Rattle.law_answers.specs.inv.model.Phases.Base.{Protect, Move}
-use Rattle.law_answers.specs.inv.model.Calls.{Why, ReadGuard, GiveBack, KeepAt, Loosens, LoadHeld, StoreHeld, Looks, Misses, HideSpan, MarkLeft, TakeList, MarkTaken, Work, Keeping, Phase, Idle, Runs, Scans, Works}
-use Rattle.law_answers.specs.inv.model.words.Schemes.{has_one_interval, is_ibr}
-use Rattle.law_answers.proofs.inv.history.Passes.{Closed, First, copied_told, keep_told, work_told, step_goes, scan_told}
-use Rattle.law_answers.specs.inv.history.History.{Made}
-use Rattle.law_answers.specs.inv.history.Turns.{EachTurn}
-use Rattle.law_answers.proofs.OneStep.Along.{Kept, history_keeps}
+use Rattle.law_reuse.specs.laws.words.Packed.{reservation_word}
+use Rattle.law_reuse.specs.laws.words.declared.layout.Layout.{Layout}
+use Rattle.law_reuse.specs.laws.defs.declared.event.Event.{Event}
+use Rattle.law_reuse.specs.inv.model.declared.post.Post.{Post}
+use Rattle.law_reuse.specs.inv.model.Posts.{cleared, reserves_index, stands, counted}
+use Rattle.law_reuse.specs.inv.model.Rounds.{scheme_of, clear_told, let_index}
+use Rattle.law_reuse.specs.inv.model.World.{World, finds, offered, told_in}
+use Rattle.law_reuse.specs.inv.model.Phases.{ProtectAt, Base}
+use Rattle.law_reuse.specs.inv.model.Phases.ProtectAt.{LoadOwnClock, PublishHelper, LoadOwnLink, CheckOwnClock, AnswerOwn, LoadAnswer, TakeAnswer}
+use Rattle.law_reuse.specs.inv.model.Phases.MoveAt.{HandOver}
+use Rattle.law_reuse.specs.inv.model.Phases.Base.{Protect, Move}
+use Rattle.law_reuse.specs.inv.model.Calls.{Why, ReadGuard, GiveBack, KeepAt, Loosens, LoadHeld, StoreHeld, Looks, Misses, HideSpan, MarkLeft, TakeList, MarkTaken, Work, Keeping, Phase, Idle, Runs, Scans, Works}
+use Rattle.law_reuse.specs.laws.words.Schemes.{has_one_interval, is_ibr}
+use Rattle.law_reuse.proofs.history.Passes.{Closed, First, copied_told, keep_told, work_told, step_goes, scan_told}
+use Rattle.law_reuse.specs.history.History.{Made}
+use Rattle.law_reuse.specs.laws.records.Turns.{EachTurn}
+use Rattle.law_reuse.proofs.OneStep.Along.{Kept, history_keeps}
 use Rattle.law_turns.proofs.Counting.Counting.{Keeps, published, since_of, begin_kept, step_kept, first_kept}
 use Rattle.law_turns.proofs.Counting.Fits.{Fits, own, base_own, paced, taken}
-use Rattle.law_answers.proofs.inv.history.MayTell.{Tells, may_store, base_index, hands, same_span, base_shows, base_all}
+use Rattle.law_reuse.proofs.history.MayTell.{Tells, may_store, base_index, hands, same_span, base_shows, base_all}
 use Rattle.law_turns.proofs.Counting.Told.{is_dull, all_dull, quiet_dull, clear_dull, cleared_dull, hide_dull}
-use Rattle.law_answers.specs.inv.model.defs.declared.event.Guard.TheVariants.{Helper, Index, Whole}
-use Rattle.law_answers.specs.inv.model.Links.{link_number}
-use Rattle.law_answers.specs.inv.Inv.{Inv}
-use Rattle.law_answers.proofs.inv.Inv.Whole.{handover_need}
-use Rattle.law_answers.proofs.inv.covers.Held.{finds_at}
-use Rattle.law_answers.proofs.inv.handover.Asks.{Asker, asker, in_slow}
-use Rattle.law_answers.proofs.inv.handover.Deals.{handed_deal}
-use Rattle.law_answers.proofs.inv.handover.Words.{Handed}
-use Rattle.law_answers.specs.laws.HistoryTurns.{event_handed, events_handed, handed_right}
+use Rattle.law_reuse.specs.laws.defs.declared.event.Guard.TheVariants.{Helper, Index, Whole}
+use Rattle.law_reuse.specs.inv.model.Links.{link_number}
+use Rattle.law_reuse.specs.inv.Inv.{Inv}
+use Rattle.law_reuse.proofs.inv.Inv.Whole.{handover_need}
+use Rattle.law_reuse.proofs.inv.covers.Held.{finds_at}
+use Rattle.law_reuse.proofs.inv.ends.Handover.Asks.{Asker, asker, in_slow}
+use Rattle.law_reuse.proofs.inv.ends.Handover.Deals.{handed_deal}
+use Rattle.law_reuse.proofs.inv.ends.Handover.Words.{Handed}
+use Rattle.law_reuse.specs.laws.HistoryTurns.{event_handed, events_handed, handed_right}
 use Rattle.law_turns.specs.Records.{HandoversMeet}
-use Rattle.law_answers.specs.inv.model.defs.declared.event.Event.TheVariants as events
-use Rattle.law_answers.specs.inv.model.Machine as machine
-use Rattle.law_answers.proofs.inv.model.Facts.{both, first_of, rest_of, number_is, or_more}
-use Rattle.law_answers.specs.inv.history.Turns as schedule
-use Rattle.law_answers.specs.inv.model.words.Place.{Place as places}
-use Rattle.law_answers.proofs.inv.history.AllOf.{all_of, of_weaker}
+use Rattle.law_reuse.specs.laws.defs.declared.event.Event.TheVariants as events
+use Rattle.law_reuse.specs.inv.model.Machine as machine
+use Rattle.law_reuse.proofs.laws.records.defs.Facts.{both, first_of, rest_of, number_is, or_more}
+use Rattle.law_reuse.specs.laws.records.Turns as schedule
+use Rattle.law_reuse.specs.laws.words.Place.{Place as places}
+use Rattle.law_reuse.proofs.history.AllOf.{all_of, of_weaker}
 
 handed_all : (i : ℕ) (x : ℕ → ℕ → ℕ) (told : List Event) → all_of (event_handed i x) told ≡ true → events_handed i x told ≡ true
 handed_all i x [] h = refl

@@ -1,6 +1,6 @@
-pub use Rattle.law_answers.proofs.laws as laws
-pub use Rattle.law_answers.proofs.inv as inv
-pub use Rattle.law_answers.proofs as answers
+pub use Rattle.law_reuse.proofs.laws as laws
+pub use Rattle.law_reuse.proofs.inv as inv
+pub use Rattle.law_reuse.proofs as reuse
 pub mod Counting
 pub mod Handovers
 pub mod TryCounts

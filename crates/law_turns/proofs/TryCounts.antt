@@ -2,46 +2,46 @@
 use Rattle.std.proofs.Common.{ℕ, ◌≡◌, ◌<◌, ◌+◌, Bool, true, false, List, [], ◌∷◌, ◌++◌, refl, ap, ◌∙◌, arith}
 use Rattle.std.proofs.lemmas.Bool.Decides.{nat_tests}
 use Rattle.std.specs.Prelude.{◌==◌, ◌&&◌, ◌||◌, ◌*◌, not, nat_le, if◌then◌else◌}
-use Rattle.law_answers.specs.inv.model.words.declared.config.SchemeKind.{SchemeKind}
-use Rattle.law_answers.specs.inv.model.words.declared.config.SchemeKind.TheVariants.{He, Ibr, Wfe}
-use Rattle.law_answers.specs.inv.model.words.declared.layout.Layout.{Layout}
-use Rattle.law_answers.specs.inv.model.defs.declared.event.Event.{Event}
-use Rattle.law_answers.specs.inv.model.defs.declared.event.Event.TheVariants as events
-use Rattle.law_answers.specs.inv.model.defs.declared.event.Root.{Root}
-use Rattle.law_answers.specs.inv.model.declared.ends.FollowEnd.TheVariants as follow_ends
-use Rattle.law_answers.specs.inv.model.declared.post.Post.{Post}
-use Rattle.law_answers.specs.inv.model.Machine as machine
-use Rattle.law_answers.specs.inv.model.Memory.{bump}
-use Rattle.law_answers.specs.inv.model.Posts.{with_row, counted}
-use Rattle.law_answers.specs.inv.model.Protect.{held_post, told_held, concluded}
-use Rattle.law_answers.specs.inv.model.Rounds.{scheme_of, clear_told, index_of}
-use Rattle.law_answers.specs.inv.model.World.{World, finds, is_busy, offered, told_in}
-use Rattle.law_answers.specs.inv.model.Phases.{Aim, ProtectAt, Base, Turn, ends}
-use Rattle.law_answers.specs.inv.model.Phases.ProtectAt.{CheckClock, CheckOwnClock, AnswerOwn, TakeAnswer, WithdrawHelper, LoadWithin, CheckUpper, RaiseUpper}
-use Rattle.law_answers.specs.inv.model.Phases.Base.{Begin, Protect, Reload, Release}
-use Rattle.law_answers.specs.inv.model.Phases.Ending.{Followed}
-use Rattle.law_answers.specs.inv.model.Calls.{Task, Gets, Changes, Holds, Enqueues, Dequeues, Why, Opens, FollowsHead, ReadGuard, GiveBack, Phase, Idle, Runs, Scans, Works}
-use Rattle.law_answers.proofs.inv.model.Facts.{both, first_of, rest_of, false_not_true, and_true, three_more, le_of_test}
-use Rattle.law_answers.specs.inv.model.words.Schemes.{is_ibr, is_he}
-use Rattle.law_answers.specs.inv.shapes.Seats.{protects, reloads, kind_of, index_by, root_by}
-use Rattle.law_answers.proofs.inv.history.Passes.{Closed, First, step_goes, work_told}
-use Rattle.law_answers.specs.inv.history.Turns as schedule
-use Rattle.law_answers.specs.inv.history.Turns.History.{Blank, Turns}
-use Rattle.law_answers.specs.inv.history.History.{Made, first_made}
-use Rattle.law_answers.specs.inv.history.Turns.{EachTurn}
-use Rattle.law_answers.specs.laws.HistorySteps.{events_tried, tries_right}
-use Rattle.law_answers.specs.laws.StepLaw.{event_tried}
+use Rattle.law_reuse.specs.laws.words.declared.config.SchemeKind.{SchemeKind}
+use Rattle.law_reuse.specs.laws.words.declared.config.SchemeKind.TheVariants.{He, Ibr, Wfe}
+use Rattle.law_reuse.specs.laws.words.declared.layout.Layout.{Layout}
+use Rattle.law_reuse.specs.laws.defs.declared.event.Event.{Event}
+use Rattle.law_reuse.specs.laws.defs.declared.event.Event.TheVariants as events
+use Rattle.law_reuse.specs.laws.defs.declared.event.Root.{Root}
+use Rattle.law_reuse.specs.inv.model.declared.ends.FollowEnd.TheVariants as follow_ends
+use Rattle.law_reuse.specs.inv.model.declared.post.Post.{Post}
+use Rattle.law_reuse.specs.inv.model.Machine as machine
+use Rattle.law_reuse.specs.inv.model.Memory.{bump}
+use Rattle.law_reuse.specs.inv.model.Posts.{with_row, counted}
+use Rattle.law_reuse.specs.inv.model.Protect.{held_post, told_held, concluded}
+use Rattle.law_reuse.specs.inv.model.Rounds.{scheme_of, clear_told, index_of}
+use Rattle.law_reuse.specs.inv.model.World.{World, finds, is_busy, offered, told_in}
+use Rattle.law_reuse.specs.inv.model.Phases.{Aim, ProtectAt, Base, Turn, ends}
+use Rattle.law_reuse.specs.inv.model.Phases.ProtectAt.{CheckClock, CheckOwnClock, AnswerOwn, TakeAnswer, WithdrawHelper, LoadWithin, CheckUpper, RaiseUpper}
+use Rattle.law_reuse.specs.inv.model.Phases.Base.{Begin, Protect, Reload, Release}
+use Rattle.law_reuse.specs.inv.model.Phases.Ending.{Followed}
+use Rattle.law_reuse.specs.inv.model.Calls.{Task, Gets, Changes, Holds, Enqueues, Dequeues, Why, Opens, FollowsHead, ReadGuard, GiveBack, Phase, Idle, Runs, Scans, Works}
+use Rattle.law_reuse.proofs.laws.records.defs.Facts.{both, first_of, rest_of, false_not_true, and_true, three_more, le_of_test}
+use Rattle.law_reuse.specs.laws.words.Schemes.{is_ibr, is_he}
+use Rattle.law_reuse.specs.inv.shapes.Seats.{protects, reloads, kind_of, index_by, root_by}
+use Rattle.law_reuse.proofs.history.Passes.{Closed, First, step_goes, work_told}
+use Rattle.law_reuse.specs.laws.records.Turns as schedule
+use Rattle.law_reuse.specs.laws.records.Turns.History.{Blank, Turns}
+use Rattle.law_reuse.specs.history.History.{Made, first_made}
+use Rattle.law_reuse.specs.laws.records.Turns.{EachTurn}
+use Rattle.law_reuse.specs.laws.HistorySteps.{events_tried, tries_right}
+use Rattle.law_reuse.specs.laws.StepLaw.{event_tried}
 use Rattle.law_turns.specs.Records.{TriesCount}
-use Rattle.law_answers.proofs.OneStep.Along.{Around, Kept, history_keeps}
+use Rattle.law_reuse.proofs.OneStep.Along.{Around, Kept, history_keeps}
 use Rattle.law_turns.proofs.Counting.Counting.{Keeps, published, since_of, seat_of, published_here, begin_kept, step_kept, first_kept}
 use Rattle.law_turns.proofs.Counting.Fits.{since, tried}
 use Rattle.law_turns.proofs.Counting.Passing.{he_tried, or_he}
 use Rattle.law_turns.proofs.Counting.Protects.{Site, x_next}
 use Rattle.law_turns.proofs.Counting.Runs.{x_after, phase_x, Stage, Seat, bump_low, site_of, stage_of}
-use Rattle.law_answers.proofs.inv.history.MayTell.{concluded_told, held_any, is_find, no_find, work_all}
+use Rattle.law_reuse.proofs.history.MayTell.{concluded_told, held_any, is_find, no_find, work_all}
 use Rattle.law_turns.proofs.Counting.Told.{is_dull, all_dull, quiet_dull, clear_dull, dull_unfound}
-use Rattle.law_answers.proofs.inv.requests.Paced.{wfe_not_he}
-use Rattle.law_answers.proofs.inv.history.AllOf.{all_of, of_weaker}
+use Rattle.law_reuse.proofs.inv.requests.Paced.{wfe_not_he}
+use Rattle.law_reuse.proofs.history.AllOf.{all_of, of_weaker}
 
 pub unfound_one : (x : ℕ → ℕ) (event : Event) → not (is_find event) ≡ true → event_tried x event ≡ true
 unfound_one x (events.Held index slot steps) h = absurd (cc)

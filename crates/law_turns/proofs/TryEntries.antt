@@ -1,41 +1,41 @@
 -- Under Hazard Eras the number of a protection is that of its tries at the very entry that tells it.
 use Rattle.std.proofs.Common.{ℕ, ◌≡◌, Bool, true, false, List, [], ◌∷◌, refl, sym, ap, ◌∙◌, subst}
 use Rattle.std.specs.Prelude.{not}
-use Rattle.law_answers.specs.inv.model.words.Place.{is_valid}
-use Rattle.law_answers.specs.inv.model.words.Schemes.{helps, is_he}
-use Rattle.law_answers.specs.inv.model.words.declared.config.Config.{Config}
-use Rattle.law_answers.specs.inv.model.words.declared.config.SchemeKind.{SchemeKind}
-use Rattle.law_answers.specs.inv.model.words.declared.config.SchemeKind.TheVariants.{He, Ibr, Wfe}
-use Rattle.law_answers.specs.inv.model.words.declared.layout.Layout.{Layout}
-use Rattle.law_answers.specs.inv.model.defs.declared.event.Event.{Event}
-use Rattle.law_answers.specs.inv.model.defs.declared.event.Event.TheVariants as events
-use Rattle.law_answers.specs.inv.model.defs.declared.event.Guard.TheVariants.{Helper, Index, Whole}
-use Rattle.law_answers.specs.inv.model.declared.post.Post.{Post}
-use Rattle.law_answers.specs.inv.model.Calls.{ReadGuard, GiveBack, Phase, Idle, Runs, Scans, Works}
-use Rattle.law_answers.specs.inv.model.Phases.{Base}
-use Rattle.law_answers.specs.inv.model.Phases.ProtectAt.{CheckClock, CheckUpper, TakeAnswer}
-use Rattle.law_answers.specs.inv.model.Phases.Base.{Protect, Reload}
-use Rattle.law_answers.specs.inv.model.Posts.{counted}
-use Rattle.law_answers.specs.inv.model.World.{World, finds, offered, told_in}
-use Rattle.law_answers.proofs.inv.model.Facts.{first_of, rest_of, same_number}
-use Rattle.law_answers.specs.inv.history.History as histories
-use Rattle.law_answers.specs.inv.history.History.{Item, Made, Steps, done}
-use Rattle.law_answers.specs.inv.history.Record.{Past, Test, Each, EachEntry, tells_of}
-use Rattle.law_answers.specs.inv.history.Record.Past.{Then}
-use Rattle.law_answers.specs.inv.history.Turns as schedule
-use Rattle.law_answers.specs.inv.history.Turns.{record_of}
-use Rattle.law_answers.specs.inv.shapes.Seats.{PhaseFits, base_fits}
-use Rattle.law_answers.proofs.inv.history.AllOf.{all_of}
-use Rattle.law_answers.proofs.inv.history.Entries.{entries_of_each}
-use Rattle.law_answers.proofs.inv.history.MayTell as may
-use Rattle.law_answers.proofs.inv.history.MayTell.{Passes, is_find, is_index, no_find, no_index, step_all, stores_index, work_all}
-use Rattle.law_answers.proofs.inv.history.Passes.{First, is_quiet}
-use Rattle.law_answers.proofs.OneStep.Along.{Around, Kept, history_keeps}
-use Rattle.law_answers.proofs.Turns.Counted.{histories_count}
-use Rattle.law_answers.specs.Heard.{IsCounted}
-use Rattle.law_answers.specs.laws.StateAt.{reserves_by, reserves_of}
-use Rattle.law_answers.specs.laws.HistorySteps.{events_tried}
-use Rattle.law_answers.specs.laws.StepLaw.{event_tried}
+use Rattle.law_reuse.specs.laws.words.Place.{is_valid}
+use Rattle.law_reuse.specs.laws.words.Schemes.{helps, is_he}
+use Rattle.law_reuse.specs.laws.words.declared.config.Config.{Config}
+use Rattle.law_reuse.specs.laws.words.declared.config.SchemeKind.{SchemeKind}
+use Rattle.law_reuse.specs.laws.words.declared.config.SchemeKind.TheVariants.{He, Ibr, Wfe}
+use Rattle.law_reuse.specs.laws.words.declared.layout.Layout.{Layout}
+use Rattle.law_reuse.specs.laws.defs.declared.event.Event.{Event}
+use Rattle.law_reuse.specs.laws.defs.declared.event.Event.TheVariants as events
+use Rattle.law_reuse.specs.laws.defs.declared.event.Guard.TheVariants.{Helper, Index, Whole}
+use Rattle.law_reuse.specs.inv.model.declared.post.Post.{Post}
+use Rattle.law_reuse.specs.inv.model.Calls.{ReadGuard, GiveBack, Phase, Idle, Runs, Scans, Works}
+use Rattle.law_reuse.specs.inv.model.Phases.{Base}
+use Rattle.law_reuse.specs.inv.model.Phases.ProtectAt.{CheckClock, CheckUpper, TakeAnswer}
+use Rattle.law_reuse.specs.inv.model.Phases.Base.{Protect, Reload}
+use Rattle.law_reuse.specs.inv.model.Posts.{counted}
+use Rattle.law_reuse.specs.inv.model.World.{World, finds, offered, told_in}
+use Rattle.law_reuse.proofs.laws.records.defs.Facts.{first_of, rest_of, same_number}
+use Rattle.law_reuse.specs.history.History as histories
+use Rattle.law_reuse.specs.history.History.{Item, Made, Steps, done}
+use Rattle.law_reuse.specs.laws.records.Record.{Past, Test, Each, EachEntry, tells_of}
+use Rattle.law_reuse.specs.laws.records.Record.Past.{Then}
+use Rattle.law_reuse.specs.laws.records.Turns as schedule
+use Rattle.law_reuse.specs.laws.records.Turns.{record_of}
+use Rattle.law_reuse.specs.inv.shapes.Seats.{PhaseFits, base_fits}
+use Rattle.law_reuse.proofs.history.AllOf.{all_of}
+use Rattle.law_reuse.proofs.laws.records.Entries.{entries_of_each}
+use Rattle.law_reuse.proofs.history.MayTell as may
+use Rattle.law_reuse.proofs.history.MayTell.{Passes, is_find, is_index, no_find, no_index, step_all, stores_index, work_all}
+use Rattle.law_reuse.proofs.history.Passes.{First, is_quiet}
+use Rattle.law_reuse.proofs.OneStep.Along.{Around, Kept, history_keeps}
+use Rattle.law_reuse.proofs.Turns.Counted.{histories_count}
+use Rattle.law_reuse.specs.Heard.{IsCounted}
+use Rattle.law_reuse.specs.laws.StateAt.{reserves_by, reserves_of}
+use Rattle.law_reuse.specs.laws.HistorySteps.{events_tried}
+use Rattle.law_reuse.specs.laws.StepLaw.{event_tried}
 use Rattle.law_turns.proofs.TryCounts as counts
 use Rattle.law_turns.proofs.TryCounts.{Tries, events_same, unfound_one}
 

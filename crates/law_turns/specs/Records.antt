@@ -1,14 +1,14 @@
 -- What the record and the turns of each history keep, whatever calls begin and whichever seats make their steps.
 use Rattle.std.specs.Prelude.{List, true, ◌≡◌, ℕ, false}
-use Rattle.law_answers.specs.inv.model.words.Place.{is_valid}
-use Rattle.law_answers.specs.inv.model.words.Schemes.{is_wfe, is_he, is_ibr}
-use Rattle.law_answers.specs.inv.model.words.declared.layout.Layout.{Layout}
-use Rattle.law_answers.specs.inv.history.Heard.{heard_of}
-use Rattle.law_answers.specs.inv.history.History.{Item, record_of}
-use Rattle.law_answers.specs.inv.history.Turns.{EachTurn}
-use Rattle.law_answers.specs.laws.HistoryTurns.{numbers_right, handed_right}
-use Rattle.law_answers.specs.laws.HistorySteps.{turns_bounded, lasts_right, withdrawn_right, tries_right, found_last}
-use Rattle.law_answers.specs.laws.StepLaw.{WithdrawLaw}
+use Rattle.law_reuse.specs.laws.words.Place.{is_valid}
+use Rattle.law_reuse.specs.laws.words.Schemes.{is_wfe, is_he, is_ibr}
+use Rattle.law_reuse.specs.laws.words.declared.layout.Layout.{Layout}
+use Rattle.law_reuse.specs.history.Heard.{heard_of}
+use Rattle.law_reuse.specs.history.History.{Item, record_of}
+use Rattle.law_reuse.specs.laws.records.Turns.{EachTurn}
+use Rattle.law_reuse.specs.laws.HistoryTurns.{numbers_right, handed_right}
+use Rattle.law_reuse.specs.laws.HistorySteps.{turns_bounded, lasts_right, withdrawn_right, tries_right, found_last}
+use Rattle.law_reuse.specs.laws.StepLaw.{WithdrawLaw}
 
 -- each history keeps it under Wait-Free Eras, whatever calls begin and whichever seats make their steps
 abbrev pub ProtectionsEnd : Type 0

@@ -1,6 +1,10 @@
-//! Tests of whole commands over memory: worked traces, bad and hostile input, and sources and sinks that
-//! fail.
+//! Tests of whole commands over memory: worked traces, bad and hostile input, sources and sinks that
+//! fail, and replays with watchers: counts, and deleters.
 #![tactic(auto)]
 
 #[cfg(test)]
+mod deleters;
+#[cfg(test)]
 mod replays;
+#[cfg(test)]
+mod watchers;

@@ -1,2 +1,13 @@
-pub use Rattle.wfe_drive_change.proofs.drive_words as drive_words
+pub use Rattle.wfe_drive_runs.proofs.drive_words as drive_words
+pub use Rattle.wfe_drive_runs.proofs as drive_runs
+pub mod Appending
+pub mod Noted
+pub mod RoundEnding
+pub mod RoundOpening
+pub mod RowFilling
+pub mod RowReading
+pub mod RowWriting
+pub mod Standing
 pub mod Starting
+pub mod Swapping
+pub mod Taking

@@ -9,16 +9,18 @@ ghost use Rattle.wfe_core.specs.Rounds.{bucket_of, kept_row};
 ghost use Rattle.wfe_core.specs.Steps.{first_phase};
 ghost use Rattle.wfe_core.specs.words.declared.config.SchemeKind.TheVariants.{He as HeKind, Ibr as IbrKind, Wfe as WfeKind};
 ghost use Rattle.wfe_core.specs.defs.declared.call.Call.TheVariants.{Get as GetCall};
-ghost use Rattle.wfe_drive_change.specs.drive_words.Called.{Called, Here, Makes, at_phase};
-ghost use Rattle.wfe_drive_change.specs.drive_words.Ran.{Answered};
+ghost use Rattle.wfe_drive_runs.specs.drive_words.Called.{Called, Here, Makes, at_phase};
+ghost use Rattle.wfe_drive_runs.specs.drive_words.Ran.{Answered};
 
-use wfe_core::{Answer, Call, CallMachine, Change, Desk, Post, SchemeKind};
-use wfe_drive_change::change_bucket;
-use wfe_drive_change::queue::on_words::{
+use crate::change::change_bucket;
+use crate::dequeue::dequeue_item;
+use crate::enqueue::enqueue_item;
+use wfe_call_any::{
     Advance, CopyIndex, Dequeue, DropIndex, Enqueue, Get, He, Hold, Ibr, Look, Put, PutIf, Release,
-    Remove, Scan, Scheme, Wfe, Words, drive_apart, drive_on, get_he_in, get_ibr_in, get_wfe_in,
+    Remove, Scan, Scheme, Wfe,
 };
-use wfe_drive_change::queue::{dequeue_item, enqueue_item};
+use wfe_core::{Answer, Call, CallMachine, Change, Desk, Post, SchemeKind};
+use wfe_drive_runs::{Words, drive_apart, drive_on, get_he_in, get_ibr_in, get_wfe_in};
 
 /// Makes a whole call of the seat of this post and desk on its words, and answers as the call does.
 /// No call of the seat may be under way, and the call must be one that may begin: it names indexes in

@@ -1,9 +1,23 @@
-//! Whole calls on the words of one seat, whatever holds those words and whoever else changes them.
+//! Whole calls on the words of one seat, whatever holds those words and whoever else changes them. A put or a remove makes
+//! rounds: each protects the bucket's root, reads its row, decides, writes a row of its own and exchanges the root, one
+//! step after another; a call of the queue protects an end, reads its row, and links an item or takes one.
 #![tactic(auto)]
 
+mod append;
+mod change;
+mod dequeue;
 mod drive;
+mod ending;
+mod enqueue;
+mod exchange;
+mod fill;
+mod item;
+mod item_row;
+mod kept;
+mod opening;
+mod read;
+mod take;
+mod write;
 
 pub use drive::{drive_call, drive_get};
-pub use wfe_drive_change::queue::on_words::{
-    Words, answers_leave_groups, bucket_for, histories_ready_seats,
-};
+pub use wfe_drive_runs::{Words, answers_leave_groups, bucket_for, histories_ready_seats};

@@ -17,8 +17,8 @@ use Rattle.wfe_core.specs.declared.desk.Desk.{Desk as HeldDesk}
 use Rattle.wfe_core.specs.declared.op.Op.{Op}
 use Rattle.wfe_core.specs.declared.post.Post.{Post}
 use Rattle.wfe_core.proofs.CallFrames.{stays_in_place}
-use Rattle.law_answers.specs.history.History.{Begins, Item, Steps, world_of}
-use Rattle.law_answers.proofs.shapes.Frame.{begin_begins, seat_steps}
+use Rattle.wfe_drive_rule.specs.history.History.{Begins, Item, Steps, world_of}
+use Rattle.law_reuse.proofs.shapes.Frame.{begin_begins, seat_steps}
 use Rattle.wfe_drive_cells.specs.Bridge.{MakesSteps}
 use Rattle.wfe_drive_cells.specs.Memory.{HoldsStart, memory}
 use Rattle.wfe_drive_cells.specs.Unit.{SeatView}
@@ -32,7 +32,7 @@ use Rattle.wfe_drive_rule.proofs.Here.{seats_there}
 use Rattle.wfe_drive_call.proofs.drive_words.Groups.{after_call}
 use Rattle.wfe_drive_call.proofs.drive_words.Lending.{lent_call, world}
 use Rattle.wfe_drive_call.proofs.drive_words.Histories.{busy_there, few_steps, may_step, settles}
-use Rattle.law_answers.proofs.history.Snoc.{layout_is, one_begin, one_step}
+use Rattle.wfe_drive_rule.proofs.history.Snoc.{layout_is, one_begin, one_step}
 
 -- a state in its seat's place
 at_by : (layout : Layout) (seat : ℕ) (items : List Item) (list : List ℕ) (steps : ℕ) (l : Local) → is_valid layout ≡ true → seat < layout.config.seats → (world_of layout items).seat seat ≡ l → (world_of layout items).mem ≡ memory layout list → length list ≡ words layout → l.post.steps ≡ steps

@@ -3,7 +3,7 @@ use Rattle.std.specs.Prelude.{Bool, List, length, ℕ, ◌≡◌}
 use Rattle.wfe_core.specs.words.Place.{words}
 use Rattle.wfe_core.specs.Locals.{Local}
 use Rattle.wfe_drive_cells.specs.Memory.{memory}
-use Rattle.law_answers.specs.history.History.{world_of}
+use Rattle.wfe_drive_rule.specs.history.History.{world_of}
 use Rattle.wfe_drive_call.specs.drive_words.Comes.{Comes, departs}
 
 -- a history comes to these words, with the seat at this state, in whose call so many steps were made; by that call it has left, or not

@@ -1,11 +1,11 @@
 -- What a history comes to: a World of its layout with the invariant, whose book has of the map and of the queue what the record says.
 use Rattle.std.proofs.Common.{List, true, ℕ, ◌≡◌}
 use Rattle.laws.specs.StateAt.{changes_of, queued_of, taken_of}
-use Rattle.law_eras.specs.answers.history.History.{Item, Made, made_of}
-use Rattle.law_eras.specs.answers.inv.Inv.{Inv}
-use Rattle.law_eras.proofs.answers.history.Snoc.{layout_is}
-use Rattle.law_eras.proofs.answers.inv.Inv.Reached.{inv_reached}
-use Rattle.law_eras.proofs.answers.Lawful.Books.{record_books}
+use Rattle.law_eras.specs.inv.history.History.{Item, Made, made_of}
+use Rattle.law_eras.specs.inv.Inv.{Inv}
+use Rattle.law_eras.proofs.inv.history.Snoc.{layout_is}
+use Rattle.law_eras.proofs.inv.Inv.Reached.{inv_reached}
+use Rattle.law_eras.proofs.reuse.Lawful.Books.{record_books}
 use Rattle.wfe_core.specs.words.Place.{is_valid}
 use Rattle.wfe_core.specs.words.declared.layout.Layout.{Layout}
 

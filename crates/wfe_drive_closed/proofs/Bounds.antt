@@ -1,8 +1,8 @@
 -- By the invariant of a World what is read of its words stays within the table.
 use Rattle.std.proofs.Common.{arith, length, refl, ℕ, ◌≤◌}
 use Rattle.std.proofs.Math.Seq.{take-length}
-use Rattle.law_eras.specs.answers.inv.Inv.{Inv}
-use Rattle.law_eras.proofs.answers.inv.Inv.Tells.{inv_shows}
+use Rattle.law_eras.specs.inv.Inv.{Inv}
+use Rattle.law_eras.proofs.inv.Inv.Tells.{inv_shows}
 use Rattle.wfe_core.proofs.Ranges.{bounds_of}
 use Rattle.wfe_core.specs.World.{World}
 use Rattle.wfe_core.specs.defs.Pairs.{pairs_after}

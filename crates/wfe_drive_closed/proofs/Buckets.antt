@@ -5,8 +5,8 @@ use Rattle.std.proofs.lemmas.List.{nil_from_length}
 use Rattle.std.proofs.lemmas.List.FromFn.{fill_by_all}
 use Rattle.std.specs.Prelude.{◌==◌}
 use Rattle.laws.specs.StateAt.{Filling, changes_of, filling_at}
-use Rattle.law_eras.specs.answers.history.Record.{Past}
-use Rattle.law_eras.specs.answers.inv.contents.Buckets.{BucketShows}
+use Rattle.laws.specs.records.Record.{Past}
+use Rattle.law_eras.specs.inv.contents.Buckets.{BucketShows}
 use Rattle.wfe_core.proofs.Facts.{one_less_one_more, zero_of_test}
 use Rattle.wfe_core.specs.World.{World}
 use Rattle.wfe_core.specs.defs.Pairs.{Pair, pairs_after}

@@ -3,9 +3,9 @@ use Rattle.std.proofs.Common.{List, ap, drop, map, refl, subst, sym, ℕ, ◌-�
 use Rattle.std.specs.List.{range_with_len}
 use mathlib.Core.Path.{fun_ext}
 use Rattle.laws.specs.StateAt.{Filling, numbered_from, taken_at}
-use Rattle.law_eras.specs.answers.history.History.{Item, record_of, world_of}
-use Rattle.law_eras.specs.answers.history.Record.{Past}
-use Rattle.law_eras.proofs.answers.inv.Inv.Tells.{inv_shows}
+use Rattle.law_eras.specs.inv.history.History.{Item, record_of, world_of}
+use Rattle.laws.specs.records.Record.{Past}
+use Rattle.law_eras.proofs.inv.Inv.Tells.{inv_shows}
 use Rattle.law_eras.proofs.EraLaw.Keeps.{record_clock}
 use Rattle.law_eras.proofs.reuse.Once.Keeps.{record_shows}
 use Rattle.wfe_core.specs.World.{World}

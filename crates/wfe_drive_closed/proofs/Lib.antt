@@ -1,5 +1,5 @@
-pub use Rattle.law_eras.proofs.answers.inv as inv
-pub use Rattle.law_eras.proofs.answers.history as history
+pub use Rattle.law_eras.proofs.inv as inv
+pub use Rattle.law_eras.proofs.inv.history as history
 pub use Rattle.wfe_drive_cells.proofs as drive_cells
 pub mod Books
 pub mod Bounds

@@ -8,12 +8,12 @@ use Rattle.std.proofs.lemmas.List.FromFn.{get_or-map-range_with_len, length-map-
 use Rattle.std.proofs.lemmas.Map.Steps.{le-length_from_below}
 use Rattle.std.specs.List.{list_any, range_with_len}
 use Rattle.std.specs.Prelude.{slice_index_or, ◌==◌}
-use Rattle.law_eras.specs.answers.inv.Inv.{Inv}
-use Rattle.law_eras.specs.answers.inv.contents.Reads.{value_under}
-use Rattle.law_eras.specs.answers.inv.rows.Chain.{queue_of}
-use Rattle.law_eras.specs.answers.inv.rows.Queue.{in_queue}
-use Rattle.law_eras.specs.answers.inv.rows.Rows.{Status, is_taken}
-use Rattle.law_eras.specs.answers.inv.rows.Rows.Status.{Free, Claimed, Born, Linked, InQueue, Cut, Sealed, Listed}
+use Rattle.law_eras.specs.inv.Inv.{Inv}
+use Rattle.law_eras.specs.inv.contents.Reads.{value_under}
+use Rattle.law_eras.specs.inv.rows.Chain.{queue_of}
+use Rattle.law_eras.specs.inv.rows.Queue.{in_queue}
+use Rattle.law_eras.specs.inv.rows.Rows.{Status, is_taken}
+use Rattle.law_eras.specs.inv.rows.Rows.Status.{Free, Claimed, Born, Linked, InQueue, Cut, Sealed, Listed}
 use Rattle.laws.specs.StateAt.{numbered_from}
 use Rattle.wfe_core.proofs.Facts.{one_less_one_more, same_test, zero_of_test}
 use Rattle.wfe_core.specs.World.{World}

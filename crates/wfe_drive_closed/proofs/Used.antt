@@ -4,9 +4,9 @@ use Rattle.std.specs.Int.{bit_at}
 use Rattle.std.specs.List.{range_with_len}
 use Rattle.std.specs.Prelude.{filter, ◌==◌}
 use Rattle.laws.specs.StateAt.{taken_at}
-use Rattle.law_eras.specs.answers.history.Record.{Past}
-use Rattle.law_eras.specs.answers.inv.rows.Agree.{bit_of, claim_of}
-use Rattle.law_eras.specs.answers.inv.rows.Rows.{Status, is_taken}
+use Rattle.laws.specs.records.Record.{Past}
+use Rattle.law_eras.specs.inv.rows.Agree.{bit_of, claim_of}
+use Rattle.law_eras.specs.inv.rows.Rows.{Status, is_taken}
 use Rattle.law_eras.specs.reuse.Rows.{Shown}
 use Rattle.wfe_core.proofs.Facts.{le_test, words_below}
 use Rattle.wfe_core.specs.World.{World}

@@ -2,8 +2,8 @@
 use Rattle.std.specs.Prelude.{List, drop, map, ℕ, ◌≡◌}
 use Rattle.std.specs.List.{range_with_len}
 use Rattle.laws.specs.StateAt.{clock_of, filling_at, numbered_from, queued_of, taken_at, taken_of}
-use Rattle.law_eras.specs.answers.history.History.{Item, world_of}
-use Rattle.law_eras.specs.answers.history.Record.{Past}
+use Rattle.law_eras.specs.inv.history.History.{Item, world_of}
+use Rattle.laws.specs.records.Record.{Past}
 use Rattle.wfe_core.specs.words.Place.{row_count}
 use Rattle.wfe_core.specs.words.declared.layout.Layout.{Layout}
 use Rattle.wfe_drive_cells.specs.Memory.{memory}

@@ -1,6 +1,6 @@
 // The memory for closing a table, and the reading of its words.
 ghost use Rattle.std.specs.Prelude.{◌≡◌, ◌<◌, ◌≤◌, ◌++◌, ◌∷◌, [], All, List, IfOk, IsTrue, length};
-ghost use Rattle.law_eras.specs.answers.history.History.{Item, record_of};
+ghost use Rattle.law_eras.specs.inv.history.History.{Item, record_of};
 ghost use Rattle.wfe_core.specs.words.Place.{is_valid, words};
 ghost use Rattle.wfe_drive_closed.specs.Closing.{IsClosed, IsReached, Reaches};
 ghost use Rattle.wfe_drive_closed.specs.Contents.{IsRead};

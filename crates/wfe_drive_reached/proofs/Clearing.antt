@@ -32,8 +32,8 @@ use Rattle.wfe_drive_cells.specs.Unit.{SeatView, Shows, TableView, asked, fresh_
 use Rattle.wfe_drive_cells.proofs.Bridge.{length-performed, memory-performed, word_in-numbered}
 use Rattle.wfe_drive_cells.proofs.Units.{busy-shown}
 use Rattle.wfe_drive_seat.specs.Leaving.{is_marking, leaving, let_seat, let_turn, lets_go, seat_let, told_let, words_let}
-use Rattle.law_answers.specs.inv.Inv.{Inv}
-use Rattle.law_answers.proofs.shapes.Leaving.{next_stands}
+use Rattle.law_reuse.specs.inv.Inv.{Inv}
+use Rattle.law_reuse.proofs.shapes.Leaving.{next_stands}
 use Rattle.wfe_drive_reached.specs.Bare.{bare, is_of_seat, is_place}
 use Rattle.wfe_drive_reached.specs.Leaving.{after_clear}
 use Rattle.wfe_drive_reached.specs.Reached.{IsReached, StaysIn}

@@ -24,10 +24,10 @@ use Rattle.wfe_core.specs.World.{World, begin, finds, is_busy, is_here, may_star
 use Rattle.wfe_core.specs.declared.post.Post.{Post}
 use Rattle.wfe_core.proofs.Facts.{both}
 use Rattle.wfe_drive_cells.specs.Unit.{kept_desk}
-use Rattle.law_answers.specs.inv.Inv.{Inv}
-use Rattle.law_answers.proofs.inv.Inv.Begun.{inv_begin}
-use Rattle.law_answers.proofs.inv.Inv.Kept.{inv_kept}
-use Rattle.law_answers.proofs.shapes.Frame.{begin_begins, begin_stays, seat_stays, seat_steps}
+use Rattle.law_reuse.specs.inv.Inv.{Inv}
+use Rattle.law_reuse.proofs.inv.Inv.Begun.{inv_begin}
+use Rattle.law_reuse.proofs.inv.Inv.Kept.{inv_kept}
+use Rattle.law_reuse.proofs.shapes.Frame.{begin_begins, begin_stays, seat_stays, seat_steps}
 use Rattle.wfe_drive_reached.specs.Reached.{StaysIn}
 use Rattle.wfe_drive_reached.proofs.Staying.{begin_right, first_busy, step_right}
 

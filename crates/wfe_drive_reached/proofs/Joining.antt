@@ -14,10 +14,10 @@ use Rattle.wfe_core.specs.declared.post.Post.{Post}
 use Rattle.wfe_drive_cells.specs.Unit.{SeatView, Shows, TableView, fresh_seat, seat_at, shown, shown_in}
 use Rattle.wfe_drive_cells.proofs.Units.{busy-shown}
 use Rattle.wfe_drive_seat.specs.Leaving.{MayMove, gaining_seat, given_seat}
-use Rattle.law_answers.specs.inv.Inv.{Inv}
-use Rattle.law_answers.specs.inv.Joins.{Adds, joined}
-use Rattle.law_answers.specs.inv.rows.Facts.{Listing}
-use Rattle.law_answers.proofs.inv.Inv.Joins.{inv_joins, joins_fit, listing_adds}
+use Rattle.law_reuse.specs.inv.Inv.{Inv}
+use Rattle.law_reuse.specs.inv.Joins.{Adds, joined}
+use Rattle.law_reuse.specs.inv.rows.Facts.{Listing}
+use Rattle.law_reuse.proofs.inv.Inv.Joins.{inv_joins, joins_fit, listing_adds}
 use Rattle.wfe_drive_reached.specs.Bare.{bare}
 use Rattle.wfe_drive_reached.specs.Leaving.{after_join}
 use Rattle.wfe_drive_reached.specs.Reached.{ComesTo, IsReached, StaysIn}

@@ -6,15 +6,15 @@ use Rattle.wfe_core.specs.words.Place.Place.{PlaceOf}
 use Rattle.wfe_core.specs.Calls.{Keeping, Phase, TakeList, Works}
 use Rattle.wfe_core.specs.World.{World, finds, is_busy, list_in}
 use Rattle.wfe_drive_cells.specs.Unit.{ListsStay, takes_from}
-use Rattle.law_answers.specs.inv.Inv.{Inv}
-use Rattle.law_answers.specs.inv.Places.{PlaceMoves, PlaceShows, takes_over}
-use Rattle.law_answers.specs.inv.ends.Lists.{Adopting}
-use Rattle.law_answers.specs.inv.ends.Told.{move_of}
-use Rattle.law_answers.specs.inv.rows.Rows.{RowMove}
-use Rattle.law_answers.specs.inv.rows.Rows.RowMove.{Adopts}
-use Rattle.law_answers.proofs.inv.Inv.Places.{inv_place_moves, inv_places}
-use Rattle.law_answers.proofs.inv.ends.Ends.Lists.{adopts_alone, adopts_told}
-use Rattle.law_answers.proofs.shapes.Frame.{finds_at}
+use Rattle.law_reuse.specs.inv.Inv.{Inv}
+use Rattle.law_reuse.specs.inv.Places.{PlaceMoves, PlaceShows, takes_over}
+use Rattle.law_reuse.specs.inv.ends.Lists.{Adopting}
+use Rattle.law_reuse.specs.inv.ends.Told.{move_of}
+use Rattle.law_reuse.specs.inv.rows.Rows.{RowMove}
+use Rattle.law_reuse.specs.inv.rows.Rows.RowMove.{Adopts}
+use Rattle.law_reuse.proofs.inv.Inv.Places.{inv_place_moves, inv_places}
+use Rattle.law_reuse.proofs.inv.ends.Ends.Lists.{adopts_alone, adopts_told}
+use Rattle.law_reuse.proofs.shapes.Frame.{finds_at}
 
 -- a step takes over the list that its phase says
 over_none : (m : RowMove) (k : ℕ) → ((place : ℕ) → m ≡ Adopts place → ⊥) → takes_over m k ≡ false

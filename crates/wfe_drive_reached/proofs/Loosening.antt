@@ -23,9 +23,9 @@ use Rattle.wfe_core.specs.World.{World, is_busy}
 use Rattle.wfe_core.specs.declared.post.Post.{Post}
 use Rattle.wfe_core.proofs.Standing.{some_kept, stands-withdrawn_other, stands-withdrawn_same}
 use Rattle.wfe_drive_cells.specs.Unit.{kept_desk}
-use Rattle.law_answers.specs.inv.Inv.{Inv}
-use Rattle.law_answers.specs.inv.covers.Rests.{vacant}
-use Rattle.law_answers.proofs.inv.Inv.Kept.{inv_ready}
+use Rattle.law_reuse.specs.inv.Inv.{Inv}
+use Rattle.law_reuse.specs.inv.covers.Rests.{vacant}
+use Rattle.law_reuse.proofs.inv.Inv.Kept.{inv_ready}
 use Rattle.wfe_drive_reached.specs.Reached.{StaysIn}
 use Rattle.wfe_drive_reached.proofs.Dropping.{Drops, MayDrop, drop_loosen, drop_release, dropped, one_step}
 

@@ -41,7 +41,7 @@ use Rattle.wfe_core.specs.Scan.{scan_move}
 use Rattle.wfe_core.specs.Steps.{phase_move}
 use Rattle.wfe_core.specs.Locals.{busy_in, move, stays}
 use Rattle.wfe_core.specs.World.{World}
-use Rattle.law_answers.proofs.AnswersTold.Owed.{Serves}
+use Rattle.law_reuse.proofs.AnswersTold.Owed.{Serves}
 use Rattle.wfe_drive_reached.specs.Bare.{is_of_seat}
 use Rattle.wfe_drive_reached.specs.Reached.{StaysIn}
 use Rattle.wfe_drive_reached.proofs.Staying.{right_serves}

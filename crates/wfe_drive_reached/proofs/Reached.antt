@@ -31,9 +31,9 @@ use Rattle.wfe_drive_cells.specs.Operations.{answered, performed, word_in}
 use Rattle.wfe_drive_cells.specs.Unit.{IsStep, IsUnit, ListsStay, MayUnit, SeatView, Shows, TableView, after_start, after_unit, answer_in, asked, begun_seat, found_by, fresh_seat, may_adopt, phase_after, seat_after, seat_at, turned, unit_turn, with_seat}
 use Rattle.wfe_drive_cells.proofs.Bridge.{word_in-numbered}
 use Rattle.wfe_drive_cells.proofs.Units.{Same, after-length, busy-shown, first-start, made, may_unit, own_turn, own_unit, start-begin, unit-step, unit_turn-turn}
-use Rattle.law_answers.specs.inv.Inv.{Inv}
-use Rattle.law_answers.proofs.inv.Inv.Begun.{inv_begin, inv_start}
-use Rattle.law_answers.proofs.inv.Inv.Kept.{inv_kept, inv_ready}
+use Rattle.law_reuse.specs.inv.Inv.{Inv}
+use Rattle.law_reuse.proofs.inv.Inv.Begun.{inv_begin, inv_start}
+use Rattle.law_reuse.proofs.inv.Inv.Kept.{inv_kept, inv_ready}
 use Rattle.wfe_drive_reached.specs.Bare.{bare, bare_words, is_of_seat, is_place}
 use Rattle.wfe_drive_reached.specs.Reached.{IsReached, StaysIn, first_table, units_left}
 use Rattle.wfe_drive_reached.proofs.Bare.{bare_answered, bare_length, bare_performed, bare_same, number_place}

@@ -17,18 +17,18 @@ use Rattle.wfe_core.specs.Steps.{first_phase}
 use Rattle.wfe_core.specs.World.{World, begin, finds, is_busy, may_start, offered, start, step}
 use Rattle.wfe_core.specs.declared.post.Post.{Post}
 use Rattle.wfe_drive_cells.specs.Unit.{may_adopt}
-use Rattle.law_answers.specs.inv.Ends.{CallsEnd}
-use Rattle.law_answers.specs.inv.Inv.{Inv}
-use Rattle.law_answers.specs.inv.Places.{PlaceMoves, placed}
-use Rattle.law_answers.proofs.inv.Inv.Begun.{inv_begin}
-use Rattle.law_answers.proofs.inv.Inv.Ends.{inv_ends}
-use Rattle.law_answers.proofs.inv.Inv.Kept.{inv_kept}
-use Rattle.law_answers.proofs.inv.Inv.Places.{inv_place_moves}
-use Rattle.law_answers.proofs.shapes.Frame.{begin_begins, begin_stays, seat_stays, seat_steps}
-use Rattle.law_answers.proofs.AnswersTold.Answering.{owes_of}
-use Rattle.law_answers.proofs.AnswersTold.Owed.{OutServes, Owes, Serves, owed}
-use Rattle.law_answers.proofs.AnswersTold.Owing.{first_serves}
-use Rattle.law_answers.proofs.Turns.Steady.{turn_steps}
+use Rattle.law_reuse.specs.inv.Ends.{CallsEnd}
+use Rattle.law_reuse.specs.inv.Inv.{Inv}
+use Rattle.law_reuse.specs.inv.Places.{PlaceMoves, placed}
+use Rattle.law_reuse.proofs.inv.Inv.Begun.{inv_begin}
+use Rattle.law_reuse.proofs.inv.Inv.Ends.{inv_ends}
+use Rattle.law_reuse.proofs.inv.Inv.Kept.{inv_kept}
+use Rattle.law_reuse.proofs.inv.Inv.Places.{inv_place_moves}
+use Rattle.law_reuse.proofs.shapes.Frame.{begin_begins, begin_stays, seat_stays, seat_steps}
+use Rattle.law_reuse.proofs.AnswersTold.Answering.{owes_of}
+use Rattle.law_reuse.proofs.AnswersTold.Owed.{OutServes, Owes, Serves, owed}
+use Rattle.law_reuse.proofs.AnswersTold.Owing.{first_serves}
+use Rattle.law_reuse.proofs.Turns.Steady.{turn_steps}
 use Rattle.wfe_drive_reached.specs.Reached.{ComesTo, First, Next, StaysIn}
 
 -- a step of a call of a seat that stays changes no place word, and takes over no list

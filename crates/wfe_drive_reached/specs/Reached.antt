@@ -12,7 +12,7 @@ use Rattle.wfe_core.specs.Rest.{rest}
 use Rattle.wfe_core.specs.Steps.{first_phase}
 use Rattle.wfe_core.specs.World.{World, finds, is_busy, offered}
 use Rattle.wfe_drive_cells.specs.Unit.{Shows, TableView, fresh_seat, seat_at}
-use Rattle.law_answers.specs.inv.Inv.{Inv}
+use Rattle.law_reuse.specs.inv.Inv.{Inv}
 
 -- each word as it starts, and each seat between calls
 abbrev pub first_table : Layout → TableView

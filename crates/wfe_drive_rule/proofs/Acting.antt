@@ -20,8 +20,8 @@ use Rattle.wfe_core.specs.Locals.{Local, asks, busy_in}
 use Rattle.wfe_core.specs.World.{World, is_here, list_in, offered, step}
 use Rattle.wfe_core.proofs.Facts.{number_is, same_number}
 use Rattle.wfe_drive_cells.specs.Operations.{answer_of, answered, changed, word_in}
-use Rattle.law_answers.specs.history.History.{Item, world_of}
-use Rattle.law_answers.specs.inv.Places.{PlaceMoves, is_leaving, placed}
+use Rattle.law_reuse.specs.history.History.{Item, world_of}
+use Rattle.law_reuse.specs.inv.Places.{PlaceMoves, is_leaving, placed}
 use Rattle.wfe_drive_rule.specs.declared.kept.Kept.{Kept}
 use Rattle.wfe_drive_rule.specs.Handles.{IsHeld, IsSeated, MovesNone, adopts}
 use Rattle.wfe_drive_rule.specs.Moves.{HandsOver, Stepped, Told}

@@ -22,9 +22,9 @@ use Rattle.wfe_core.specs.Locals.{Local, asks, busy_in}
 use Rattle.wfe_core.specs.World.{World, finds, gift_at, list_in, offered, step}
 use Rattle.wfe_core.proofs.Facts.{number_is, same_number}
 use Rattle.wfe_drive_cells.specs.Operations.{answer_of, answered, changed, word_in}
-use Rattle.law_answers.specs.history.History.{Item, world_of}
-use Rattle.law_answers.specs.inv.Places.{PlaceMoves, PlaceShows, is_leaving, placed}
-use Rattle.law_answers.proofs.history.Snoc.{layout_is}
+use Rattle.law_reuse.specs.history.History.{Item, world_of}
+use Rattle.law_reuse.specs.inv.Places.{PlaceMoves, PlaceShows, is_leaving, placed}
+use Rattle.law_reuse.proofs.history.Snoc.{layout_is}
 use Rattle.wfe_drive_rule.specs.declared.kept.Kept.{Kept}
 use Rattle.wfe_drive_rule.specs.Handles.{IsAdopting, IsHeld, IsSeated}
 use Rattle.wfe_drive_rule.specs.Moves.{IsTaken, MarksOver, TakesOver, Told}

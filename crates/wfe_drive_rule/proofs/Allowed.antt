@@ -25,14 +25,14 @@ use Rattle.wfe_drive_cells.specs.Bridge.{AsksWithin, MakesSteps}
 use Rattle.wfe_drive_cells.specs.Memory.{memory}
 use Rattle.wfe_drive_cells.specs.Operations.{answered, changed, performed, word_in}
 use Rattle.wfe_drive_cells.proofs.Steps.{makes_step}
-use Rattle.law_answers.specs.history.History.{Begins, Item, Steps, made_of, world_of}
-use Rattle.law_answers.specs.inv.Places.{PlaceMoves, PlaceShows, is_leaving, placed, takes_over}
-use Rattle.law_answers.specs.inv.ends.Told.{move_of}
-use Rattle.law_answers.proofs.AnswersTold.Answering.{Keeps, answers_kept}
-use Rattle.law_answers.proofs.AnswersTold.Owed.{Serves}
-use Rattle.law_answers.proofs.inv.Inv.Places.{inv_place_moves, inv_places}
-use Rattle.law_answers.proofs.inv.Inv.Reached.{reached_ready}
-use Rattle.law_answers.proofs.inv.requests.Turns.{upd_here, upd_there}
+use Rattle.law_reuse.specs.history.History.{Begins, Item, Steps, made_of, world_of}
+use Rattle.law_reuse.specs.inv.Places.{PlaceMoves, PlaceShows, is_leaving, placed, takes_over}
+use Rattle.law_reuse.specs.inv.ends.Told.{move_of}
+use Rattle.law_reuse.proofs.AnswersTold.Answering.{Keeps, answers_kept}
+use Rattle.law_reuse.proofs.AnswersTold.Owed.{Serves}
+use Rattle.law_reuse.proofs.inv.Inv.Places.{inv_place_moves, inv_places}
+use Rattle.law_reuse.proofs.inv.Inv.Reached.{reached_ready}
+use Rattle.law_reuse.proofs.inv.requests.Turns.{upd_here, upd_there}
 use Rattle.wfe_drive_rule.specs.Handles.{IsHeld, IsTracked, MayStart}
 use Rattle.wfe_drive_rule.specs.Moves.{Told}
 use Rattle.wfe_drive_rule.specs.Rule.{Follows, Holds, IsHere, IsHome, Rules, had, taken}
@@ -41,7 +41,7 @@ use Rattle.wfe_drive_rule.proofs.Here.{seats_there, settled_call}
 use Rattle.wfe_drive_rule.proofs.Numbers.{Alike, numbers_set, once_most}
 use Rattle.wfe_drive_rule.proofs.Rules.{follows_on, follows_own}
 use Rattle.wfe_drive_rule.proofs.Slots.{had_alike, had_itself, other_views, unmade_apart}
-use Rattle.law_answers.proofs.history.Snoc.{layout_is, one_begin, one_step}
+use Rattle.law_reuse.proofs.history.Snoc.{layout_is, one_begin, one_step}
 use Rattle.wfe_drive_rule.proofs.Sums.{All-apart, sum_one, sum_same, sum_two}
 
 -- the history in which the seat's call has begun

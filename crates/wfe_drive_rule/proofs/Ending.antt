@@ -12,8 +12,8 @@ use Rattle.wfe_core.specs.defs.declared.call.Call.{Call}
 use Rattle.wfe_drive_rule.specs.declared.kept.Kept.{Kept}
 use Rattle.wfe_core.specs.Locals.{Local, busy_in}
 use Rattle.wfe_core.specs.World.{is_busy}
-use Rattle.law_answers.specs.history.History.{world_of}
-use Rattle.law_answers.proofs.inv.Inv.Reached.{inv_reached}
+use Rattle.law_reuse.specs.history.History.{world_of}
+use Rattle.law_reuse.proofs.inv.Inv.Reached.{inv_reached}
 use Rattle.wfe_drive_rule.specs.Ended.{HandlesEnd, SharedRule}
 use Rattle.wfe_drive_rule.specs.Handles.{IsIdle}
 use Rattle.wfe_drive_rule.specs.Rule.{Follows, Rules, had, size}

@@ -12,14 +12,14 @@ use Rattle.wfe_core.specs.Desks.{Desk}
 use Rattle.wfe_core.specs.Locals.{Local, busy_in, settled, settled_by, turn}
 use Rattle.wfe_core.specs.World.{World, begin, finds, is_busy, is_here, offered, step}
 use Rattle.wfe_core.specs.declared.post.Post.{Post}
-use Rattle.law_answers.specs.history.History.{Begins, Item, Made, Steps, done_if, first_made, fits, made_of, world_of}
-use Rattle.law_answers.specs.inv.Inv.{Inv}
-use Rattle.law_answers.specs.inv.Places.{PlaceMoves, is_leaving}
-use Rattle.law_answers.proofs.history.Along.{paths_keep}
-use Rattle.law_answers.proofs.inv.Inv.Places.{inv_place_moves, inv_places}
-use Rattle.law_answers.proofs.AnswersTold.Answering.{Keeps, answers_kept}
-use Rattle.law_answers.proofs.AnswersTold.Owed.{Serves}
-use Rattle.law_answers.proofs.Turns.Counted.{first_busy}
+use Rattle.law_reuse.specs.history.History.{Begins, Item, Made, Steps, done_if, first_made, fits, made_of, world_of}
+use Rattle.law_reuse.specs.inv.Inv.{Inv}
+use Rattle.law_reuse.specs.inv.Places.{PlaceMoves, is_leaving}
+use Rattle.law_reuse.proofs.history.Along.{paths_keep}
+use Rattle.law_reuse.proofs.inv.Inv.Places.{inv_place_moves, inv_places}
+use Rattle.law_reuse.proofs.AnswersTold.Answering.{Keeps, answers_kept}
+use Rattle.law_reuse.proofs.AnswersTold.Owed.{Serves}
+use Rattle.law_reuse.proofs.Turns.Counted.{first_busy}
 
 -- between calls, a seat whose last call is no leave
 abbrev pub IsThere : World → ℕ → Type 0

@@ -12,7 +12,7 @@ use Rattle.wfe_core.specs.Held.{ListHeld}
 use Rattle.wfe_core.specs.Locals.{Local, after, asks, busy_in}
 use Rattle.wfe_core.specs.World.{offered}
 use Rattle.wfe_drive_cells.specs.Operations.{answer_of, changed, word_in}
-use Rattle.law_answers.specs.history.History.{Item, Steps, world_of}
+use Rattle.law_reuse.specs.history.History.{Item, Steps, world_of}
 use Rattle.wfe_drive_rule.specs.declared.kept.Kept.{Kept}
 use Rattle.wfe_drive_rule.specs.Handles.{IsBare, IsHeld, IsIdle, IsSeated, IsTracked}
 use Rattle.wfe_drive_rule.specs.Moves.{HandsOver, Told, slotted}

@@ -1,5 +1,5 @@
-pub use Rattle.law_answers.proofs.inv as inv
-pub use Rattle.law_answers.proofs.history as history
+pub use Rattle.law_reuse.proofs.inv as inv
+pub use Rattle.law_reuse.proofs.history as history
 pub use Rattle.wfe_drive_cells.proofs as drive_cells
 pub mod Acting
 pub mod Adopting

@@ -10,7 +10,7 @@ use Rattle.atomic_table.specs.Table.{Splits, opening}
 use Rattle.atomic_table.proofs.Lists.{at_set, at_snoc}
 use Rattle.wfe_core.specs.words.Place.{is_valid}
 use Rattle.wfe_core.specs.words.declared.layout.Layout.{Layout}
-use Rattle.law_answers.specs.history.History.{world_of}
+use Rattle.law_reuse.specs.history.History.{world_of}
 use Rattle.wfe_drive_rule.specs.declared.kept.Kept.{Kept}
 use Rattle.wfe_core.proofs.Ranges.{bounds_of}
 use Rattle.wfe_drive_cells.specs.Memory.{HoldsStart}

@@ -15,14 +15,14 @@ use Rattle.wfe_core.proofs.words.Numbers.{number_below}
 use Rattle.wfe_drive_cells.specs.Bridge.{AsksWithin}
 use Rattle.wfe_drive_cells.specs.Operations.{answer_of, changed, word_in}
 use Rattle.wfe_drive_cells.proofs.Bridge.{word_in-numbered}
-use Rattle.law_answers.specs.history.History.{Item, world_of}
+use Rattle.law_reuse.specs.history.History.{Item, world_of}
 use Rattle.wfe_drive_rule.specs.Handles.{IsHeld, IsSeated, IsTracked, MovesNone}
 use Rattle.wfe_drive_rule.specs.Moves.{Stepped, Told}
 use Rattle.wfe_drive_rule.specs.Rule.{Holds}
 use Rattle.wfe_drive_rule.specs.Views.{Handle, Track, call_in, entry, own, seat_of, standing}
 use Rattle.wfe_drive_rule.proofs.Acting.{allowed}
 use Rattle.wfe_drive_rule.proofs.Allowed.{Entered, asks_within, entered_same, enters}
-use Rattle.law_answers.proofs.history.Snoc.{layout_is}
+use Rattle.law_reuse.proofs.history.Snoc.{layout_is}
 
 -- the step that an operation asks for
 pub may : (layout : Layout) (slots id slot : ℕ) (handle : Handle) (op : Op) → IsSeated layout slot handle → busy_in (standing handle).phase ≡ true → MovesNone (standing handle) → op ≡ asks (standing handle)

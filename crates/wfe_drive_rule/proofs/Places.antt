@@ -5,8 +5,8 @@ use Rattle.wfe_core.specs.defs.declared.call.Call.{Call}
 use Rattle.wfe_core.specs.defs.declared.call.Call.TheVariants as names
 use Rattle.wfe_core.specs.Calls.{Idle, Keeping, MarkLeft, MarkTaken, Phase, TakeList, Works}
 use Rattle.wfe_core.specs.Locals.{Local, after, busy_in}
-use Rattle.law_answers.specs.inv.Places.{is_leaving, placed}
-use Rattle.law_answers.proofs.AnswersTold.Owed.{Serves}
+use Rattle.law_reuse.specs.inv.Places.{is_leaving, placed}
+use Rattle.law_reuse.proofs.AnswersTold.Owed.{Serves}
 use Rattle.wfe_drive_rule.specs.Handles.{adopts}
 use Rattle.wfe_drive_rule.specs.Rule.{marks_at}
 use Rattle.wfe_drive_rule.specs.Views.{entered}

@@ -11,7 +11,7 @@ use Rattle.wfe_core.specs.words.declared.layout.Layout.{Layout}
 use Rattle.wfe_core.specs.defs.declared.call.Call.{Call}
 use Rattle.wfe_drive_rule.specs.declared.kept.Kept.{Kept}
 use Rattle.wfe_drive_cells.specs.Memory.{memory}
-use Rattle.law_answers.specs.history.History.{Item, world_of}
+use Rattle.law_reuse.specs.history.History.{Item, world_of}
 use Rattle.wfe_drive_rule.specs.Rule.{Follows, IsHere, IsHome, Rules, had, taken}
 use Rattle.wfe_drive_rule.specs.Views.{Track, View, own, seat_of}
 use Rattle.wfe_drive_rule.proofs.Numbers.{Alike, numbers_set}

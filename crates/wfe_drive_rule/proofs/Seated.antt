@@ -14,14 +14,14 @@ use Rattle.wfe_core.specs.defs.declared.lifetime.Lifetime.{Lifetime}
 use Rattle.wfe_drive_cells.specs.Unit.{may_adopt}
 use Rattle.wfe_core.proofs.CallFrames.{stays_in_place}
 use Rattle.wfe_core.proofs.words.Numbers.{number_below}
-use Rattle.law_answers.specs.history.History.{Item, Steps, world_of}
-use Rattle.law_answers.proofs.Turns.Counted.{first_busy}
-use Rattle.law_answers.proofs.inv.requests.Turns.{upd_here}
+use Rattle.law_reuse.specs.history.History.{Item, Steps, world_of}
+use Rattle.law_reuse.proofs.Turns.Counted.{first_busy}
+use Rattle.law_reuse.proofs.inv.requests.Turns.{upd_here}
 use Rattle.wfe_drive_rule.specs.Handles.{IsHeld, IsSeated, IsTracked}
 use Rattle.wfe_drive_rule.specs.Moves.{Told, keeping, with_own}
 use Rattle.wfe_drive_rule.specs.Views.{Handle, Track, View, call_in, entered, own, seat_of, standing}
 use Rattle.wfe_drive_rule.proofs.Allowed.{entered_same}
-use Rattle.law_answers.proofs.history.Snoc.{one_step}
+use Rattle.law_reuse.proofs.history.Snoc.{one_step}
 
 -- there is a word to load
 pub some_words : (layout : Layout) (count : ℕ) → count ≡ words layout → 0 < count

@@ -20,10 +20,10 @@ use Rattle.wfe_core.specs.Locals.{Local, busy_in}
 use Rattle.wfe_core.specs.World.{World, is_here}
 use Rattle.wfe_core.specs.words.Place.{is_valid}
 use Rattle.wfe_core.specs.words.Place.Place.{PlaceOf}
-use Rattle.law_answers.specs.history.History.{Item, world_of}
-use Rattle.law_answers.specs.inv.Places.{PlaceShows}
-use Rattle.law_answers.proofs.inv.Inv.Places.{inv_places}
-use Rattle.law_answers.proofs.inv.Inv.Reached.{inv_reached}
+use Rattle.law_reuse.specs.history.History.{Item, world_of}
+use Rattle.law_reuse.specs.inv.Places.{PlaceShows}
+use Rattle.law_reuse.proofs.inv.Inv.Places.{inv_places}
+use Rattle.law_reuse.proofs.inv.Inv.Reached.{inv_reached}
 use Rattle.wfe_drive_rule.specs.Handles.{IsBare, IsIdle, IsSeated}
 use Rattle.wfe_drive_rule.specs.Moves.{Gives, Takes, bared, slotted}
 use Rattle.wfe_drive_rule.specs.Rule.{AtHome, Follows, Holds, IsHere, IsHome, Rules, had, held, marking, markings, marks_at, taken, times}

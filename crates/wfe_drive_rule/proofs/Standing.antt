@@ -7,10 +7,10 @@ use Rattle.wfe_core.specs.defs.declared.call.Call.TheVariants as names
 use Rattle.wfe_core.specs.Calls.{Phase}
 use Rattle.wfe_core.specs.Locals.{Local, busy_in}
 use Rattle.wfe_core.specs.World.{finds}
-use Rattle.law_answers.specs.history.History.{Item, made_of, world_of}
-use Rattle.law_answers.specs.inv.Places.{is_leaving}
-use Rattle.law_answers.proofs.AnswersTold.Answering.{Keeps, answers_kept}
-use Rattle.law_answers.proofs.AnswersTold.Owed.{Serves}
+use Rattle.law_reuse.specs.history.History.{Item, made_of, world_of}
+use Rattle.law_reuse.specs.inv.Places.{is_leaving}
+use Rattle.law_reuse.proofs.AnswersTold.Answering.{Keeps, answers_kept}
+use Rattle.law_reuse.proofs.AnswersTold.Owed.{Serves}
 use Rattle.wfe_drive_rule.specs.Handles.{IsHeld, IsSeated, IsTracked, MovesNone, adopts}
 use Rattle.wfe_drive_rule.specs.Standing.{ComesTo, Finds, HandlesStand, StandsOn, StepsTell}
 use Rattle.wfe_drive_rule.specs.Moves.{Told}

@@ -9,7 +9,7 @@ use Rattle.wfe_core.specs.Calls.{Keeping, MarkTaken, TakeList, Works}
 use Rattle.wfe_core.specs.Held.{ListHeld}
 use Rattle.wfe_core.specs.Locals.{Local, after, busy_in}
 use Rattle.wfe_core.specs.World.{World, offered}
-use Rattle.law_answers.specs.history.History.{Item, Steps, world_of}
+use Rattle.law_reuse.specs.history.History.{Item, Steps, world_of}
 use Rattle.wfe_drive_rule.specs.declared.kept.Kept.{Kept}
 use Rattle.wfe_drive_rule.specs.Handles.{IsAdopting, IsResting, IsSeated, IsTracked}
 use Rattle.wfe_drive_rule.specs.Moves.{IsTaken, MarksOver, TakesOver, Told, with_own}

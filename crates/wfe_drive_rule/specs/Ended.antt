@@ -10,8 +10,8 @@ use Rattle.wfe_drive_rule.specs.declared.kept.Kept.{Kept}
 use Rattle.wfe_core.specs.Locals.{fresh}
 use Rattle.wfe_core.specs.World.{is_busy}
 use Rattle.wfe_drive_cells.specs.Memory.{memory}
-use Rattle.law_answers.specs.history.History.{Item, world_of}
-use Rattle.law_answers.specs.inv.Inv.{Inv}
+use Rattle.law_reuse.specs.history.History.{Item, world_of}
+use Rattle.law_reuse.specs.inv.Inv.{Inv}
 use Rattle.wfe_drive_rule.specs.Handles.{IsIdle}
 use Rattle.wfe_drive_rule.specs.Rule.{Follows, Numbered, Rules, had, times}
 use Rattle.wfe_drive_rule.specs.Views.{Track, View, seat_of}

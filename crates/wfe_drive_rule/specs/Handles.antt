@@ -7,8 +7,8 @@ use Rattle.wfe_core.specs.defs.declared.call.Call.{Call}
 use Rattle.wfe_core.specs.defs.declared.call.Call.TheVariants as names
 use Rattle.wfe_core.specs.Calls.{Keeping, MarkTaken, Works}
 use Rattle.wfe_core.specs.Locals.{Local, busy_in, may_begin}
-use Rattle.law_answers.specs.history.History.{world_of}
-use Rattle.law_answers.specs.inv.Places.{is_leaving}
+use Rattle.law_reuse.specs.history.History.{world_of}
+use Rattle.law_reuse.specs.inv.Places.{is_leaving}
 use Rattle.wfe_drive_rule.specs.Views.{Handle, Track, call_in, own, seat_of, slot_of, standing}
 
 -- the table has the words of the layout, and a slot for each seat

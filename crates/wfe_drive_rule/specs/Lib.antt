@@ -1,5 +1,5 @@
-pub use Rattle.law_answers.specs.inv as inv
-pub use Rattle.law_answers.specs.history as history
+pub use Rattle.law_reuse.specs.inv as inv
+pub use Rattle.law_reuse.specs.history as history
 pub use Rattle.wfe_drive_cells.specs as drive_cells
 pub mod Ended
 pub mod Handles

@@ -10,7 +10,7 @@ use Rattle.wfe_core.specs.Locals.{Local, after, asks}
 use Rattle.wfe_core.specs.World.{finds, offered}
 use Rattle.wfe_drive_cells.specs.Operations.{answer_of}
 use Rattle.wfe_drive_cells.specs.Unit.{kept_desk}
-use Rattle.law_answers.specs.history.History.{Item, Steps, world_of}
+use Rattle.law_reuse.specs.history.History.{Item, Steps, world_of}
 use Rattle.wfe_drive_rule.specs.Views.{Handle, Track, View, bare_view, fresh_track, own, seat_of, slot_left, standing}
 
 -- the view with another own seat, and no other

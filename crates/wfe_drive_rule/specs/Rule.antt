@@ -13,7 +13,7 @@ use Rattle.wfe_core.specs.Locals.{fresh}
 use Rattle.wfe_core.specs.World.{World, is_here, list_in}
 use Rattle.wfe_core.specs.words.Place.Place.{PlaceOf}
 use Rattle.wfe_drive_cells.specs.Memory.{memory}
-use Rattle.law_answers.specs.history.History.{Item, world_of}
+use Rattle.law_reuse.specs.history.History.{Item, world_of}
 use Rattle.wfe_drive_rule.specs.Views.{Track, View, seat_of, slot_left}
 
 -- how many of these tracks are the seat's

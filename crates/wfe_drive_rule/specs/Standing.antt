@@ -4,7 +4,7 @@ use Rattle.wfe_core.specs.words.Place.{is_valid}
 use Rattle.wfe_core.specs.words.declared.layout.Layout.{Layout}
 use Rattle.wfe_core.specs.Locals.{Local}
 use Rattle.wfe_core.specs.World.{finds}
-use Rattle.law_answers.specs.history.History.{Item, world_of}
+use Rattle.law_reuse.specs.history.History.{Item, world_of}
 use Rattle.wfe_drive_rule.specs.Handles.{IsSeated}
 use Rattle.wfe_drive_rule.specs.Moves.{Told}
 use Rattle.wfe_drive_rule.specs.Views.{Handle, View, own, standing}

@@ -7,7 +7,7 @@ use Rattle.wfe_core.specs.Held.{ListHeld}
 use Rattle.wfe_core.specs.defs.declared.call.Call.{Call}
 use Rattle.wfe_core.specs.defs.declared.call.Call.TheVariants as names
 use Rattle.wfe_core.specs.Locals.{Local, begun, fresh}
-use Rattle.law_answers.specs.history.History.{Begins, Item}
+use Rattle.law_reuse.specs.history.History.{Begins, Item}
 use Rattle.wfe_drive_rule.specs.declared.kept.Kept.{Kept}
 use Rattle.wfe_drive_rule.specs.declared.kept.Kept.TheVariants.{Begun, Left}
 

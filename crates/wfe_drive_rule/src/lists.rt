@@ -2,7 +2,7 @@
 ghost use Rattle.std.specs.Prelude.{◌≡◌, ◌≢◌, IfErr, IfOk, None};
 ghost use Rattle.wfe_core.specs.Calls.{Keeping, MarkLeft, TakeList, Works};
 ghost use Rattle.wfe_core.specs.Locals.{asks};
-ghost use Rattle.law_answers.specs.history.History.{world_of};
+ghost use Rattle.law_reuse.specs.history.History.{world_of};
 ghost use Rattle.wfe_core.specs.World.{offered};
 ghost use Rattle.wfe_core.specs.declared.op.Op.TheVariants as ops;
 ghost use Rattle.wfe_drive_rule.specs.Handles.{IsAdopting, IsBare, IsIdle, IsResting, IsSeated, IsSized};

@@ -26,7 +26,6 @@ pub use rows::{give_up, take_row};
 pub use span::{close_span, hold_ibr, open_span};
 pub use tidy_run::tidy;
 pub use wfe_drive_words::{
-    Advance, CopyIndex, Dequeue, DropIndex, Enqueue, Get, He, Hold, Ibr, Look, Put, PutIf, Release,
-    Remove, Scan, Scheme, Wfe, Words, answers_leave_groups, bucket_for, drive_apart, drive_on,
-    get_he_in, get_ibr_in, get_wfe_in, histories_ready_seats, load_cell, note_steps, step,
+    Words, answers_leave_groups, bucket_for, drive_apart, drive_on, get_he_in, get_ibr_in,
+    get_wfe_in, histories_ready_seats, load_cell, note_steps, step,
 };

@@ -10,8 +10,8 @@ use Rattle.wfe_drive_rule.specs.drive_cells.Unit.{SeatView, shown}
 use Rattle.law_all.specs.logs.Versions.{Counts, met_by, met_in}
 use Rattle.law_all.proofs.logs.LastScans.{record_reads}
 use Rattle.law_all.proofs.logs.Meets.{logs_extend}
-use Rattle.law_all.proofs.logs.Records.{logs_answer}
-use Rattle.law_all.proofs.held.places.Placing.Keeps.{records_refuse}
+use Rattle.law_all.proofs.Records.{logs_answer}
+use Rattle.law_all.proofs.held.scans.Placing.Keeps.{records_refuse}
 use Rattle.wfe_drive_call.specs.drive_words.Called.{Called, Ends, Here, LeadsTo}
 use Rattle.wfe_drive_call.specs.drive_words.Comes.{departs}
 use Rattle.wfe_drive_rule.specs.Handles.{IsResting, IsSeated, IsTracked}

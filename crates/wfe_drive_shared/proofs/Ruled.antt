@@ -7,7 +7,7 @@ use Rattle.law_all.specs.logs.Records.{IsBeginning}
 use Rattle.law_all.specs.logs.Versions.{AtMost, counts_of, met_in, seen_in}
 use Rattle.law_all.proofs.logs.Answered.{pairs_on}
 use Rattle.law_all.proofs.logs.Grows.{Grows, grows_tells, records_grow}
-use Rattle.law_all.proofs.logs.Records.{logs_meet}
+use Rattle.law_all.proofs.Records.{logs_meet}
 use Rattle.wfe_drive_rule.specs.Rule.{Follows}
 use Rattle.wfe_drive_rule.specs.Views.{Track, seat_of}
 use Rattle.wfe_drive_rule.specs.history.History.{Item, record_of}

@@ -8,13 +8,13 @@ use Rattle.wfe_core.specs.MayStep.{MayStep}
 use Rattle.wfe_core.specs.World.{World, finds, is_busy}
 use Rattle.laws.specs.AnswerLaw.{suits}
 use Rattle.wfe_drive_cells.specs.Unit.{shown, turned, may_adopt}
-use Rattle.law_answers.specs.Heard.{IsCounted}
-use Rattle.law_answers.specs.history.History.{made_of}
-use Rattle.law_answers.proofs.inv.Inv.Reached.{reached_ready}
-use Rattle.law_answers.proofs.shapes.Frame.{seat_steps}
-use Rattle.law_answers.proofs.AnswersTold.Answering.{Keeps, answers_kept, owes_of}
-use Rattle.law_answers.proofs.AnswersTold.Owed.{OutServes}
-use Rattle.law_answers.proofs.Turns.Counted.{histories_count}
+use Rattle.law_reuse.specs.Heard.{IsCounted}
+use Rattle.law_reuse.specs.history.History.{made_of}
+use Rattle.law_reuse.proofs.inv.Inv.Reached.{reached_ready}
+use Rattle.law_reuse.proofs.shapes.Frame.{seat_steps}
+use Rattle.law_reuse.proofs.AnswersTold.Answering.{Keeps, answers_kept, owes_of}
+use Rattle.law_reuse.proofs.AnswersTold.Owed.{OutServes}
+use Rattle.law_reuse.proofs.Turns.Counted.{histories_count}
 use Rattle.wfe_drive_words.specs.Comes.{Comes, Given, lent}
 use Rattle.wfe_drive_words.specs.Readiness.{MayAsk, MayTake, Settles}
 use Rattle.wfe_drive_words.proofs.Lending.{lent_lone, stays_alone, world}

@@ -11,9 +11,9 @@ use Rattle.wfe_core.specs.Phases.Base.{Retire}
 use Rattle.wfe_core.specs.World.{World, gift_at}
 use Rattle.wfe_core.specs.declared.post.Post.{Post}
 use Rattle.wfe_drive_cells.specs.Unit.{kept_desk, may_adopt}
-use Rattle.law_answers.specs.history.History.{made_of, world_of}
-use Rattle.law_answers.proofs.AnswersTold.Answering.{Keeps, answers_kept}
-use Rattle.law_answers.proofs.AnswersTold.Owed.{Serves}
+use Rattle.law_reuse.specs.history.History.{made_of, world_of}
+use Rattle.law_reuse.proofs.AnswersTold.Answering.{Keeps, answers_kept}
+use Rattle.law_reuse.proofs.AnswersTold.Owed.{Serves}
 use Rattle.wfe_drive_words.specs.Comes.{Comes, Given, lent}
 
 -- the World, and the seat in it

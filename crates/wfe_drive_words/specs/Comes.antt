@@ -5,7 +5,7 @@ use Rattle.wfe_core.specs.defs.declared.call.Call.{Call}
 use Rattle.wfe_core.specs.defs.declared.call.Call.TheVariants as names
 use Rattle.wfe_core.specs.Locals.{Local}
 use Rattle.wfe_core.specs.World.{finds, offered}
-use Rattle.law_answers.specs.history.History.{Item, world_of}
+use Rattle.law_reuse.specs.history.History.{Item, world_of}
 
 -- by the call its seat leaves the table
 abbrev pub departs : Call → Bool

@@ -23,7 +23,7 @@ use crate::asking::{Bounded, protect_wfe};
 use crate::found::{Found, find};
 use crate::path::{publish, step};
 use crate::protect::protect_he;
-use wfe_call_any::{Get, Wfe};
+use wfe_bucketmap_read::{Get, Wfe};
 use wfe_core::{Answer, Desk, Layout, Post, Root};
 use wfe_fast::WfeProtect;
 

@@ -22,10 +22,6 @@ pub use get_span::{begin_span, get_ibr_in, store_none};
 pub use machine::drive_on;
 pub use path::{load_cell, load_clock, load_link, publish, step};
 pub use protect::{Guarded, Tried, protect_he, try_on, try_once};
-pub use wfe_call_any::{
-    Advance, CopyIndex, Dequeue, DropIndex, Enqueue, Get, He, Hold, Ibr, Look, Put, PutIf, Release,
-    Remove, Scan, Scheme, Wfe,
-};
 pub use wfe_fast::WfeProtect;
 pub use within::{protect_within, store_span};
 pub use words::Words;

@@ -27,8 +27,8 @@ use Rattle.wfe_core.proofs.words.Numbers.{number_below}
 use Rattle.wfe_drive_cells.specs.Memory.{HoldsStart}
 use Rattle.wfe_drive_cells.specs.Unit.{IsUnit, SeatView, Shows, TableView, after_start, asked, begun_seat, fresh_seat, is_gone, may_adopt, seat_at, with_seat}
 use Rattle.wfe_drive_cells.proofs.Units.{first-start}
-use Rattle.law_answers.specs.history.History.{world_of}
-use Rattle.law_answers.specs.inv.Places.{is_leaving}
+use Rattle.wfe_drive.specs.history.History.{world_of}
+use Rattle.wfe_drive.specs.inv.Places.{is_leaving}
 use Rattle.wfe_drive.specs.Reached.{first_table, units_left}
 use Rattle.wfe_leave.specs.Comes.{Comes}
 use Rattle.wfe_leave.specs.declared.part.Part.{Part}

@@ -2,7 +2,7 @@
 use Rattle.std.specs.Prelude.{List, length, true, ◌≡◌}
 use Rattle.wfe_core.specs.words.Place.{is_valid}
 use Rattle.wfe_drive_cells.specs.Unit.{Shows, TableView}
-use Rattle.law_answers.specs.history.History.{Item, world_of}
+use Rattle.wfe_drive.specs.history.History.{Item, world_of}
 
 -- calls began and steps were made, from the World before the first call, so that the table shows the World that they come to
 pub record Comes (table : TableView) : Type 0 where

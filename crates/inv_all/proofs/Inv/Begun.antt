@@ -12,7 +12,7 @@ use Rattle.inv_ends.specs.requests.Views.Deal.{Quiet}
 use Rattle.inv_steps_left.specs.rows.Queue.{Line}
 use Rattle.inv_steps_left.specs.rows.Rows.{View}
 use Rattle.inv_ends.specs.covers.Rests.{SpanRests}
-use Rattle.inv_ends.specs.handover.Helped.{Helped}
+use Rattle.inv_ends.specs.Helped.{Helped}
 use Rattle.inv_ends.proofs.shapes.Decode.{eras_start, eras_begin}
 use Rattle.inv_ends.proofs.shapes.Kept.{seats_start, seats_begin}
 use Rattle.inv_ends.proofs.shapes.Quiet.{noted_start, noted_begin}
@@ -26,14 +26,14 @@ use Rattle.inv_steps_left.proofs.rows.Whole.{whole_start, whole_begin}
 use Rattle.inv_ends.proofs.covers.Begun.{held_start, held_begin}
 use Rattle.inv_ends.proofs.covers.Kept.{scans_start, scans_begin}
 use Rattle.inv_ends.proofs.covers.Resting.{rests_start, rests_begin, spans_rest}
-use Rattle.inv_steps_left.proofs.contents.Contents.Begun.{contents_start, contents_begin}
-use Rattle.inv_steps_left.proofs.contents.Stands.Kept.{stands_start, stands_begin}
-use Rattle.inv_steps_left.proofs.contents.Items.Begun.{items_start, items_begin}
-use Rattle.inv_steps_left.proofs.contents.Items.Bounds.{bounded_start, bounded_begin}
-use Rattle.inv_ends.proofs.handover.Begun.{handover_start, handover_begin}
-use Rattle.inv_steps_left.proofs.links.Links.Kept.{links_start, links_begin}
+use Rattle.inv_contents.proofs.Contents.Begun.{contents_start, contents_begin}
+use Rattle.inv_contents.proofs.Stands.Kept.{stands_start, stands_begin}
+use Rattle.inv_contents.proofs.Items.Begun.{items_start, items_begin}
+use Rattle.inv_contents.proofs.Items.Bounds.{bounded_start, bounded_begin}
+use Rattle.inv_ends.proofs.Handover.Begun.{handover_start, handover_begin}
+use Rattle.inv_links.proofs.Links.Kept.{links_start, links_begin}
 use Rattle.inv_steps_left.proofs.Rest.Lasting.{losses_start, losses_begin}
-use Rattle.inv_steps_left.proofs.Rounds.Ending.{rounds_start, rounds_begin}
+use Rattle.inv_all.proofs.Rounds.Ending.{rounds_start, rounds_begin}
 use Rattle.inv_all.specs.Known.{Known}
 use Rattle.inv_all.specs.Inv.{InvStart, InvBegin}
 use Rattle.inv_all.proofs.Inv.Ready.{here_few}

@@ -16,7 +16,7 @@ use Rattle.inv_steps_left.specs.rows.Tries.{at_tries, base_tries}
 use Rattle.inv_ends.specs.covers.Covers.{takes_or_frees, CoversNeeds, Scanning}
 use Rattle.inv_ends.specs.covers.Held.{under, Held}
 use Rattle.inv_ends.proofs.covers.Begun.{standing_stays}
-use Rattle.inv_steps_left.specs.links.Tracked.{carries_at, carries_base, root_base}
+use Rattle.inv_links.specs.Tracked.{carries_at, carries_base, root_base}
 use Rattle.inv_ends.proofs.model.Facts.{true_not_false, same_number}
 
 -- the row that a scan gives back is made free

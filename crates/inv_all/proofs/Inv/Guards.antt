@@ -40,8 +40,8 @@ use Rattle.inv_all.proofs.Inv.Rows.{covers_need, roots_need}
 use Rattle.inv_all.proofs.Inv.Shapes.{eras_of, index_in, followed_of, grows_of, era_most, keep_fits, keep_in, why_in}
 use Rattle.inv_all.proofs.Inv.Shown.{clock_small, word_era, shown_span}
 use Rattle.inv_ends.proofs.requests.Known.{copying, known}
-use Rattle.inv_ends.proofs.handover.Deals.{few_ahead}
-use Rattle.inv_ends.proofs.handover.Asks.{run_of}
+use Rattle.inv_ends.proofs.Handover.Deals.{few_ahead}
+use Rattle.inv_ends.proofs.Handover.Asks.{run_of}
 use Rattle.inv_ends.proofs.model.Facts.{below_length}
 
 mark_small : (w : World) (i j : ℕ) (z : Asked) → is_valid w.layout ≡ true → Eras w → Requests w z → z.mark i j < 4294967296

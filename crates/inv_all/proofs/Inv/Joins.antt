@@ -56,13 +56,13 @@ use Rattle.inv_ends.specs.covers.Covers.{Covers, Scanning, has_met, is_unmet, li
 use Rattle.inv_ends.specs.covers.Held.{Held, tries_base, tries_protect, under}
 use Rattle.inv_ends.specs.covers.Held as held
 use Rattle.inv_ends.proofs.covers.Rows.{listed_other}
-use Rattle.inv_ends.specs.handover.Helped.{Helped, answered_from, helper_holds, move_holds, passed_to, turn_holds}
-use Rattle.inv_steps_left.specs.contents.Contents.{Contents}
-use Rattle.inv_steps_left.specs.contents.Items.{Items}
-use Rattle.inv_steps_left.specs.links.Links.{Links, links_to}
-use Rattle.inv_steps_left.specs.links.Tracked.{Tracked, root_in}
-use Rattle.inv_steps_left.specs.links.Tracked as tracked
-use Rattle.inv_steps_left.specs.Rounds.{Rounds}
+use Rattle.inv_ends.specs.Helped.{Helped, answered_from, helper_holds, move_holds, passed_to, turn_holds}
+use Rattle.inv_contents.specs.Contents.{Contents}
+use Rattle.inv_contents.specs.Items.{Items}
+use Rattle.inv_links.specs.Links.{Links, links_to}
+use Rattle.inv_links.specs.Tracked.{Tracked, root_in}
+use Rattle.inv_links.specs.Tracked as tracked
+use Rattle.inv_all.specs.Rounds.{Rounds}
 use Rattle.inv_all.specs.Joins.{InvJoins, JoinsFit, ListingAdds, joined, joined_desk}
 use Rattle.inv_all.specs.Known.{Known}
 

@@ -26,17 +26,17 @@ use Rattle.inv_ends.specs.covers.Held.{Held}
 use Rattle.inv_ends.proofs.covers.Held.{held_kept}
 use Rattle.inv_ends.proofs.covers.Kept.{scans_kept}
 use Rattle.inv_ends.proofs.covers.Resting.{rests_kept}
-use Rattle.inv_steps_left.proofs.contents.Contents.Kept.{contents_kept}
-use Rattle.inv_ends.specs.handover.Helped.{Helped}
-use Rattle.inv_steps_left.proofs.contents.Stands.Kept.{stands_kept}
-use Rattle.inv_steps_left.proofs.contents.Items.Kept.{items_kept}
-use Rattle.inv_steps_left.proofs.contents.Items.Bounds.{bounded_kept}
-use Rattle.inv_ends.proofs.handover.Kept.{handover_kept}
-use Rattle.inv_steps_left.proofs.links.Links.Kept.{links_kept}
+use Rattle.inv_contents.proofs.Contents.Kept.{contents_kept}
+use Rattle.inv_ends.specs.Helped.{Helped}
+use Rattle.inv_contents.proofs.Stands.Kept.{stands_kept}
+use Rattle.inv_contents.proofs.Items.Kept.{items_kept}
+use Rattle.inv_contents.proofs.Items.Bounds.{bounded_kept}
+use Rattle.inv_ends.proofs.Handover.Kept.{handover_kept}
+use Rattle.inv_links.proofs.Links.Kept.{links_kept}
 use Rattle.inv_steps_left.specs.Falls.{RestNeeds}
 use Rattle.inv_steps_left.proofs.Rest.Lasting.{losses_kept}
-use Rattle.inv_steps_left.specs.Rounds.{RoundsNeeds}
-use Rattle.inv_steps_left.proofs.Rounds.Ending.{rounds_kept, rounds_give}
+use Rattle.inv_all.specs.Rounds.{RoundsNeeds}
+use Rattle.inv_all.proofs.Rounds.Ending.{rounds_kept, rounds_give}
 use Rattle.inv_all.specs.Known.{Known}
 use Rattle.inv_all.specs.Inv.{InvKept, InvReady}
 use Rattle.inv_all.proofs.Inv.Guards.{held_need, rests_need}

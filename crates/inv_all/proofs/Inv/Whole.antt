@@ -19,24 +19,24 @@ use Rattle.inv_steps_left.specs.rows.Tries.{base_tries, WholeNeeds}
 use Rattle.inv_steps_left.proofs.rows.Whole.{whole_needs}
 use Rattle.inv_ends.specs.covers.Covers.{takes_or_frees, CoversNeeds}
 use Rattle.inv_ends.specs.covers.Held.{under}
-use Rattle.inv_steps_left.specs.contents.Contents.{ContentsNeeds}
-use Rattle.inv_ends.specs.handover.Handover.{HandoverNeeds, IsLeft, RowsLeft}
-use Rattle.inv_steps_left.specs.links.Origins.{OriginsNeeds}
-use Rattle.inv_steps_left.specs.links.Tracked.{carries_in, root_for, root_in, Tracked, Carried}
-use Rattle.inv_steps_left.specs.links.Links.{LinksNeeds, LinksShow}
-use Rattle.inv_steps_left.specs.contents.Stands.{nexts_in, read_index}
-use Rattle.inv_steps_left.specs.contents.Items.{ItemsNeeds}
-use Rattle.inv_steps_left.proofs.contents.Items.Gives.{last_number}
-use Rattle.inv_steps_left.proofs.contents.Items.Finds.{work_finds_fit}
-use Rattle.inv_ends.proofs.handover.Kept.{rows_stay}
-use Rattle.inv_steps_left.proofs.links.Links.Given.{links_give}
-use Rattle.inv_steps_left.proofs.links.Links.Tried.{held_links_stay}
+use Rattle.inv_contents.specs.Contents.{ContentsNeeds}
+use Rattle.inv_ends.specs.Handover.{HandoverNeeds, IsLeft, RowsLeft}
+use Rattle.inv_links.specs.Origins.{OriginsNeeds}
+use Rattle.inv_links.specs.Tracked.{carries_in, root_for, root_in, Tracked, Carried}
+use Rattle.inv_links.specs.Links.{LinksNeeds, LinksShow}
+use Rattle.inv_contents.specs.Stands.{nexts_in, read_index}
+use Rattle.inv_contents.specs.Items.{ItemsNeeds}
+use Rattle.inv_contents.proofs.Items.Gives.{last_number}
+use Rattle.inv_contents.proofs.Items.Finds.{work_finds_fit}
+use Rattle.inv_ends.proofs.Handover.Kept.{rows_stay}
+use Rattle.inv_links.proofs.Links.Given.{links_give}
+use Rattle.inv_links.proofs.Links.Tried.{held_links_stay}
 use Rattle.inv_all.specs.Known.{Known}
 use Rattle.inv_all.proofs.Inv.Frees.{back_frees, back_apart, stands_settled, tried_under, tried_carried}
 use Rattle.inv_all.proofs.Inv.Rows.{covers_need, roots_need}
 use Rattle.inv_all.proofs.Inv.Shapes.{phase_tried}
 use Rattle.inv_all.proofs.Inv.Tracks.{tracked_left}
-use Rattle.inv_ends.proofs.handover.Asks.{run_of}
+use Rattle.inv_ends.proofs.Handover.Asks.{run_of}
 use Rattle.inv_ends.proofs.model.Facts.{false_by, true_not_false}
 
 pub covers_of : (w : World) (i : ℕ) (v : View) (l : Line) (z : Asked) → Known w v l z → CoversNeeds w i v

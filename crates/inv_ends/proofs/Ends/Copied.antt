@@ -2,32 +2,32 @@
 use Rattle.std.proofs.Common.{ℕ, ◌+◌, ◌≤◌, Bool, true, false, ◌≡◌, ◌∙◌, sym, refl, ap, subst, arith}
 use Rattle.std.specs.List.{list_any}
 use Rattle.std.specs.Prelude.{Option, Some, None, drop, length, if◌then◌else◌, ◌==◌, ◌&&◌}
-use Rattle.inv_handover.specs.covers.defs.declared.event.Event.{Event}
-use Rattle.inv_handover.specs.covers.defs.declared.event.Event.TheVariants as events
-use Rattle.inv_handover.specs.covers.defs.declared.event.Root.{Root}
-use Rattle.inv_handover.specs.covers.defs.declared.event.Root.TheVariants as roots
-use Rattle.inv_handover.specs.covers.model.Keep as keeps
-use Rattle.inv_handover.specs.covers.model.Calls.{KeepAt, Loosens, LoadHeld, StoreHeld, Looks, Misses, HideSpan, MarkLeft, TakeList, MarkTaken, Keeping, Phase, Idle, Runs, Scans, Works}
-use Rattle.inv_handover.specs.covers.model.Desks.{Desk}
-use Rattle.inv_handover.specs.covers.model.Locals.{Local, turn}
-use Rattle.inv_handover.specs.covers.model.Memory.{bump}
-use Rattle.inv_handover.specs.covers.model.Phases.{ProtectAt, Base}
-use Rattle.inv_handover.specs.covers.model.Phases.ProtectAt.{CheckClock, CheckUpper, TakeAnswer}
-use Rattle.inv_handover.specs.covers.model.Phases.Base.{Clear, Protect, Release, Reload}
-use Rattle.inv_handover.specs.covers.model.Posts.{counted, stands, upper, with_row}
-use Rattle.inv_handover.specs.covers.model.Protect.{told_held}
-use Rattle.inv_handover.specs.covers.model.Rounds.{let_index, scheme_of}
-use Rattle.inv_handover.specs.covers.model.Steps as steps
-use Rattle.inv_handover.specs.covers.model.World.{finds, offered}
-use Rattle.inv_handover.specs.covers.model.declared.post.Post.{Post}
-use Rattle.inv_handover.specs.covers.shapes.Slots.{CopyIn, KeepIn, PhaseIn}
-use Rattle.inv_handover.specs.covers.words.Schemes.{has_one_interval}
-use Rattle.inv_handover.specs.covers.words.declared.config.Config.{Config}
-use Rattle.inv_handover.specs.covers.words.declared.layout.Layout.{Layout}
-use Rattle.inv_handover.proofs.covers.Held.{stepped_post}
-use Rattle.inv_handover.proofs.covers.model.Facts.{and_false, first_of, no_truth_2, number_is, rest_of}
-use Rattle.inv_handover.proofs.covers.model.Ranges.{bounds_of}
-use Rattle.inv_handover.proofs.covers.model.Standing.{stands-with_row_same, stands-with_row_other}
+use Rattle.inv_covers.specs.defs.declared.event.Event.{Event}
+use Rattle.inv_covers.specs.defs.declared.event.Event.TheVariants as events
+use Rattle.inv_covers.specs.defs.declared.event.Root.{Root}
+use Rattle.inv_covers.specs.defs.declared.event.Root.TheVariants as roots
+use Rattle.inv_covers.specs.model.Keep as keeps
+use Rattle.inv_covers.specs.model.Calls.{KeepAt, Loosens, LoadHeld, StoreHeld, Looks, Misses, HideSpan, MarkLeft, TakeList, MarkTaken, Keeping, Phase, Idle, Runs, Scans, Works}
+use Rattle.inv_covers.specs.model.Desks.{Desk}
+use Rattle.inv_covers.specs.model.Locals.{Local, turn}
+use Rattle.inv_covers.specs.model.Memory.{bump}
+use Rattle.inv_covers.specs.model.Phases.{ProtectAt, Base}
+use Rattle.inv_covers.specs.model.Phases.ProtectAt.{CheckClock, CheckUpper, TakeAnswer}
+use Rattle.inv_covers.specs.model.Phases.Base.{Clear, Protect, Release, Reload}
+use Rattle.inv_covers.specs.model.Posts.{counted, stands, upper, with_row}
+use Rattle.inv_covers.specs.model.Protect.{told_held}
+use Rattle.inv_covers.specs.model.Rounds.{let_index, scheme_of}
+use Rattle.inv_covers.specs.model.Steps as steps
+use Rattle.inv_covers.specs.model.World.{finds, offered}
+use Rattle.inv_covers.specs.model.declared.post.Post.{Post}
+use Rattle.inv_covers.specs.shapes.Slots.{CopyIn, KeepIn, PhaseIn}
+use Rattle.inv_covers.specs.words.Schemes.{has_one_interval}
+use Rattle.inv_covers.specs.words.declared.config.Config.{Config}
+use Rattle.inv_covers.specs.words.declared.layout.Layout.{Layout}
+use Rattle.inv_covers.proofs.Held.{stepped_post}
+use Rattle.inv_covers.proofs.model.Facts.{and_false, first_of, no_truth_2, number_is, rest_of}
+use Rattle.inv_covers.proofs.model.Ranges.{bounds_of}
+use Rattle.inv_covers.proofs.model.Standing.{stands-with_row_same, stands-with_row_other}
 use Rattle.model_history.proofs.Passes.{copied_post, keep_post}
 use Rattle.inv_ends.proofs.Ends.Nulls.{none_of}
 use Rattle.inv_ends.proofs.Ends.Tests.{Calm, at_shows, base_shows, copied_shows, keep_shows, none_cleared, none_left, phase_shows, step_any}

@@ -3,29 +3,29 @@ use Rattle.std.proofs.Common.{ℕ, ◌≡◌, ◌≤◌, ◌<◌, ◌+◌, ◌-�
 use Rattle.std.proofs.lemmas.Bool.Decides.{nat_tests}
 use Rattle.std.proofs.lemmas.List.{length-drop}
 use Rattle.std.proofs.lemmas.List.Edits.{length-remove}
-use Rattle.inv_contents.specs.defs.Shown.{Seen, keeps_any}
-use Rattle.inv_contents.specs.model.Scan as scan
-use Rattle.inv_contents.specs.defs.declared.event.Event.TheVariants as events
-use Rattle.inv_contents.specs.model.Calls.{AfterScan, ScanAt, Task}
-use Rattle.inv_contents.specs.model.Calls.AfterScan.{Answered, Counted, Repeated}
-use Rattle.inv_contents.specs.model.Calls.ScanAt.{GiveBack, ReadGuard}
-use Rattle.inv_contents.specs.model.Desks.{Desk}
-use Rattle.inv_contents.specs.model.Guards.{guard_at, guards, eras_in, published}
-use Rattle.inv_contents.specs.model.Locals.{rounds_told}
-use Rattle.inv_contents.specs.model.Rest.{later_left, phase_left, round_worth, rounds_most, scan_left, task_left}
-use Rattle.inv_contents.specs.model.Rounds.{round}
-use Rattle.inv_contents.specs.model.declared.post.Post.{Post}
-use Rattle.inv_contents.specs.defs.Entry.{entry}
-use Rattle.inv_contents.specs.defs.declared.event.Event.{Event}
-use Rattle.inv_contents.specs.defs.declared.lifetime.Lifetime.{Lifetime}
-use Rattle.inv_links.specs.shapes.Seats.{scan_fits}
-use Rattle.inv_links.specs.shapes.Slots.{scan_lists}
+use Rattle.inv_covers.specs.defs.Shown.{Seen, keeps_any}
+use Rattle.inv_covers.specs.model.Scan as scan
+use Rattle.inv_covers.specs.defs.declared.event.Event.TheVariants as events
+use Rattle.inv_covers.specs.model.Calls.{AfterScan, ScanAt, Task}
+use Rattle.inv_covers.specs.model.Calls.AfterScan.{Answered, Counted, Repeated}
+use Rattle.inv_covers.specs.model.Calls.ScanAt.{GiveBack, ReadGuard}
+use Rattle.inv_covers.specs.model.Desks.{Desk}
+use Rattle.inv_covers.specs.model.Guards.{guard_at, guards, eras_in, published}
+use Rattle.inv_covers.specs.model.Locals.{rounds_told}
+use Rattle.inv_covers.specs.model.Rest.{later_left, phase_left, round_worth, rounds_most, scan_left, task_left}
+use Rattle.inv_covers.specs.model.Rounds.{round}
+use Rattle.inv_covers.specs.model.declared.post.Post.{Post}
+use Rattle.inv_covers.specs.defs.Entry.{entry}
+use Rattle.inv_covers.specs.defs.declared.event.Event.{Event}
+use Rattle.inv_covers.specs.defs.declared.lifetime.Lifetime.{Lifetime}
+use Rattle.inv_covers.specs.shapes.Seats.{scan_fits}
+use Rattle.inv_covers.specs.shapes.Slots.{scan_lists}
 use Rattle.inv_steps_left.proofs.Rest.Amounts.{opens_worth, task_drops, task_grows}
 use Rattle.inv_steps_left.proofs.Rest.Closings.{round_begins, turn_left}
 use Rattle.inv_steps_left.specs.Losses.{LostRound, later_fit, lost_fit}
-use Rattle.inv_contents.specs.words.declared.config.Config.{Config}
+use Rattle.inv_covers.specs.words.declared.config.Config.{Config}
 use Rattle.std.specs.Prelude.{List, length, Option, Some, None, nat_lt, drop, remove}
-use Rattle.inv_contents.specs.model.Calls.Task.{Changes, Dequeues, Enqueues, Gets, Holds}
+use Rattle.inv_covers.specs.model.Calls.Task.{Changes, Dequeues, Enqueues, Gets, Holds}
 
 -- an entry found lies from a place on, below another
 abbrev Within : (low high : ℕ) → Option scan.Entry → Type 0

@@ -1,28 +1,28 @@
 -- Each step of a seat leaves fewer steps, by what its machine is run for.
 use Rattle.std.proofs.Common.{ℕ, ◌∙◌, ◌≡◌, ◌≤◌, ◌+◌, ◌-◌, Bool, true, false, [], arith, refl, sym, ap, subst}
 use Rattle.std.proofs.lemmas.Bool.Decides.{nat_tests}
-use Rattle.inv_links.specs.shapes.Frame.{phase_left as stands_at}
-use Rattle.inv_contents.specs.words.Place.{is_valid}
-use Rattle.inv_contents.specs.words.Place.Place.{Clock}
-use Rattle.inv_contents.specs.model.Phases.Base.{Move, Begin, Protect, Allocate, Clear, Finish, GiveUp, Release, Reload, Retire, Write}
-use Rattle.inv_contents.specs.model.Calls.{Task, Why}
-use Rattle.inv_contents.specs.model.Calls.Phase.{Runs}
-use Rattle.inv_contents.specs.model.Calls.Task.{Changes, Dequeues, Enqueues, Gets, Holds}
-use Rattle.inv_contents.specs.model.Calls.Why.{Opens, Fills, FollowsHead}
-use Rattle.inv_contents.specs.model.Guards.{from_to}
-use Rattle.inv_contents.specs.model.Machine.{after}
-use Rattle.inv_contents.specs.model.Memory.{bump}
-use Rattle.inv_contents.specs.model.Phases.{Base, ProtectAt, Turn, Aim, AllocateAt, RowOf, ends, goes}
-use Rattle.inv_contents.specs.model.Phases.Aim.{Alone, Follows}
-use Rattle.inv_contents.specs.model.Phases.BeginAt.{LoadLower, PublishSpan}
-use Rattle.inv_contents.specs.model.Posts.{counted, with_span}
-use Rattle.inv_contents.specs.model.Rest.{base_seen, eras_left, is_told, lost_by, rounds_most, span_seen, why_left, task_left}
-use Rattle.inv_contents.specs.model.Rounds.{scheme_of}
-use Rattle.inv_contents.specs.model.Steps.{run_turn}
-use Rattle.inv_contents.specs.model.World.{World, finds, offered, step}
-use Rattle.inv_contents.specs.model.declared.post.Post.{Post}
-use Rattle.inv_contents.specs.defs.declared.event.Root.{Root}
-use Rattle.inv_links.specs.shapes.Seats.{task_root}
+use Rattle.inv_covers.specs.shapes.Frame.{phase_left as stands_at}
+use Rattle.inv_covers.specs.words.Place.{is_valid}
+use Rattle.inv_covers.specs.words.Place.Place.{Clock}
+use Rattle.inv_covers.specs.model.Phases.Base.{Move, Begin, Protect, Allocate, Clear, Finish, GiveUp, Release, Reload, Retire, Write}
+use Rattle.inv_covers.specs.model.Calls.{Task, Why}
+use Rattle.inv_covers.specs.model.Calls.Phase.{Runs}
+use Rattle.inv_covers.specs.model.Calls.Task.{Changes, Dequeues, Enqueues, Gets, Holds}
+use Rattle.inv_covers.specs.model.Calls.Why.{Opens, Fills, FollowsHead}
+use Rattle.inv_covers.specs.model.Guards.{from_to}
+use Rattle.inv_covers.specs.model.Machine.{after}
+use Rattle.inv_covers.specs.model.Memory.{bump}
+use Rattle.inv_covers.specs.model.Phases.{Base, ProtectAt, Turn, Aim, AllocateAt, RowOf, ends, goes}
+use Rattle.inv_covers.specs.model.Phases.Aim.{Alone, Follows}
+use Rattle.inv_covers.specs.model.Phases.BeginAt.{LoadLower, PublishSpan}
+use Rattle.inv_covers.specs.model.Posts.{counted, with_span}
+use Rattle.inv_covers.specs.model.Rest.{base_seen, eras_left, is_told, lost_by, rounds_most, span_seen, why_left, task_left}
+use Rattle.inv_covers.specs.model.Rounds.{scheme_of}
+use Rattle.inv_covers.specs.model.Steps.{run_turn}
+use Rattle.inv_covers.specs.model.World.{World, finds, offered, step}
+use Rattle.inv_covers.specs.model.declared.post.Post.{Post}
+use Rattle.inv_covers.specs.defs.declared.event.Root.{Root}
+use Rattle.inv_covers.specs.shapes.Seats.{task_root}
 use Rattle.inv_steps_left.proofs.Rest.Amounts.{PhaseKnown}
 use Rattle.inv_steps_left.proofs.Rest.Closings.{opening_left}
 use Rattle.inv_steps_left.proofs.Rest.Falling.{Seat, seat_after, seat_protects, span_within}
@@ -31,14 +31,14 @@ use Rattle.inv_steps_left.proofs.Rest.Runs.{ends_well, none_lost, opens_hold, op
 use Rattle.inv_steps_left.proofs.Rest.Seen.{protect_same}
 use Rattle.inv_steps_left.proofs.Rest.Told.{protect_steady, protect_tells, base_steady}
 use Rattle.inv_steps_left.specs.Losses.{tells_fit}
-use Rattle.inv_contents.specs.words.declared.config.Config.{Config}
+use Rattle.inv_covers.specs.words.declared.config.Config.{Config}
 use Rattle.std.specs.Prelude.{length, ◌==◌, nat_le, if◌then◌else◌, ◌&&◌}
-use Rattle.inv_contents.specs.model.Phases.Ending.{Done}
-use Rattle.inv_contents.specs.model.WriteRow.{first_written, last_written}
+use Rattle.inv_covers.specs.model.Phases.Ending.{Done}
+use Rattle.inv_covers.specs.model.WriteRow.{first_written, last_written}
 use Rattle.inv_steps_left.proofs.Rest.Moves.{base_owes, base_settles}
-use Rattle.inv_contents.specs.words.declared.layout.Layout.{Layout}
-use Rattle.inv_links.proofs.requests.Standings.{is_root}
-use Rattle.inv_links.proofs.covers.Held.{finds_at}
+use Rattle.inv_covers.specs.words.declared.layout.Layout.{Layout}
+use Rattle.inv_requests.proofs.Standings.{is_root}
+use Rattle.inv_covers.proofs.Held.{finds_at}
 
 -- what a machine's step leaves is less than what was left
 abbrev pub Lowers : World → ℕ → Why → Base → Type 0

@@ -1,42 +1,42 @@
 -- Which rounds a machine's step tells: a root at index 0 once, where it is held or null; nothing else.
 use Rattle.std.proofs.Common.{ℕ, ◌∙◌, ◌≡◌, ◌≤◌, ◌+◌, ◌-◌, Bool, true, false, [], ◌∷◌, arith, refl, ap}
-use Rattle.inv_contents.specs.model.Memory.{bump}
-use Rattle.inv_contents.specs.model.Machine.{after, move_turn, protect_turn}
-use Rattle.inv_contents.specs.defs.declared.event.Event.TheVariants as events
-use Rattle.inv_contents.specs.defs.declared.event.Root.TheVariants as roots
-use Rattle.inv_contents.specs.defs.declared.call.ClockMove.TheVariants as moves
-use Rattle.inv_contents.specs.model.declared.ends.FollowEnd.TheVariants as follow_ends
-use Rattle.inv_contents.specs.words.declared.packed.Request.TheVariants as requests
-use Rattle.inv_contents.specs.model.Allocate.{is_claimed, next_slot, walk_past, walking}
-use Rattle.inv_contents.specs.model.Locals.{rounds_told}
-use Rattle.inv_contents.specs.model.MoveClock.{after_hand_over, moving, next_request}
-use Rattle.inv_contents.specs.model.Phases.{Aim, Base, MoveAt, Outcome, ProtectAt, Tries, Turn, Walk, ends, goes}
-use Rattle.inv_contents.specs.model.Phases.Aim.{Alone}
-use Rattle.inv_contents.specs.model.Phases.AllocateAt.{ClaimSlot, LoadBirth, StoreLife}
-use Rattle.inv_contents.specs.model.Phases.Base.{Allocate, Begin, Clear, Finish, GiveUp, Move, Protect, Release, Reload, Retire, Write}
-use Rattle.inv_contents.specs.model.Phases.BeginAt.{LoadLower, PublishSpan}
-use Rattle.inv_contents.specs.model.Phases.Ending.{Clocked, Done, Followed}
-use Rattle.inv_contents.specs.model.Phases.MoveAt.{AnswerAsked, CheckEra, ExchangeClock, HandOver, HideEra, HideLate, LoadAsked, LoadEra, LoadRequest, LoadReserved, ShowEra}
-use Rattle.inv_contents.specs.model.Phases.Outcome.{Ends, Goes}
-use Rattle.inv_contents.specs.model.Phases.ProtectAt.{AnswerOwn, CheckClock, CheckOwnClock, CheckUpper, LoadAnswer, LoadClock, LoadLink, LoadOwnClock, LoadOwnLink, LoadWithin, PublishEra, PublishHelper, PublishRequest, RaiseUpper, TakeAnswer, WithdrawHelper, WithdrawRequest}
-use Rattle.inv_contents.specs.model.Phases.RetireAt.{LoadLife, LoadRetire, StoreRetired}
-use Rattle.inv_contents.specs.model.Phases.Tries.{Endless, Failed}
-use Rattle.inv_contents.specs.model.Posts.{cleared, reserves_helper, reserves_index, reserves_span, stands, upper, with_row}
-use Rattle.inv_contents.specs.model.Protect.{failed_once, held_post, protected, told_held, trying}
-use Rattle.inv_contents.specs.model.Rest.{is_told, lost_by}
-use Rattle.inv_contents.specs.model.SlowPath.{answer_in, asking, lost_turn, own_request}
-use Rattle.inv_contents.specs.model.WriteRow.{last_written}
-use Rattle.inv_contents.specs.model.declared.post.Post.{Post}
-use Rattle.inv_contents.specs.defs.declared.event.Event.{Event}
-use Rattle.inv_contents.specs.defs.declared.event.Root.{Root}
-use Rattle.inv_links.specs.requests.Roles.{shows}
-use Rattle.inv_contents.specs.words.Packed.{read_request, read_reservation, reservation_word}
-use Rattle.inv_contents.specs.words.declared.config.Config.{Config}
-use Rattle.inv_contents.specs.words.declared.packed.Request.{Request}
+use Rattle.inv_covers.specs.model.Memory.{bump}
+use Rattle.inv_covers.specs.model.Machine.{after, move_turn, protect_turn}
+use Rattle.inv_covers.specs.defs.declared.event.Event.TheVariants as events
+use Rattle.inv_covers.specs.defs.declared.event.Root.TheVariants as roots
+use Rattle.inv_covers.specs.defs.declared.call.ClockMove.TheVariants as moves
+use Rattle.inv_covers.specs.model.declared.ends.FollowEnd.TheVariants as follow_ends
+use Rattle.inv_covers.specs.words.declared.packed.Request.TheVariants as requests
+use Rattle.inv_covers.specs.model.Allocate.{is_claimed, next_slot, walk_past, walking}
+use Rattle.inv_covers.specs.model.Locals.{rounds_told}
+use Rattle.inv_covers.specs.model.MoveClock.{after_hand_over, moving, next_request}
+use Rattle.inv_covers.specs.model.Phases.{Aim, Base, MoveAt, Outcome, ProtectAt, Tries, Turn, Walk, ends, goes}
+use Rattle.inv_covers.specs.model.Phases.Aim.{Alone}
+use Rattle.inv_covers.specs.model.Phases.AllocateAt.{ClaimSlot, LoadBirth, StoreLife}
+use Rattle.inv_covers.specs.model.Phases.Base.{Allocate, Begin, Clear, Finish, GiveUp, Move, Protect, Release, Reload, Retire, Write}
+use Rattle.inv_covers.specs.model.Phases.BeginAt.{LoadLower, PublishSpan}
+use Rattle.inv_covers.specs.model.Phases.Ending.{Clocked, Done, Followed}
+use Rattle.inv_covers.specs.model.Phases.MoveAt.{AnswerAsked, CheckEra, ExchangeClock, HandOver, HideEra, HideLate, LoadAsked, LoadEra, LoadRequest, LoadReserved, ShowEra}
+use Rattle.inv_covers.specs.model.Phases.Outcome.{Ends, Goes}
+use Rattle.inv_covers.specs.model.Phases.ProtectAt.{AnswerOwn, CheckClock, CheckOwnClock, CheckUpper, LoadAnswer, LoadClock, LoadLink, LoadOwnClock, LoadOwnLink, LoadWithin, PublishEra, PublishHelper, PublishRequest, RaiseUpper, TakeAnswer, WithdrawHelper, WithdrawRequest}
+use Rattle.inv_covers.specs.model.Phases.RetireAt.{LoadLife, LoadRetire, StoreRetired}
+use Rattle.inv_covers.specs.model.Phases.Tries.{Endless, Failed}
+use Rattle.inv_covers.specs.model.Posts.{cleared, reserves_helper, reserves_index, reserves_span, stands, upper, with_row}
+use Rattle.inv_covers.specs.model.Protect.{failed_once, held_post, protected, told_held, trying}
+use Rattle.inv_covers.specs.model.Rest.{is_told, lost_by}
+use Rattle.inv_covers.specs.model.SlowPath.{answer_in, asking, lost_turn, own_request}
+use Rattle.inv_covers.specs.model.WriteRow.{last_written}
+use Rattle.inv_covers.specs.model.declared.post.Post.{Post}
+use Rattle.inv_covers.specs.defs.declared.event.Event.{Event}
+use Rattle.inv_covers.specs.defs.declared.event.Root.{Root}
+use Rattle.inv_requests.specs.Roles.{shows}
+use Rattle.inv_covers.specs.words.Packed.{read_request, read_reservation, reservation_word}
+use Rattle.inv_covers.specs.words.declared.config.Config.{Config}
+use Rattle.inv_covers.specs.words.declared.packed.Request.{Request}
 use Rattle.std.specs.Prelude.{List, ◌++◌, Option, Some, None, nat_le, not, if◌then◌else◌, ◌==◌}
-use Rattle.inv_links.proofs.requests.Standings.{is_root}
-use Rattle.inv_contents.proofs.model.Facts.{false_of_not, if_by}
-use Rattle.inv_links.proofs.shapes.Frame.{concluded_told}
+use Rattle.inv_requests.proofs.Standings.{is_root}
+use Rattle.inv_covers.proofs.model.Facts.{false_of_not, if_by}
+use Rattle.inv_covers.proofs.shapes.Frame.{concluded_told}
 
 some_told : (rounds index link n : ℕ) → (index == 0) ≡ true → rounds_told rounds (if link == 0 then events.Null index n ∷ [] else events.Held index (link - 1) n ∷ []) ≡ rounds + 1
 some_told rounds index link n z = if_by (link == 0) (events.Null index n ∷ []) (events.Held index (link - 1) n ∷ []) (λ (told : List Event). rounds_told rounds told ≡ rounds + 1) (λ e. rw z refl) (λ e. rw z refl)

@@ -35,7 +35,7 @@ use Rattle.law_all.proofs.Runs.Bare.{none_noted}
 use Rattle.law_all.proofs.Runs.Calls.{Called, called, log_at}
 use Rattle.law_all.proofs.Runs.Clocks.{due_right, retires_noted}
 use Rattle.law_all.proofs.Runs.Closes.{Closes, closes}
-use Rattle.law_all.proofs.Runs.Notes.{backs_noted, none_given}
+use Rattle.law_logs.proofs.Runs.Notes.{backs_noted, none_given}
 
 -- versions and numbers are in range
 allowed_by : (c : Config) (from : Counts) (r : Past) (call : Call) (answer : Answer) → suits call answer ≡ true → Says c from r call answer

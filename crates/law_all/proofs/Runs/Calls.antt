@@ -10,7 +10,7 @@ use Rattle.law_logs.specs.Records.{IsAnswered}
 use Rattle.law_logs.specs.Versions.{AtMost, counts_of, met_in}
 use Rattle.law_logs.specs.inv.history.History.{Item, record_of, world_of}
 use Rattle.law_logs.proofs.Counts.{most_along, most_same}
-use Rattle.law_logs.proofs.Records.{logs_answer}
+use Rattle.law_all.proofs.Records.{logs_answer}
 use Rattle.law_all.specs.RunLaw.{InOrder, IsCall}
 use Rattle.law_all.specs.Runs.{logs_of}
 

@@ -24,7 +24,7 @@ use Rattle.law_logs.specs.laws.Standing.{open_ok}
 use Rattle.law_logs.specs.laws.Lists.{has_left}
 use Rattle.law_logs.specs.laws.StateAt.{began_of, is_open, one, opened_by, retires_by, retires_of, told_of}
 use Rattle.law_all.specs.RunLaw.{retired_by, retired_in}
-use Rattle.law_all.proofs.Runs.Notes.{both_seen, retired_noted}
+use Rattle.law_logs.proofs.Runs.Notes.{both_seen, retired_noted}
 
 -- the clock has to be moved by a call that is an advance, or that noted a life with which its seat retired a multiple of `every` rows
 abbrev Due : (every : ℕ) → Ledger → ClockTally → Type 0

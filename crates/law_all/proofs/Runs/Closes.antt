@@ -18,7 +18,7 @@ use Rattle.law_logs.proofs.Counts.{begun_counts}
 use Rattle.law_logs.proofs.Grows.{Grows, grows_along, grows_entry, grows_tells}
 use Rattle.law_logs.proofs.Heard.{AllHeard}
 use Rattle.law_logs.proofs.Knows.{Lawful, knows, lawful_before}
-use Rattle.law_logs.proofs.Records.{lawful}
+use Rattle.law_all.proofs.Records.{lawful}
 use Rattle.law_logs.specs.laws.AnswerLaw.{suits}
 use Rattle.law_logs.specs.laws.HistoryAnswers.{answer_right, answers_ok, owes, reason, same_told}
 use Rattle.law_logs.specs.laws.Standing.{open_ok}

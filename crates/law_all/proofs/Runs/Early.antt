@@ -9,7 +9,7 @@ use Rattle.law_logs.proofs.letter.Each.{counted_by}
 use Rattle.law_logs.specs.Ledgers.{Ledger, ledger_by, no_ledger}
 use Rattle.law_logs.specs.Records.{IsEnded}
 use Rattle.law_logs.specs.laws.StateAt.{is_give}
-use Rattle.law_all.proofs.Runs.Notes.{both_seen}
+use Rattle.law_logs.proofs.Runs.Notes.{both_seen}
 
 abbrev Early : Ledger → ℕ → Type 0
 Early x n = x.notes.given ≡ None → x.notes.early ≡ 0

@@ -12,7 +12,7 @@ use Rattle.law_logs.specs.inv.model.defs.declared.call.ClockMove.{ClockMove}
 use Rattle.law_logs.specs.inv.model.defs.declared.event.Event.TheVariants as events
 use Rattle.law_logs.specs.inv.model.defs.declared.event.Event.{Event}
 use Rattle.law_logs.specs.inv.model.words.declared.config.Config.{Config}
-use Rattle.law_logs.proofs.steps.eras.Current.Positions.{ticked_rises}
+use Rattle.law_eras.proofs.Current.Positions.{ticked_rises}
 use Rattle.law_logs.specs.inv.history.Record.Past.{Start, Then}
 use Rattle.law_logs.specs.inv.history.Record.{Each, Past, tells}
 use Rattle.law_logs.proofs.inv.history.Entries.{each_before}

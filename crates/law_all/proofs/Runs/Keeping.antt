@@ -29,12 +29,12 @@ use Rattle.law_logs.specs.Shown.{KeepsShown}
 use Rattle.law_logs.specs.Versions.{seen_in}
 use Rattle.law_logs.proofs.Answered.{value_on}
 use Rattle.law_logs.proofs.Grows.{Grows, more_count}
-use Rattle.law_logs.proofs.Records.{lawful, logs_answer}
+use Rattle.law_all.proofs.Records.{lawful, logs_answer}
 use Rattle.law_all.proofs.Runs.Calls.{Called, called, log_at, log_of_seat}
 use Rattle.law_all.proofs.Runs.Closes.{closes}
 use Rattle.law_all.proofs.Runs.Keeps.{Holds, Laws, apart_of, copy_low, holds, laws_before, laws_tells, look_low, touches}
 use Rattle.law_all.proofs.Runs.Shelves.{Keeps, KeepsAt, held_tells, held_version}
-use Rattle.law_logs.proofs.Shown.{records_keep_shown}
+use Rattle.law_all.proofs.Shown.{records_keep_shown}
 use Rattle.law_logs.proofs.Shows.{IsVersion, shown_version}
 
 record_laws : (layout : Layout) (items : List Item) → AtRest layout items → Laws layout.config (record_of layout items)

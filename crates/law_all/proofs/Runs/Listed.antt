@@ -39,9 +39,9 @@ use Rattle.law_logs.proofs.Ledgers.{ledger_began}
 use Rattle.law_logs.proofs.Lists.{leaves_open}
 use Rattle.law_logs.specs.Ledgers.{ledger_of, log_of, notes_of}
 use Rattle.law_logs.specs.Records.{IsEnded}
-use Rattle.law_all.proofs.Runs.Entries.{fresh_ok, kind_right, kinds_ok, records_keep_fresh, records_keep_kinds}
-use Rattle.law_all.proofs.Runs.Hands.{hands_ok, records_keep_hands}
-use Rattle.law_all.proofs.Runs.Owned.{AllTaken, IsTaken, adopted_left, first_taken, left_first, own_is, own_of}
+use Rattle.law_logs.proofs.Runs.Entries.{fresh_ok, kind_right, kinds_ok, records_keep_fresh, records_keep_kinds}
+use Rattle.law_logs.proofs.Runs.Hands.{hands_ok, records_keep_hands}
+use Rattle.law_logs.proofs.Runs.Owned.{AllTaken, IsTaken, adopted_left, first_taken, left_first, own_is, own_of}
 use Rattle.law_all.proofs.Runs.Seats.{Allowed, Deed, Seat, gains, hands_on, is_out, is_reading, open_right, parts, seat_by, slots_in, takes_list}
 use Rattle.law_all.proofs.Runs.Stages.{Backs, Sound, Stage, all_are, sound_step, stage_backs}
 use Rattle.law_all.proofs.Runs.Tellings.{told_owed}

@@ -32,7 +32,7 @@ use Rattle.law_logs.proofs.Cuts.{logs_are_cut}
 use Rattle.law_logs.proofs.Knows.{other_inner}
 use Rattle.law_logs.proofs.Ledgers.{records_keep_logs}
 use Rattle.law_logs.proofs.Lists.{AllTold, Told, all_told, leaves_open}
-use Rattle.law_logs.proofs.Records.{logs_answer}
+use Rattle.law_all.proofs.Records.{logs_answer}
 use Rattle.law_logs.specs.Answered.{IsTakenOver, SaysOfRows}
 use Rattle.law_logs.specs.Ledgers.{log_of}
 use Rattle.law_logs.specs.Records.{IsAnswered, IsEnded}
@@ -41,7 +41,7 @@ use Rattle.law_all.proofs.Runs.Closes.{Closes, closes}
 use Rattle.law_all.proofs.Runs.Early.{ended_early}
 use Rattle.law_all.proofs.Runs.Kept.{histories_keep}
 use Rattle.law_all.proofs.Runs.Listed.{Kept, Right, before_last, ended_right, kept_before, record_keeps, sound_at, taken_before, whole_at}
-use Rattle.law_all.proofs.Runs.Owned.{AllTaken, adopted_left, all_taken, first_taken, handed_of, own_of}
+use Rattle.law_logs.proofs.Runs.Owned.{AllTaken, adopted_left, all_taken, first_taken, handed_of, own_of}
 use Rattle.law_all.proofs.Runs.Ranks.{lefts, left_counts, rank, rank_along, rank_here, rank_left, rank_low, rank_stays}
 use Rattle.law_all.proofs.Runs.Rests.{seats_of}
 use Rattle.law_all.proofs.Runs.Seats.{slots_in}

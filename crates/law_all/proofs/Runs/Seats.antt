@@ -23,7 +23,7 @@ use Rattle.law_logs.specs.laws.StateAt.{Given, InHand, Placed, Without, cuts_by,
 use Rattle.law_logs.proofs.inv.rows.Lists.{once_last}
 use Rattle.law_logs.specs.inv.rows.Hands.{each_once, no_entry}
 use Rattle.law_logs.specs.Ledgers.{Ledger, ledger_by}
-use Rattle.law_all.proofs.Runs.Entries.{kind_right}
+use Rattle.law_logs.proofs.Runs.Entries.{kind_right}
 use Rattle.law_all.proofs.Runs.Parts.{once_without}
 use Rattle.law_all.specs.RunLaw.{slots_gained, taken_over}
 

@@ -1,40 +1,40 @@
 -- The eras that a seat has in hand were the clock in its call: no earlier than the clock where the call began.
 use Rattle.std.proofs.Common.{subst, sym, ℕ, ◌≡◌, ◌≤◌, ◌+◌, Bool, true, false, List, Option, Some, None, refl}
 use Rattle.std.specs.Prelude.{◌==◌, nat_le, nat_lt, if◌then◌else◌}
-use Rattle.law_reuse.specs.inv.model.words.Packed.{reservation_word, read_request, read_reservation}
-use Rattle.law_reuse.specs.inv.model.words.Place.{is_valid}
-use Rattle.law_reuse.specs.inv.model.words.declared.config.Config.{Config}
-use Rattle.law_reuse.specs.inv.model.words.declared.config.SchemeKind.{SchemeKind}
-use Rattle.law_reuse.specs.inv.model.words.declared.config.SchemeKind.TheVariants.{He, Ibr, Wfe}
-use Rattle.law_reuse.specs.inv.model.words.declared.layout.Layout.{Layout}
-use Rattle.law_reuse.specs.inv.model.words.declared.packed.Request.{Request}
-use Rattle.law_reuse.specs.inv.model.words.declared.packed.Request.TheVariants as requests
-use Rattle.law_reuse.specs.inv.model.defs.declared.event.Event.{Event}
-use Rattle.law_reuse.specs.inv.model.defs.declared.event.Root.{Root}
-use Rattle.law_reuse.specs.inv.model.declared.post.Post.{Post}
-use Rattle.law_reuse.specs.inv.model.Allocate as allocates
-use Rattle.law_reuse.specs.inv.model.Calls.{Why, Loosens, LoadHeld, StoreHeld, Looks, Misses, HideSpan, MarkLeft, TakeList, MarkTaken, Work, Getting, Changing, Enqueuing, Dequeuing, Keeping, Phase, Idle, Runs, Scans, Works}
-use Rattle.law_reuse.specs.inv.model.Machine as machine
-use Rattle.law_reuse.specs.inv.model.Memory.{bump}
-use Rattle.law_reuse.specs.inv.model.MoveClock as movers
-use Rattle.law_reuse.specs.inv.model.Phases.{Aim, Alone, Follows, Tries, Endless, Failed, BeginAt, ProtectAt, AllocateAt, RetireAt, MoveAt, Walk, Base, Turn, Outcome, Goes, Ends}
-use Rattle.law_reuse.specs.inv.model.Phases.BeginAt.{LoadLower, PublishSpan}
-use Rattle.law_reuse.specs.inv.model.Phases.ProtectAt.{LoadClock, PublishEra, LoadLink, CheckClock, PublishRequest, LoadOwnClock, PublishHelper, LoadOwnLink, CheckOwnClock, AnswerOwn, LoadAnswer, TakeAnswer, WithdrawRequest, WithdrawHelper, LoadWithin, CheckUpper, RaiseUpper}
-use Rattle.law_reuse.specs.inv.model.Phases.AllocateAt.{LoadBirth, ClaimSlot, StoreLife}
-use Rattle.law_reuse.specs.inv.model.Phases.RetireAt.{LoadLife, LoadRetire, StoreRetired}
-use Rattle.law_reuse.specs.inv.model.Phases.MoveAt.{LoadEra, LoadRequest, ShowEra, LoadAsked, CheckEra, AnswerAsked, LoadReserved, HandOver, HideEra, HideLate, ExchangeClock}
-use Rattle.law_reuse.specs.inv.model.Phases.Base.{Begin, Protect, Reload, Clear, Finish, Release, Allocate, Write, GiveUp, Retire, Move}
-use Rattle.law_reuse.specs.inv.model.Posts.{counted, upper, reserves_helper}
-use Rattle.law_reuse.specs.inv.model.Protect as protects
-use Rattle.law_reuse.specs.inv.model.Rounds.{protect_at, scheme_of}
-use Rattle.law_reuse.specs.inv.model.SlowPath.{own_request, asking, answer_in, lost_turn}
-use Rattle.law_reuse.specs.inv.model.WriteRow.{last_written}
-use Rattle.law_reuse.specs.inv.shapes.Frame.{Grows, Moves, Onward, Owes, Stores}
-use Rattle.law_reuse.specs.inv.shapes.Seats.{PhaseFits, PostFits}
-use Rattle.law_reuse.proofs.inv.shapes.Frame.{moves_with}
-use Rattle.law_reuse.proofs.inv.shapes.Inside.{shape_moves}
-use Rattle.law_reuse.proofs.inv.shapes.Kept.{bared_fits, counted_fits, run_counted, work_counted}
-use Rattle.law_reuse.proofs.inv.shapes.Shapes.{shape_grows}
+use Rattle.law_scans.specs.laws.words.Packed.{reservation_word, read_request, read_reservation}
+use Rattle.law_scans.specs.laws.words.Place.{is_valid}
+use Rattle.law_scans.specs.laws.words.declared.config.Config.{Config}
+use Rattle.law_scans.specs.laws.words.declared.config.SchemeKind.{SchemeKind}
+use Rattle.law_scans.specs.laws.words.declared.config.SchemeKind.TheVariants.{He, Ibr, Wfe}
+use Rattle.law_scans.specs.laws.words.declared.layout.Layout.{Layout}
+use Rattle.law_scans.specs.laws.words.declared.packed.Request.{Request}
+use Rattle.law_scans.specs.laws.words.declared.packed.Request.TheVariants as requests
+use Rattle.law_scans.specs.laws.defs.declared.event.Event.{Event}
+use Rattle.law_scans.specs.laws.defs.declared.event.Root.{Root}
+use Rattle.law_scans.specs.inv.model.declared.post.Post.{Post}
+use Rattle.law_scans.specs.inv.model.Allocate as allocates
+use Rattle.law_scans.specs.inv.model.Calls.{Why, Loosens, LoadHeld, StoreHeld, Looks, Misses, HideSpan, MarkLeft, TakeList, MarkTaken, Work, Getting, Changing, Enqueuing, Dequeuing, Keeping, Phase, Idle, Runs, Scans, Works}
+use Rattle.law_scans.specs.inv.model.Machine as machine
+use Rattle.law_scans.specs.inv.model.Memory.{bump}
+use Rattle.law_scans.specs.inv.model.MoveClock as movers
+use Rattle.law_scans.specs.inv.model.Phases.{Aim, Alone, Follows, Tries, Endless, Failed, BeginAt, ProtectAt, AllocateAt, RetireAt, MoveAt, Walk, Base, Turn, Outcome, Goes, Ends}
+use Rattle.law_scans.specs.inv.model.Phases.BeginAt.{LoadLower, PublishSpan}
+use Rattle.law_scans.specs.inv.model.Phases.ProtectAt.{LoadClock, PublishEra, LoadLink, CheckClock, PublishRequest, LoadOwnClock, PublishHelper, LoadOwnLink, CheckOwnClock, AnswerOwn, LoadAnswer, TakeAnswer, WithdrawRequest, WithdrawHelper, LoadWithin, CheckUpper, RaiseUpper}
+use Rattle.law_scans.specs.inv.model.Phases.AllocateAt.{LoadBirth, ClaimSlot, StoreLife}
+use Rattle.law_scans.specs.inv.model.Phases.RetireAt.{LoadLife, LoadRetire, StoreRetired}
+use Rattle.law_scans.specs.inv.model.Phases.MoveAt.{LoadEra, LoadRequest, ShowEra, LoadAsked, CheckEra, AnswerAsked, LoadReserved, HandOver, HideEra, HideLate, ExchangeClock}
+use Rattle.law_scans.specs.inv.model.Phases.Base.{Begin, Protect, Reload, Clear, Finish, Release, Allocate, Write, GiveUp, Retire, Move}
+use Rattle.law_scans.specs.inv.model.Posts.{counted, upper, reserves_helper}
+use Rattle.law_scans.specs.inv.model.Protect as protects
+use Rattle.law_scans.specs.inv.model.Rounds.{protect_at, scheme_of}
+use Rattle.law_scans.specs.inv.model.SlowPath.{own_request, asking, answer_in, lost_turn}
+use Rattle.law_scans.specs.inv.model.WriteRow.{last_written}
+use Rattle.law_scans.specs.inv.shapes.Frame.{Grows, Moves, Onward, Owes, Stores}
+use Rattle.law_scans.specs.inv.shapes.Seats.{PhaseFits, PostFits}
+use Rattle.law_scans.proofs.reuse.shapes.Frame.{moves_with}
+use Rattle.law_scans.proofs.reuse.shapes.Inside.{shape_moves}
+use Rattle.law_scans.proofs.reuse.shapes.Kept.{bared_fits, counted_fits, run_counted, work_counted}
+use Rattle.law_scans.proofs.reuse.shapes.Shapes.{shape_grows}
 
 -- the eras of a phase are no earlier than this, and a retire era no earlier than the clock where the row was cut
 abbrev pub begin_since : (from : ℕ) → BeginAt → Type 0

@@ -3,40 +3,40 @@
 use Rattle.std.proofs.Common.{ℕ, ◌≡◌, ◌≤◌, ◌+◌, Bool, true, false, List, Option, Some, None, refl, ap, ◌∙◌, subst, arith}
 use Rattle.std.proofs.lemmas.Bool.Decides.{nat_tests}
 use Rattle.std.specs.Prelude.{◌==◌, nat_lt, if◌then◌else◌}
-use Rattle.law_reuse.specs.inv.model.words.Packed.{halves, reservation_word, read_request, read_reservation}
-use Rattle.law_reuse.specs.inv.model.words.Place.Place.{Index, Request}
-use Rattle.law_reuse.specs.inv.model.words.declared.layout.Layout.{Layout}
-use Rattle.law_reuse.specs.inv.model.words.declared.packed.Request.{Request as Asking}
-use Rattle.law_reuse.specs.inv.model.words.declared.packed.Request.TheVariants as requests
-use Rattle.law_reuse.specs.inv.model.defs.declared.event.Event.{Event}
-use Rattle.law_reuse.specs.inv.model.defs.declared.event.Root.{Root}
-use Rattle.law_reuse.specs.inv.model.declared.post.Post.{Post}
-use Rattle.law_reuse.specs.inv.model.Calls.{Why, Phase, Idle, Runs, Scans, Works}
-use Rattle.law_reuse.specs.inv.model.Desks.{Desk}
-use Rattle.law_reuse.specs.inv.model.Links.{link_number}
-use Rattle.law_reuse.specs.inv.model.Machine as machine
-use Rattle.law_reuse.specs.inv.model.Memory.{upd}
-use Rattle.law_reuse.specs.inv.model.MoveClock as movers
-use Rattle.law_reuse.specs.inv.model.Phases.{ProtectAt, MoveAt, Base, Turn, Outcome, Goes, Ends}
-use Rattle.law_reuse.specs.inv.model.Phases.ProtectAt.{PublishRequest, AnswerOwn, TakeAnswer, WithdrawRequest}
-use Rattle.law_reuse.specs.inv.model.Phases.MoveAt.{LoadEra, LoadRequest, CheckEra, AnswerAsked, LoadReserved, HandOver, ExchangeClock}
-use Rattle.law_reuse.specs.inv.model.Phases.Base.{Begin, Protect, Reload, Allocate, Write, Retire, Move}
-use Rattle.law_reuse.specs.inv.model.Posts.{tag_of}
-use Rattle.law_reuse.specs.inv.model.SlowPath.{own_request, asking}
-use Rattle.law_reuse.specs.inv.model.Steps as steps
-use Rattle.law_reuse.specs.inv.model.World.{World}
-use Rattle.law_reuse.specs.inv.shapes.Frame.{phase_left}
-use Rattle.law_reuse.proofs.inv.requests.Kept.{at_of}
-use Rattle.law_reuse.specs.inv.requests.NextDeals.{protect_deals, move_deals, base_deals, phase_deals}
-use Rattle.law_reuse.specs.inv.requests.Views.{View, Deal}
-use Rattle.law_reuse.specs.inv.requests.Views.Deal.{Quiet, Open, Answered, Passed, Taken}
-use Rattle.law_reuse.proofs.inv.covers.Fresh.{works_start, resume_fresh}
-use Rattle.law_reuse.proofs.inv.covers.Scans.{scan_starts}
-use Rattle.law_reuse.specs.inv.covers.Tries.{starts_base, is_start}
-use Rattle.law_reuse.specs.inv.links.Tracked.{opened_by}
-use Rattle.law_reuse.specs.inv.links.Origins.{OriginsNeeds}
-use Rattle.law_reuse.proofs.inv.links.Origins.Deals.{answered_is, passed_is}
-use Rattle.law_reuse.proofs.inv.links.Origins.Plain.{out_plain, plain_after, out_protects, protects_on}
+use Rattle.law_scans.specs.laws.words.Packed.{halves, reservation_word, read_request, read_reservation}
+use Rattle.law_scans.specs.laws.words.Place.Place.{Index, Request}
+use Rattle.law_scans.specs.laws.words.declared.layout.Layout.{Layout}
+use Rattle.law_scans.specs.laws.words.declared.packed.Request.{Request as Asking}
+use Rattle.law_scans.specs.laws.words.declared.packed.Request.TheVariants as requests
+use Rattle.law_scans.specs.laws.defs.declared.event.Event.{Event}
+use Rattle.law_scans.specs.laws.defs.declared.event.Root.{Root}
+use Rattle.law_scans.specs.inv.model.declared.post.Post.{Post}
+use Rattle.law_scans.specs.inv.model.Calls.{Why, Phase, Idle, Runs, Scans, Works}
+use Rattle.law_scans.specs.inv.model.Desks.{Desk}
+use Rattle.law_scans.specs.inv.model.Links.{link_number}
+use Rattle.law_scans.specs.inv.model.Machine as machine
+use Rattle.law_scans.specs.inv.model.Memory.{upd}
+use Rattle.law_scans.specs.inv.model.MoveClock as movers
+use Rattle.law_scans.specs.inv.model.Phases.{ProtectAt, MoveAt, Base, Turn, Outcome, Goes, Ends}
+use Rattle.law_scans.specs.inv.model.Phases.ProtectAt.{PublishRequest, AnswerOwn, TakeAnswer, WithdrawRequest}
+use Rattle.law_scans.specs.inv.model.Phases.MoveAt.{LoadEra, LoadRequest, CheckEra, AnswerAsked, LoadReserved, HandOver, ExchangeClock}
+use Rattle.law_scans.specs.inv.model.Phases.Base.{Begin, Protect, Reload, Allocate, Write, Retire, Move}
+use Rattle.law_scans.specs.inv.model.Posts.{tag_of}
+use Rattle.law_scans.specs.inv.model.SlowPath.{own_request, asking}
+use Rattle.law_scans.specs.inv.model.Steps as steps
+use Rattle.law_scans.specs.inv.model.World.{World}
+use Rattle.law_scans.specs.inv.shapes.Frame.{phase_left}
+use Rattle.law_scans.proofs.inv.requests.Kept.{at_of}
+use Rattle.law_scans.specs.inv.requests.NextDeals.{protect_deals, move_deals, base_deals, phase_deals}
+use Rattle.law_scans.specs.inv.requests.Views.{View, Deal}
+use Rattle.law_scans.specs.inv.requests.Views.Deal.{Quiet, Open, Answered, Passed, Taken}
+use Rattle.law_scans.proofs.inv.covers.Fresh.{works_start, resume_fresh}
+use Rattle.law_scans.proofs.inv.covers.Scans.{scan_starts}
+use Rattle.law_scans.specs.inv.covers.Tries.{starts_base, is_start}
+use Rattle.law_scans.specs.inv.links.Tracked.{opened_by}
+use Rattle.law_scans.specs.inv.links.Origins.{OriginsNeeds}
+use Rattle.law_scans.proofs.inv.links.Origins.Deals.{answered_is, passed_is}
+use Rattle.law_scans.proofs.inv.links.Origins.Plain.{out_plain, plain_after, out_protects, protects_on}
 use Rattle.law_eras.proofs.Current.Ages.{protect_since, base_since, PhaseSince}
 
 -- an answer's era is no earlier than this

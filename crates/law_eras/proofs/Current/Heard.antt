@@ -2,44 +2,44 @@
 use Rattle.std.proofs.Common.{ℕ, ◌≡◌, ◌≤◌, ◌<◌, ◌+◌, ◌^◌, Bool, true, false, refl, sym, ap, ◌∙◌, subst, arith}
 use Rattle.std.proofs.lemmas.Bool.Decides.{nat_tests}
 use Rattle.std.specs.Prelude.{◌==◌, ◌&&◌, not}
-use Rattle.law_reuse.specs.inv.model.words.Packed.{read_request}
-use Rattle.law_reuse.specs.inv.model.words.Place.{is_valid}
-use Rattle.law_reuse.specs.inv.model.words.Place.Place.{Clock}
-use Rattle.law_reuse.specs.inv.model.words.declared.layout.Layout.{Layout}
-use Rattle.law_reuse.proofs.inv.model.words.Parts.{read_request-answered}
-use Rattle.law_reuse.specs.inv.model.defs.declared.call.Call.{Call}
-use Rattle.law_reuse.specs.inv.model.defs.declared.event.Root.{Root}
-use Rattle.law_reuse.proofs.inv.model.Ranges.{bounds_of}
-use Rattle.law_reuse.specs.inv.model.Calls.{Why, Phase, Idle, Runs, Scans, Works}
-use Rattle.law_reuse.specs.inv.model.Links.{link_number}
-use Rattle.law_reuse.specs.inv.model.Locals.{Local, begun_post}
-use Rattle.law_reuse.specs.inv.model.Phases.{Aim, ProtectAt, Base}
-use Rattle.law_reuse.specs.inv.model.Phases.ProtectAt.{AnswerOwn, LoadAnswer, TakeAnswer}
-use Rattle.law_reuse.specs.inv.model.Phases.MoveAt.{CheckEra, AnswerAsked}
-use Rattle.law_reuse.specs.inv.model.Phases.Base.{Protect, Move}
-use Rattle.law_reuse.specs.inv.model.Posts.{counted, tag_of}
-use Rattle.law_reuse.specs.inv.model.SlowPath.{own_request, asking, answer_in}
-use Rattle.law_reuse.specs.inv.model.World.{World, begin, finds, is_busy, offered, start, step}
-use Rattle.law_reuse.proofs.inv.shapes.Frame.{seat_stays, begin_stays, begin_begins}
-use Rattle.law_reuse.specs.inv.shapes.Seats.{Seats}
-use Rattle.law_reuse.proofs.inv.requests.Answering.{heard, word_by_open}
-use Rattle.law_reuse.specs.inv.requests.Deals.{is_quiet, is_open, asked_at, answered_with}
-use Rattle.law_reuse.specs.inv.requests.NextDeals.{next_deals}
-use Rattle.law_reuse.specs.inv.requests.Roles.{knows}
-use Rattle.law_reuse.specs.inv.requests.Standing.{request_of, Requests}
-use Rattle.law_reuse.specs.inv.requests.Views.{View, Deal, Role, Role as roles}
-use Rattle.law_reuse.specs.inv.requests.Views.Deal.{Quiet, Open, Answered, Passed, Taken}
-use Rattle.law_reuse.proofs.inv.covers.Fresh.{first_begins}
-use Rattle.law_reuse.proofs.inv.covers.Held.{finds_at}
-use Rattle.law_reuse.specs.inv.covers.Tries.{starts_base, is_start}
-use Rattle.law_reuse.specs.inv.links.Tracked.{opened_by}
-use Rattle.law_reuse.specs.inv.links.Origins.{OriginsNeeds}
-use Rattle.law_reuse.proofs.inv.links.Origins.Opened.{knows_of, open_back, stepped_by}
+use Rattle.law_scans.specs.laws.words.Packed.{read_request}
+use Rattle.law_scans.specs.laws.words.Place.{is_valid}
+use Rattle.law_scans.specs.laws.words.Place.Place.{Clock}
+use Rattle.law_scans.specs.laws.words.declared.layout.Layout.{Layout}
+use Rattle.law_scans.proofs.reuse.shapes.words.Parts.{read_request-answered}
+use Rattle.law_scans.specs.laws.defs.declared.call.Call.{Call}
+use Rattle.law_scans.specs.laws.defs.declared.event.Root.{Root}
+use Rattle.law_scans.proofs.inv.model.Ranges.{bounds_of}
+use Rattle.law_scans.specs.inv.model.Calls.{Why, Phase, Idle, Runs, Scans, Works}
+use Rattle.law_scans.specs.inv.model.Links.{link_number}
+use Rattle.law_scans.specs.inv.model.Locals.{Local, begun_post}
+use Rattle.law_scans.specs.inv.model.Phases.{Aim, ProtectAt, Base}
+use Rattle.law_scans.specs.inv.model.Phases.ProtectAt.{AnswerOwn, LoadAnswer, TakeAnswer}
+use Rattle.law_scans.specs.inv.model.Phases.MoveAt.{CheckEra, AnswerAsked}
+use Rattle.law_scans.specs.inv.model.Phases.Base.{Protect, Move}
+use Rattle.law_scans.specs.inv.model.Posts.{counted, tag_of}
+use Rattle.law_scans.specs.inv.model.SlowPath.{own_request, asking, answer_in}
+use Rattle.law_scans.specs.inv.model.World.{World, begin, finds, is_busy, offered, start, step}
+use Rattle.law_scans.proofs.reuse.shapes.Frame.{seat_stays, begin_stays, begin_begins}
+use Rattle.law_scans.specs.inv.shapes.Seats.{Seats}
+use Rattle.law_scans.proofs.inv.requests.Answering.{heard, word_by_open}
+use Rattle.law_scans.specs.inv.requests.Deals.{is_quiet, is_open, asked_at, answered_with}
+use Rattle.law_scans.specs.inv.requests.NextDeals.{next_deals}
+use Rattle.law_scans.specs.inv.requests.Roles.{knows}
+use Rattle.law_scans.specs.inv.requests.Standing.{request_of, Requests}
+use Rattle.law_scans.specs.inv.requests.Views.{View, Deal, Role, Role as roles}
+use Rattle.law_scans.specs.inv.requests.Views.Deal.{Quiet, Open, Answered, Passed, Taken}
+use Rattle.law_scans.proofs.inv.covers.Fresh.{first_begins}
+use Rattle.law_scans.proofs.inv.covers.Held.{finds_at}
+use Rattle.law_scans.specs.inv.covers.Tries.{starts_base, is_start}
+use Rattle.law_scans.specs.inv.links.Tracked.{opened_by}
+use Rattle.law_scans.specs.inv.links.Origins.{OriginsNeeds}
+use Rattle.law_scans.proofs.inv.links.Origins.Opened.{knows_of, open_back, stepped_by}
 use Rattle.law_eras.proofs.Current.Ages.{protect_since, PhaseSince, HeardSince}
 use Rattle.law_eras.proofs.Current.Answers.{DealSince, base_helps, HelpSince, Answers, phase_kept, checks, turn_checked, checked_since}
-use Rattle.law_reuse.proofs.inv.requests.Known.{stands_as, own_word}
-use Rattle.law_reuse.proofs.inv.links.Origins.Kept.{idle_deal}
-use Rattle.law_reuse.proofs.inv.model.Facts.{not_right, first_of, same_test}
+use Rattle.law_scans.proofs.inv.requests.Known.{stands_as, own_word}
+use Rattle.law_scans.proofs.inv.links.Origins.Kept.{idle_deal}
+use Rattle.law_scans.proofs.laws.records.defs.Facts.{not_right, first_of, same_test}
 
 -- what a mover knows of the request that it has loaded
 helps_know : (w : World) (m : ℕ) (z : View) (why : Why) (e s t j : ℕ) (r : Root) (link : ℕ) → Requests w z → (w.seat m).phase ≡ Runs why (Move (AnswerAsked e s t j r link)) → knows_of z s t j (link_number w.layout r) ≡ true

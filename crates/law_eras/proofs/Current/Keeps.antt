@@ -2,64 +2,64 @@
 use Rattle.std.proofs.Common.{ℕ, ◌≡◌, ◌≤◌, ◌<◌, Bool, true, false, List, [], ◌∷◌, ◌++◌, Some, refl, sym, ap, ◌∙◌, subst, arith}
 use Rattle.std.proofs.lemmas.Bool.Decides.{nat_tests}
 use Rattle.std.specs.Prelude.{◌==◌}
-use Rattle.law_reuse.specs.inv.model.words.Place.{is_valid}
-use Rattle.law_reuse.specs.inv.model.words.Place.Place.{Clock}
-use Rattle.law_reuse.specs.inv.model.words.declared.layout.Layout.{Layout}
-use Rattle.law_reuse.specs.inv.model.defs.declared.call.Call.{Call}
-use Rattle.law_reuse.specs.inv.model.defs.declared.call.Call.TheVariants as names
-use Rattle.law_reuse.specs.inv.model.defs.declared.event.Event.{Event}
-use Rattle.law_reuse.specs.inv.model.defs.declared.event.Event.TheVariants as events
-use Rattle.law_reuse.specs.inv.model.Calls.{Why, Phase, Idle, Runs, Scans, Works, StoreHeld, Keeping}
-use Rattle.law_reuse.specs.inv.model.Locals.{Local, after, begun, told_by, busy_in}
-use Rattle.law_reuse.specs.inv.model.Phases.{Base}
-use Rattle.law_reuse.specs.inv.model.Phases.BeginAt.{LoadLower}
-use Rattle.law_reuse.specs.inv.model.Phases.ProtectAt.{LoadClock, CheckClock, LoadOwnClock, CheckOwnClock, CheckUpper}
-use Rattle.law_reuse.specs.inv.model.Phases.AllocateAt.{LoadBirth}
-use Rattle.law_reuse.specs.inv.model.Phases.RetireAt.{LoadRetire}
-use Rattle.law_reuse.specs.inv.model.Phases.MoveAt.{LoadEra}
-use Rattle.law_reuse.specs.inv.model.Phases.Base.{Begin, Protect, Allocate, Retire, Move}
-use Rattle.law_reuse.specs.inv.model.Posts.{counted}
-use Rattle.law_reuse.specs.inv.model.Steps as steps
-use Rattle.law_reuse.specs.inv.model.World.{World, begin, finds, is_busy, offered, step, told_in, may_start}
-use Rattle.law_reuse.proofs.inv.shapes.Frame.{after_seated, begun_seated, seat_stays, seat_steps, begin_stays, begin_begins}
-use Rattle.law_reuse.proofs.inv.shapes.Kept.{begun_fits}
-use Rattle.law_reuse.specs.inv.shapes.Frame.{Seated}
-use Rattle.law_reuse.specs.inv.shapes.Seats.{PostFits}
-use Rattle.law_reuse.specs.inv.requests.Views.{View as Asked}
-use Rattle.law_reuse.proofs.inv.requests.Kept.{requests_begin, requests_start}
-use Rattle.law_reuse.specs.inv.rows.Agree.{first_rows, rows_after}
-use Rattle.law_reuse.specs.inv.rows.Chain.{first_line, line_after}
-use Rattle.law_reuse.specs.inv.rows.Queue.{Line}
-use Rattle.law_reuse.specs.inv.rows.Rows.{View}
-use Rattle.law_reuse.proofs.inv.covers.Held.{finds_at}
-use Rattle.law_reuse.specs.inv.links.Origins.{OriginsNeeds}
-use Rattle.law_reuse.specs.inv.history.Record.{Past, Each, EachEntry, tells_of}
-use Rattle.law_reuse.specs.inv.history.Record.Past.{Then}
-use Rattle.law_reuse.proofs.inv.history.Entries.{entries_of_each}
-use Rattle.law_reuse.specs.inv.history.History.{Item, Begins, Steps, Made, fits, done, done_if, did, made_from, made_of, first_made, record_of}
-use Rattle.law_reuse.proofs.inv.history.Along.{begins_right, low_seat, made_snoc, begins_within, Steady, items_keep}
-use Rattle.law_reuse.specs.inv.Known.{Known}
-use Rattle.law_reuse.proofs.inv.Inv.Begun.{known_start, known_begin}
-use Rattle.law_reuse.proofs.inv.Inv.Kept.{known_kept, asked_next}
-use Rattle.law_reuse.proofs.inv.Inv.Whole.{origins_need}
-use Rattle.law_reuse.proofs.inv.Machines.{within_of}
-use Rattle.law_reuse.specs.laws.StateAt.{clock_of, value_of}
+use Rattle.law_scans.specs.laws.words.Place.{is_valid}
+use Rattle.law_scans.specs.laws.words.Place.Place.{Clock}
+use Rattle.law_scans.specs.laws.words.declared.layout.Layout.{Layout}
+use Rattle.law_scans.specs.laws.defs.declared.call.Call.{Call}
+use Rattle.law_scans.specs.laws.defs.declared.call.Call.TheVariants as names
+use Rattle.law_scans.specs.laws.defs.declared.event.Event.{Event}
+use Rattle.law_scans.specs.laws.defs.declared.event.Event.TheVariants as events
+use Rattle.law_scans.specs.inv.model.Calls.{Why, Phase, Idle, Runs, Scans, Works, StoreHeld, Keeping}
+use Rattle.law_scans.specs.inv.model.Locals.{Local, after, begun, told_by, busy_in}
+use Rattle.law_scans.specs.inv.model.Phases.{Base}
+use Rattle.law_scans.specs.inv.model.Phases.BeginAt.{LoadLower}
+use Rattle.law_scans.specs.inv.model.Phases.ProtectAt.{LoadClock, CheckClock, LoadOwnClock, CheckOwnClock, CheckUpper}
+use Rattle.law_scans.specs.inv.model.Phases.AllocateAt.{LoadBirth}
+use Rattle.law_scans.specs.inv.model.Phases.RetireAt.{LoadRetire}
+use Rattle.law_scans.specs.inv.model.Phases.MoveAt.{LoadEra}
+use Rattle.law_scans.specs.inv.model.Phases.Base.{Begin, Protect, Allocate, Retire, Move}
+use Rattle.law_scans.specs.inv.model.Posts.{counted}
+use Rattle.law_scans.specs.inv.model.Steps as steps
+use Rattle.law_scans.specs.inv.model.World.{World, begin, finds, is_busy, offered, step, told_in, may_start}
+use Rattle.law_scans.proofs.reuse.shapes.Frame.{after_seated, begun_seated, seat_stays, seat_steps, begin_stays, begin_begins}
+use Rattle.law_scans.proofs.reuse.shapes.Kept.{begun_fits}
+use Rattle.law_scans.specs.inv.shapes.Frame.{Seated}
+use Rattle.law_scans.specs.inv.shapes.Seats.{PostFits}
+use Rattle.law_scans.specs.inv.requests.Views.{View as Asked}
+use Rattle.law_scans.proofs.inv.requests.Kept.{requests_begin, requests_start}
+use Rattle.law_scans.specs.inv.rows.Agree.{first_rows, rows_after}
+use Rattle.law_scans.specs.inv.rows.Chain.{first_line, line_after}
+use Rattle.law_scans.specs.inv.rows.Queue.{Line}
+use Rattle.law_scans.specs.inv.rows.Rows.{View}
+use Rattle.law_scans.proofs.inv.covers.Held.{finds_at}
+use Rattle.law_scans.specs.inv.links.Origins.{OriginsNeeds}
+use Rattle.law_scans.specs.laws.records.Record.{Past, Each, EachEntry, tells_of}
+use Rattle.law_scans.specs.laws.records.Record.Past.{Then}
+use Rattle.law_scans.proofs.laws.records.Entries.{entries_of_each}
+use Rattle.law_scans.specs.inv.history.History.{Item, Begins, Steps, Made, fits, done, done_if, did, made_from, made_of, first_made, record_of}
+use Rattle.law_scans.proofs.reuse.history.Along.{begins_right, low_seat, made_snoc, begins_within, Steady, items_keep}
+use Rattle.law_scans.specs.inv.Known.{Known}
+use Rattle.law_scans.proofs.inv.Inv.Begun.{known_start, known_begin}
+use Rattle.law_scans.proofs.inv.Inv.Kept.{known_kept, asked_next}
+use Rattle.law_scans.proofs.inv.Inv.Whole.{origins_need}
+use Rattle.law_scans.proofs.inv.Machines.{within_of}
+use Rattle.law_scans.specs.laws.StateAt.{clock_of, value_of}
 use Rattle.law_eras.proofs.EraLaw.Keeps.{record_clock}
-use Rattle.law_reuse.specs.laws.HistoryEras.{birth_current, retire_current, reserve_current}
+use Rattle.law_scans.specs.laws.HistoryEras.{birth_current, retire_current, reserve_current}
 use Rattle.law_eras.specs.Records.{RecordsGiveCurrent, RecordsRetireCurrent, RecordsReserveCurrent}
 use Rattle.law_eras.proofs.Current.Ages.{loads_base, BaseHears, Loads, PhaseSince, PhaseLoads, Aged, since_grows, since_owed, same_since}
 use Rattle.law_eras.proofs.Current.Answers.{Answers}
 use Rattle.law_eras.proofs.Current.Heard.{answers_step, answers_begin, answers_start, hears_since, same_answers}
 use Rattle.law_eras.proofs.Current.Positions.{begun_at, cut_at, since_low, begun_stays, begun_other, cut_stays}
 use Rattle.law_eras.proofs.Current.Tells.{current_ok, Copies, step_led}
-use Rattle.law_reuse.specs.inv.model.Guards.{one_era}
-use Rattle.law_reuse.specs.inv.covers.Covers.{eras_shown}
-use Rattle.law_reuse.proofs.Holding.Holds.{record_values}
-use Rattle.law_reuse.proofs.inv.requests.Known.{copying}
-use Rattle.law_reuse.specs.inv.model.defs.declared.event.Guard.{Guard}
-use Rattle.law_reuse.specs.inv.model.defs.declared.event.Guard.TheVariants.{Index}
-use Rattle.law_reuse.proofs.answers.AnswersTold.Answering as answering
-use Rattle.law_reuse.proofs.answers.AnswersTold.Owed.{Serves}
+use Rattle.law_scans.specs.inv.model.Guards.{one_era}
+use Rattle.law_scans.specs.inv.covers.Covers.{eras_shown}
+use Rattle.law_scans.proofs.reuse.Holding.Holds.{record_values}
+use Rattle.law_scans.proofs.inv.requests.Known.{copying}
+use Rattle.law_scans.specs.laws.defs.declared.event.Guard.{Guard}
+use Rattle.law_scans.specs.laws.defs.declared.event.Guard.TheVariants.{Index}
+use Rattle.law_scans.proofs.reuse.AnswersTold.Answering as answering
+use Rattle.law_scans.proofs.reuse.AnswersTold.Owed.{Serves}
 
 -- a World is that of a history
 pub record OfItems (layout : Layout) (made : Made) : Type 0 where

@@ -2,14 +2,14 @@
 use Rattle.std.proofs.Common.{ℕ, ◌≡◌, ◌≤◌, ◌+◌, Bool, true, false, List, [], ◌∷◌, refl, ◌∙◌, arith}
 use Rattle.std.proofs.lemmas.Bool.Decides.{nat_tests}
 use Rattle.std.specs.Prelude.{◌==◌, ◌&&◌, ◌||◌, not, nat_le, if◌then◌else◌}
-use Rattle.law_reuse.specs.inv.model.defs.declared.event.Event.{Event}
-use Rattle.law_reuse.specs.inv.model.defs.declared.event.Event.TheVariants as events
-use Rattle.law_reuse.proofs.inv.model.Facts.{first_of, rest_of, both_below}
-use Rattle.law_reuse.specs.inv.history.Record.{Past, Test, tells_of, value_since, begins, own}
-use Rattle.law_reuse.specs.inv.history.Record.Past.{Start, Then}
-use Rattle.law_reuse.proofs.inv.history.AllOf.{all_of}
-use Rattle.law_reuse.proofs.inv.Machines.{is_within}
-use Rattle.law_reuse.specs.laws.StateAt.{ticked_by, clock_of, was_clock, cuts}
+use Rattle.law_scans.specs.laws.defs.declared.event.Event.{Event}
+use Rattle.law_scans.specs.laws.defs.declared.event.Event.TheVariants as events
+use Rattle.law_scans.proofs.laws.records.defs.Facts.{first_of, rest_of, both_below}
+use Rattle.law_scans.specs.laws.records.Record.{Past, Test, tells_of, value_since, begins, own}
+use Rattle.law_scans.specs.laws.records.Record.Past.{Start, Then}
+use Rattle.law_scans.proofs.reuse.history.AllOf.{all_of}
+use Rattle.law_scans.proofs.inv.Machines.{is_within}
+use Rattle.law_scans.specs.laws.StateAt.{ticked_by, clock_of, was_clock, cuts}
 use Rattle.law_eras.specs.Current.{ClockBetween}
 
 -- the clock of a record only rises

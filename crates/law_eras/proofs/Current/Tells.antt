@@ -2,43 +2,43 @@
 use Rattle.std.proofs.Common.{ℕ, ◌≡◌, ◌≤◌, Bool, true, false, List, [], ◌∷◌, ◌++◌, Option, Some, None, refl, sym, subst, ap, arith}
 use Rattle.std.proofs.lemmas.Bool.Decides.{nat_tests}
 use Rattle.std.specs.Prelude.{◌==◌, if◌then◌else◌, not, ◌&&◌, ◌||◌}
-use Rattle.law_reuse.specs.inv.model.words.Place.Place.{Clock}
-use Rattle.law_reuse.specs.inv.model.words.declared.layout.Layout.{Layout}
-use Rattle.law_reuse.specs.inv.model.defs.declared.event.Event.{Event}
-use Rattle.law_reuse.specs.inv.model.defs.declared.event.Event.TheVariants as events
-use Rattle.law_reuse.specs.inv.model.declared.post.Post.{Post}
-use Rattle.law_reuse.specs.inv.model.Calls.{ScanAt, Phase, Idle, Runs, Scans, Works, ReadGuard, GiveBack, Work, Getting, Changing, Enqueuing, Dequeuing, Keeping, KeepAt, Loosens, LoadHeld, StoreHeld, Looks, Misses, HideSpan, MarkLeft, TakeList, MarkTaken}
-use Rattle.law_reuse.specs.inv.model.Guards.{one_era, from_to}
-use Rattle.law_reuse.specs.inv.model.Machine as machine
-use Rattle.law_reuse.specs.inv.model.Phases.{Base}
-use Rattle.law_reuse.specs.inv.model.Phases.BeginAt.{PublishSpan}
-use Rattle.law_reuse.specs.inv.model.Phases.ProtectAt.{PublishEra, PublishHelper, TakeAnswer, RaiseUpper}
-use Rattle.law_reuse.specs.inv.model.Phases.AllocateAt.{ClaimSlot}
-use Rattle.law_reuse.specs.inv.model.Phases.RetireAt.{StoreRetired}
-use Rattle.law_reuse.specs.inv.model.Phases.MoveAt.{ShowEra, HandOver}
-use Rattle.law_reuse.specs.inv.model.Phases.Base.{Begin, Protect, Allocate, Retire, Move}
-use Rattle.law_reuse.specs.inv.model.Posts.{counted, cleared, stands, reserves_index}
-use Rattle.law_reuse.specs.inv.model.Rounds.{scheme_of, clear_told, let_index}
-use Rattle.law_reuse.specs.inv.model.World.{World, finds, offered, told_in}
-use Rattle.law_reuse.proofs.inv.model.Facts.{first_of, rest_of, number_is, or_more, same_number}
-use Rattle.law_reuse.specs.inv.shapes.Eras.{base_eras, PhaseEras}
-use Rattle.law_reuse.specs.inv.history.Record.{Past, Test, Each, tells_of, begins, own}
-use Rattle.law_reuse.specs.inv.history.Record.Past.{Then}
-use Rattle.law_reuse.proofs.inv.history.Passes.{is_quiet, Closed, First, scan_told, step_goes, copied_told, keep_told, work_told}
-use Rattle.law_reuse.proofs.inv.history.AllOf.{all_of, of_weaker}
-use Rattle.law_reuse.specs.laws.StateAt.{clock_of, was_clock, cuts, began_of, value_of}
-use Rattle.law_reuse.specs.laws.EraLaw.{upper_current, is_copied}
+use Rattle.law_scans.specs.laws.words.Place.Place.{Clock}
+use Rattle.law_scans.specs.laws.words.declared.layout.Layout.{Layout}
+use Rattle.law_scans.specs.laws.defs.declared.event.Event.{Event}
+use Rattle.law_scans.specs.laws.defs.declared.event.Event.TheVariants as events
+use Rattle.law_scans.specs.inv.model.declared.post.Post.{Post}
+use Rattle.law_scans.specs.inv.model.Calls.{ScanAt, Phase, Idle, Runs, Scans, Works, ReadGuard, GiveBack, Work, Getting, Changing, Enqueuing, Dequeuing, Keeping, KeepAt, Loosens, LoadHeld, StoreHeld, Looks, Misses, HideSpan, MarkLeft, TakeList, MarkTaken}
+use Rattle.law_scans.specs.inv.model.Guards.{one_era, from_to}
+use Rattle.law_scans.specs.inv.model.Machine as machine
+use Rattle.law_scans.specs.inv.model.Phases.{Base}
+use Rattle.law_scans.specs.inv.model.Phases.BeginAt.{PublishSpan}
+use Rattle.law_scans.specs.inv.model.Phases.ProtectAt.{PublishEra, PublishHelper, TakeAnswer, RaiseUpper}
+use Rattle.law_scans.specs.inv.model.Phases.AllocateAt.{ClaimSlot}
+use Rattle.law_scans.specs.inv.model.Phases.RetireAt.{StoreRetired}
+use Rattle.law_scans.specs.inv.model.Phases.MoveAt.{ShowEra, HandOver}
+use Rattle.law_scans.specs.inv.model.Phases.Base.{Begin, Protect, Allocate, Retire, Move}
+use Rattle.law_scans.specs.inv.model.Posts.{counted, cleared, stands, reserves_index}
+use Rattle.law_scans.specs.inv.model.Rounds.{scheme_of, clear_told, let_index}
+use Rattle.law_scans.specs.inv.model.World.{World, finds, offered, told_in}
+use Rattle.law_scans.proofs.laws.records.defs.Facts.{first_of, rest_of, number_is, or_more, same_number}
+use Rattle.law_scans.specs.inv.shapes.Eras.{base_eras, PhaseEras}
+use Rattle.law_scans.specs.laws.records.Record.{Past, Test, Each, tells_of, begins, own}
+use Rattle.law_scans.specs.laws.records.Record.Past.{Then}
+use Rattle.law_scans.proofs.reuse.history.Passes.{is_quiet, Closed, First, scan_told, step_goes, copied_told, keep_told, work_told}
+use Rattle.law_scans.proofs.reuse.history.AllOf.{all_of, of_weaker}
+use Rattle.law_scans.specs.laws.StateAt.{clock_of, was_clock, cuts, began_of, value_of}
+use Rattle.law_scans.specs.laws.EraLaw.{upper_current, is_copied}
 use Rattle.law_eras.proofs.Current.Ages.{base_since, PhaseSince}
 use Rattle.law_eras.proofs.Current.Positions.{begun_at, cut_at, was_between}
-use Rattle.law_reuse.proofs.inv.history.MayTell.{Tells, Shape, Silent, Single, Clears, Takes, base_shows, span_of, is_find, shape_of, clear_all, cleared_all}
-use Rattle.law_reuse.specs.inv.model.Allocate.{is_claimed}
-use Rattle.law_reuse.specs.inv.model.defs.declared.lifetime.Interval.{Interval}
-use Rattle.law_reuse.proofs.laws.Tells.{tells_both}
+use Rattle.law_scans.proofs.reuse.history.MayTell.{Tells, Shape, Silent, Single, Clears, Takes, base_shows, span_of, is_find, shape_of, clear_all, cleared_all}
+use Rattle.law_scans.specs.inv.model.Allocate.{is_claimed}
+use Rattle.law_scans.specs.laws.defs.declared.lifetime.Interval.{Interval}
+use Rattle.law_scans.proofs.laws.Tells.{tells_both}
 use Rattle.law_eras.proofs.EraLaw.Shapes.{work_passes}
-use Rattle.law_reuse.specs.inv.model.defs.declared.call.Call.{Call}
-use Rattle.law_reuse.specs.inv.model.defs.declared.call.Call.TheVariants as names
-use Rattle.law_reuse.specs.inv.model.defs.declared.event.Guard.{Guard}
-use Rattle.law_reuse.specs.inv.model.defs.declared.event.Guard.TheVariants.{Index}
+use Rattle.law_scans.specs.laws.defs.declared.call.Call.{Call}
+use Rattle.law_scans.specs.laws.defs.declared.call.Call.TheVariants as names
+use Rattle.law_scans.specs.laws.defs.declared.event.Guard.{Guard}
+use Rattle.law_scans.specs.laws.defs.declared.event.Guard.TheVariants.{Index}
 
 -- the laws on births, retire eras and what is published, in one
 abbrev pub current_ok : Test

@@ -1,52 +1,52 @@
 -- What a step tells of eras, and what it does to the clock.
-use Rattle.law_reuse.specs.inv.model.words.declared.config.Config.{Config}
+use Rattle.law_scans.specs.laws.words.declared.config.Config.{Config}
 use Rattle.std.proofs.Common.{ℕ, ◌≡◌, ◌≤◌, ◌<◌, ◌+◌, Bool, true, false, List, [], ◌∷◌, Option, Some, None, refl, sym, ap, ◌∙◌, subst, arith}
 use Rattle.std.proofs.lemmas.Bool.Decides.{nat_tests}
 use Rattle.std.specs.Prelude.{◌==◌, ◌&&◌, if◌then◌else◌, nat_le, not}
-use Rattle.law_reuse.specs.inv.model.words.Place.{Place, Place as places}
-use Rattle.law_reuse.specs.inv.model.words.declared.config.SchemeKind.{SchemeKind}
-use Rattle.law_reuse.specs.inv.model.words.declared.layout.Layout.{Layout}
-use Rattle.law_reuse.specs.inv.model.defs.declared.event.Event.{Event}
-use Rattle.law_reuse.specs.inv.model.defs.declared.event.Event.TheVariants as events
-use Rattle.law_reuse.specs.inv.model.defs.declared.lifetime.Interval.{Interval}
-use Rattle.law_reuse.specs.inv.model.declared.post.Post.{Post}
-use Rattle.law_reuse.specs.inv.model.Calls.{ChangeKept, EnqueueKept, ReadGuard, GiveBack, GetAt, FindVersion, Loosens, LoadHeld, StoreHeld, Looks, Misses, HideSpan, MarkLeft, TakeList, MarkTaken, ChangeAt, LoadVersion, EnqueueAt, LoadNumber, DequeueAt, LoadTail, Work, Getting, Changing, Enqueuing, Dequeuing, Keeping, Why, Phase, Idle, Runs, Scans, Works}
-use Rattle.law_reuse.specs.inv.model.Change.{change_move}
-use Rattle.law_reuse.specs.inv.model.Dequeue.{dequeue_move}
-use Rattle.law_reuse.specs.inv.model.Enqueue.{enqueue_move}
-use Rattle.law_reuse.specs.inv.model.Get.{get_move}
-use Rattle.law_reuse.specs.inv.model.Guards.{one_era, from_to}
-use Rattle.law_reuse.specs.inv.model.Machine as machine
-use Rattle.law_reuse.specs.inv.model.Memory as memory
-use Rattle.law_reuse.specs.inv.model.Memory.{written, place_in}
-use Rattle.law_reuse.specs.inv.model.MoveClock as movers
-use Rattle.law_reuse.specs.inv.model.Phases.{Base}
-use Rattle.law_reuse.specs.inv.model.Phases.BeginAt.{LoadLower, PublishSpan}
-use Rattle.law_reuse.specs.inv.model.Phases.ProtectAt.{LoadClock, PublishEra, PublishHelper, TakeAnswer, RaiseUpper}
-use Rattle.law_reuse.specs.inv.model.Phases.AllocateAt.{LoadBirth, ClaimSlot}
-use Rattle.law_reuse.specs.inv.model.Phases.RetireAt.{LoadLife, StoreRetired}
-use Rattle.law_reuse.specs.inv.model.Phases.MoveAt.{ShowEra, HandOver, ExchangeClock}
-use Rattle.law_reuse.specs.inv.model.Phases.Base.{Begin, Protect, Allocate, Retire, Move}
-use Rattle.law_reuse.specs.inv.model.Posts.{counted, lower, upper}
-use Rattle.law_reuse.specs.inv.model.Steps as steps
-use Rattle.law_reuse.specs.inv.model.World.{World, step, told_in}
-use Rattle.law_reuse.specs.inv.model.words.Schemes.{is_ibr}
-use Rattle.law_reuse.specs.inv.shapes.Eras.{TurnIn, SpanIn, work_eras}
+use Rattle.law_scans.specs.laws.words.Place.{Place, Place as places}
+use Rattle.law_scans.specs.laws.words.declared.config.SchemeKind.{SchemeKind}
+use Rattle.law_scans.specs.laws.words.declared.layout.Layout.{Layout}
+use Rattle.law_scans.specs.laws.defs.declared.event.Event.{Event}
+use Rattle.law_scans.specs.laws.defs.declared.event.Event.TheVariants as events
+use Rattle.law_scans.specs.laws.defs.declared.lifetime.Interval.{Interval}
+use Rattle.law_scans.specs.inv.model.declared.post.Post.{Post}
+use Rattle.law_scans.specs.inv.model.Calls.{ChangeKept, EnqueueKept, ReadGuard, GiveBack, GetAt, FindVersion, Loosens, LoadHeld, StoreHeld, Looks, Misses, HideSpan, MarkLeft, TakeList, MarkTaken, ChangeAt, LoadVersion, EnqueueAt, LoadNumber, DequeueAt, LoadTail, Work, Getting, Changing, Enqueuing, Dequeuing, Keeping, Why, Phase, Idle, Runs, Scans, Works}
+use Rattle.law_scans.specs.inv.model.Change.{change_move}
+use Rattle.law_scans.specs.inv.model.Dequeue.{dequeue_move}
+use Rattle.law_scans.specs.inv.model.Enqueue.{enqueue_move}
+use Rattle.law_scans.specs.inv.model.Get.{get_move}
+use Rattle.law_scans.specs.inv.model.Guards.{one_era, from_to}
+use Rattle.law_scans.specs.inv.model.Machine as machine
+use Rattle.law_scans.specs.inv.model.Memory as memory
+use Rattle.law_scans.specs.inv.model.Memory.{written, place_in}
+use Rattle.law_scans.specs.inv.model.MoveClock as movers
+use Rattle.law_scans.specs.inv.model.Phases.{Base}
+use Rattle.law_scans.specs.inv.model.Phases.BeginAt.{LoadLower, PublishSpan}
+use Rattle.law_scans.specs.inv.model.Phases.ProtectAt.{LoadClock, PublishEra, PublishHelper, TakeAnswer, RaiseUpper}
+use Rattle.law_scans.specs.inv.model.Phases.AllocateAt.{LoadBirth, ClaimSlot}
+use Rattle.law_scans.specs.inv.model.Phases.RetireAt.{LoadLife, StoreRetired}
+use Rattle.law_scans.specs.inv.model.Phases.MoveAt.{ShowEra, HandOver, ExchangeClock}
+use Rattle.law_scans.specs.inv.model.Phases.Base.{Begin, Protect, Allocate, Retire, Move}
+use Rattle.law_scans.specs.inv.model.Posts.{counted, lower, upper}
+use Rattle.law_scans.specs.inv.model.Steps as steps
+use Rattle.law_scans.specs.inv.model.World.{World, step, told_in}
+use Rattle.law_scans.specs.laws.words.Schemes.{is_ibr}
+use Rattle.law_scans.specs.inv.shapes.Eras.{TurnIn, SpanIn, work_eras}
 use Rattle.std.specs.List.{filter}
-use Rattle.law_reuse.specs.inv.history.Record.{Past}
-use Rattle.law_reuse.specs.inv.history.Record.Past.{Then}
-use Rattle.law_reuse.proofs.laws.Along.{along, Single, OfKind, along_kind}
+use Rattle.law_scans.specs.laws.records.Record.{Past}
+use Rattle.law_scans.specs.laws.records.Record.Past.{Then}
+use Rattle.law_scans.proofs.laws.Along.{along, Single, OfKind, along_kind}
 use Rattle.law_eras.proofs.EraLaw.Shapes.{shape_single, work_single}
-use Rattle.law_reuse.proofs.inv.ends.Told.Rows.{own_told, step_filter}
-use Rattle.law_reuse.proofs.inv.ends.Told.Turns.{is_later}
-use Rattle.law_reuse.specs.laws.StateAt.{born_by, birth_of, ticked_by, clock_of}
-use Rattle.law_reuse.proofs.Holding.Values.{Ranges}
-use Rattle.law_reuse.specs.laws.HistoryEras.{span_ok, era_ok}
-use Rattle.law_reuse.proofs.inv.history.MayTell.{Tells, base_shows, span_of, is_find, shape_of, base_all, work_all}
-use Rattle.law_reuse.proofs.inv.history.Passes.{work_told}
-use Rattle.law_reuse.proofs.inv.history.AllOf.{all_of}
-use Rattle.law_reuse.proofs.inv.model.Facts.{first_of, rest_of, number_is}
-use Rattle.law_reuse.specs.inv.model.Allocate.{is_claimed}
+use Rattle.law_scans.proofs.inv.ends.Told.Rows.{own_told, step_filter}
+use Rattle.law_scans.proofs.inv.ends.Told.Turns.{is_later}
+use Rattle.law_scans.specs.laws.StateAt.{born_by, birth_of, ticked_by, clock_of}
+use Rattle.law_scans.proofs.reuse.Holding.Values.{Ranges}
+use Rattle.law_scans.specs.laws.HistoryEras.{span_ok, era_ok}
+use Rattle.law_scans.proofs.reuse.history.MayTell.{Tells, base_shows, span_of, is_find, shape_of, base_all, work_all}
+use Rattle.law_scans.proofs.reuse.history.Passes.{work_told}
+use Rattle.law_scans.proofs.reuse.history.AllOf.{all_of}
+use Rattle.law_scans.proofs.laws.records.defs.Facts.{first_of, rest_of, number_is}
+use Rattle.law_scans.specs.inv.model.Allocate.{is_claimed}
 
 -- the events that tell eras
 abbrev pub is_dated : Event → Bool

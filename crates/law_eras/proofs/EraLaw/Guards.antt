@@ -3,49 +3,49 @@ use Rattle.std.proofs.Common.{ℕ, ◌≡◌, ◌<◌, ◌≤◌, ◌-◌, ◌*�
 use Rattle.std.proofs.Math.Nat.{div-lt_iff_lt-mul, mod-lt}
 use Rattle.std.proofs.lemmas.Bool.Decides.{nat_tests}
 use Rattle.std.specs.Prelude.{◌==◌, ◌&&◌, not, nat_lt, nat_le, if◌then◌else◌}
-use Rattle.law_reuse.specs.inv.model.words.Place.{is_valid}
-use Rattle.law_reuse.specs.inv.model.words.Place.Place.{Clock}
-use Rattle.law_reuse.specs.inv.model.words.Schemes.{is_wfe, publishes_eras, has_one_interval, helps, counts_tries}
-use Rattle.law_reuse.specs.inv.model.words.declared.config.Config.{Config}
-use Rattle.law_reuse.specs.inv.model.words.declared.config.SchemeKind.{SchemeKind}
-use Rattle.law_reuse.specs.inv.model.words.declared.config.SchemeKind.TheVariants.{He, Ibr, Wfe}
-use Rattle.law_reuse.specs.inv.model.words.declared.layout.Layout.{Layout}
-use Rattle.law_reuse.specs.inv.model.defs.declared.event.Event.{Event}
-use Rattle.law_reuse.specs.inv.model.defs.declared.event.Event.TheVariants as events
-use Rattle.law_reuse.specs.inv.model.defs.declared.event.Guard.{Guard}
-use Rattle.law_reuse.specs.inv.model.defs.declared.event.Guard.TheVariants.{Helper, Index, Whole}
-use Rattle.law_reuse.specs.inv.model.declared.post.Post.{Post}
-use Rattle.law_reuse.specs.inv.model.Calls.{ReadGuard, GiveBack, Why, StoreHeld, HideSpan, Work, Keeping, Phase, Idle, Runs, Scans, Works}
-use Rattle.law_reuse.specs.inv.model.Guards.{guard_at, guards_by, guard_by, index_at}
-use Rattle.law_reuse.specs.inv.model.Phases.{Base, Endless, Failed}
-use Rattle.law_reuse.specs.inv.model.Phases.BeginAt.{LoadLower, PublishSpan}
-use Rattle.law_reuse.specs.inv.model.Phases.ProtectAt.{PublishEra, PublishHelper, TakeAnswer, WithdrawHelper, RaiseUpper}
-use Rattle.law_reuse.specs.inv.model.Phases.MoveAt.{ShowEra, HandOver, HideEra, HideLate}
-use Rattle.law_reuse.specs.inv.model.Phases.Base.{Begin, Protect, Clear, Finish, Release, Move}
-use Rattle.law_reuse.specs.inv.model.Posts.{counted}
-use Rattle.law_reuse.specs.inv.model.Rounds.{scheme_of}
-use Rattle.law_reuse.specs.inv.model.World.{World, finds, offered, told_in}
-use Rattle.law_reuse.proofs.inv.model.Facts.{both, first_of, rest_of, and_true, false_of_not, lt_test, number_is}
-use Rattle.law_reuse.proofs.inv.model.Ranges.{bounds_of}
-use Rattle.law_reuse.proofs.inv.model.words.Schemes.{clock_eras, counts_eras, helps_eras, other_eras}
-use Rattle.law_reuse.specs.inv.covers.Held.{index_base}
-use Rattle.law_reuse.specs.inv.history.History.{Made, first_made, record_of}
-use Rattle.law_reuse.specs.inv.history.Record.{Past, Each, tells_of}
-use Rattle.law_reuse.specs.inv.history.Record.Past.{Then}
-use Rattle.law_reuse.specs.inv.shapes.Eras.{base_eras}
-use Rattle.law_reuse.specs.inv.shapes.Frame.{Copied, Hides, WorkFits}
-use Rattle.law_reuse.specs.inv.shapes.Seats.{PhaseFits, base_fits}
-use Rattle.law_reuse.specs.inv.shapes.Slots.{CopyIn, PhaseIn, WorkIn}
+use Rattle.law_scans.specs.laws.words.Place.{is_valid}
+use Rattle.law_scans.specs.laws.words.Place.Place.{Clock}
+use Rattle.law_scans.specs.laws.words.Schemes.{is_wfe, publishes_eras, has_one_interval, helps, counts_tries}
+use Rattle.law_scans.specs.laws.words.declared.config.Config.{Config}
+use Rattle.law_scans.specs.laws.words.declared.config.SchemeKind.{SchemeKind}
+use Rattle.law_scans.specs.laws.words.declared.config.SchemeKind.TheVariants.{He, Ibr, Wfe}
+use Rattle.law_scans.specs.laws.words.declared.layout.Layout.{Layout}
+use Rattle.law_scans.specs.laws.defs.declared.event.Event.{Event}
+use Rattle.law_scans.specs.laws.defs.declared.event.Event.TheVariants as events
+use Rattle.law_scans.specs.laws.defs.declared.event.Guard.{Guard}
+use Rattle.law_scans.specs.laws.defs.declared.event.Guard.TheVariants.{Helper, Index, Whole}
+use Rattle.law_scans.specs.inv.model.declared.post.Post.{Post}
+use Rattle.law_scans.specs.inv.model.Calls.{ReadGuard, GiveBack, Why, StoreHeld, HideSpan, Work, Keeping, Phase, Idle, Runs, Scans, Works}
+use Rattle.law_scans.specs.inv.model.Guards.{guard_at, guards_by, guard_by, index_at}
+use Rattle.law_scans.specs.inv.model.Phases.{Base, Endless, Failed}
+use Rattle.law_scans.specs.inv.model.Phases.BeginAt.{LoadLower, PublishSpan}
+use Rattle.law_scans.specs.inv.model.Phases.ProtectAt.{PublishEra, PublishHelper, TakeAnswer, WithdrawHelper, RaiseUpper}
+use Rattle.law_scans.specs.inv.model.Phases.MoveAt.{ShowEra, HandOver, HideEra, HideLate}
+use Rattle.law_scans.specs.inv.model.Phases.Base.{Begin, Protect, Clear, Finish, Release, Move}
+use Rattle.law_scans.specs.inv.model.Posts.{counted}
+use Rattle.law_scans.specs.inv.model.Rounds.{scheme_of}
+use Rattle.law_scans.specs.inv.model.World.{World, finds, offered, told_in}
+use Rattle.law_scans.proofs.laws.records.defs.Facts.{both, first_of, rest_of, and_true, false_of_not, lt_test, number_is}
+use Rattle.law_scans.proofs.inv.model.Ranges.{bounds_of}
+use Rattle.law_scans.proofs.reuse.shapes.words.Schemes.{clock_eras, counts_eras, helps_eras, other_eras}
+use Rattle.law_scans.specs.inv.covers.Held.{index_base}
+use Rattle.law_scans.specs.inv.history.History.{Made, first_made, record_of}
+use Rattle.law_scans.specs.laws.records.Record.{Past, Each, tells_of}
+use Rattle.law_scans.specs.laws.records.Record.Past.{Then}
+use Rattle.law_scans.specs.inv.shapes.Eras.{base_eras}
+use Rattle.law_scans.specs.inv.shapes.Frame.{Copied, Hides, WorkFits}
+use Rattle.law_scans.specs.inv.shapes.Seats.{PhaseFits, base_fits}
+use Rattle.law_scans.specs.inv.shapes.Slots.{CopyIn, PhaseIn, WorkIn}
 use Rattle.law_eras.proofs.EraLaw.Shapes.{work_passes}
-use Rattle.law_reuse.proofs.inv.Inv.Shapes.{index_in}
-use Rattle.law_reuse.proofs.inv.history.AllOf.{all_of}
-use Rattle.law_reuse.proofs.inv.history.Along.{Steady, items_keep}
-use Rattle.law_reuse.proofs.inv.history.Entries.{entries_of_each}
-use Rattle.law_reuse.proofs.inv.history.MayTell.{Tells, may_store, base_helper, base_index, base_whole, base_shows, hands, same_span, base_all, Passes, step_all}
-use Rattle.law_reuse.proofs.inv.history.Passes.{is_quiet, First}
-use Rattle.law_reuse.proofs.Holding.Holds.{Held, begin_held, step_held, first_held, ranges_of}
-use Rattle.law_reuse.proofs.Holding.Values.{Ranges}
-use Rattle.law_reuse.specs.laws.HistoryTable.{is_guard, is_guarded, guards_ok}
+use Rattle.law_scans.proofs.inv.Inv.Shapes.{index_in}
+use Rattle.law_scans.proofs.reuse.history.AllOf.{all_of}
+use Rattle.law_scans.proofs.reuse.history.Along.{Steady, items_keep}
+use Rattle.law_scans.proofs.laws.records.Entries.{entries_of_each}
+use Rattle.law_scans.proofs.reuse.history.MayTell.{Tells, may_store, base_helper, base_index, base_whole, base_shows, hands, same_span, base_all, Passes, step_all}
+use Rattle.law_scans.proofs.reuse.history.Passes.{is_quiet, First}
+use Rattle.law_scans.proofs.reuse.Holding.Holds.{Held, begin_held, step_held, first_held, ranges_of}
+use Rattle.law_scans.proofs.reuse.Holding.Values.{Ranges}
+use Rattle.law_scans.specs.laws.HistoryTable.{is_guard, is_guarded, guards_ok}
 use Rattle.law_eras.specs.Records.{RecordsNameGuards}
 
 -- what a scheme can do

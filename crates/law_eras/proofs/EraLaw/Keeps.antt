@@ -1,31 +1,31 @@
 -- A history's record keeps the law on eras.
 use Rattle.std.proofs.Common.{ℕ, ◌≡◌, ◌<◌, true, false, List, [], ◌∷◌, refl, ap, ◌∙◌, subst}
 use Rattle.std.specs.List.{filter}
-use Rattle.law_reuse.specs.inv.model.words.Place.{is_valid}
-use Rattle.law_reuse.specs.inv.model.words.Place.Place.{Clock}
-use Rattle.law_reuse.specs.inv.model.words.declared.layout.Layout.{Layout}
-use Rattle.law_reuse.specs.inv.model.defs.declared.call.Call.{Call}
-use Rattle.law_reuse.specs.inv.model.defs.declared.event.Event.{Event}
-use Rattle.law_reuse.specs.inv.model.Calls.{Why, Phase, Runs}
-use Rattle.law_reuse.specs.inv.shapes.Eras.{PhaseEras}
-use Rattle.law_reuse.specs.inv.model.Phases.{Base}
-use Rattle.law_reuse.specs.inv.model.World.{World, finds, is_busy, step, told_in, may_start}
-use Rattle.law_reuse.specs.inv.rows.Rows.RowMove.{Lists}
-use Rattle.law_reuse.specs.inv.rows.Hands.{row_move}
-use Rattle.law_reuse.specs.inv.history.Record.{Past, Each, tells_of}
-use Rattle.law_reuse.specs.inv.history.Record.Past.{Then}
-use Rattle.law_reuse.proofs.inv.history.Entries.{entries_of_each}
-use Rattle.law_reuse.specs.inv.history.History.{Item, Begins, Steps, Made, done, made_of, first_made, record_of}
-use Rattle.law_reuse.proofs.inv.history.Along.{Steady, items_keep}
-use Rattle.law_reuse.specs.inv.ends.Told.{move_of}
-use Rattle.law_reuse.proofs.inv.ends.Told.Births.{retires_given}
-use Rattle.law_reuse.proofs.laws.Along.{along, along_kind, Single, single_each}
-use Rattle.law_reuse.proofs.Holding.Holds.{Held, begin_held, step_held, first_held, given_need, ranges_of}
-use Rattle.law_reuse.specs.laws.StateAt.{ticked_by, clock_of}
-use Rattle.law_reuse.specs.laws.EraLaw.{guard_ok}
-use Rattle.law_reuse.specs.laws.HistoryEras.{era_ok}
+use Rattle.law_scans.specs.laws.words.Place.{is_valid}
+use Rattle.law_scans.specs.laws.words.Place.Place.{Clock}
+use Rattle.law_scans.specs.laws.words.declared.layout.Layout.{Layout}
+use Rattle.law_scans.specs.laws.defs.declared.call.Call.{Call}
+use Rattle.law_scans.specs.laws.defs.declared.event.Event.{Event}
+use Rattle.law_scans.specs.inv.model.Calls.{Why, Phase, Runs}
+use Rattle.law_scans.specs.inv.shapes.Eras.{PhaseEras}
+use Rattle.law_scans.specs.inv.model.Phases.{Base}
+use Rattle.law_scans.specs.inv.model.World.{World, finds, is_busy, step, told_in, may_start}
+use Rattle.law_scans.specs.inv.rows.Rows.RowMove.{Lists}
+use Rattle.law_scans.specs.inv.rows.Hands.{row_move}
+use Rattle.law_scans.specs.laws.records.Record.{Past, Each, tells_of}
+use Rattle.law_scans.specs.laws.records.Record.Past.{Then}
+use Rattle.law_scans.proofs.laws.records.Entries.{entries_of_each}
+use Rattle.law_scans.specs.inv.history.History.{Item, Begins, Steps, Made, done, made_of, first_made, record_of}
+use Rattle.law_scans.proofs.reuse.history.Along.{Steady, items_keep}
+use Rattle.law_scans.specs.inv.ends.Told.{move_of}
+use Rattle.law_scans.proofs.inv.ends.Told.Births.{retires_given}
+use Rattle.law_scans.proofs.laws.Along.{along, along_kind, Single, single_each}
+use Rattle.law_scans.proofs.reuse.Holding.Holds.{Held, begin_held, step_held, first_held, given_need, ranges_of}
+use Rattle.law_scans.specs.laws.StateAt.{ticked_by, clock_of}
+use Rattle.law_scans.specs.laws.EraLaw.{guard_ok}
+use Rattle.law_scans.specs.laws.HistoryEras.{era_ok}
 use Rattle.law_eras.specs.Records.{RecordsKeepEras, RecordClock, RecordsKeepGuards}
-use Rattle.law_reuse.specs.inv.model.defs.declared.event.Guard.TheVariants.{Helper}
+use Rattle.law_scans.specs.laws.defs.declared.event.Guard.TheVariants.{Helper}
 use Rattle.law_eras.proofs.EraLaw.Owners.{is_reserve, guard_kind, step_owned, hands_of}
 use Rattle.law_eras.proofs.EraLaw.Dates.{Dates, is_dated, ticks_quiet, era_kind, Retired, step_dates}
 

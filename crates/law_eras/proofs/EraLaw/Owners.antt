@@ -2,43 +2,43 @@
 use Rattle.std.proofs.Common.{ℕ, ◌≡◌, ◌≤◌, Bool, true, false, List, Option, refl, sym, ap, ◌∙◌, subst, arith}
 use Rattle.std.proofs.lemmas.Bool.Decides.{nat_tests}
 use Rattle.std.specs.Prelude.{◌==◌, ◌&&◌, ◌||◌, if◌then◌else◌}
-use Rattle.law_reuse.specs.inv.model.words.Place.{Place as places}
-use Rattle.law_reuse.specs.inv.model.words.declared.config.SchemeKind.{SchemeKind}
-use Rattle.law_reuse.specs.inv.model.defs.declared.event.Event.{Event}
-use Rattle.law_reuse.specs.inv.model.defs.declared.event.Event.TheVariants as events
-use Rattle.law_reuse.specs.inv.model.defs.declared.event.Guard.{Guard}
-use Rattle.law_reuse.specs.inv.model.defs.declared.event.Guard.TheVariants.{Helper, Index, Whole}
-use Rattle.law_reuse.specs.inv.model.defs.declared.event.Root.{Root}
-use Rattle.law_reuse.specs.inv.model.defs.declared.lifetime.Interval.{Interval}
-use Rattle.law_reuse.specs.inv.model.declared.post.Post.{Post}
-use Rattle.law_reuse.specs.inv.model.Calls.{ReadGuard, GiveBack, Why, Phase, Idle, Runs, Scans, Works}
-use Rattle.law_reuse.specs.inv.model.Guards.{one_era}
-use Rattle.law_reuse.specs.inv.model.Machine as machine
-use Rattle.law_reuse.specs.inv.model.Phases.{Base}
-use Rattle.law_reuse.specs.inv.model.Phases.MoveAt.{HandOver}
-use Rattle.law_reuse.specs.inv.model.Phases.Base.{Move}
-use Rattle.law_reuse.specs.inv.model.Posts.{counted}
-use Rattle.law_reuse.specs.inv.model.World.{World, told_in, finds}
+use Rattle.law_scans.specs.laws.words.Place.{Place as places}
+use Rattle.law_scans.specs.laws.words.declared.config.SchemeKind.{SchemeKind}
+use Rattle.law_scans.specs.laws.defs.declared.event.Event.{Event}
+use Rattle.law_scans.specs.laws.defs.declared.event.Event.TheVariants as events
+use Rattle.law_scans.specs.laws.defs.declared.event.Guard.{Guard}
+use Rattle.law_scans.specs.laws.defs.declared.event.Guard.TheVariants.{Helper, Index, Whole}
+use Rattle.law_scans.specs.laws.defs.declared.event.Root.{Root}
+use Rattle.law_scans.specs.laws.defs.declared.lifetime.Interval.{Interval}
+use Rattle.law_scans.specs.inv.model.declared.post.Post.{Post}
+use Rattle.law_scans.specs.inv.model.Calls.{ReadGuard, GiveBack, Why, Phase, Idle, Runs, Scans, Works}
+use Rattle.law_scans.specs.inv.model.Guards.{one_era}
+use Rattle.law_scans.specs.inv.model.Machine as machine
+use Rattle.law_scans.specs.inv.model.Phases.{Base}
+use Rattle.law_scans.specs.inv.model.Phases.MoveAt.{HandOver}
+use Rattle.law_scans.specs.inv.model.Phases.Base.{Move}
+use Rattle.law_scans.specs.inv.model.Posts.{counted}
+use Rattle.law_scans.specs.inv.model.World.{World, told_in, finds}
 use Rattle.std.specs.List.{filter}
-use Rattle.law_reuse.specs.inv.history.Record.{Past}
-use Rattle.law_reuse.specs.inv.history.Record.Past.{Then}
-use Rattle.law_reuse.proofs.laws.Along.{Single, OfKind}
+use Rattle.law_scans.specs.laws.records.Record.{Past}
+use Rattle.law_scans.specs.laws.records.Record.Past.{Then}
+use Rattle.law_scans.proofs.laws.Along.{Single, OfKind}
 use Rattle.law_eras.proofs.EraLaw.Shapes.{shape_single, work_single}
-use Rattle.law_reuse.proofs.inv.ends.Told.Rows.{own_told, step_filter}
-use Rattle.law_reuse.proofs.inv.ends.Told.Turns.{is_later}
-use Rattle.law_reuse.proofs.Holding.Values.{Ranges}
-use Rattle.law_reuse.specs.inv.model.words.Schemes.{is_wfe}
-use Rattle.law_reuse.specs.inv.requests.Standing.{Requests}
-use Rattle.law_reuse.specs.inv.requests.Views.{View as Asked, Role as role}
-use Rattle.law_reuse.proofs.inv.handover.Shown.{helper_shows}
-use Rattle.law_reuse.specs.inv.model.Links.{link_number}
-use Rattle.law_reuse.proofs.inv.model.Facts.{first_of, both, rest_of, number_is, false_not_true, or_more}
-use Rattle.law_reuse.specs.inv.covers.Covers.{eras_shown}
-use Rattle.law_reuse.specs.laws.StateAt.{reserved_by, value_of, seat_of}
-use Rattle.law_reuse.specs.laws.EraLaw.{same_interval, guard_ok}
+use Rattle.law_scans.proofs.inv.ends.Told.Rows.{own_told, step_filter}
+use Rattle.law_scans.proofs.inv.ends.Told.Turns.{is_later}
+use Rattle.law_scans.proofs.reuse.Holding.Values.{Ranges}
+use Rattle.law_scans.specs.laws.words.Schemes.{is_wfe}
+use Rattle.law_scans.specs.inv.requests.Standing.{Requests}
+use Rattle.law_scans.specs.inv.requests.Views.{View as Asked, Role as role}
+use Rattle.law_scans.proofs.inv.ends.Handover.Shown.{helper_shows}
+use Rattle.law_scans.specs.inv.model.Links.{link_number}
+use Rattle.law_scans.proofs.laws.records.defs.Facts.{first_of, both, rest_of, number_is, false_not_true, or_more}
+use Rattle.law_scans.specs.inv.covers.Covers.{eras_shown}
+use Rattle.law_scans.specs.laws.StateAt.{reserved_by, value_of, seat_of}
+use Rattle.law_scans.specs.laws.EraLaw.{same_interval, guard_ok}
 use Rattle.law_eras.proofs.EraLaw.Dates.{is_dated, later_undated}
-use Rattle.law_reuse.proofs.inv.requests.Known.{stands_as}
-use Rattle.law_reuse.proofs.inv.history.MayTell.{Tells, may_store, base_helper, base_index, base_whole, base_shows, hands, same_span, span_of, is_find, shape_of}
+use Rattle.law_scans.proofs.inv.requests.Known.{stands_as}
+use Rattle.law_scans.proofs.reuse.history.MayTell.{Tells, may_store, base_helper, base_index, base_whole, base_shows, hands, same_span, span_of, is_find, shape_of}
 
 abbrev pub is_reserve : Event → Bool
 is_reserve (events.Reserve guard span) = true

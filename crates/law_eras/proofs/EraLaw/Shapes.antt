@@ -4,22 +4,22 @@ use Rattle.std.proofs.Common.{ℕ, ◌≡◌, ◌∙◌, ◌+◌, Bool, true, fa
 use Rattle.std.proofs.lemmas.List.Elements.{filter-append}
 use Rattle.std.specs.List.{filter}
 use Rattle.std.specs.Prelude.{drop, if◌then◌else◌}
-use Rattle.law_reuse.specs.inv.model.Phases.{Base}
-use Rattle.law_reuse.specs.inv.model.declared.post.Post.{Post}
-use Rattle.law_reuse.specs.inv.model.defs.declared.event.Event.{Event}
-use Rattle.law_reuse.specs.inv.model.defs.declared.event.Event.TheVariants as events
-use Rattle.law_reuse.proofs.inv.history.MayTell.{Shape, Silent, Clears, Takes, Tells, is_find, cleared_all, cleared_from_all}
-use Rattle.law_reuse.proofs.inv.history.AllOf.{all_of, of_along}
-use Rattle.law_reuse.proofs.inv.history.Passes.{copied_told, keep_told, work_told}
-use Rattle.law_reuse.proofs.inv.model.Facts.{and_true}
-use Rattle.law_reuse.specs.inv.model.Calls.{KeepAt, Loosens, LoadHeld, StoreHeld, Looks, Misses, HideSpan, MarkLeft, TakeList, MarkTaken, Work, Getting, Changing, Enqueuing, Dequeuing, Keeping}
-use Rattle.law_reuse.specs.inv.model.Guards.{one_era}
-use Rattle.law_reuse.specs.inv.model.Posts.{cleared, cleared_from, stands, reserves_index, reserves_span}
-use Rattle.law_reuse.specs.inv.model.Rounds.{scheme_of, let_index}
-use Rattle.law_reuse.specs.inv.model.defs.declared.event.Guard.TheVariants.{Index, Whole}
-use Rattle.law_reuse.specs.inv.model.words.Schemes.{has_one_interval}
-use Rattle.law_reuse.specs.inv.history.Record.{Past, Test}
-use Rattle.law_reuse.proofs.laws.Along.{Single}
+use Rattle.law_scans.specs.inv.model.Phases.{Base}
+use Rattle.law_scans.specs.inv.model.declared.post.Post.{Post}
+use Rattle.law_scans.specs.laws.defs.declared.event.Event.{Event}
+use Rattle.law_scans.specs.laws.defs.declared.event.Event.TheVariants as events
+use Rattle.law_scans.proofs.reuse.history.MayTell.{Shape, Silent, Clears, Takes, Tells, is_find, cleared_all, cleared_from_all}
+use Rattle.law_scans.proofs.reuse.history.AllOf.{all_of, of_along}
+use Rattle.law_scans.proofs.reuse.history.Passes.{copied_told, keep_told, work_told}
+use Rattle.law_scans.proofs.laws.records.defs.Facts.{and_true}
+use Rattle.law_scans.specs.inv.model.Calls.{KeepAt, Loosens, LoadHeld, StoreHeld, Looks, Misses, HideSpan, MarkLeft, TakeList, MarkTaken, Work, Getting, Changing, Enqueuing, Dequeuing, Keeping}
+use Rattle.law_scans.specs.inv.model.Guards.{one_era}
+use Rattle.law_scans.specs.inv.model.Posts.{cleared, cleared_from, stands, reserves_index, reserves_span}
+use Rattle.law_scans.specs.inv.model.Rounds.{scheme_of, let_index}
+use Rattle.law_scans.specs.laws.defs.declared.event.Guard.TheVariants.{Index, Whole}
+use Rattle.law_scans.specs.laws.words.Schemes.{has_one_interval}
+use Rattle.law_scans.specs.laws.records.Record.{Past, Test}
+use Rattle.law_scans.proofs.laws.Along.{Single}
 
 -- of what a machine's step tells one event at most is of such a kind, where neither what stands no more nor what is found is
 kept_none : (kind : Event → Bool) (event : Event) (told : List Event) → kind event ≡ false → filter kind (event ∷ told) ≡ filter kind told

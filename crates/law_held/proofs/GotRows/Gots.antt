@@ -26,35 +26,35 @@ use Rattle.law_turns.specs.inv.model.Phases.Ending.{Done, Protected, Followed, A
 use Rattle.law_turns.specs.inv.model.Calls.{Task, Gets, Changes, Holds, Enqueues, Dequeues, Why, Opens, GetAt, FindVersion, FindCount, FindKey, FindValue, Work, Getting, Changing, Enqueuing, Dequeuing, Keeping, ReadGuard, GiveBack, Phase, Idle, Runs, Scans, Works, CallOutcome, GoesOn, Answers}
 use Rattle.law_turns.proofs.inv.model.Frames.{after_same}
 use Rattle.law_turns.proofs.inv.model.Facts.{same_number, first_of, rest_of, zero_test}
-use Rattle.law_places.specs.inv.contents.Contents.{ground_of}
-use Rattle.law_places.specs.inv.contents.Knows.{Knows, GetKnows, FoundRow, get_reads, reads_in}
-use Rattle.law_places.specs.inv.contents.Stands.{read_index}
-use Rattle.law_places.proofs.answers.OneStep.Along.{Kept, history_keeps}
-use Rattle.law_places.proofs.inv.links.Origins.Ends.{ends_with}
-use Rattle.law_places.specs.inv.links.Origins.{ends_base}
-use Rattle.law_places.specs.inv.shapes.Seats.{Seats}
-use Rattle.law_places.specs.inv.history.History.{Item, Made, made_of, record_of, world_of}
-use Rattle.law_places.specs.inv.Inv.{Inv}
-use Rattle.law_places.proofs.inv.Inv.Reached.{inv_reached}
-use Rattle.law_places.specs.inv.history.Record.{Past, Each, tells_of}
-use Rattle.law_places.specs.inv.history.Record.Past.{Start, Then}
-use Rattle.law_places.specs.inv.history.Turns as schedule
+use Rattle.law_scans.specs.inv.contents.Contents.{ground_of}
+use Rattle.law_scans.specs.inv.contents.Knows.{Knows, GetKnows, FoundRow, get_reads, reads_in}
+use Rattle.law_scans.specs.inv.contents.Stands.{read_index}
+use Rattle.law_scans.proofs.reuse.OneStep.Along.{Kept, history_keeps}
+use Rattle.law_scans.proofs.inv.links.Origins.Ends.{ends_with}
+use Rattle.law_scans.specs.inv.links.Origins.{ends_base}
+use Rattle.law_scans.specs.inv.shapes.Seats.{Seats}
+use Rattle.law_scans.specs.inv.history.History.{Item, Made, made_of, record_of, world_of}
+use Rattle.law_scans.specs.inv.Inv.{Inv}
+use Rattle.law_scans.proofs.inv.Inv.Reached.{inv_reached}
+use Rattle.law_scans.specs.laws.records.Record.{Past, Each, tells_of}
+use Rattle.law_scans.specs.laws.records.Record.Past.{Start, Then}
+use Rattle.law_scans.specs.laws.records.Turns as schedule
 use Rattle.law_turns.specs.laws.StateAt.{count_of, bucket_at, stood_at, row_at, null_by, null_of}
-use Rattle.law_places.proofs.inv.history.AllOf.{all_of, of_weaker}
-use Rattle.law_places.proofs.inv.Machines.{is_machine, base_machine, clear_machine}
+use Rattle.law_scans.proofs.reuse.history.AllOf.{all_of, of_weaker}
+use Rattle.law_scans.proofs.inv.Machines.{is_machine, base_machine, clear_machine}
 use Rattle.law_turns.proofs.laws.Tells.{seen_tells, tells_both}
-use Rattle.law_places.proofs.reuse.Reuse.Keeps.{record_stands}
-use Rattle.law_places.proofs.inv.history.Passes.{Closing, First, get_allows, ending_allows, why_allows, outcome_allows, work_allows, work_told, phase_allows, step_closes}
+use Rattle.law_scans.proofs.reuse.Reuse.Keeps.{record_stands}
+use Rattle.law_scans.proofs.reuse.history.Passes.{Closing, First, get_allows, ending_allows, why_allows, outcome_allows, work_allows, work_told, phase_allows, step_closes}
 use Rattle.law_held.proofs.Roots.Ways.{record_each}
-use Rattle.law_places.proofs.inv.ends.Told.Rows.{own_told}
-use Rattle.law_places.specs.inv.history.Heard.{heard_of}
+use Rattle.law_scans.proofs.inv.ends.Told.Rows.{own_told}
+use Rattle.law_scans.specs.inv.history.Heard.{heard_of}
 use Rattle.law_turns.specs.laws.HistoryHolds.{stands_as, got_right, gots_ok}
 use Rattle.law_held.specs.Records.{RecordsTellRows}
 use Rattle.law_held.proofs.GotRows.Nulled.{nulled, nulled_at, NulledIn, step_nulled, begin_nulled, ended_null}
 use Rattle.law_held.proofs.GotRows.Rowed.{Rowed, step_rowed, begin_rowed, first_book_rowed}
-use Rattle.law_places.proofs.inv.handover.Asks.{run_of}
-use Rattle.law_places.proofs.answers.Lawful.Gots.{cleared_table, work_table}
-use Rattle.law_places.proofs.inv.history.MayTell.{work_all}
+use Rattle.law_scans.proofs.inv.ends.Handover.Asks.{run_of}
+use Rattle.law_scans.proofs.reuse.Lawful.Gots.{cleared_table, work_table}
+use Rattle.law_scans.proofs.reuse.history.MayTell.{work_all}
 
 -- what is told but what a get tells
 abbrev is_gotless : Event → Bool

@@ -34,22 +34,22 @@ use Rattle.law_turns.specs.inv.model.Phases.Base.{Begin, Protect, Reload, Alloca
 use Rattle.law_turns.specs.inv.model.Phases.Ending.{Followed}
 use Rattle.law_turns.specs.inv.model.Calls.{Why, Phase, Idle, Runs, Scans, Works}
 use Rattle.law_turns.proofs.inv.model.Facts.{first_of, rest_of, then_of, or_more}
-use Rattle.law_places.proofs.inv.history.MayTell.{concluded_told}
-use Rattle.law_places.specs.inv.links.Origins.{ends_at}
-use Rattle.law_places.specs.inv.shapes.Frame.{Onward, Grows, Owes, Moves, Passed}
-use Rattle.law_places.specs.inv.shapes.Seats.{PostFits, PhaseFits, Run, Seats, Kind, ToOpen, ToFollow, kind_of, suits, protects, fills, retires, moves}
-use Rattle.law_places.proofs.inv.shapes.Frame.{seat_stays, seat_steps, begin_stays, begin_begins, after_seated, begun_seated, moves_with}
-use Rattle.law_places.proofs.inv.shapes.Shapes.{shape_grows}
-use Rattle.law_places.proofs.inv.shapes.Inside.{shape_moves}
-use Rattle.law_places.proofs.inv.shapes.Kept.{counted_fits, run_counted, work_counted, begun_fits, bared_fits}
-use Rattle.law_places.specs.inv.history.Record.{Past, tells_of}
-use Rattle.law_places.specs.inv.history.Record.Past.{Then}
+use Rattle.law_scans.proofs.reuse.history.MayTell.{concluded_told}
+use Rattle.law_scans.specs.inv.links.Origins.{ends_at}
+use Rattle.law_scans.specs.inv.shapes.Frame.{Onward, Grows, Owes, Moves, Passed}
+use Rattle.law_scans.specs.inv.shapes.Seats.{PostFits, PhaseFits, Run, Seats, Kind, ToOpen, ToFollow, kind_of, suits, protects, fills, retires, moves}
+use Rattle.law_scans.proofs.reuse.shapes.Frame.{seat_stays, seat_steps, begin_stays, begin_begins, after_seated, begun_seated, moves_with}
+use Rattle.law_scans.proofs.reuse.shapes.Shapes.{shape_grows}
+use Rattle.law_scans.proofs.reuse.shapes.Inside.{shape_moves}
+use Rattle.law_scans.proofs.reuse.shapes.Kept.{counted_fits, run_counted, work_counted, begun_fits, bared_fits}
+use Rattle.law_scans.specs.laws.records.Record.{Past, tells_of}
+use Rattle.law_scans.specs.laws.records.Record.Past.{Then}
 use Rattle.law_turns.proofs.laws.Along.{along}
-use Rattle.law_places.proofs.Placing.Sums.{along_both}
+use Rattle.law_scans.proofs.Placing.Sums.{along_both}
 use Rattle.law_turns.proofs.laws.Tells.{seen_tells, seen_stays, seen_other}
-use Rattle.law_places.proofs.inv.ends.Told.Rows.{own_told, own_post, step_adds}
-use Rattle.law_places.proofs.inv.ends.Told.Turns.{Adds, is_later}
-use Rattle.law_places.proofs.inv.ends.Told.Births.{each_stores}
+use Rattle.law_scans.proofs.inv.ends.Told.Rows.{own_told, own_post, step_adds}
+use Rattle.law_scans.proofs.inv.ends.Told.Turns.{Adds, is_later}
+use Rattle.law_scans.proofs.inv.ends.Told.Births.{each_stores}
 use Rattle.law_turns.specs.laws.StateAt.{null_by, null_of}
 
 -- where an answer was taken whose link is null, index 0 was told null

@@ -18,16 +18,16 @@ use Rattle.law_turns.specs.inv.model.Posts.{counted}
 use Rattle.law_turns.specs.inv.model.World.{World, finds, offered, step, told_in}
 use Rattle.law_turns.specs.inv.model.Calls.{ChangeKept, EnqueueKept, LoadVersion, LoadCount, LoadKey, LoadValue, ExchangeRoot, LoadNumber, LoadNext, PassTail, ExchangeNext, ExchangeTail, LoadTail, SwingTail, TakeNumber, TakeValue, ExchangeHead, Getting, Changing, Enqueuing, Dequeuing, Keeping, Phase, Idle, Runs, Scans, Works, CallTurn, CallOutcome, GoesOn, Answers}
 use Rattle.law_turns.proofs.inv.model.Facts.{same_number, first_of, rest_of}
-use Rattle.law_places.proofs.inv.contents.Contents.Told.{booked_append}
-use Rattle.law_places.specs.inv.history.Record.{Past, tells_of}
-use Rattle.law_places.specs.inv.history.Record.Past.{Start, Then}
+use Rattle.law_scans.proofs.inv.contents.Contents.Told.{booked_append}
+use Rattle.law_scans.specs.laws.records.Record.{Past, tells_of}
+use Rattle.law_scans.specs.laws.records.Record.Past.{Start, Then}
 use Rattle.law_turns.specs.laws.StateAt.{changes_of, count_of, bucket_at, row_at}
-use Rattle.law_places.proofs.inv.history.AllOf.{all_of, of_weaker}
-use Rattle.law_places.proofs.answers.Lawful.Maps.{told_changes}
-use Rattle.law_places.proofs.Placing.Fronts.{linked_front, queued_front, taken_front}
-use Rattle.law_places.proofs.Placing.Marks.{is_common, ordered, InOrder, step_order}
+use Rattle.law_scans.proofs.reuse.history.AllOf.{all_of, of_weaker}
+use Rattle.law_scans.proofs.reuse.Lawful.Maps.{told_changes}
+use Rattle.law_scans.proofs.Placing.Fronts.{linked_front, queued_front, taken_front}
+use Rattle.law_scans.proofs.Placing.Marks.{is_common, ordered, InOrder, step_order}
 use Rattle.law_turns.proofs.laws.Tells.{tells_both}
-use Rattle.law_places.proofs.inv.contents.Contents.Shelves.{same_bucket}
+use Rattle.law_scans.proofs.inv.contents.Contents.Shelves.{same_bucket}
 
 -- row s is that of this version of bucket b
 abbrev pub RowOf : (version b s : ℕ) → Past → Type 0

@@ -10,12 +10,12 @@ use Rattle.law_turns.specs.inv.model.defs.declared.event.Guard.{Guard}
 use Rattle.law_turns.specs.inv.model.defs.declared.lifetime.Interval.{Interval}
 use Rattle.law_turns.proofs.inv.model.Facts.{first_of, rest_of, implies_or, or_left_true, or_more}
 use Rattle.law_turns.specs.laws.HoldLaw.{is_held}
-use Rattle.law_places.specs.inv.history.Record.{Past, Test, Each, tells_of}
-use Rattle.law_places.specs.inv.history.Record.Past.{Then}
-use Rattle.law_places.proofs.inv.history.AllOf.{all_of}
+use Rattle.law_scans.specs.laws.records.Record.{Past, Test, Each, tells_of}
+use Rattle.law_scans.specs.laws.records.Record.Past.{Then}
+use Rattle.law_scans.proofs.reuse.history.AllOf.{all_of}
 use Rattle.law_turns.proofs.laws.Tells.{tells_both}
 use Rattle.law_turns.specs.laws.StateAt.{stood_at, is_row}
-use Rattle.law_places.proofs.inv.contents.Stands.Rounds.{is_clear}
+use Rattle.law_scans.proofs.inv.contents.Stands.Rounds.{is_clear}
 
 -- an event that changes nothing of guards, lives and taken rows
 abbrev pub is_flat : Event → Bool

@@ -31,16 +31,16 @@ use Rattle.law_turns.specs.inv.model.Phases.Base.{Begin, Protect, Reload, Clear,
 use Rattle.law_turns.specs.inv.model.Phases.Ending.{Done, Protected, Followed, Allocated, Retired, Clocked}
 use Rattle.law_turns.specs.inv.model.Calls.{Task, Next, Again, MakeRoom, Answering, Retiring, AfterScan, Answered, Repeated, Counted, Why, Opens, FollowsHead, Fills, ClearsNext, Clears, Finishes, GivesUp, Retires, Tidies, Advances, Releases, LetGo, Released, Rehold, Dropped, Parting, GiveBack, Runs, Scans, CallTurn, CallOutcome, GoesOn, Answers}
 use Rattle.law_turns.proofs.inv.model.Facts.{first_of, rest_of, false_not_true}
-use Rattle.law_places.proofs.inv.history.MayTell as may
-use Rattle.law_places.proofs.inv.history.MayTell.{concluded_told, Silent, Single, Takes, takes, shape_of, held_any}
+use Rattle.law_scans.proofs.reuse.history.MayTell as may
+use Rattle.law_scans.proofs.reuse.history.MayTell.{concluded_told, Silent, Single, Takes, takes, shape_of, held_any}
 use Rattle.law_turns.specs.inv.model.words.Schemes.{is_ibr}
-use Rattle.law_places.specs.inv.shapes.Seats.{Run, ToClear, suits, protect_fits}
-use Rattle.law_places.proofs.inv.history.AllOf.{all_of, of_along}
-use Rattle.law_places.proofs.inv.history.Passes.{is_quiet, all_quiet, Closed, step_goes}
+use Rattle.law_scans.specs.inv.shapes.Seats.{Run, ToClear, suits, protect_fits}
+use Rattle.law_scans.proofs.reuse.history.AllOf.{all_of, of_along}
+use Rattle.law_scans.proofs.reuse.history.Passes.{is_quiet, all_quiet, Closed, step_goes}
 use Rattle.law_held.proofs.Held.Flat.{is_flat, is_settled}
-use Rattle.law_places.proofs.inv.contents.Stands.Rounds.{is_clear}
-use Rattle.law_places.proofs.answers.Lawful.Gots.{cleared_table}
-use Rattle.law_places.proofs.inv.requests.Paced.{wfe_not_ibr}
+use Rattle.law_scans.proofs.inv.contents.Stands.Rounds.{is_clear}
+use Rattle.law_scans.proofs.reuse.Lawful.Gots.{cleared_table}
+use Rattle.law_scans.proofs.inv.requests.Paced.{wfe_not_ibr}
 
 -- rows are cleared, and last comes one event
 pub record Last (own : List Event) : Type 0 where

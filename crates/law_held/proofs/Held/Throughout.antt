@@ -29,39 +29,39 @@ use Rattle.law_turns.specs.inv.model.Rounds.{let_index, scheme_of}
 use Rattle.law_turns.specs.inv.model.words.Schemes.{has_one_interval}
 use Rattle.law_turns.specs.inv.model.defs.declared.event.Guard.{Guard}
 use Rattle.law_turns.specs.inv.model.defs.declared.lifetime.Interval.{Interval}
-use Rattle.law_places.proofs.inv.contents.Stands.Rounds.{is_clear}
+use Rattle.law_scans.proofs.inv.contents.Stands.Rounds.{is_clear}
 use Rattle.law_turns.proofs.inv.model.Facts.{both, same_number, first_of, rest_of, implies_or, or_left_true, or_more, then_of}
-use Rattle.law_places.proofs.inv.covers.Resting.{rests_give}
-use Rattle.law_places.proofs.inv.ends.Ends.Held.{held_stands}
-use Rattle.law_places.specs.inv.shapes.Seats.{Seats}
-use Rattle.law_places.specs.inv.history.History.{Item, Begins, Steps, Made, fits, done, done_if, made_of, record_of, world_of}
-use Rattle.law_places.proofs.inv.history.Along.{low_seat, paths_keep}
+use Rattle.law_scans.proofs.inv.covers.Resting.{rests_give}
+use Rattle.law_scans.proofs.inv.ends.Ends.Held.{held_stands}
+use Rattle.law_scans.specs.inv.shapes.Seats.{Seats}
+use Rattle.law_scans.specs.inv.history.History.{Item, Begins, Steps, Made, fits, done, done_if, made_of, record_of, world_of}
+use Rattle.law_scans.proofs.reuse.history.Along.{low_seat, paths_keep}
 use Rattle.law_turns.specs.laws.HoldLaw.{is_held}
-use Rattle.law_places.proofs.reuse.Holding.Holds.{records_hold}
-use Rattle.law_places.specs.inv.Inv.{Inv}
-use Rattle.law_places.proofs.inv.Inv.Guards.{rests_need}
-use Rattle.law_places.proofs.inv.Inv.Reached.{inv_reached}
-use Rattle.law_places.specs.inv.history.Record.{Past, Each, EachEntry, tells_of}
-use Rattle.law_places.proofs.inv.history.Entries.{entries_of_each}
-use Rattle.law_places.proofs.inv.history.AllOf.{all_of, of_along}
+use Rattle.law_scans.proofs.reuse.Holding.Holds.{records_hold}
+use Rattle.law_scans.specs.inv.Inv.{Inv}
+use Rattle.law_scans.proofs.inv.Inv.Guards.{rests_need}
+use Rattle.law_scans.proofs.inv.Inv.Reached.{inv_reached}
+use Rattle.law_scans.specs.laws.records.Record.{Past, Each, EachEntry, tells_of}
+use Rattle.law_scans.proofs.laws.records.Entries.{entries_of_each}
+use Rattle.law_scans.proofs.reuse.history.AllOf.{all_of, of_along}
 use Rattle.law_turns.specs.laws.StateAt.{stood_at, is_row}
-use Rattle.law_places.proofs.reuse.Reuse.Keeps.{record_stands}
+use Rattle.law_scans.proofs.reuse.Reuse.Keeps.{record_stands}
 use Rattle.law_turns.proofs.laws.Along.{row_of}
 use Rattle.law_held.proofs.Roots.Ways.{Turning}
-use Rattle.law_places.proofs.inv.ends.Told.Rows.{own_told, own_post, step_adds}
-use Rattle.law_places.proofs.inv.ends.Told.Turns.{Adds, is_later}
+use Rattle.law_scans.proofs.inv.ends.Told.Rows.{own_told, own_post, step_adds}
+use Rattle.law_scans.proofs.inv.ends.Told.Turns.{Adds, is_later}
 use Rattle.law_held.specs.Records.{RecordsHoldThroughout}
 use Rattle.law_held.proofs.Held.Flat.{is_flat, is_settled, is_at, comes, settled_flat, all_flat, holds_ok, Good, late_each, take_each, copy_each, plain_each}
 use Rattle.law_held.proofs.Held.Forms.{Shape, Even, Late, end_settled, run_shape, back_shape, turn_settled}
 use Rattle.law_held.proofs.Resting.Resting.{next_made}
 use Rattle.law_turns.specs.inv.model.defs.Events.{is_held as event_is_held}
-use Rattle.law_places.specs.inv.ends.Stands.{is_copied}
-use Rattle.law_places.proofs.inv.ends.Ends.Copied.{copy_stands}
-use Rattle.law_places.proofs.inv.history.Passes.{copied_told, keep_told}
-use Rattle.law_places.proofs.inv.handover.Asks.{run_of}
-use Rattle.law_places.proofs.answers.AnswersTold.Owed.{append_none}
-use Rattle.law_places.proofs.answers.AnswersTold.Answering.{append_one}
-use Rattle.law_places.proofs.inv.history.MayTell.{takes, cleared_from_all}
+use Rattle.law_scans.specs.inv.ends.Stands.{is_copied}
+use Rattle.law_scans.proofs.inv.ends.Ends.Copied.{copy_stands}
+use Rattle.law_scans.proofs.reuse.history.Passes.{copied_told, keep_told}
+use Rattle.law_scans.proofs.inv.ends.Handover.Asks.{run_of}
+use Rattle.law_scans.proofs.reuse.AnswersTold.Owed.{append_none}
+use Rattle.law_scans.proofs.reuse.AnswersTold.Answering.{append_one}
+use Rattle.law_scans.proofs.reuse.history.MayTell.{takes, cleared_from_all}
 use Rattle.law_turns.specs.inv.model.Desks.{Desk}
 
 -- the ends of a step

@@ -18,16 +18,16 @@ use Rattle.law_turns.specs.inv.model.Rounds.{index_of, scheme_of, clear_told, le
 use Rattle.law_turns.specs.inv.model.words.Schemes.{has_one_interval}
 use Rattle.law_turns.specs.inv.model.World.{World, finds, offered, told_in}
 use Rattle.law_turns.proofs.inv.model.Facts.{same_number, first_of, rest_of, number_is}
-use Rattle.law_places.specs.inv.covers.Rests.{Vacant, bare, vacant, vacant_why}
-use Rattle.law_places.specs.inv.shapes.Seats.{Run, Seats, kind_of, suits, index_by}
-use Rattle.law_places.specs.inv.history.History.{record_of, world_of}
-use Rattle.law_places.specs.inv.history.Record.{Past, Each, tells_of}
-use Rattle.law_places.specs.inv.history.Record.Past.{Then}
-use Rattle.law_places.proofs.inv.history.MayTell.{Shape, Silent, Clears, Takes, Tells, at_finds, finds_none, finds_row, shape_of, clear_any}
-use Rattle.law_places.proofs.inv.history.Passes.{is_quiet, all_quiet, Closed, First, copied_told, step_goes, work_told}
-use Rattle.law_places.proofs.inv.handover.Asks.{run_of}
-use Rattle.law_places.proofs.reuse.Reuse.Follows.{stood, stood_along}
-use Rattle.law_places.proofs.reuse.Reuse.Keeps.{record_stands}
+use Rattle.law_scans.specs.inv.covers.Rests.{Vacant, bare, vacant, vacant_why}
+use Rattle.law_scans.specs.inv.shapes.Seats.{Run, Seats, kind_of, suits, index_by}
+use Rattle.law_scans.specs.inv.history.History.{record_of, world_of}
+use Rattle.law_scans.specs.laws.records.Record.{Past, Each, tells_of}
+use Rattle.law_scans.specs.laws.records.Record.Past.{Then}
+use Rattle.law_scans.proofs.reuse.history.MayTell.{Shape, Silent, Clears, Takes, Tells, at_finds, finds_none, finds_row, shape_of, clear_any}
+use Rattle.law_scans.proofs.reuse.history.Passes.{is_quiet, all_quiet, Closed, First, copied_told, step_goes, work_told}
+use Rattle.law_scans.proofs.inv.ends.Handover.Asks.{run_of}
+use Rattle.law_scans.proofs.reuse.Reuse.Follows.{stood, stood_along}
+use Rattle.law_scans.proofs.reuse.Reuse.Keeps.{record_stands}
 use Rattle.law_turns.proofs.laws.Tells.{AllRight}
 use Rattle.law_turns.specs.laws.StateAt.{stood_by, stood_at}
 use Rattle.law_held.specs.Records.{RecordsHoldAlone}

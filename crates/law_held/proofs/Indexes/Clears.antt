@@ -26,22 +26,22 @@ use Rattle.law_turns.specs.inv.model.Protect.{told_held}
 use Rattle.law_turns.specs.inv.model.Rounds.{scheme_of, clear_told, let_index}
 use Rattle.law_turns.specs.inv.model.World.{World, finds, offered, told_in}
 use Rattle.law_turns.proofs.inv.model.Facts.{same_number, first_of, rest_of, and_right_false, below_length}
-use Rattle.law_places.specs.inv.covers.Held.{index_base}
-use Rattle.law_places.proofs.inv.ends.Ends.Tests.{Calm, at_shows, base_shows, base_any}
-use Rattle.law_places.specs.inv.shapes.Seats.{Seats}
-use Rattle.law_places.specs.inv.shapes.Slots.{PhaseIn, Slots, WorkIn}
-use Rattle.law_places.specs.inv.history.History.{Item, record_of, world_of}
-use Rattle.law_places.specs.inv.history.Record.{Past, Each, EachEntry, tells_of}
-use Rattle.law_places.specs.inv.history.Record.Past.{Then}
+use Rattle.law_scans.specs.inv.covers.Held.{index_base}
+use Rattle.law_scans.proofs.inv.ends.Ends.Tests.{Calm, at_shows, base_shows, base_any}
+use Rattle.law_scans.specs.inv.shapes.Seats.{Seats}
+use Rattle.law_scans.specs.inv.shapes.Slots.{PhaseIn, Slots, WorkIn}
+use Rattle.law_scans.specs.inv.history.History.{Item, record_of, world_of}
+use Rattle.law_scans.specs.laws.records.Record.{Past, Each, EachEntry, tells_of}
+use Rattle.law_scans.specs.laws.records.Record.Past.{Then}
 use Rattle.law_turns.proofs.laws.Tells.{AllRight}
 use Rattle.law_turns.specs.laws.StateAt.{stood_by, stood_at, is_row}
-use Rattle.law_places.proofs.reuse.Reuse.Follows.{stood, stood_along, Follow, follow_closed, base_follows, copy_index, work_follows}
-use Rattle.law_places.proofs.reuse.Reuse.Keeps.{record_stands, room_of}
-use Rattle.law_places.proofs.inv.history.Passes.{is_quiet, all_quiet, Closed, First, copied_told, scan_told, step_goes, work_told}
+use Rattle.law_scans.proofs.reuse.Reuse.Follows.{stood, stood_along, Follow, follow_closed, base_follows, copy_index, work_follows}
+use Rattle.law_scans.proofs.reuse.Reuse.Keeps.{record_stands, room_of}
+use Rattle.law_scans.proofs.reuse.history.Passes.{is_quiet, all_quiet, Closed, First, copied_told, scan_told, step_goes, work_told}
 use Rattle.law_held.specs.Records.{RecordsClearRows}
 use Rattle.law_held.proofs.Roots.Ways.{Along, record_each, answers_of}
 use Rattle.law_turns.proofs.inv.model.Lists.{or_left, or_right}
-use Rattle.law_places.specs.inv.covers.Rests.{Rests, Vacant, spare, vacant}
+use Rattle.law_scans.specs.inv.covers.Rests.{Rests, Vacant, spare, vacant}
 use Rattle.std.proofs.lemmas.List.{get_or-drop}
 
 -- at one index: what is cleared there stood there, and what is copied from there stands there

@@ -37,12 +37,12 @@ use Rattle.law_turns.specs.inv.model.Calls.{Task, Gets, Changes, Holds, Enqueues
 use Rattle.law_turns.specs.inv.model.words.Schemes.{has_one_interval}
 use Rattle.law_turns.specs.inv.model.words.declared.config.Config.{Config}
 use Rattle.law_turns.proofs.inv.model.Facts.{both, same_both, same_number, false_not_true, first_of, rest_of}
-use Rattle.law_places.specs.inv.shapes.Slots.{CopyIn, KeepIn, KeptIn, WorkIn}
-use Rattle.law_places.specs.inv.ends.Stands.{is_clear}
-use Rattle.law_places.proofs.inv.ends.Told.Turns.{keep_just, is_later}
-use Rattle.law_places.proofs.inv.history.Passes.{copied_told, keep_told}
-use Rattle.law_places.proofs.answers.AnswersTold.Owed.{call_for, TaskServes, FreeServes, KeepServes, WhyServes, WorkServes}
-use Rattle.law_places.proofs.inv.history.AllOf.{all_of, of_along}
+use Rattle.law_scans.specs.inv.shapes.Slots.{CopyIn, KeepIn, KeptIn, WorkIn}
+use Rattle.law_scans.specs.inv.ends.Stands.{is_clear}
+use Rattle.law_scans.proofs.inv.ends.Told.Turns.{keep_just, is_later}
+use Rattle.law_scans.proofs.reuse.history.Passes.{copied_told, keep_told}
+use Rattle.law_scans.proofs.reuse.AnswersTold.Owed.{call_for, TaskServes, FreeServes, KeepServes, WhyServes, WorkServes}
+use Rattle.law_scans.proofs.reuse.history.AllOf.{all_of, of_along}
 use Rattle.law_turns.specs.laws.HistoryHolds.{protects_at, clears_at}
 use Rattle.law_turns.specs.laws.Standing.{is_copy}
 use Rattle.law_turns.proofs.inv.model.Lists.{or_left, or_right}

@@ -30,28 +30,28 @@ use Rattle.law_turns.specs.inv.model.Scan as scan
 use Rattle.law_turns.specs.inv.model.Steps as steps
 use Rattle.law_turns.specs.inv.model.World.{World, finds, offered, told_in}
 use Rattle.law_turns.proofs.inv.model.Facts.{both, first_of, rest_of, not_or_false, and_right_false}
-use Rattle.law_places.proofs.inv.ends.Ends.Tests.{Calm, at_shows, base_shows, base_any}
-use Rattle.law_places.specs.inv.shapes.Seats.{Seats, Shaped, suits, kind_of, protects, reloads, clears, releases, index_by}
-use Rattle.law_places.specs.inv.shapes.Slots.{PhaseIn, Slots, WhyIn}
-use Rattle.law_places.specs.inv.history.History.{Item, record_of, world_of}
-use Rattle.law_places.specs.inv.history.Record.{Past, Test, Each, tells_of}
-use Rattle.law_places.specs.inv.history.Record.Past.{Start, Then}
-use Rattle.law_places.proofs.inv.history.AllOf.{all_of, of_along}
-use Rattle.law_places.proofs.inv.Machines.{is_within, within_of}
+use Rattle.law_scans.proofs.inv.ends.Ends.Tests.{Calm, at_shows, base_shows, base_any}
+use Rattle.law_scans.specs.inv.shapes.Seats.{Seats, Shaped, suits, kind_of, protects, reloads, clears, releases, index_by}
+use Rattle.law_scans.specs.inv.shapes.Slots.{PhaseIn, Slots, WhyIn}
+use Rattle.law_scans.specs.inv.history.History.{Item, record_of, world_of}
+use Rattle.law_scans.specs.laws.records.Record.{Past, Test, Each, tells_of}
+use Rattle.law_scans.specs.laws.records.Record.Past.{Start, Then}
+use Rattle.law_scans.proofs.reuse.history.AllOf.{all_of, of_along}
+use Rattle.law_scans.proofs.inv.Machines.{is_within, within_of}
 use Rattle.law_turns.specs.laws.StateAt.{began_of, is_row, stood_at}
-use Rattle.law_places.proofs.answers.AnswersTold.Answering.{one_began, own_began}
-use Rattle.law_places.proofs.answers.AnswersTold.Owed.{call_for, TaskServes, WhyServes, Serves}
+use Rattle.law_scans.proofs.reuse.AnswersTold.Answering.{one_began, own_began}
+use Rattle.law_scans.proofs.reuse.AnswersTold.Owed.{call_for, TaskServes, WhyServes, Serves}
 use Rattle.law_turns.specs.laws.HistoryHolds.{protects_at, clears_at, indexes_ok}
 use Rattle.law_turns.specs.laws.Standing.{is_copy}
 use Rattle.law_held.specs.Records.{RecordsCopyRows, RecordsUseIndexes}
 use Rattle.law_held.proofs.Indexes.Clears.{copied_row, copied_rows}
 use Rattle.law_held.proofs.Indexes.Fitting.{fits, Fit, copies_up, rises_to, May, task_may, dequeue_may, free_may, work_fit, resumed_fit}
 use Rattle.law_held.proofs.Roots.Ways.{Along, record_all, record_each, answers_of}
-use Rattle.law_places.proofs.reuse.Holding.Holds.{history_held}
+use Rattle.law_scans.proofs.reuse.Holding.Holds.{history_held}
 use Rattle.law_turns.proofs.inv.model.Ranges.{bounds_of}
 use Rattle.std.proofs.lemmas.Bool.Decides.{nat_tests}
 use Rattle.law_turns.specs.inv.model.defs.declared.call.Call.TheVariants as names
-use Rattle.law_places.proofs.inv.handover.Asks.{run_of}
+use Rattle.law_scans.proofs.inv.ends.Handover.Asks.{run_of}
 
 -- an event that does not fit the call
 abbrev is_odd : (indexes : ℕ) → Call → Event → Bool

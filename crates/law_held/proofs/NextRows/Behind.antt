@@ -18,36 +18,36 @@ use Rattle.law_turns.specs.inv.model.Phases.Base.{Protect, Reload}
 use Rattle.law_turns.specs.inv.model.Calls.{Gets, Changes, Holds, Enqueues, Dequeues, Why, Opens, FollowsHead, Phase, Idle, Runs, Scans, Works}
 use Rattle.law_turns.specs.inv.model.World.{World, finds, is_busy, told_in, may_start}
 use Rattle.law_turns.proofs.inv.model.Facts.{same_number, first_of, rest_of, or_more}
-use Rattle.law_places.specs.inv.shapes.Seats.{Seats, Run, root_by}
-use Rattle.law_places.specs.inv.history.History.{Item, Begins, Steps, Made, fits, done_if, made_of, first_made}
-use Rattle.law_places.proofs.inv.history.Along.{begins_right, begins_within, low_seat, paths_keep}
-use Rattle.law_places.specs.inv.Known.{Known}
-use Rattle.law_places.proofs.inv.Inv.Begun.{known_start, known_begin}
-use Rattle.law_places.proofs.inv.Inv.Kept.{known_kept, asked_next}
-use Rattle.law_places.proofs.inv.Inv.Whole.{origins_need}
-use Rattle.law_places.specs.inv.history.Record.{Past, tells_of, begins, held_since}
-use Rattle.law_places.specs.inv.history.Record.Past.{Start, Then}
-use Rattle.law_places.proofs.answers.Lawful.Current.{idle_untracked}
-use Rattle.law_places.proofs.inv.history.AllOf.{all_of}
-use Rattle.law_places.proofs.inv.Machines.{is_within, within_of, within_begins}
-use Rattle.law_places.specs.inv.links.Origins.{Origins}
-use Rattle.law_places.specs.inv.links.Tracked.{carries_at, carries_in, root_for, root_in, Tracked, Carried}
-use Rattle.law_places.proofs.inv.links.Origins.Kept.{origins_kept, origins_start, origins_begin}
+use Rattle.law_scans.specs.inv.shapes.Seats.{Seats, Run, root_by}
+use Rattle.law_scans.specs.inv.history.History.{Item, Begins, Steps, Made, fits, done_if, made_of, first_made}
+use Rattle.law_scans.proofs.reuse.history.Along.{begins_right, begins_within, low_seat, paths_keep}
+use Rattle.law_scans.specs.inv.Known.{Known}
+use Rattle.law_scans.proofs.inv.Inv.Begun.{known_start, known_begin}
+use Rattle.law_scans.proofs.inv.Inv.Kept.{known_kept, asked_next}
+use Rattle.law_scans.proofs.inv.Inv.Whole.{origins_need}
+use Rattle.law_scans.specs.laws.records.Record.{Past, tells_of, begins, held_since}
+use Rattle.law_scans.specs.laws.records.Record.Past.{Start, Then}
+use Rattle.law_scans.proofs.reuse.Lawful.Current.{idle_untracked}
+use Rattle.law_scans.proofs.reuse.history.AllOf.{all_of}
+use Rattle.law_scans.proofs.inv.Machines.{is_within, within_of, within_begins}
+use Rattle.law_scans.specs.inv.links.Origins.{Origins}
+use Rattle.law_scans.specs.inv.links.Tracked.{carries_at, carries_in, root_for, root_in, Tracked, Carried}
+use Rattle.law_scans.proofs.inv.links.Origins.Kept.{origins_kept, origins_start, origins_begin}
 use Rattle.law_turns.specs.laws.StateAt.{next_at, head_at}
-use Rattle.law_places.proofs.Ordering.Ordered.{no_row, one_row}
-use Rattle.law_places.specs.inv.requests.Standing.{Requests}
-use Rattle.law_places.specs.inv.requests.Views.{Deal, View as Asked}
-use Rattle.law_places.proofs.inv.requests.Kept.{requests_begin, requests_start}
-use Rattle.law_places.specs.inv.rows.Agree.{first_rows, rows_after}
-use Rattle.law_places.specs.inv.rows.Chain.{first_line, line_after, queue_of}
-use Rattle.law_places.specs.inv.rows.Queue.{Line, heads_on, stands_on}
-use Rattle.law_places.specs.inv.rows.Rows.{View}
-use Rattle.law_places.specs.inv.links.Links.{links_to}
+use Rattle.law_scans.proofs.Ordering.Ordered.{no_row, one_row}
+use Rattle.law_scans.specs.inv.requests.Standing.{Requests}
+use Rattle.law_scans.specs.inv.requests.Views.{Deal, View as Asked}
+use Rattle.law_scans.proofs.inv.requests.Kept.{requests_begin, requests_start}
+use Rattle.law_scans.specs.inv.rows.Agree.{first_rows, rows_after}
+use Rattle.law_scans.specs.inv.rows.Chain.{first_line, line_after, queue_of}
+use Rattle.law_scans.specs.inv.rows.Queue.{Line, heads_on, stands_on}
+use Rattle.law_scans.specs.inv.rows.Rows.{View}
+use Rattle.law_scans.specs.inv.links.Links.{links_to}
 use Rattle.law_held.proofs.Roots.Leads.{Leads, leads_of}
 use Rattle.law_turns.specs.laws.HoldLaw.{is_last}
 use Rattle.law_held.proofs.NextRows.Nexts.{Nexts, nexts_step, nexts_first}
-use Rattle.law_places.proofs.inv.links.Origins.Ends.{found_clock}
-use Rattle.law_places.proofs.inv.handover.Asks.{run_of}
+use Rattle.law_scans.proofs.inv.links.Origins.Ends.{found_clock}
+use Rattle.law_scans.proofs.inv.ends.Handover.Asks.{run_of}
 
 -- where a next link is null, the head had its row and no row was next to it, at a position of the seat's call
 abbrev pub had_none : ℕ → Past → ℕ → Root → ℕ → Bool

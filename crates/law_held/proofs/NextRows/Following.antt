@@ -27,28 +27,28 @@ use Rattle.law_turns.specs.inv.model.Phases.ProtectAt.{PublishEra, CheckClock, P
 use Rattle.law_turns.specs.inv.model.Phases.Base.{Protect, Reload, Clear, Release}
 use Rattle.law_turns.specs.inv.model.Calls.{Work, Task, Gets, Changes, Holds, Enqueues, Dequeues, ReadGuard, GiveBack, Why, Opens, FollowsHead, Phase, Idle, Runs, Scans, Works}
 use Rattle.law_turns.proofs.inv.model.Facts.{same_number, both, and_right_false, number_is, or_more, first_of, rest_of, false_of_not}
-use Rattle.law_places.proofs.inv.history.AllOf.{all_of}
-use Rattle.law_places.proofs.inv.history.Passes.{work_told}
-use Rattle.law_places.proofs.inv.history.MayTell.{concluded_told, work_all}
-use Rattle.law_places.proofs.inv.covers.Held.{finds_at}
-use Rattle.law_places.proofs.inv.ends.Ends.Tests.{Calm, at_shows, base_shows, base_any}
-use Rattle.law_places.specs.inv.shapes.Seats.{ToFollow, Run, suits, kind_of, protects, reloads, index_by}
-use Rattle.law_places.specs.inv.history.History.{record_of, world_of}
-use Rattle.law_places.specs.inv.Known.{Known}
-use Rattle.law_places.specs.inv.history.Record.{Past, Each, tells_of, begins, held_since}
-use Rattle.law_places.specs.inv.history.Record.Past.{Then}
-use Rattle.law_places.specs.inv.links.Origins.{Origins}
-use Rattle.law_places.specs.inv.links.Tracked.{carries_at}
+use Rattle.law_scans.proofs.reuse.history.AllOf.{all_of}
+use Rattle.law_scans.proofs.reuse.history.Passes.{work_told}
+use Rattle.law_scans.proofs.reuse.history.MayTell.{concluded_told, work_all}
+use Rattle.law_scans.proofs.inv.covers.Held.{finds_at}
+use Rattle.law_scans.proofs.inv.ends.Ends.Tests.{Calm, at_shows, base_shows, base_any}
+use Rattle.law_scans.specs.inv.shapes.Seats.{ToFollow, Run, suits, kind_of, protects, reloads, index_by}
+use Rattle.law_scans.specs.inv.history.History.{record_of, world_of}
+use Rattle.law_scans.specs.inv.Known.{Known}
+use Rattle.law_scans.specs.laws.records.Record.{Past, Each, tells_of, begins, held_since}
+use Rattle.law_scans.specs.laws.records.Record.Past.{Then}
+use Rattle.law_scans.specs.inv.links.Origins.{Origins}
+use Rattle.law_scans.specs.inv.links.Tracked.{carries_at}
 use Rattle.law_turns.specs.laws.Once.{is_slot}
 use Rattle.law_turns.specs.laws.StateAt.{next_at, head_at, stood_at}
-use Rattle.law_places.proofs.Ordering.Ordered.{head_is}
+use Rattle.law_scans.proofs.Ordering.Ordered.{head_is}
 use Rattle.law_turns.proofs.laws.Tells.{tells_both}
-use Rattle.law_places.specs.inv.requests.Views.{View as Asked}
-use Rattle.law_places.proofs.reuse.Reuse.Keeps.{record_stands}
-use Rattle.law_places.specs.inv.rows.Queue.{Line, stands_on}
-use Rattle.law_places.specs.inv.rows.Rows.{View}
-use Rattle.law_places.proofs.inv.ends.Told.Rows.{own_told, own_post, step_adds}
-use Rattle.law_places.proofs.inv.ends.Told.Turns.{Adds, is_later}
+use Rattle.law_scans.specs.inv.requests.Views.{View as Asked}
+use Rattle.law_scans.proofs.reuse.Reuse.Keeps.{record_stands}
+use Rattle.law_scans.specs.inv.rows.Queue.{Line, stands_on}
+use Rattle.law_scans.specs.inv.rows.Rows.{View}
+use Rattle.law_scans.proofs.inv.ends.Told.Rows.{own_told, own_post, step_adds}
+use Rattle.law_scans.proofs.inv.ends.Told.Turns.{Adds, is_later}
 use Rattle.law_held.proofs.Roots.Leads.{Leads, leads_of}
 use Rattle.law_held.proofs.Roots.Ways.{record_each}
 use Rattle.law_turns.specs.laws.HistoryHolds.{was_last, behind_ok}
@@ -57,8 +57,8 @@ use Rattle.law_held.specs.Records.{RecordsFollowNexts}
 use Rattle.law_held.proofs.NextRows.Behind.{had_none, within_none, carried_none, reloaded_next, behind_of}
 use Rattle.law_held.proofs.NextRows.Nexts.{Nexts}
 use Rattle.law_turns.proofs.TurnCounts.Tried.{is_follow}
-use Rattle.law_places.proofs.inv.handover.Asks.{run_of}
-use Rattle.law_places.proofs.Ordering.Linked.{row_is}
+use Rattle.law_scans.proofs.inv.ends.Handover.Asks.{run_of}
+use Rattle.law_scans.proofs.Ordering.Linked.{row_is}
 use Rattle.law_turns.proofs.inv.model.Lists.{or_left, or_right}
 
 -- what is told of protections at index 1

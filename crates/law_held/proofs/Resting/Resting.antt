@@ -28,37 +28,37 @@ use Rattle.law_turns.specs.inv.model.defs.declared.call.Call.{Call}
 use Rattle.law_held.proofs.Indexes.Indexing.{record_high}
 use Rattle.law_turns.specs.inv.model.World.{World, finds, is_busy, offered, told_in}
 use Rattle.law_turns.proofs.inv.model.Facts.{first_of, rest_of}
-use Rattle.law_places.specs.inv.covers.Covers.{life_in, eras_shown, shown}
-use Rattle.law_places.proofs.inv.covers.Held.{stepped_phase}
+use Rattle.law_scans.specs.inv.covers.Covers.{life_in, eras_shown, shown}
+use Rattle.law_scans.proofs.inv.covers.Held.{stepped_phase}
 use Rattle.law_turns.specs.inv.model.words.Schemes.{is_ibr}
-use Rattle.law_places.specs.inv.shapes.Frame.{phase_left}
-use Rattle.law_places.specs.inv.requests.Roles.{shows}
-use Rattle.law_places.specs.inv.requests.Standing.{Requests, role_of}
-use Rattle.law_places.specs.inv.requests.Views.{Role}
-use Rattle.law_places.proofs.inv.requests.Kept.{idle_of}
-use Rattle.law_places.specs.inv.Inv.{Inv}
-use Rattle.law_places.proofs.inv.Inv.Reached.{inv_reached}
-use Rattle.law_places.proofs.inv.Inv.Shown.{word_era, shown_span}
-use Rattle.law_places.specs.inv.history.Record.{Past, Test, Each, EachEntry, tells_of}
-use Rattle.law_places.specs.inv.history.Record.Past.{Then}
-use Rattle.law_places.specs.inv.history.Turns as schedule
-use Rattle.law_places.specs.inv.history.History.{Item, Steps, Made, fits, done, done_if, made_of, first_made, record_of, world_of}
-use Rattle.law_places.proofs.inv.history.Along.{made_snoc}
+use Rattle.law_scans.specs.inv.shapes.Frame.{phase_left}
+use Rattle.law_scans.specs.inv.requests.Roles.{shows}
+use Rattle.law_scans.specs.inv.requests.Standing.{Requests, role_of}
+use Rattle.law_scans.specs.inv.requests.Views.{Role}
+use Rattle.law_scans.proofs.inv.requests.Kept.{idle_of}
+use Rattle.law_scans.specs.inv.Inv.{Inv}
+use Rattle.law_scans.proofs.inv.Inv.Reached.{inv_reached}
+use Rattle.law_scans.proofs.inv.Inv.Shown.{word_era, shown_span}
+use Rattle.law_scans.specs.laws.records.Record.{Past, Test, Each, EachEntry, tells_of}
+use Rattle.law_scans.specs.laws.records.Record.Past.{Then}
+use Rattle.law_scans.specs.laws.records.Turns as schedule
+use Rattle.law_scans.specs.inv.history.History.{Item, Steps, Made, fits, done, done_if, made_of, first_made, record_of, world_of}
+use Rattle.law_scans.proofs.reuse.history.Along.{made_snoc}
 use Rattle.law_turns.specs.laws.StateAt.{stood_at, reserves_of, value_of}
-use Rattle.law_places.proofs.reuse.Reuse.Keeps.{record_stands}
-use Rattle.law_places.proofs.inv.history.AllOf.{all_of}
-use Rattle.law_places.proofs.answers.AnswersTold.Owed.{is_open, Owes, owed}
-use Rattle.law_places.proofs.answers.AnswersTold.Answering.{owes_of}
-use Rattle.law_places.proofs.BareEnds.{end_stood}
-use Rattle.law_places.proofs.answers.OneStep.Along.{history_keeps}
+use Rattle.law_scans.proofs.reuse.Reuse.Keeps.{record_stands}
+use Rattle.law_scans.proofs.reuse.history.AllOf.{all_of}
+use Rattle.law_scans.proofs.reuse.AnswersTold.Owed.{is_open, Owes, owed}
+use Rattle.law_scans.proofs.reuse.AnswersTold.Answering.{owes_of}
+use Rattle.law_scans.proofs.reuse.BareEnds.{end_stood}
+use Rattle.law_scans.proofs.reuse.OneStep.Along.{history_keeps}
 use Rattle.law_turns.proofs.Counting.Counting.{Keeps, begin_kept, step_kept, first_kept}
 use Rattle.law_turns.proofs.Counting.Fits.{Clean, free, holds}
 use Rattle.law_turns.proofs.Handovers.{handovers_meet}
-use Rattle.law_places.proofs.reuse.Holding.Holds.{record_values, history_held}
+use Rattle.law_scans.proofs.reuse.Holding.Holds.{record_values, history_held}
 use Rattle.law_held.proofs.Roots.Ways.{Turning, record_each, answers_of}
-use Rattle.law_places.specs.inv.history.Heard.{heard_of}
-use Rattle.law_places.specs.answers.Heard.{IsCounted}
-use Rattle.law_places.proofs.answers.Turns.Counted.{histories_count}
+use Rattle.law_scans.specs.inv.history.Heard.{heard_of}
+use Rattle.law_scans.specs.reuse.Heard.{IsCounted}
+use Rattle.law_scans.proofs.reuse.Turns.Counted.{histories_count}
 use Rattle.law_turns.specs.laws.HistoryHolds.{first_of as first_row_of, helpers_ok, index_rests, is_alike, kept_below, spans_ok, words_ok}
 use Rattle.law_held.specs.Records.{RecordsRestGuards}
 use Rattle.law_held.proofs.Resting.Spans.{spent_of}

@@ -31,23 +31,23 @@ use Rattle.law_turns.specs.inv.model.Phases.RetireAt.{LoadLife, LoadRetire, Stor
 use Rattle.law_turns.specs.inv.model.Phases.Base.{Begin, Protect, Reload, Clear, Finish, Release, GiveUp, Retire, Move}
 use Rattle.law_turns.specs.inv.model.Phases.Ending.{Protected, Followed}
 use Rattle.law_turns.specs.inv.model.Calls.{Task, Gets, Changes, Holds, Enqueues, Dequeues, AfterScan, Next, Why, Opens, FollowsHead, Fills, ClearsNext, Clears, Finishes, GivesUp, Retires, Tidies, Advances, Releases, LetGo, Phase, Idle, Runs, Scans, Works, CallTurn}
-use Rattle.law_places.proofs.inv.covers.Held.{stepped_post, stepped_phase}
+use Rattle.law_scans.proofs.inv.covers.Held.{stepped_post, stepped_phase}
 use Rattle.law_turns.specs.inv.model.words.Schemes.{is_ibr}
-use Rattle.law_places.specs.inv.shapes.Frame.{phase_left}
-use Rattle.law_places.specs.inv.shapes.Slots.{PhaseIn, Slots}
-use Rattle.law_places.proofs.inv.shapes.Kept.{work_counted}
-use Rattle.law_places.specs.inv.shapes.Seats.{PhaseFits, Seats, ToFinish, ToGiveUp, ToRetire, ToMove, ToRelease, Run, suits, base_fits, protect_fits, task_root}
-use Rattle.law_places.proofs.inv.shapes.Frame.{seat_stays, begin_stays, begin_begins}
-use Rattle.law_places.specs.inv.history.History.{Item, Made, made_of, world_of}
-use Rattle.law_places.specs.inv.history.Turns as schedule
-use Rattle.law_places.proofs.answers.OneStep.Along.{Kept, history_keeps}
-use Rattle.law_places.proofs.inv.steps_left.Rest.Moves.{move_post}
-use Rattle.law_places.specs.inv.history.Heard.{heard_of}
+use Rattle.law_scans.specs.inv.shapes.Frame.{phase_left}
+use Rattle.law_scans.specs.inv.shapes.Slots.{PhaseIn, Slots}
+use Rattle.law_scans.proofs.reuse.shapes.Kept.{work_counted}
+use Rattle.law_scans.specs.inv.shapes.Seats.{PhaseFits, Seats, ToFinish, ToGiveUp, ToRetire, ToMove, ToRelease, Run, suits, base_fits, protect_fits, task_root}
+use Rattle.law_scans.proofs.reuse.shapes.Frame.{seat_stays, begin_stays, begin_begins}
+use Rattle.law_scans.specs.inv.history.History.{Item, Made, made_of, world_of}
+use Rattle.law_scans.specs.laws.records.Turns as schedule
+use Rattle.law_scans.proofs.reuse.OneStep.Along.{Kept, history_keeps}
+use Rattle.law_scans.proofs.inv.steps_left.Rest.Moves.{move_post}
+use Rattle.law_scans.specs.inv.history.Heard.{heard_of}
 use Rattle.law_held.proofs.Resting.Spent.{Ended, over_why, Spent, Opened, Resumes, Out, resumed_spent, work_spent, scan_spent, first_spent, plain_ended, put_ended}
 use Rattle.law_turns.proofs.Counting.Fits.{is_hold}
-use Rattle.law_places.proofs.inv.handover.Asks.{run_of}
+use Rattle.law_scans.proofs.inv.ends.Handover.Asks.{run_of}
 use Rattle.law_turns.proofs.inv.model.Ranges.{bounds_of}
-use Rattle.law_places.proofs.inv.steps_left.Rest.Falling.{wfe_plain}
+use Rattle.law_scans.proofs.inv.steps_left.Rest.Falling.{wfe_plain}
 use Rattle.law_turns.proofs.inv.model.Facts.{false_of_not}
 
 -- what a row that was found leaves

@@ -35,8 +35,8 @@ use Rattle.law_turns.specs.inv.model.Phases.{Base, Ending, Outcome, Goes, Ends}
 use Rattle.law_turns.specs.inv.model.Phases.Ending.{Done, Protected, Followed, Allocated, Retired, Clocked}
 use Rattle.law_turns.specs.inv.model.Calls.{Task, Gets, Changes, Holds, Enqueues, Dequeues, Next, Again, MakeRoom, Answering, Retiring, AfterScan, Answered, Repeated, Counted, ChangeKept, EnqueueKept, GetAt, FindVersion, FindCount, FindKey, FindValue, ChangeAt, LoadVersion, LoadCount, LoadKey, LoadValue, ExchangeRoot, EnqueueAt, LoadNumber, LoadNext, PassTail, ExchangeNext, ExchangeTail, DequeueAt, SwingTail, ExchangeHead, Work, Getting, Changing, Enqueuing, Dequeuing, Keeping, KeepAt, Loosens, LoadHeld, StoreHeld, Looks, Misses, HideSpan, MarkLeft, TakeList, MarkTaken, LetGo, Released, Rehold, Dropped, Parting, ScanAt, ReadGuard, GiveBack, Why, Opens, FollowsHead, Fills, ClearsNext, Clears, Finishes, GivesUp, Retires, Tidies, Advances, Releases, Phase, Idle, Runs, Scans, Works, CallTurn}
 use Rattle.law_turns.specs.inv.model.words.Schemes.{is_ibr}
-use Rattle.law_places.specs.inv.shapes.Frame.{KeepFits, WorkFits, phase_left}
-use Rattle.law_places.specs.inv.shapes.Slots.{KeepIn, WorkIn}
+use Rattle.law_scans.specs.inv.shapes.Frame.{KeepFits, WorkFits, phase_left}
+use Rattle.law_scans.specs.inv.shapes.Slots.{KeepIn, WorkIn}
 use Rattle.law_turns.proofs.Counting.Fits.{is_hold}
 use Rattle.law_turns.specs.inv.model.defs.declared.lifetime.Interval.{Interval}
 

@@ -10,11 +10,11 @@ use Rattle.law_turns.specs.inv.model.defs.declared.lifetime.Interval.{Interval}
 use Rattle.law_turns.proofs.inv.model.Facts.{first_of, rest_of}
 use Rattle.law_turns.specs.laws.StateAt.{is_index_word, one_more, reserves_by, reserves_of, value_of, reserved_by}
 use Rattle.law_turns.specs.laws.HistoryTurns.{event_handed, events_handed, handed_right}
-use Rattle.law_places.specs.inv.history.Turns.{EachTurn, record_of}
-use Rattle.law_places.specs.inv.history.Record.{Past, tells_of}
-use Rattle.law_places.specs.inv.history.Record.Past.{Then}
-use Rattle.law_places.specs.inv.history.Turns as schedule
-use Rattle.law_places.specs.inv.history.Turns.History.{Blank, Starts, Turns}
+use Rattle.law_scans.specs.laws.records.Turns.{EachTurn, record_of}
+use Rattle.law_scans.specs.laws.records.Record.{Past, tells_of}
+use Rattle.law_scans.specs.laws.records.Record.Past.{Then}
+use Rattle.law_scans.specs.laws.records.Turns as schedule
+use Rattle.law_scans.specs.laws.records.Turns.History.{Blank, Starts, Turns}
 use Rattle.law_turns.proofs.laws.Along.{index_guard}
 
 -- where its seat has published nothing, it publishes nothing

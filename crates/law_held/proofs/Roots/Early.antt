@@ -28,15 +28,15 @@ use Rattle.law_turns.specs.inv.model.Rest.{is_told}
 use Rattle.law_turns.specs.inv.model.Rounds.{scheme_of, index_of, root_of, protect_at, begin_base, begin_span, opening, round_by}
 use Rattle.law_turns.specs.inv.model.SlowPath.{own_request, answer_in, lost_turn}
 use Rattle.law_turns.specs.inv.model.Steps as steps
-use Rattle.law_places.specs.inv.ends.Standing.{is_end}
-use Rattle.law_places.proofs.inv.ends.Ends.Tests.{base_shows, phase_shows}
-use Rattle.law_places.specs.inv.shapes.Frame.{phase_left}
-use Rattle.law_places.specs.inv.shapes.Seats.{ToOpen, suits, kind_of, Shaped}
-use Rattle.law_places.proofs.answers.AnswersTold.Owed.{TaskServes, Serves}
+use Rattle.law_scans.specs.inv.ends.Standing.{is_end}
+use Rattle.law_scans.proofs.inv.ends.Ends.Tests.{base_shows, phase_shows}
+use Rattle.law_scans.specs.inv.shapes.Frame.{phase_left}
+use Rattle.law_scans.specs.inv.shapes.Seats.{ToOpen, suits, kind_of, Shaped}
+use Rattle.law_scans.proofs.reuse.AnswersTold.Owed.{TaskServes, Serves}
 use Rattle.law_turns.specs.laws.StateAt.{has_root}
-use Rattle.law_places.proofs.inv.steps_left.Rest.Told.{answer_untold}
+use Rattle.law_scans.proofs.inv.steps_left.Rest.Told.{answer_untold}
 use Rattle.law_turns.proofs.inv.model.Facts.{false_of_not}
-use Rattle.law_places.proofs.inv.Inv.Ends.{task_end}
+use Rattle.law_scans.proofs.inv.Inv.Ends.{task_end}
 
 -- a call looks for its root, and has not told that it found it
 abbrev pub is_early : Phase → Bool

@@ -15,29 +15,29 @@ use Rattle.law_turns.specs.inv.model.Locals.{Local, busy_in, settled_by, begun, 
 use Rattle.law_turns.specs.inv.model.Posts.{counted}
 use Rattle.law_turns.specs.inv.model.World.{World, begin, finds, is_busy, offered, step, told_in}
 use Rattle.law_turns.proofs.inv.model.Facts.{first_of, rest_of, or_left_true, or_more}
-use Rattle.law_places.proofs.inv.ends.Ends.Tests.{Calm, step_any}
-use Rattle.law_places.specs.inv.shapes.Frame.{phase_left}
-use Rattle.law_places.specs.inv.shapes.Seats.{Seats}
-use Rattle.law_places.proofs.inv.shapes.Frame.{seat_stays, seat_steps, begin_stays, begin_begins}
-use Rattle.law_places.specs.inv.history.History.{Item, Made, first_made, record_of, world_of}
-use Rattle.law_places.proofs.inv.history.Along.{Steady, items_keep}
-use Rattle.law_places.specs.inv.history.Record.{Past, Each, tells_of}
-use Rattle.law_places.specs.inv.history.Record.Past.{Then}
+use Rattle.law_scans.proofs.inv.ends.Ends.Tests.{Calm, step_any}
+use Rattle.law_scans.specs.inv.shapes.Frame.{phase_left}
+use Rattle.law_scans.specs.inv.shapes.Seats.{Seats}
+use Rattle.law_scans.proofs.reuse.shapes.Frame.{seat_stays, seat_steps, begin_stays, begin_begins}
+use Rattle.law_scans.specs.inv.history.History.{Item, Made, first_made, record_of, world_of}
+use Rattle.law_scans.proofs.reuse.history.Along.{Steady, items_keep}
+use Rattle.law_scans.specs.laws.records.Record.{Past, Each, tells_of}
+use Rattle.law_scans.specs.laws.records.Record.Past.{Then}
 use Rattle.law_turns.proofs.laws.Along.{along}
-use Rattle.law_places.proofs.inv.history.AllOf.{all_of}
-use Rattle.law_places.proofs.inv.Machines.{is_within, within_of}
+use Rattle.law_scans.proofs.reuse.history.AllOf.{all_of}
+use Rattle.law_scans.proofs.inv.Machines.{is_within, within_of}
 use Rattle.law_turns.specs.laws.StateAt.{began_of, has_root, rooted_by, rooted_of}
-use Rattle.law_places.proofs.answers.AnswersTold.Answering as answering
-use Rattle.law_places.proofs.answers.AnswersTold.Answering.{first_all, owes_of, began_along}
-use Rattle.law_places.proofs.answers.AnswersTold.Owed.{is_open, Serves, Owes, owed}
-use Rattle.law_places.proofs.Placing.Sums.{along_both}
+use Rattle.law_scans.proofs.reuse.AnswersTold.Answering as answering
+use Rattle.law_scans.proofs.reuse.AnswersTold.Answering.{first_all, owes_of, began_along}
+use Rattle.law_scans.proofs.reuse.AnswersTold.Owed.{is_open, Serves, Owes, owed}
+use Rattle.law_scans.proofs.Placing.Sums.{along_both}
 use Rattle.law_turns.proofs.laws.Tells.{seen_other, seen_tells, seen_stays, tells_both}
-use Rattle.law_places.proofs.inv.ends.Told.Turns.{is_later}
+use Rattle.law_scans.proofs.inv.ends.Told.Turns.{is_later}
 use Rattle.law_turns.specs.laws.HoldLaw.{finds_ok}
 use Rattle.law_held.specs.Records.{RecordsFindRoots}
 use Rattle.law_held.proofs.Roots.Early.{is_early, is_rooting, Fate, RunFits, phase_fate, first_early}
 use Rattle.law_held.proofs.Roots.Ways.{record_each, answers_of}
-use Rattle.law_places.proofs.inv.handover.Asks.{run_of}
+use Rattle.law_scans.proofs.inv.ends.Handover.Asks.{run_of}
 
 rooted_stays : (event : Event) (x : Bool) → is_within event ≡ true → x ≡ true → rooted_by event x ≡ true
 rooted_stays (events.Begin call) x w h = absurd (cc)

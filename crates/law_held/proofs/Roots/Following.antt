@@ -22,28 +22,28 @@ use Rattle.law_turns.specs.inv.model.Posts.{stands, counted, upper}
 use Rattle.law_turns.specs.inv.model.Protect.{told_held}
 use Rattle.law_turns.specs.inv.model.World.{World, finds, offered, told_in}
 use Rattle.law_turns.proofs.inv.model.Facts.{same_number, and_right_false, number_is, or_more}
-use Rattle.law_places.proofs.inv.history.Passes.{work_told}
-use Rattle.law_places.proofs.inv.ends.Ends.Tests.{at_shows, base_shows, base_any}
-use Rattle.law_places.specs.inv.shapes.Seats.{ToFollow, Shaped, suits, kind_of}
-use Rattle.law_places.specs.inv.history.History.{record_of, world_of}
-use Rattle.law_places.specs.inv.history.Record.{Past, Each, tells_of}
-use Rattle.law_places.specs.inv.history.Record.Past.{Then}
+use Rattle.law_scans.proofs.reuse.history.Passes.{work_told}
+use Rattle.law_scans.proofs.inv.ends.Ends.Tests.{at_shows, base_shows, base_any}
+use Rattle.law_scans.specs.inv.shapes.Seats.{ToFollow, Shaped, suits, kind_of}
+use Rattle.law_scans.specs.inv.history.History.{record_of, world_of}
+use Rattle.law_scans.specs.laws.records.Record.{Past, Each, tells_of}
+use Rattle.law_scans.specs.laws.records.Record.Past.{Then}
 use Rattle.law_turns.specs.laws.StateAt.{head_at, stood_at, is_row}
-use Rattle.law_places.proofs.Ordering.Ordered.{head_is}
+use Rattle.law_scans.proofs.Ordering.Ordered.{head_is}
 use Rattle.law_turns.proofs.laws.Tells.{tells_both}
-use Rattle.law_places.proofs.reuse.Reuse.Keeps.{record_stands}
-use Rattle.law_places.specs.inv.rows.Queue.{stands_on}
-use Rattle.law_places.proofs.inv.ends.Told.Rows.{own_told, own_post, step_adds}
-use Rattle.law_places.proofs.inv.ends.Told.Turns.{Adds, is_later}
+use Rattle.law_scans.proofs.reuse.Reuse.Keeps.{record_stands}
+use Rattle.law_scans.specs.inv.rows.Queue.{stands_on}
+use Rattle.law_scans.proofs.inv.ends.Told.Rows.{own_told, own_post, step_adds}
+use Rattle.law_scans.proofs.inv.ends.Told.Turns.{Adds, is_later}
 use Rattle.law_turns.specs.laws.HistoryHolds.{follows_ok}
 use Rattle.law_held.specs.Records.{RecordsFollowHead}
 use Rattle.law_held.proofs.Roots.Early.{RunFits}
 use Rattle.law_held.proofs.Roots.Finding.{fits_by}
 use Rattle.law_held.proofs.Roots.Leads.{leads_of}
 use Rattle.law_held.proofs.Roots.Ways.{record_each, answers_of}
-use Rattle.law_places.proofs.inv.rows.Queued.{finds_phase}
+use Rattle.law_scans.proofs.inv.rows.Queued.{finds_phase}
 use Rattle.law_turns.proofs.TurnCounts.Tried.{is_follow}
-use Rattle.law_places.proofs.inv.ends.Ends.Stood.{is_standing, standing_calm}
+use Rattle.law_scans.proofs.inv.ends.Ends.Stood.{is_standing, standing_calm}
 use Rattle.law_held.proofs.NextRows.Following.{is_one, no_reload, why_one, later_one, at_one, cleared_one, one_calm, work_one}
 use Rattle.law_held.proofs.Indexes.Clears.{row_there}
 use Rattle.law_turns.proofs.inv.model.Lists.{or_left, or_right}

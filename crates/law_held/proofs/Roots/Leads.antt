@@ -5,23 +5,23 @@ use Rattle.law_turns.specs.inv.model.words.Place.Place.{Head, Tail, Bucket}
 use Rattle.law_turns.specs.inv.model.words.declared.layout.Layout.{Layout}
 use Rattle.law_turns.specs.inv.model.defs.declared.call.Call.{Call}
 use Rattle.law_turns.specs.inv.model.World.{World, is_busy, step, told_in, list_in, may_start}
-use Rattle.law_places.specs.inv.history.History.{Item, Begins, Steps, Made, done, first_made, record_of, world_of}
-use Rattle.law_places.proofs.inv.history.Along.{Steady, items_keep}
-use Rattle.law_places.specs.inv.Known.{Known}
-use Rattle.law_places.proofs.inv.Inv.Begun.{known_start, known_begin}
-use Rattle.law_places.proofs.inv.Inv.Kept.{known_kept, asked_next}
-use Rattle.law_places.specs.inv.history.Record.{Past, tells_of}
+use Rattle.law_scans.specs.inv.history.History.{Item, Begins, Steps, Made, done, first_made, record_of, world_of}
+use Rattle.law_scans.proofs.reuse.history.Along.{Steady, items_keep}
+use Rattle.law_scans.specs.inv.Known.{Known}
+use Rattle.law_scans.proofs.inv.Inv.Begun.{known_start, known_begin}
+use Rattle.law_scans.proofs.inv.Inv.Kept.{known_kept, asked_next}
+use Rattle.law_scans.specs.laws.records.Record.{Past, tells_of}
 use Rattle.law_turns.specs.laws.StateAt.{tail_by, tail_at, bucket_at, head_at}
-use Rattle.law_places.proofs.Placing.Comes.{agree_of}
-use Rattle.law_places.proofs.Ordering.Nexts.{tail_moved}
-use Rattle.law_places.proofs.Ordering.Ordered.{word_of, Roots, roots_step, whole_comes}
-use Rattle.law_places.specs.inv.requests.Views.{View as Asked}
-use Rattle.law_places.proofs.inv.requests.Kept.{requests_begin, requests_start}
-use Rattle.law_places.specs.inv.rows.Agree.{first_rows, rows_after}
-use Rattle.law_places.specs.inv.rows.Chain.{first_line, line_after}
-use Rattle.law_places.specs.inv.rows.Queue.{Line}
-use Rattle.law_places.specs.inv.rows.Rows.{View}
-use Rattle.law_places.proofs.Ordering.Linked.{here_of, tail_end, tail_still}
+use Rattle.law_scans.proofs.Placing.Comes.{agree_of}
+use Rattle.law_scans.proofs.Ordering.Nexts.{tail_moved}
+use Rattle.law_scans.proofs.Ordering.Ordered.{word_of, Roots, roots_step, whole_comes}
+use Rattle.law_scans.specs.inv.requests.Views.{View as Asked}
+use Rattle.law_scans.proofs.inv.requests.Kept.{requests_begin, requests_start}
+use Rattle.law_scans.specs.inv.rows.Agree.{first_rows, rows_after}
+use Rattle.law_scans.specs.inv.rows.Chain.{first_line, line_after}
+use Rattle.law_scans.specs.inv.rows.Queue.{Line}
+use Rattle.law_scans.specs.inv.rows.Rows.{View}
+use Rattle.law_scans.proofs.Ordering.Linked.{here_of, tail_end, tail_still}
 
 pub record Leads (slots : ℕ) (mem : Place → ℕ) (p : Past) : Type 0 where
   pub buckets : (b : ℕ) → word_of (bucket_at b p) ≡ mem (Bucket b)

@@ -20,23 +20,23 @@ use Rattle.law_turns.specs.inv.model.Posts.{stands, counted}
 use Rattle.law_turns.specs.inv.model.World.{World, finds, offered, told_in}
 use Rattle.law_turns.specs.inv.model.Calls.{ChangeKept, EnqueueKept, LoadVersion, LoadCount, LoadKey, LoadValue, ExchangeRoot, LoadNumber, LoadNext, PassTail, ExchangeNext, ExchangeTail, LoadTail, SwingTail, TakeNumber, TakeValue, ExchangeHead, Getting, Changing, Enqueuing, Dequeuing, Keeping, Phase, Idle, Runs, Scans, Works, CallTurn, CallOutcome, GoesOn, Answers}
 use Rattle.law_turns.proofs.inv.model.Facts.{same_number, both, first_of, rest_of, number_is, or_more}
-use Rattle.law_places.specs.inv.history.Record.{Past, Each, tells_of}
-use Rattle.law_places.specs.inv.history.Record.Past.{Then}
-use Rattle.law_places.specs.inv.history.History.{Item, record_of, world_of}
+use Rattle.law_scans.specs.laws.records.Record.{Past, Each, tells_of}
+use Rattle.law_scans.specs.laws.records.Record.Past.{Then}
+use Rattle.law_scans.specs.inv.history.History.{Item, record_of, world_of}
 use Rattle.law_turns.specs.laws.StateAt.{stood_at, is_dequeue, is_row, began_of, tail_at, bucket_at, head_at}
-use Rattle.law_places.proofs.reuse.Reuse.Keeps.{record_stands}
-use Rattle.law_places.specs.inv.contents.Stands.{Stood}
-use Rattle.law_places.proofs.inv.history.AllOf.{all_of, of_weaker}
-use Rattle.law_places.proofs.answers.AnswersTold.Owed.{Serves}
-use Rattle.law_places.proofs.Placing.Fronts.{linked_front, queued_front, taken_front}
-use Rattle.law_places.proofs.Placing.Marks.{is_common, ordered, InOrder, tells, step_order}
-use Rattle.law_places.proofs.Ordering.Ordered.{word_of, head_is}
+use Rattle.law_scans.proofs.reuse.Reuse.Keeps.{record_stands}
+use Rattle.law_scans.specs.inv.contents.Stands.{Stood}
+use Rattle.law_scans.proofs.reuse.history.AllOf.{all_of, of_weaker}
+use Rattle.law_scans.proofs.reuse.AnswersTold.Owed.{Serves}
+use Rattle.law_scans.proofs.Placing.Fronts.{linked_front, queued_front, taken_front}
+use Rattle.law_scans.proofs.Placing.Marks.{is_common, ordered, InOrder, tells, step_order}
+use Rattle.law_scans.proofs.Ordering.Ordered.{word_of, head_is}
 use Rattle.law_turns.proofs.laws.Tells.{tells_both}
 use Rattle.law_turns.specs.laws.HistoryHolds.{stands_for, links_ok}
 use Rattle.law_held.specs.Records.{RecordsLinkHeld}
 use Rattle.law_held.proofs.Roots.Leads.{Leads, leads_of}
 use Rattle.law_held.proofs.Roots.Ways.{Turning, record_each, answers_of}
-use Rattle.law_places.proofs.inv.rows.Queued.{finds_phase}
+use Rattle.law_scans.proofs.inv.rows.Queued.{finds_phase}
 use Rattle.law_held.proofs.Indexes.Clears.{row_there}
 
 -- an event that is no link

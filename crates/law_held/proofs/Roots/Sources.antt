@@ -26,43 +26,43 @@ use Rattle.law_turns.specs.inv.model.Posts.{counted, cleared, stands, upper}
 use Rattle.law_turns.specs.inv.model.Protect.{told_held}
 use Rattle.law_turns.specs.inv.model.World.{World, finds, is_busy, told_in, may_start}
 use Rattle.law_turns.proofs.inv.model.Facts.{same_number, both, first_of, rest_of, true_of_not}
-use Rattle.law_places.proofs.inv.ends.Ends.Tests.{Calm, at_shows, base_shows, none_worked, phase_shows, step_any}
-use Rattle.law_places.specs.inv.shapes.Seats.{Seats, protects, kind_of, task_root}
-use Rattle.law_places.specs.inv.history.History.{Item, Begins, Steps, Made, fits, done_if, made_of, first_made, record_of, world_of}
-use Rattle.law_places.proofs.inv.history.Along.{begins_right, begins_within, low_seat, paths_keep}
-use Rattle.law_places.specs.inv.Known.{Known}
-use Rattle.law_places.proofs.inv.Inv.Begun.{known_start, known_begin}
-use Rattle.law_places.proofs.inv.Inv.Kept.{known_kept, asked_next}
-use Rattle.law_places.proofs.inv.Inv.Whole.{origins_need}
+use Rattle.law_scans.proofs.inv.ends.Ends.Tests.{Calm, at_shows, base_shows, none_worked, phase_shows, step_any}
+use Rattle.law_scans.specs.inv.shapes.Seats.{Seats, protects, kind_of, task_root}
+use Rattle.law_scans.specs.inv.history.History.{Item, Begins, Steps, Made, fits, done_if, made_of, first_made, record_of, world_of}
+use Rattle.law_scans.proofs.reuse.history.Along.{begins_right, begins_within, low_seat, paths_keep}
+use Rattle.law_scans.specs.inv.Known.{Known}
+use Rattle.law_scans.proofs.inv.Inv.Begun.{known_start, known_begin}
+use Rattle.law_scans.proofs.inv.Inv.Kept.{known_kept, asked_next}
+use Rattle.law_scans.proofs.inv.Inv.Whole.{origins_need}
 use Rattle.law_turns.specs.laws.StateAt.{same_value, tail_at, bucket_at, head_at, began_of}
-use Rattle.law_places.specs.inv.history.Record.{Past, Each, tells_of, begins, held_since}
-use Rattle.law_places.specs.inv.history.Record.Past.{Start, Then}
-use Rattle.law_places.proofs.inv.history.AllOf.{all_of}
-use Rattle.law_places.proofs.inv.Machines.{is_within, within_of, within_begins}
-use Rattle.law_places.specs.inv.links.Origins.{Origins}
-use Rattle.law_places.specs.inv.links.Tracked.{carries_at, carries_in, root_for, root_in, Tracked, Carried, Given, Helped}
-use Rattle.law_places.proofs.inv.links.Origins.Came.{aimed_at, link_busy, helps_busy}
-use Rattle.law_places.proofs.inv.links.Origins.Kept.{origins_kept, origins_start, origins_begin, idle_deal}
-use Rattle.law_places.proofs.Ordering.Ordered.{word_of}
-use Rattle.law_places.specs.inv.requests.Deals.{is_quiet}
-use Rattle.law_places.specs.inv.requests.Standing.{Requests}
-use Rattle.law_places.specs.inv.requests.Views.{Deal, View as Asked}
-use Rattle.law_places.proofs.inv.requests.Kept.{idle_of, requests_begin, requests_start}
-use Rattle.law_places.specs.inv.rows.Agree.{first_rows, rows_after}
-use Rattle.law_places.specs.inv.rows.Chain.{first_line, line_after}
-use Rattle.law_places.specs.inv.rows.Queue.{Line}
-use Rattle.law_places.specs.inv.rows.Rows.{View}
-use Rattle.law_places.proofs.inv.ends.Told.Turns.{is_later}
-use Rattle.law_places.proofs.answers.AnswersTold.Answering.{one_began, own_began}
-use Rattle.law_places.proofs.answers.AnswersTold.Owed.{call_for, TaskServes, Serves}
+use Rattle.law_scans.specs.laws.records.Record.{Past, Each, tells_of, begins, held_since}
+use Rattle.law_scans.specs.laws.records.Record.Past.{Start, Then}
+use Rattle.law_scans.proofs.reuse.history.AllOf.{all_of}
+use Rattle.law_scans.proofs.inv.Machines.{is_within, within_of, within_begins}
+use Rattle.law_scans.specs.inv.links.Origins.{Origins}
+use Rattle.law_scans.specs.inv.links.Tracked.{carries_at, carries_in, root_for, root_in, Tracked, Carried, Given, Helped}
+use Rattle.law_scans.proofs.inv.links.Origins.Came.{aimed_at, link_busy, helps_busy}
+use Rattle.law_scans.proofs.inv.links.Origins.Kept.{origins_kept, origins_start, origins_begin, idle_deal}
+use Rattle.law_scans.proofs.Ordering.Ordered.{word_of}
+use Rattle.law_scans.specs.inv.requests.Deals.{is_quiet}
+use Rattle.law_scans.specs.inv.requests.Standing.{Requests}
+use Rattle.law_scans.specs.inv.requests.Views.{Deal, View as Asked}
+use Rattle.law_scans.proofs.inv.requests.Kept.{idle_of, requests_begin, requests_start}
+use Rattle.law_scans.specs.inv.rows.Agree.{first_rows, rows_after}
+use Rattle.law_scans.specs.inv.rows.Chain.{first_line, line_after}
+use Rattle.law_scans.specs.inv.rows.Queue.{Line}
+use Rattle.law_scans.specs.inv.rows.Rows.{View}
+use Rattle.law_scans.proofs.inv.ends.Told.Turns.{is_later}
+use Rattle.law_scans.proofs.reuse.AnswersTold.Answering.{one_began, own_began}
+use Rattle.law_scans.proofs.reuse.AnswersTold.Owed.{call_for, TaskServes, Serves}
 use Rattle.law_turns.specs.laws.HistoryHolds.{sources_ok}
 use Rattle.law_turns.specs.laws.HoldLaw.{has_had}
 use Rattle.law_held.specs.Records.{RecordsFindSources}
 use Rattle.law_held.proofs.Roots.Leads.{Leads, leads_of}
 use Rattle.law_held.proofs.Roots.Ways.{record_each, answers_of}
-use Rattle.law_places.proofs.answers.Lawful.Counts.{reload_index}
-use Rattle.law_places.proofs.inv.links.Origins.Ends.{found_clock}
-use Rattle.law_places.proofs.inv.handover.Asks.{run_of}
+use Rattle.law_scans.proofs.reuse.Lawful.Counts.{reload_index}
+use Rattle.law_scans.proofs.inv.links.Origins.Ends.{found_clock}
+use Rattle.law_scans.proofs.inv.ends.Handover.Asks.{run_of}
 use Rattle.law_held.proofs.NextRows.Behind.{now_held, one_held}
 use Rattle.law_turns.proofs.inv.model.Lists.{or_left, or_right as none_rest}
 

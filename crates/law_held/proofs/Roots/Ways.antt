@@ -8,11 +8,11 @@ use Rattle.law_turns.specs.inv.model.defs.declared.call.Call.{Call}
 use Rattle.law_turns.specs.inv.model.defs.declared.event.Event.TheVariants as events
 use Rattle.law_turns.specs.inv.model.World.{World, is_busy, told_in}
 use Rattle.law_turns.proofs.inv.model.Facts.{rest_of}
-use Rattle.law_places.specs.inv.history.Record.{Past, Test, Each, EachEntry, tells_of}
-use Rattle.law_places.proofs.inv.history.Entries.{entries_of_each}
-use Rattle.law_places.specs.inv.history.History.{Item, Begins, Steps, Made, fits, done_if, made_of, first_made, record_of, world_of}
-use Rattle.law_places.proofs.inv.history.Along.{Steady, items_keep, low_seat, paths_keep}
-use Rattle.law_places.proofs.answers.AnswersTold.Answering as answering
+use Rattle.law_scans.specs.laws.records.Record.{Past, Test, Each, EachEntry, tells_of}
+use Rattle.law_scans.proofs.laws.records.Entries.{entries_of_each}
+use Rattle.law_scans.specs.inv.history.History.{Item, Begins, Steps, Made, fits, done_if, made_of, first_made, record_of, world_of}
+use Rattle.law_scans.proofs.reuse.history.Along.{Steady, items_keep, low_seat, paths_keep}
+use Rattle.law_scans.proofs.reuse.AnswersTold.Answering as answering
 
 -- a seat that makes a step where a history has come to
 pub record Turning (layout : Layout) (path : List Item) (i : ℕ) : Type 0 where

@@ -36,11 +36,11 @@ use Rattle.law_scans.proofs.reuse.Once.Keeps as once
 use Rattle.law_scans.proofs.inv.history.Passes.{scan_told}
 use Rattle.law_scans.proofs.inv.history.AllOf.{all_of}
 use Rattle.law_scans.proofs.inv.Machines.{is_within, within_of}
-use Rattle.law_scans.proofs.answers.AnswersTold.Answering as answering
-use Rattle.law_scans.proofs.answers.AnswersTold.Answering.{began_along, first_all, owes_of, others_began}
+use Rattle.law_scans.proofs.reuse.AnswersTold.Answering as answering
+use Rattle.law_scans.proofs.reuse.AnswersTold.Answering.{began_along, first_all, owes_of, others_began}
 use Rattle.law_reasons.proofs.Reasons.Later.{Later, later_all, later_same, later_then}
-use Rattle.law_scans.proofs.answers.AnswersTold.Owed.{is_open, owed, Owes}
-use Rattle.law_scans.proofs.places.Placing.Sums.{along_both}
+use Rattle.law_scans.proofs.reuse.AnswersTold.Owed.{is_open, owed, Owes}
+use Rattle.law_scans.proofs.Placing.Sums.{along_both}
 use Rattle.law_scans.proofs.laws.Tells.{seen_own, seen_tells, seen_stays, tells_both}
 use Rattle.law_scans.specs.inv.ends.Walks.{Walking, WalkPhase, seen_after}
 use Rattle.law_scans.proofs.inv.ends.Walks.Kept.{full_seen, walking_start, walking_kept}

@@ -22,7 +22,7 @@ use Rattle.law_scans.specs.inv.model.Phases.Ending.{Done, Protected, Followed, A
 use Rattle.law_scans.specs.inv.model.Calls.{Task, Gets, Changes, Holds, Enqueues, Dequeues, Opens, EnqueueKept, LoadCount, LoadValue, LoadNext, Changing, Enqueuing, Phase, Idle, Runs, Scans, Works}
 use Rattle.law_scans.specs.inv.model.World.{World, finds}
 use Rattle.law_scans.proofs.inv.model.Facts.{same_number, both, first_of, rest_of, below_unless, true_of_not, or_left_true, same_both, lt_test_2, or_more}
-use Rattle.law_scans.proofs.answers.AnswersTold.Owed.{ChangeServes, Serves, call_for, may_want}
+use Rattle.law_scans.proofs.reuse.AnswersTold.Owed.{ChangeServes, Serves, call_for, may_want}
 use Rattle.law_scans.proofs.inv.covers.Held.{finds_at}
 use Rattle.law_scans.specs.laws.StateAt.{was_current, bucket_of, count_of, queued_of, is_there, pairs_at}
 use Rattle.law_scans.specs.inv.history.Record.{Past, begins, held_since}

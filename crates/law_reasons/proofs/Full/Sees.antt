@@ -18,9 +18,9 @@ use Rattle.law_scans.specs.inv.history.Record.Past.{Start, Then}
 use Rattle.law_scans.specs.inv.history.History.{Begins, Steps, Made, done, first_made}
 use Rattle.law_scans.proofs.inv.Inv.Begun.{known_start, known_begin}
 use Rattle.law_scans.proofs.inv.Inv.Kept.{known_kept, asked_next}
-use Rattle.law_scans.proofs.answers.Lawful.Current.{base_begun, current_start, current_begin, current_kept, current_same}
-use Rattle.law_scans.proofs.answers.Lawful.Maps.{base_of, begin_base, told_base, told_changes}
-use Rattle.law_scans.proofs.answers.Lawful.Queues.{Agrees, told_agrees}
+use Rattle.law_scans.proofs.reuse.Lawful.Current.{base_begun, current_start, current_begin, current_kept, current_same}
+use Rattle.law_scans.proofs.reuse.Lawful.Maps.{base_of, begin_base, told_base, told_changes}
+use Rattle.law_scans.proofs.reuse.Lawful.Queues.{Agrees, told_agrees}
 use Rattle.law_scans.proofs.inv.Machines.{within_of}
 use Rattle.law_reasons.proofs.Reasons.Reading.{Shown}
 

@@ -26,9 +26,9 @@ use Rattle.law_scans.specs.inv.history.History.{Item, Begins, Made, done, first_
 use Rattle.law_scans.specs.inv.history.Record.{Past, Each, tells, tells_of}
 use Rattle.law_scans.specs.inv.history.Record.Past.{Start, Then}
 use Rattle.law_scans.proofs.reuse.Holding.Holds.{Held, begin_held, step_held, first_held}
-use Rattle.law_scans.proofs.answers.AnswersTold.Answering.{records_keep_answers}
-use Rattle.law_scans.proofs.answers.Lawful.Maps.{records_keep_map}
-use Rattle.law_scans.proofs.places.Placing.Marks.{tells as step_tells}
+use Rattle.law_scans.proofs.reuse.AnswersTold.Answering.{records_keep_answers}
+use Rattle.law_scans.proofs.reuse.Lawful.Maps.{records_keep_map}
+use Rattle.law_scans.proofs.Placing.Marks.{tells as step_tells}
 use Rattle.law_scans.specs.laws.HistoryAnswers.{answer_right, reason}
 use Rattle.law_scans.specs.laws.MapLaw.{map_ok}
 use Rattle.law_scans.specs.laws.StateAt.{bucket_of, began_of, told_of, stood_by, stood_at, is_row}

@@ -36,7 +36,7 @@ use Rattle.law_scans.specs.inv.model.Phases.Base.{Clear, Release}
 use Rattle.law_scans.specs.inv.model.Calls.{Keeping, KeepAt, Loosens, LoadHeld, StoreHeld, Looks, Misses, HideSpan, MarkLeft, TakeList, MarkTaken, LetGo, Released, Rehold, Dropped, Parting, GetAt, FindVersion, FindCount, FindKey, FindValue, CallOutcome, Answers, Task, Changes, Holds, ChangeKept, EnqueueKept, ChangeAt, LoadCount, LoadValue, EnqueueAt, LoadNext, Work, Changing, Enqueuing, Why, Opens, FollowsHead, Releases, Phase, Idle, Runs, Scans, Works}
 use Rattle.law_scans.specs.inv.model.World.{World, finds, offered}
 use Rattle.law_scans.proofs.inv.model.Facts.{both, none_by, same_number}
-use Rattle.law_scans.proofs.answers.AnswersTold.Owed.{owed, ChangeServes, FreeServes, KeepServes, MissServes, Serves, WhyServes, WorkServes}
+use Rattle.law_scans.proofs.reuse.AnswersTold.Owed.{owed, ChangeServes, FreeServes, KeepServes, MissServes, Serves, WhyServes, WorkServes}
 use Rattle.law_scans.specs.inv.model.defs.Events.{is_null, is_held}
 use Rattle.law_scans.proofs.inv.shapes.Kept.{counted_fits, run_counted}
 use Rattle.law_scans.specs.inv.shapes.Seats.{PhaseFits, Run, Seats}
@@ -67,12 +67,12 @@ use Rattle.law_reasons.proofs.Reasons.Reading.{Shown, NumberAt, count_read, valu
 use Rattle.law_reasons.proofs.Reasons.Refusing.{ReadAt, some_is, change_refused, change_fits}
 use Rattle.law_reasons.proofs.Reasons.Saying.{RunSays}
 use Rattle.law_scans.proofs.inv.requests.Parents.{base_counted}
-use Rattle.law_scans.specs.answers.Records.{PlacesSay}
+use Rattle.law_scans.specs.reuse.Answers.{PlacesSay}
 use Rattle.law_scans.specs.inv.covers.Rests.{Vacant, vacant}
 use Rattle.law_scans.specs.inv.model.words.Place.Place.{PlaceOf}
 use Rattle.law_scans.proofs.inv.covers.Held.{finds_at}
 use Rattle.law_reasons.proofs.Reasons.Parting.{bare_all, untaken_reason, untaken_told}
-use Rattle.law_scans.proofs.inv.handover.Asks.{run_of}
+use Rattle.law_scans.proofs.inv.ends.Handover.Asks.{run_of}
 
 -- an answer that is decided has its reason, which lasts
 pub record Kept (c : Config) (i : ℕ) (p : Past) (call : Call) (answer : Answer) : Type 0 where

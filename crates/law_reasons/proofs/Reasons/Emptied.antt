@@ -22,7 +22,7 @@ use Rattle.law_scans.specs.inv.shapes.Seats.{Seats, Run, root_by}
 use Rattle.law_scans.proofs.inv.Inv.Whole.{origins_need}
 use Rattle.law_scans.specs.inv.Known.{Known}
 use Rattle.law_scans.proofs.inv.contents.Items.Gives.{empty_right}
-use Rattle.law_scans.proofs.answers.Lawful.Current.{idle_untracked}
+use Rattle.law_scans.proofs.reuse.Lawful.Current.{idle_untracked}
 use Rattle.law_scans.proofs.inv.links.Origins.Kept.{origins_kept, origins_start, origins_begin}
 use Rattle.law_scans.specs.inv.links.Origins.{Origins}
 use Rattle.law_scans.specs.inv.links.Tracked.{root_for, root_in, Tracked}
@@ -34,7 +34,7 @@ use Rattle.law_scans.specs.inv.rows.Chain.{queue_of}
 use Rattle.law_scans.specs.inv.rows.Queue.{Line, heads_on, stands_on}
 use Rattle.law_scans.specs.inv.rows.Rows.{View}
 use Rattle.law_scans.proofs.inv.links.Origins.Ends.{end_tracked, end_root}
-use Rattle.law_scans.proofs.inv.handover.Asks.{run_of}
+use Rattle.law_scans.proofs.inv.ends.Handover.Asks.{run_of}
 
 -- a null next link shows a queue of which all was taken
 abbrev null_seen : Bool → Root → ℕ → Bool

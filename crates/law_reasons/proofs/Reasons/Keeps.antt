@@ -41,17 +41,17 @@ use Rattle.law_scans.proofs.inv.Inv.Kept.{known_kept, asked_next}
 use Rattle.law_scans.proofs.inv.Inv.Tells.{inv_tells}
 use Rattle.law_scans.proofs.reuse.Reuse.Keeps.{record_stands}
 use Rattle.law_scans.specs.laws.StateAt.{times, stood_at, queued_of, taken_of, began_of, told_of, all_taken, was_empty}
-use Rattle.law_scans.proofs.answers.Lawful.Current.{base_begun, current_start, current_begin, current_kept, current_same}
+use Rattle.law_scans.proofs.reuse.Lawful.Current.{base_begun, current_start, current_begin, current_kept, current_same}
 use Rattle.law_scans.proofs.inv.history.AllOf.{all_of}
 use Rattle.law_scans.proofs.inv.Machines.{is_within, within_of}
-use Rattle.law_scans.proofs.answers.Lawful.Maps.{base_of, begin_base, told_base, told_changes}
-use Rattle.law_scans.proofs.answers.Lawful.Queues.{Agrees, told_agrees}
-use Rattle.law_scans.proofs.answers.AnswersTold.Answering as answering
-use Rattle.law_scans.proofs.answers.AnswersTold.Answering.{first_all, owes_of, began_along}
-use Rattle.law_scans.proofs.answers.AnswersTold.Owed.{is_open, Owes, owed}
-use Rattle.law_scans.proofs.answers.Leaving.Records.{record_places}
-use Rattle.law_scans.specs.answers.Records.{PlacesSay}
-use Rattle.law_scans.proofs.places.BareEnds.{end_stood}
+use Rattle.law_scans.proofs.reuse.Lawful.Maps.{base_of, begin_base, told_base, told_changes}
+use Rattle.law_scans.proofs.reuse.Lawful.Queues.{Agrees, told_agrees}
+use Rattle.law_scans.proofs.reuse.AnswersTold.Answering as answering
+use Rattle.law_scans.proofs.reuse.AnswersTold.Answering.{first_all, owes_of, began_along}
+use Rattle.law_scans.proofs.reuse.AnswersTold.Owed.{is_open, Owes, owed}
+use Rattle.law_scans.proofs.reuse.Leaving.Records.{record_places}
+use Rattle.law_scans.specs.reuse.Answers.{PlacesSay}
+use Rattle.law_scans.proofs.reuse.BareEnds.{end_stood}
 use Rattle.law_scans.specs.laws.HistoryAnswers.{reason, reasons_ok}
 use Rattle.law_reasons.specs.Records.{RecordsKeepReasons}
 use Rattle.law_reasons.proofs.Reasons.Decides.{Kept, Right, kept_lasts, step_decides}

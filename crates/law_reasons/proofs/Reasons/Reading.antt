@@ -30,9 +30,9 @@ use Rattle.law_scans.specs.inv.shapes.Seats.{root_by}
 use Rattle.law_scans.proofs.inv.Inv.Whole.{contents_need}
 use Rattle.law_scans.specs.inv.Known.{Known}
 use Rattle.law_scans.proofs.inv.contents.Items.Gives.{items_count}
-use Rattle.law_scans.proofs.answers.Lawful.Current.{Current, shelf_since, since, since_is}
-use Rattle.law_scans.proofs.answers.Lawful.Gots.{null_at}
-use Rattle.law_scans.proofs.answers.Lawful.Maps.{base_of}
+use Rattle.law_scans.proofs.reuse.Lawful.Current.{Current, shelf_since, since, since_is}
+use Rattle.law_scans.proofs.reuse.Lawful.Gots.{null_at}
+use Rattle.law_scans.proofs.reuse.Lawful.Maps.{base_of}
 use Rattle.law_scans.proofs.inv.links.Origins.Ends.{end_tracked, end_root}
 use Rattle.law_scans.specs.laws.StateAt.{queued_of, changes_of, count_of, begun_at, pairs_at}
 use Rattle.law_scans.specs.inv.history.Record.{Past}

@@ -50,7 +50,7 @@ use Rattle.law_scans.proofs.inv.history.AllOf.{all_of}
 use Rattle.law_scans.proofs.inv.Machines.{is_within, within_begins}
 use Rattle.law_scans.specs.laws.StateAt.{has_told}
 use Rattle.law_reasons.proofs.Reasons.Later.{Later, later_same, later_all}
-use Rattle.law_scans.proofs.inv.handover.Asks.{run_of}
+use Rattle.law_scans.proofs.inv.ends.Handover.Asks.{run_of}
 use Rattle.law_scans.proofs.inv.Inv.Ends.{task_end}
 
 -- an event that a step tells was told in the call

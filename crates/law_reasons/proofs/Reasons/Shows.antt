@@ -25,8 +25,8 @@ use Rattle.law_scans.specs.inv.history.Record.Past.{Start, Then}
 use Rattle.law_scans.specs.laws.StateAt.{changed_to, shows_of}
 use Rattle.law_scans.specs.laws.StateAt.RowShows.{LinkedAt, ShowsVersion}
 use Rattle.law_scans.proofs.inv.history.AllOf.{all_of, of_weaker}
-use Rattle.law_scans.proofs.places.Placing.Fronts.{linked_front, queued_front, taken_front}
-use Rattle.law_scans.proofs.places.Placing.Marks.{is_common, ordered, InOrder, step_order}
+use Rattle.law_scans.proofs.Placing.Fronts.{linked_front, queued_front, taken_front}
+use Rattle.law_scans.proofs.Placing.Marks.{is_common, ordered, InOrder, step_order}
 use Rattle.law_scans.proofs.laws.Tells.{tells_both}
 use Rattle.law_scans.proofs.inv.contents.Contents.Shelves.{same_bucket}
 

@@ -18,13 +18,13 @@ use Rattle.law_scans.specs.inv.shapes.Eras.{Eras}
 use Rattle.law_scans.specs.inv.shapes.Slots.{Slots}
 use Rattle.law_scans.proofs.inv.Inv.Kept.{rest_need, rounds_need}
 use Rattle.law_scans.specs.inv.Known.{Known}
-use Rattle.law_scans.proofs.answers.AnswersTold.Owed.{ChangeServes, Serves, TaskServes}
+use Rattle.law_scans.proofs.reuse.AnswersTold.Owed.{ChangeServes, Serves, TaskServes}
 use Rattle.law_scans.specs.inv.requests.Views.{View as Asked}
 use Rattle.law_scans.proofs.inv.steps_left.Rest.Fits.{round_fit}
 use Rattle.law_scans.proofs.inv.steps_left.Rest.Lasting.{losses_begin, losses_kept}
 use Rattle.law_scans.specs.inv.steps_left.Falls.{RestNeeds}
 use Rattle.law_scans.specs.inv.steps_left.Losses.{Losses, LossNeeds, fills_fit, phase_fit}
-use Rattle.law_scans.proofs.inv.steps_left.Rounds.Ending.{rounds_give}
+use Rattle.law_scans.proofs.inv.Rounds.Ending.{rounds_give}
 use Rattle.law_scans.specs.inv.rows.Queue.{Line}
 use Rattle.law_scans.specs.inv.rows.Rows.{View}
 use Rattle.law_reasons.proofs.Repeats.Shift.{Alike, shifted, shifted_seats, shifted_eras, step_alike, with_seats}

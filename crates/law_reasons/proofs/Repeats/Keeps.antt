@@ -42,11 +42,11 @@ use Rattle.law_scans.specs.inv.history.History.{Begins, Steps, Made, done, first
 use Rattle.law_scans.proofs.inv.history.Along.{Steady, items_keep}
 use Rattle.law_scans.proofs.inv.history.AllOf.{all_of}
 use Rattle.law_scans.proofs.inv.Machines.{is_within, within_of}
-use Rattle.law_scans.proofs.answers.AnswersTold.Answering.{first_all, owes_of}
-use Rattle.law_scans.proofs.answers.AnswersTold.Owed.{Owes, Serves, TaskServes, ChangeServes, is_open, owed}
+use Rattle.law_scans.proofs.reuse.AnswersTold.Answering.{first_all, owes_of}
+use Rattle.law_scans.proofs.reuse.AnswersTold.Owed.{Owes, Serves, TaskServes, ChangeServes, is_open, owed}
 use Rattle.law_scans.proofs.laws.Tells.{seen_stays, tells_both}
-use Rattle.law_scans.specs.inv.steps_left.Rounds.{Rounds}
-use Rattle.law_scans.specs.inv.steps_left.Tallies.{Tally, once, tally, phase_paced, task_paced, why_paced}
+use Rattle.law_scans.specs.inv.Rounds.{Rounds}
+use Rattle.law_scans.specs.inv.Tallies.{Tally, once, tally, phase_paced, task_paced, why_paced}
 use Rattle.law_reasons.proofs.Full.Keeps as full
 use Rattle.law_reasons.proofs.Full.Keeps.{now_of}
 use Rattle.law_reasons.proofs.Full.Ties as ties
@@ -62,7 +62,7 @@ use Rattle.law_reasons.proofs.Repeats.Paces.{Paced, counted_for, few_of, paced_b
 use Rattle.law_reasons.proofs.Repeats.Records.{is_counted, began_stays, before_stays, before_zero, finds_others, finds_tells, moves_grow, whole_grows, whole_once}
 use Rattle.law_reasons.proofs.Repeats.Shift.{rounds_alike, shifted}
 use Rattle.law_reasons.proofs.Repeats.Tails.{tails_step}
-use Rattle.law_scans.proofs.inv.handover.Asks.{run_of}
+use Rattle.law_scans.proofs.inv.ends.Handover.Asks.{run_of}
 
 -- the call has found its root no more often than it may
 abbrev pub MayFind : Config → ℕ → Past → Type 0

@@ -9,10 +9,10 @@ use Rattle.law_scans.specs.inv.model.Rounds.{key_of}
 use Rattle.law_scans.specs.inv.model.Calls.{ChangeKept, EnqueueKept, Task, Gets, Changes, Holds, Enqueues, Dequeues, Next, Again, MakeRoom, Answering, Retiring, AfterScan, Answered, Repeated, Counted, Why, Opens, FollowsHead, Fills, ClearsNext, Clears, Finishes, Tidies, Releases, EnqueueAt, ExchangeTail, DequeueAt, LoadTail, Work, Getting, Changing, Enqueuing, Dequeuing, Keeping, KeepAt, Loosens, LoadHeld, StoreHeld, Looks, Misses, HideSpan, MarkLeft, TakeList, MarkTaken, LetGo, Released, Rehold, Dropped, Parting, Phase, Idle, Runs, Scans, Works}
 use Rattle.law_scans.specs.inv.model.Locals.{busy_in}
 use Rattle.law_reasons.proofs.Repeats.Records.{is_counted}
-use Rattle.law_scans.proofs.answers.AnswersTold.Owed.{Serves, WhyServes, WorkServes, LaterServes, TaskServes, FreeServes, KeepServes, MissServes}
+use Rattle.law_scans.proofs.reuse.AnswersTold.Owed.{Serves, WhyServes, WorkServes, LaterServes, TaskServes, FreeServes, KeepServes, MissServes}
 use Rattle.law_scans.specs.inv.steps_left.Losses.{InRound, LostRound, tells_fit, opens_fit, fills_fit, lost_fit, next_fit, finish_fit, later_fit, why_fit, work_fit, phase_fit}
-use Rattle.law_scans.specs.inv.steps_left.Tallies.{Tally, changes_so_far, passes_so_far, task_paced, fills_paced, next_paced, later_paced, why_paced, enqueue_paced, dequeue_paced, work_paced, phase_paced}
-use Rattle.law_scans.proofs.inv.steps_left.Rounds.Ending.{once_few}
+use Rattle.law_scans.specs.inv.Tallies.{Tally, changes_so_far, passes_so_far, task_paced, fills_paced, next_paced, later_paced, why_paced, enqueue_paced, dequeue_paced, work_paced, phase_paced}
+use Rattle.law_scans.proofs.inv.Rounds.Ending.{once_few}
 
 -- no more is counted than the setting allows
 pub record Few (t : Tally) (last : ℕ) : Type 0 where

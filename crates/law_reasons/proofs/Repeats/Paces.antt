@@ -18,8 +18,8 @@ use Rattle.law_scans.specs.inv.model.World.{World, begin, step, is_busy}
 use Rattle.law_scans.proofs.inv.shapes.Frame.{begin_stays, begin_begins}
 use Rattle.law_scans.specs.inv.Known.{Known}
 use Rattle.law_scans.proofs.inv.contents.Items.Gives.{items_count}
-use Rattle.law_scans.proofs.answers.AnswersTold.Owed.{Serves}
-use Rattle.law_scans.proofs.answers.Lawful.Current.{idle_untracked}
+use Rattle.law_scans.proofs.reuse.AnswersTold.Owed.{Serves}
+use Rattle.law_scans.proofs.reuse.Lawful.Current.{idle_untracked}
 use Rattle.law_scans.proofs.inv.links.Origins.Kept.{origins_begin}
 use Rattle.law_scans.specs.inv.links.Origins.{Origins}
 use Rattle.law_scans.specs.inv.links.Tracked.{Tracked, root_in}
@@ -27,9 +27,9 @@ use Rattle.law_scans.specs.inv.requests.NextDeals.{next_deals}
 use Rattle.law_scans.specs.inv.requests.Standing.{Requests}
 use Rattle.law_scans.specs.inv.requests.Views.{View as Asked}
 use Rattle.law_scans.specs.inv.steps_left.Losses.{Losses}
-use Rattle.law_scans.proofs.inv.steps_left.Rounds.Paced.{round_paced}
-use Rattle.law_scans.specs.inv.steps_left.Rounds.{Rounds}
-use Rattle.law_scans.specs.inv.steps_left.Tallies.{Tally, tally, phase_paced, phase_good}
+use Rattle.law_scans.proofs.inv.Rounds.Paced.{round_paced}
+use Rattle.law_scans.specs.inv.Rounds.{Rounds}
+use Rattle.law_scans.specs.inv.Tallies.{Tally, tally, phase_paced, phase_good}
 use Rattle.law_scans.specs.inv.rows.Chain.{line_after, queue_of}
 use Rattle.law_scans.specs.inv.rows.Queue.{Line}
 use Rattle.law_scans.specs.inv.rows.Rows.{View}

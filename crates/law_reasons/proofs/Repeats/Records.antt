@@ -21,7 +21,7 @@ use Rattle.law_reasons.proofs.Full.Since.{others_begin, others_own}
 use Rattle.law_scans.specs.laws.HistoryScans.{Search, search_by, no_search, search_of}
 use Rattle.law_scans.specs.laws.AnswerLaw.{moves_of, moves_before}
 use Rattle.law_scans.specs.laws.HistoryAnswers.{whole_scan}
-use Rattle.law_scans.proofs.answers.AnswersTold.Answering.{one_began}
+use Rattle.law_scans.proofs.reuse.AnswersTold.Answering.{one_began}
 
 -- finds
 one_found : (i index n : ℕ) → (if (index == 0) && (i == i) then n + 1 else n) ≡ (if index == 0 then n + 1 else n)

@@ -22,9 +22,9 @@ use Rattle.law_scans.specs.inv.rows.Rows.{View}
 use Rattle.law_scans.specs.inv.links.Tracked.{Tracked, carries_in, helps_in, root_for}
 use Rattle.law_scans.specs.inv.links.Tracked.Tracked.{Carried, Given, Helped}
 use Rattle.law_scans.specs.inv.steps_left.Losses.{Losses}
-use Rattle.law_scans.specs.inv.steps_left.Rounds.{Rounds, RoundsNeeds}
-use Rattle.law_scans.specs.inv.steps_left.Tallies.{Tally, tally, phase_paced, phase_good}
-use Rattle.law_scans.proofs.inv.steps_left.Rounds.Ending.{rounds_kept}
+use Rattle.law_scans.specs.inv.Rounds.{Rounds, RoundsNeeds}
+use Rattle.law_scans.specs.inv.Tallies.{Tally, tally, phase_paced, phase_good}
+use Rattle.law_scans.proofs.inv.Rounds.Ending.{rounds_kept}
 use Rattle.law_scans.specs.inv.requests.NextDeals.{next_deals}
 
 -- a seat that has found its root n times more

@@ -30,9 +30,9 @@ use Rattle.law_scans.proofs.inv.rows.Words.{missed}
 use Rattle.law_scans.specs.inv.ends.Told.{row_events, birth_in}
 use Rattle.law_scans.proofs.laws.Along.{along}
 use Rattle.law_scans.specs.laws.StateAt.{tails_by, tails_of}
-use Rattle.law_scans.proofs.places.Placing.Fronts.{linked_front, queued_front, taken_front}
-use Rattle.law_scans.proofs.places.Placing.Marks.{is_marked, marks}
-use Rattle.law_scans.proofs.places.Ordering.Ordered.{whole_comes}
+use Rattle.law_scans.proofs.Placing.Fronts.{linked_front, queued_front, taken_front}
+use Rattle.law_scans.proofs.Placing.Marks.{is_marked, marks}
+use Rattle.law_scans.proofs.Ordering.Ordered.{whole_comes}
 use Rattle.law_scans.specs.inv.model.Locals.{told_end}
 use Rattle.law_scans.specs.inv.model.World.{World, step, told_in, list_in}
 use Rattle.law_scans.specs.inv.Known.{Known}
@@ -40,10 +40,10 @@ use Rattle.law_scans.specs.inv.requests.Views.{View as Asked}
 use Rattle.law_scans.proofs.inv.rows.Steps.{of_taken}
 use Rattle.law_scans.specs.inv.rows.Chain.{line_after}
 use Rattle.law_scans.specs.inv.history.Record.{Past, tells_of}
-use Rattle.law_scans.proofs.places.Ordering.Nexts.{Here, run_tail, get_tail, cas_other, swung}
-use Rattle.law_scans.proofs.inv.steps_left.Rounds.Worlds.{next_number, other_number, tail_apart}
+use Rattle.law_scans.proofs.Ordering.Nexts.{Here, run_tail, get_tail, cas_other, swung}
+use Rattle.law_scans.proofs.inv.Rounds.Worlds.{next_number, other_number, tail_apart}
 use Rattle.law_scans.proofs.inv.rows.Queued.{finds_phase}
-use Rattle.law_scans.proofs.places.Ordering.Linked.{here_of}
+use Rattle.law_scans.proofs.Ordering.Linked.{here_of}
 use Rattle.law_scans.proofs.inv.rows.Runs.{taken_slot}
 use Rattle.law_scans.proofs.inv.model.Facts.{same_both, number_is}
 

@@ -1,34 +1,34 @@
 -- The record of scans after what a step tells that is of no scan; and the desk and the phase after such a step.
 use Rattle.std.proofs.Common.{ℕ, ◌≡◌, Bool, true, false, List, [], ◌∷◌, length, refl, ap, ◌∙◌}
 use Rattle.std.specs.Prelude.{◌==◌, ◌||◌, not}
-use Rattle.law_answers.specs.inv.model.defs.Shown.{Seen}
-use Rattle.law_answers.specs.inv.model.words.declared.config.Config.{Config}
-use Rattle.law_answers.specs.inv.model.defs.declared.event.Event.{Event}
-use Rattle.law_answers.specs.inv.model.defs.declared.event.Event.TheVariants as events
-use Rattle.law_answers.specs.inv.model.defs.declared.lifetime.Lifetime.{Lifetime}
-use Rattle.law_answers.specs.inv.model.declared.post.Post.{Post}
-use Rattle.law_answers.specs.inv.model.Calls.{Why, Work, Runs, Works, Retires, KeepAt, TakeList, Keeping}
-use Rattle.law_answers.specs.inv.model.Desks.{Desk}
-use Rattle.law_answers.specs.inv.model.Guards.{guards}
-use Rattle.law_answers.specs.inv.model.Machine.{after}
-use Rattle.law_answers.specs.inv.model.Phases.{Base, Ending, Outcome, Goes, Ends}
-use Rattle.law_answers.specs.inv.model.Phases.Ending.{Done, Protected, Followed, Allocated, Retired, Clocked}
-use Rattle.law_answers.specs.inv.model.Steps.{phase_turn}
-use Rattle.law_answers.proofs.inv.model.Facts.{same_number, first_of, rest_of}
-use Rattle.law_answers.specs.inv.shapes.Frame.{phase_left}
-use Rattle.law_answers.specs.inv.covers.Covers.{is_fresh}
-use Rattle.law_answers.proofs.inv.covers.Fresh.{works_fresh as fresh_work}
-use Rattle.law_answers.specs.inv.history.Record.{Past, Each, tells_of}
-use Rattle.law_answers.specs.inv.history.Record.Past.{Then}
-use Rattle.law_answers.specs.laws.Lists.{list_of}
-use Rattle.law_answers.specs.laws.StateAt.{read_by, read_of, is_scan, scans_of}
+use Rattle.laws.specs.defs.Shown.{Seen}
+use Rattle.laws.specs.words.declared.config.Config.{Config}
+use Rattle.laws.specs.defs.declared.event.Event.{Event}
+use Rattle.laws.specs.defs.declared.event.Event.TheVariants as events
+use Rattle.laws.specs.defs.declared.lifetime.Lifetime.{Lifetime}
+use Rattle.inv_all.specs.model.declared.post.Post.{Post}
+use Rattle.inv_all.specs.model.Calls.{Why, Work, Runs, Works, Retires, KeepAt, TakeList, Keeping}
+use Rattle.inv_all.specs.model.Desks.{Desk}
+use Rattle.inv_all.specs.model.Guards.{guards}
+use Rattle.inv_all.specs.model.Machine.{after}
+use Rattle.inv_all.specs.model.Phases.{Base, Ending, Outcome, Goes, Ends}
+use Rattle.inv_all.specs.model.Phases.Ending.{Done, Protected, Followed, Allocated, Retired, Clocked}
+use Rattle.inv_all.specs.model.Steps.{phase_turn}
+use Rattle.inv_all.proofs.model.Facts.{same_number, first_of, rest_of}
+use Rattle.inv_all.specs.shapes.Frame.{phase_left}
+use Rattle.inv_all.specs.covers.Covers.{is_fresh}
+use Rattle.inv_all.proofs.covers.Fresh.{works_fresh as fresh_work}
+use Rattle.laws.specs.records.Record.{Past, Each, tells_of}
+use Rattle.laws.specs.records.Record.Past.{Then}
+use Rattle.laws.specs.Lists.{list_of}
+use Rattle.laws.specs.StateAt.{read_by, read_of, is_scan, scans_of}
 use Rattle.law_reuse.proofs.Once.Calm.{is_unread}
 use Rattle.law_reuse.proofs.Once.Desks.{left_desk, left_at, resumed_desk, work_desk, takes_list}
-use Rattle.law_answers.specs.laws.ScanLaw.{is_over, scan_by, scan_ok}
+use Rattle.laws.specs.ScanLaw.{is_over, scan_by, scan_ok}
 use Rattle.law_reuse.proofs.Blocks.Placed.{Rests}
-use Rattle.law_answers.proofs.inv.history.AllOf.{all_of}
-use Rattle.law_answers.proofs.inv.covers.Kept.{resumed_fresh}
-use Rattle.law_answers.specs.inv.model.Keep.{taking}
+use Rattle.inv_all.proofs.history.AllOf.{all_of}
+use Rattle.inv_all.proofs.covers.Kept.{resumed_fresh}
+use Rattle.inv_all.specs.model.Keep.{taking}
 
 pub read_own : (all i : ℕ) (event : Event) (p : Past) → read_of all i (Then p i event) ≡ read_by all event (read_of all i p)
 read_own all i event p = rw (same_number i) refl

@@ -2,51 +2,51 @@
 use Rattle.std.proofs.Common.{ℕ, ◌≡◌, ◌<◌, ◌+◌, Bool, true, false, List, [], ◌∷◌, ◌++◌, length, Option, Some, None, refl, sym, ap, ◌∙◌, subst, arith}
 use Rattle.std.proofs.lemmas.Bool.Decides.{nat_tests}
 use Rattle.std.specs.Prelude.{◌==◌, ◌&&◌, nat_lt, if◌then◌else◌}
-use Rattle.law_answers.specs.inv.model.defs.Shown.{Seen}
-use Rattle.law_answers.specs.inv.model.words.declared.config.Config.{Config}
-use Rattle.law_answers.specs.inv.model.words.declared.layout.Layout.{Layout}
-use Rattle.law_answers.specs.inv.model.defs.declared.call.Answer.{Answer}
-use Rattle.law_answers.specs.inv.model.defs.declared.call.Answer.TheVariants as the_answers
-use Rattle.law_answers.specs.inv.model.defs.declared.call.Call.{Call}
-use Rattle.law_answers.specs.inv.model.defs.declared.call.Call.TheVariants as names
-use Rattle.law_answers.specs.inv.model.defs.declared.event.Event.{Event}
-use Rattle.law_answers.specs.inv.model.defs.declared.event.Event.TheVariants as events
-use Rattle.law_answers.specs.inv.model.declared.post.Post.{Post}
-use Rattle.law_answers.specs.inv.model.Calls.{AfterScan, Counted, ScanAt, ReadGuard, GiveBack, Phase, Idle, Runs, Scans, Works, CallTurn, CallOutcome, GoesOn, Answers}
-use Rattle.law_answers.specs.inv.model.Desks.{Desk, Report, noting}
-use Rattle.law_answers.specs.inv.model.Guards.{guards, guard_at, eras_in, published}
-use Rattle.law_answers.specs.inv.model.Locals.{Local, after, begun, settled, rounds_told, told_by, told_end, turn}
-use Rattle.law_answers.specs.inv.model.Posts.{counted}
-use Rattle.law_answers.specs.inv.model.Scan.{Entry, giving_back, reading, with_read, with_back, unmet_from, scan_turn}
-use Rattle.law_answers.specs.inv.model.Steps.{phase_turn}
-use Rattle.law_answers.specs.inv.model.World.{World, begin, finds, is_busy, offered, step, told_in, may_start}
-use Rattle.law_answers.proofs.inv.model.Facts.{same_number, both, first_of, rest_of}
-use Rattle.law_answers.specs.inv.covers.Covers.{upto_at}
-use Rattle.law_answers.proofs.inv.covers.Held.{settled_phase}
-use Rattle.law_answers.specs.inv.shapes.Frame.{phase_left}
-use Rattle.law_answers.specs.inv.shapes.Seats.{scan_fits}
-use Rattle.law_answers.proofs.inv.shapes.Frame.{seat_stays, seat_steps, begin_stays, begin_begins}
-use Rattle.law_answers.specs.inv.history.Record.{Past, Each, begins, own, tells_of}
-use Rattle.law_answers.specs.inv.history.Record.Past.{Then}
-use Rattle.law_answers.specs.laws.Lists.{list_of, without}
-use Rattle.law_answers.specs.laws.StateAt.{call_of, is_read, is_back, times}
-use Rattle.law_answers.proofs.inv.history.Entries.{entries_of_each}
-use Rattle.law_answers.specs.inv.history.History.{Begins, Steps, Made, done, first_made, record_of}
-use Rattle.law_answers.proofs.inv.history.Along.{Steady, items_keep}
-use Rattle.law_answers.specs.inv.rows.Hands.{each_once, is_right, scans_right}
-use Rattle.law_answers.proofs.laws.Along.{list_own}
+use Rattle.laws.specs.defs.Shown.{Seen}
+use Rattle.laws.specs.words.declared.config.Config.{Config}
+use Rattle.laws.specs.words.declared.layout.Layout.{Layout}
+use Rattle.laws.specs.defs.declared.call.Answer.{Answer}
+use Rattle.laws.specs.defs.declared.call.Answer.TheVariants as the_answers
+use Rattle.laws.specs.defs.declared.call.Call.{Call}
+use Rattle.laws.specs.defs.declared.call.Call.TheVariants as names
+use Rattle.laws.specs.defs.declared.event.Event.{Event}
+use Rattle.laws.specs.defs.declared.event.Event.TheVariants as events
+use Rattle.inv_all.specs.model.declared.post.Post.{Post}
+use Rattle.inv_all.specs.model.Calls.{AfterScan, Counted, ScanAt, ReadGuard, GiveBack, Phase, Idle, Runs, Scans, Works, CallTurn, CallOutcome, GoesOn, Answers}
+use Rattle.inv_all.specs.model.Desks.{Desk, Report, noting}
+use Rattle.inv_all.specs.model.Guards.{guards, guard_at, eras_in, published}
+use Rattle.inv_all.specs.model.Locals.{Local, after, begun, settled, rounds_told, told_by, told_end, turn}
+use Rattle.inv_all.specs.model.Posts.{counted}
+use Rattle.inv_all.specs.model.Scan.{Entry, giving_back, reading, with_read, with_back, unmet_from, scan_turn}
+use Rattle.inv_all.specs.model.Steps.{phase_turn}
+use Rattle.inv_all.specs.model.World.{World, begin, finds, is_busy, offered, step, told_in, may_start}
+use Rattle.inv_all.proofs.model.Facts.{same_number, both, first_of, rest_of}
+use Rattle.inv_all.specs.covers.Covers.{upto_at}
+use Rattle.inv_all.proofs.covers.Held.{settled_phase}
+use Rattle.inv_all.specs.shapes.Frame.{phase_left}
+use Rattle.inv_all.specs.shapes.Seats.{scan_fits}
+use Rattle.inv_all.proofs.shapes.Frame.{seat_stays, seat_steps, begin_stays, begin_begins}
+use Rattle.laws.specs.records.Record.{Past, Each, begins, own, tells_of}
+use Rattle.laws.specs.records.Record.Past.{Then}
+use Rattle.laws.specs.Lists.{list_of, without}
+use Rattle.laws.specs.StateAt.{call_of, is_read, is_back, times}
+use Rattle.laws.proofs.records.Entries.{entries_of_each}
+use Rattle.inv_all.specs.history.History.{Begins, Steps, Made, done, first_made, record_of}
+use Rattle.inv_all.proofs.history.Along.{Steady, items_keep}
+use Rattle.inv_all.specs.rows.Hands.{each_once, is_right, scans_right}
+use Rattle.laws.proofs.Along.{list_own}
 use Rattle.law_reuse.proofs.Once.Calm.{is_calm, run_calm, work_calm}
 use Rattle.law_reuse.proofs.Once.Keeps.{Keeps, first_keeps, begin_keeps, step_keeps}
 use Rattle.law_reuse.proofs.Once.Moves.{removed}
-use Rattle.law_answers.specs.laws.HistoryScans.{answers_scan, count_ok}
-use Rattle.law_answers.specs.laws.ScanLaw.{is_scan_call}
+use Rattle.laws.specs.HistoryScans.{answers_scan, count_ok}
+use Rattle.laws.specs.ScanLaw.{is_scan_call}
 use Rattle.law_reuse.specs.Records.{RecordsCountScans}
 use Rattle.law_reuse.proofs.Blocks.Keeps.{ScanFits, scans_fit}
 use Rattle.law_reuse.proofs.Blocks.Placed.{scan_event, scan_tells}
-use Rattle.law_answers.proofs.inv.history.AllOf.{all_of, of_along}
-use Rattle.law_answers.proofs.inv.Machines.{is_within}
-use Rattle.law_answers.proofs.inv.Inv.Whole.{covers_of}
-use Rattle.law_answers.proofs.inv.rows.Kept.{busy_plays}
+use Rattle.inv_all.proofs.history.AllOf.{all_of, of_along}
+use Rattle.inv_all.proofs.Machines.{is_within}
+use Rattle.inv_all.proofs.Inv.Whole.{covers_of}
+use Rattle.inv_all.proofs.rows.Kept.{busy_plays}
 use Rattle.law_reuse.proofs.Once.Lists.{busy_list, settled_list}
 
 calm_within : (told : List Event) → all_of is_calm told ≡ true → all_of is_within told ≡ true

@@ -3,12 +3,12 @@ use Rattle.std.proofs.Common.{ℕ, zero, suc, ◌≡◌, ◌+◌, Bool, true, fa
 use Rattle.std.proofs.lemmas.Bool.Decides.{nat_tests}
 use Rattle.std.specs.Prelude.{◌&&◌, drop}
 use Rattle.std.specs.List.{remove}
-use Rattle.law_answers.specs.inv.model.defs.Shown.{Seen, keeps_any}
-use Rattle.law_answers.specs.inv.model.defs.declared.lifetime.Lifetime.{Lifetime}
-use Rattle.law_answers.specs.inv.model.Scan.{Entry, first_unmet}
-use Rattle.law_answers.proofs.inv.model.Facts.{both, first_of, rest_of}
-use Rattle.law_answers.specs.laws.ScanLaw.{next_back}
-use Rattle.law_answers.specs.laws.ScanLaw.{is_life_of}
+use Rattle.laws.specs.defs.Shown.{Seen, keeps_any}
+use Rattle.laws.specs.defs.declared.lifetime.Lifetime.{Lifetime}
+use Rattle.inv_all.specs.model.Scan.{Entry, first_unmet}
+use Rattle.inv_all.proofs.model.Facts.{both, first_of, rest_of}
+use Rattle.laws.specs.ScanLaw.{next_back}
+use Rattle.laws.specs.ScanLaw.{is_life_of}
 
 -- the lives before a place meet something read
 abbrev pub met_before : List Seen → ℕ → List Lifetime → Bool

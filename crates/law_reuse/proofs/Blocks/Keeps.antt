@@ -2,45 +2,45 @@
 use Rattle.std.proofs.Common.{ℕ, ◌≡◌, ◌<◌, Bool, true, false, List, [], ◌∷◌, ◌++◌, refl, sym, ap, ◌∙◌, subst, arith}
 use Rattle.std.proofs.lemmas.Bool.Decides.{nat_tests}
 use Rattle.std.specs.Prelude.{◌==◌, if◌then◌else◌}
-use Rattle.law_answers.specs.inv.model.defs.Shown.{Seen}
-use Rattle.law_answers.specs.inv.model.words.Place.{is_valid}
-use Rattle.law_answers.specs.inv.model.words.declared.config.Config.{Config}
-use Rattle.law_answers.specs.inv.model.words.declared.layout.Layout.{Layout}
-use Rattle.law_answers.specs.inv.model.defs.declared.call.Call.{Call}
-use Rattle.law_answers.specs.inv.model.defs.declared.event.Event.{Event}
-use Rattle.law_answers.specs.inv.model.defs.declared.event.Event.TheVariants as events
-use Rattle.law_answers.specs.inv.model.defs.declared.lifetime.Lifetime.{Lifetime}
-use Rattle.law_answers.specs.inv.model.declared.post.Post.{Post}
-use Rattle.law_answers.specs.inv.model.Calls.{AfterScan, ScanAt, Phase, Idle, Runs, Scans, Works, CallTurn, CallOutcome, GoesOn, Answers}
-use Rattle.law_answers.specs.inv.model.Desks.{Desk, Report, noting}
-use Rattle.law_answers.specs.inv.model.Guards.{guards}
-use Rattle.law_answers.specs.inv.model.Locals.{Local, after, begun, begun_post, busy_in, settled, rounds_told, told_by, told_end, turn}
-use Rattle.law_answers.specs.inv.model.Posts.{counted}
-use Rattle.law_answers.specs.inv.model.Scan.{scan_turn}
-use Rattle.law_answers.specs.inv.model.Steps.{phase_turn}
-use Rattle.law_answers.specs.inv.model.World.{World, begin, finds, is_busy, offered, step, told_in, may_start}
-use Rattle.law_answers.specs.inv.covers.Covers.{is_fresh}
-use Rattle.law_answers.proofs.inv.covers.Fresh.{first_begins}
-use Rattle.law_answers.proofs.inv.covers.Held.{settled_phase}
-use Rattle.law_answers.specs.inv.shapes.Frame.{phase_left}
-use Rattle.law_answers.specs.inv.shapes.Seats.{Seats, PhaseFits, scan_fits}
-use Rattle.law_answers.proofs.inv.shapes.Frame.{seat_stays, seat_steps, begin_stays, begin_begins}
-use Rattle.law_answers.specs.inv.history.Record.{Past, Each, tells_of}
-use Rattle.law_answers.specs.inv.history.Record.Past.{Then}
-use Rattle.law_answers.proofs.inv.history.Entries.{entries_of_each}
-use Rattle.law_answers.specs.inv.history.History.{Begins, Steps, Made, done, first_made, record_of}
-use Rattle.law_answers.proofs.inv.history.Along.{Steady, items_keep}
-use Rattle.law_answers.specs.laws.Lists.{list_of}
-use Rattle.law_answers.specs.laws.StateAt.{read_by, read_of, is_scan, scans_of}
+use Rattle.laws.specs.defs.Shown.{Seen}
+use Rattle.laws.specs.words.Place.{is_valid}
+use Rattle.laws.specs.words.declared.config.Config.{Config}
+use Rattle.laws.specs.words.declared.layout.Layout.{Layout}
+use Rattle.laws.specs.defs.declared.call.Call.{Call}
+use Rattle.laws.specs.defs.declared.event.Event.{Event}
+use Rattle.laws.specs.defs.declared.event.Event.TheVariants as events
+use Rattle.laws.specs.defs.declared.lifetime.Lifetime.{Lifetime}
+use Rattle.inv_all.specs.model.declared.post.Post.{Post}
+use Rattle.inv_all.specs.model.Calls.{AfterScan, ScanAt, Phase, Idle, Runs, Scans, Works, CallTurn, CallOutcome, GoesOn, Answers}
+use Rattle.inv_all.specs.model.Desks.{Desk, Report, noting}
+use Rattle.inv_all.specs.model.Guards.{guards}
+use Rattle.inv_all.specs.model.Locals.{Local, after, begun, begun_post, busy_in, settled, rounds_told, told_by, told_end, turn}
+use Rattle.inv_all.specs.model.Posts.{counted}
+use Rattle.inv_all.specs.model.Scan.{scan_turn}
+use Rattle.inv_all.specs.model.Steps.{phase_turn}
+use Rattle.inv_all.specs.model.World.{World, begin, finds, is_busy, offered, step, told_in, may_start}
+use Rattle.inv_all.specs.covers.Covers.{is_fresh}
+use Rattle.inv_all.proofs.covers.Fresh.{first_begins}
+use Rattle.inv_all.proofs.covers.Held.{settled_phase}
+use Rattle.inv_all.specs.shapes.Frame.{phase_left}
+use Rattle.inv_all.specs.shapes.Seats.{Seats, PhaseFits, scan_fits}
+use Rattle.inv_all.proofs.shapes.Frame.{seat_stays, seat_steps, begin_stays, begin_begins}
+use Rattle.laws.specs.records.Record.{Past, Each, tells_of}
+use Rattle.laws.specs.records.Record.Past.{Then}
+use Rattle.laws.proofs.records.Entries.{entries_of_each}
+use Rattle.inv_all.specs.history.History.{Begins, Steps, Made, done, first_made, record_of}
+use Rattle.inv_all.proofs.history.Along.{Steady, items_keep}
+use Rattle.laws.specs.Lists.{list_of}
+use Rattle.laws.specs.StateAt.{read_by, read_of, is_scan, scans_of}
 use Rattle.law_reuse.proofs.Once.Calm.{is_unread, run_unread, work_unread}
 use Rattle.law_reuse.proofs.Once.Keeps.{Keeps, first_keeps, begin_keeps, step_keeps}
-use Rattle.law_answers.specs.laws.ScanLaw.{scan_by, scan_ok}
+use Rattle.laws.specs.ScanLaw.{scan_by, scan_ok}
 use Rattle.law_reuse.specs.Records.{RecordsKeepScans}
 use Rattle.law_reuse.proofs.Blocks.Calm.{read_own, scans_own, read_other, scans_other, RestsAt, told_same, told_rests, one_allowed, told_each, unread_rests, unread_same, run_report, work_report, run_fresh, works_fresh}
 use Rattle.law_reuse.proofs.Blocks.Placed.{Rests, PlacedAt, Placed, fresh_placed, TurnPlaced, scan_event, scan_placed, scan_tells, scan_reads, scan_allowed}
-use Rattle.law_answers.proofs.inv.history.AllOf.{all_of}
+use Rattle.inv_all.proofs.history.AllOf.{all_of}
 use Rattle.law_reuse.proofs.Once.Lists.{settled_list, begins_own, busy_list, stepped_own}
-use Rattle.law_answers.proofs.laws.Along.{list_own}
+use Rattle.laws.proofs.Along.{list_own}
 
 -- what the record says of a seat's scan is so
 abbrev pub SeatPlaced : ℕ → ℕ → Local → Past → Type 0

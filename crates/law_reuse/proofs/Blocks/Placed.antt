@@ -4,26 +4,26 @@ use Rattle.std.proofs.lemmas.Bool.Decides.{nat_tests}
 use Rattle.std.proofs.lemmas.List.{length-append}
 use Rattle.std.specs.Prelude.{◌==◌, ◌&&◌, ◌||◌, not, nat_lt, if◌then◌else◌, is_none}
 use Rattle.std.specs.List.{remove}
-use Rattle.law_answers.specs.inv.model.defs.Shown.{Seen}
-use Rattle.law_answers.specs.inv.model.words.declared.config.Config.{Config}
-use Rattle.law_answers.specs.inv.model.defs.declared.event.Event.{Event}
-use Rattle.law_answers.specs.inv.model.defs.declared.event.Event.TheVariants as events
-use Rattle.law_answers.specs.inv.model.defs.declared.event.Guard.{Guard}
-use Rattle.law_answers.specs.inv.model.defs.declared.event.Guard.TheVariants.{Helper, Index, Whole}
-use Rattle.law_answers.specs.inv.model.defs.declared.lifetime.Lifetime.{Lifetime}
-use Rattle.law_answers.specs.inv.model.declared.post.Post.{Post}
-use Rattle.law_answers.specs.inv.model.Calls.{AfterScan, Answered, Repeated, Counted, ScanAt, ReadGuard, GiveBack, Phase, Idle, Runs, Scans, Works, CallTurn}
-use Rattle.law_answers.specs.inv.model.Desks.{Desk, Report}
-use Rattle.law_answers.specs.inv.model.Guards.{guards, guard_at, eras_in, published}
-use Rattle.law_answers.specs.inv.model.Scan.{Entry, read_before, scanned, giving_back, reading, with_kept, with_read, with_back, unmet_from, scan_turn}
-use Rattle.law_answers.proofs.inv.model.Facts.{both}
-use Rattle.law_answers.specs.inv.shapes.Frame.{phase_left}
-use Rattle.law_answers.specs.inv.shapes.Seats.{scan_fits}
-use Rattle.law_answers.specs.inv.covers.Covers.{is_fresh}
-use Rattle.law_answers.proofs.inv.covers.Fresh.{round_fresh}
-use Rattle.law_answers.specs.laws.StateAt.{read_by, same_guard}
-use Rattle.law_answers.specs.laws.ScanLaw.{next_back, is_over, is_partial, next_number, scan_by}
-use Rattle.law_answers.specs.laws.ScanLaw.{is_life_of}
+use Rattle.laws.specs.defs.Shown.{Seen}
+use Rattle.laws.specs.words.declared.config.Config.{Config}
+use Rattle.laws.specs.defs.declared.event.Event.{Event}
+use Rattle.laws.specs.defs.declared.event.Event.TheVariants as events
+use Rattle.laws.specs.defs.declared.event.Guard.{Guard}
+use Rattle.laws.specs.defs.declared.event.Guard.TheVariants.{Helper, Index, Whole}
+use Rattle.laws.specs.defs.declared.lifetime.Lifetime.{Lifetime}
+use Rattle.inv_all.specs.model.declared.post.Post.{Post}
+use Rattle.inv_all.specs.model.Calls.{AfterScan, Answered, Repeated, Counted, ScanAt, ReadGuard, GiveBack, Phase, Idle, Runs, Scans, Works, CallTurn}
+use Rattle.inv_all.specs.model.Desks.{Desk, Report}
+use Rattle.inv_all.specs.model.Guards.{guards, guard_at, eras_in, published}
+use Rattle.inv_all.specs.model.Scan.{Entry, read_before, scanned, giving_back, reading, with_kept, with_read, with_back, unmet_from, scan_turn}
+use Rattle.inv_all.proofs.model.Facts.{both}
+use Rattle.inv_all.specs.shapes.Frame.{phase_left}
+use Rattle.inv_all.specs.shapes.Seats.{scan_fits}
+use Rattle.inv_all.specs.covers.Covers.{is_fresh}
+use Rattle.inv_all.proofs.covers.Fresh.{round_fresh}
+use Rattle.laws.specs.StateAt.{read_by, same_guard}
+use Rattle.laws.specs.ScanLaw.{next_back, is_over, is_partial, next_number, scan_by}
+use Rattle.laws.specs.ScanLaw.{is_life_of}
 use Rattle.law_reuse.proofs.Blocks.Found.{met_before, met_none, PlaceOf, place_from, met_remove}
 
 -- no scan is left undone

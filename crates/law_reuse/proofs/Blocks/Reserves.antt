@@ -2,50 +2,50 @@
 use Rattle.std.proofs.Common.{ℕ, ◌≡◌, ◌≤◌, ◌<◌, ◌+◌, Bool, true, false, List, [], ◌∷◌, ◌++◌, Option, Some, None, refl, ap, ◌∙◌, arith, sym, subst}
 use Rattle.std.specs.Prelude.{◌==◌, if◌then◌else◌, not, is_some, drop}
 use Rattle.std.specs.List.{filter}
-use Rattle.law_answers.specs.inv.model.words.Packed.{reservation_word}
-use Rattle.law_answers.specs.inv.model.words.Place.{Place, has}
-use Rattle.law_answers.specs.inv.model.defs.declared.event.Event.{Event}
-use Rattle.law_answers.specs.inv.model.defs.declared.event.Event.TheVariants as events
-use Rattle.law_answers.specs.inv.model.defs.declared.event.Guard.{Guard}
-use Rattle.law_answers.specs.inv.model.defs.declared.event.Guard.TheVariants.{Helper, Index, Whole}
-use Rattle.law_answers.specs.inv.model.defs.declared.event.Root.{Root}
-use Rattle.law_answers.specs.inv.model.declared.post.Post.{Post}
-use Rattle.law_answers.specs.inv.model.Calls.{ReadGuard, GiveBack, Phase, Idle, Runs, Scans, Works, LoadVersion, LoadNumber, LoadTail, FindVersion, Work, Getting, Changing, Enqueuing, Dequeuing, Why, Keeping, Loosens, LoadHeld, StoreHeld, Looks, Misses, HideSpan, MarkLeft, TakeList, MarkTaken}
-use Rattle.law_answers.specs.inv.model.Guards.{guard_place, eras_in, one_era, from_to}
-use Rattle.law_answers.specs.inv.model.Machine as machine
-use Rattle.law_answers.specs.inv.model.Memory as memory
-use Rattle.law_answers.specs.inv.model.Memory.{bump, put, place_in, found}
-use Rattle.law_answers.specs.inv.model.MoveClock as movers
-use Rattle.law_answers.specs.inv.model.Phases.{Aim, BeginAt, ProtectAt, MoveAt, Base}
-use Rattle.law_answers.specs.inv.model.Phases.BeginAt.{LoadLower, PublishSpan}
-use Rattle.law_answers.specs.inv.model.Phases.ProtectAt.{PublishEra, PublishHelper, TakeAnswer, WithdrawHelper, RaiseUpper}
-use Rattle.law_answers.specs.inv.model.Phases.AllocateAt.{LoadBirth}
-use Rattle.law_answers.specs.inv.model.Phases.RetireAt.{LoadLife}
-use Rattle.law_answers.specs.inv.model.Phases.MoveAt.{ShowEra, HandOver, HideEra, HideLate}
-use Rattle.law_answers.specs.inv.model.Phases.Base.{Begin, Protect, Clear, Finish, Release, Allocate, Retire}
-use Rattle.law_answers.specs.inv.model.Posts.{stands, cleared, counted, lower, upper, tag_of, reserves_helper, index_word, cleared_from}
-use Rattle.law_answers.specs.inv.model.Steps.{phase_move, work_move}
-use Rattle.law_answers.proofs.inv.ends.Told.Rows.{own_told, step_filter}
-use Rattle.law_answers.proofs.laws.Along.{along, along_kind}
-use Rattle.law_answers.specs.laws.StateAt.{reserved_by, value_of}
+use Rattle.laws.specs.words.Packed.{reservation_word}
+use Rattle.laws.specs.words.Place.{Place, has}
+use Rattle.laws.specs.defs.declared.event.Event.{Event}
+use Rattle.laws.specs.defs.declared.event.Event.TheVariants as events
+use Rattle.laws.specs.defs.declared.event.Guard.{Guard}
+use Rattle.laws.specs.defs.declared.event.Guard.TheVariants.{Helper, Index, Whole}
+use Rattle.laws.specs.defs.declared.event.Root.{Root}
+use Rattle.inv_all.specs.model.declared.post.Post.{Post}
+use Rattle.inv_all.specs.model.Calls.{ReadGuard, GiveBack, Phase, Idle, Runs, Scans, Works, LoadVersion, LoadNumber, LoadTail, FindVersion, Work, Getting, Changing, Enqueuing, Dequeuing, Why, Keeping, Loosens, LoadHeld, StoreHeld, Looks, Misses, HideSpan, MarkLeft, TakeList, MarkTaken}
+use Rattle.inv_all.specs.model.Guards.{guard_place, eras_in, one_era, from_to}
+use Rattle.inv_all.specs.model.Machine as machine
+use Rattle.inv_all.specs.model.Memory as memory
+use Rattle.inv_all.specs.model.Memory.{bump, put, place_in, found}
+use Rattle.inv_all.specs.model.MoveClock as movers
+use Rattle.inv_all.specs.model.Phases.{Aim, BeginAt, ProtectAt, MoveAt, Base}
+use Rattle.inv_all.specs.model.Phases.BeginAt.{LoadLower, PublishSpan}
+use Rattle.inv_all.specs.model.Phases.ProtectAt.{PublishEra, PublishHelper, TakeAnswer, WithdrawHelper, RaiseUpper}
+use Rattle.inv_all.specs.model.Phases.AllocateAt.{LoadBirth}
+use Rattle.inv_all.specs.model.Phases.RetireAt.{LoadLife}
+use Rattle.inv_all.specs.model.Phases.MoveAt.{ShowEra, HandOver, HideEra, HideLate}
+use Rattle.inv_all.specs.model.Phases.Base.{Begin, Protect, Clear, Finish, Release, Allocate, Retire}
+use Rattle.inv_all.specs.model.Posts.{stands, cleared, counted, lower, upper, tag_of, reserves_helper, index_word, cleared_from}
+use Rattle.inv_all.specs.model.Steps.{phase_move, work_move}
+use Rattle.inv_all.proofs.ends.Told.Rows.{own_told, step_filter}
+use Rattle.laws.proofs.Along.{along, along_kind}
+use Rattle.laws.specs.StateAt.{reserved_by, value_of}
 use Rattle.law_reuse.proofs.Blocks.Words.{leaves, Publishes, none_published, put_published, era_shown, span_shown, nothing_shown}
-use Rattle.law_answers.proofs.inv.rows.Words.{put_back}
-use Rattle.law_answers.proofs.inv.history.MayTell.{Tells, publishes, may_publish, bare, base_all, held_any, concluded_told}
-use Rattle.law_answers.proofs.inv.history.AllOf.{all_of}
-use Rattle.law_answers.proofs.inv.model.Facts.{first_of, rest_of, false_of_not, false_not_true}
-use Rattle.law_answers.specs.inv.model.words.declared.layout.Layout.{Layout}
-use Rattle.law_answers.specs.inv.model.defs.declared.lifetime.Interval.{Interval}
-use Rattle.law_answers.specs.inv.model.World.{World, start, step, finds, told_in}
-use Rattle.law_answers.specs.inv.covers.Covers.{eras_shown}
-use Rattle.law_answers.specs.inv.shapes.Eras.{PhaseEras, SpanIn, base_eras, begin_eras, protect_eras, move_eras}
-use Rattle.law_answers.specs.inv.model.words.Schemes.{is_ibr, has_one_interval}
-use Rattle.law_answers.specs.inv.shapes.Seats.{PhaseFits, Run}
-use Rattle.law_answers.specs.inv.history.Record.{Past, tells_of}
-use Rattle.law_answers.specs.inv.history.Record.Past.{Then}
-use Rattle.law_answers.proofs.inv.ends.Told.Turns.{is_later}
-use Rattle.law_answers.proofs.inv.history.Passes.{copied_told, work_told}
-use Rattle.law_answers.specs.inv.model.Rounds.{let_index, scheme_of}
-use Rattle.law_answers.specs.inv.shapes.Frame.{WorkFits, stores_held}
+use Rattle.inv_all.proofs.rows.Words.{put_back}
+use Rattle.inv_all.proofs.history.MayTell.{Tells, publishes, may_publish, bare, base_all, held_any, concluded_told}
+use Rattle.inv_all.proofs.history.AllOf.{all_of}
+use Rattle.inv_all.proofs.model.Facts.{first_of, rest_of, false_of_not, false_not_true}
+use Rattle.laws.specs.words.declared.layout.Layout.{Layout}
+use Rattle.laws.specs.defs.declared.lifetime.Interval.{Interval}
+use Rattle.inv_all.specs.model.World.{World, start, step, finds, told_in}
+use Rattle.inv_all.specs.covers.Covers.{eras_shown}
+use Rattle.inv_all.specs.shapes.Eras.{PhaseEras, SpanIn, base_eras, begin_eras, protect_eras, move_eras}
+use Rattle.laws.specs.words.Schemes.{is_ibr, has_one_interval}
+use Rattle.inv_all.specs.shapes.Seats.{PhaseFits, Run}
+use Rattle.laws.specs.records.Record.{Past, tells_of}
+use Rattle.laws.specs.records.Record.Past.{Then}
+use Rattle.inv_all.proofs.ends.Told.Turns.{is_later}
+use Rattle.inv_all.proofs.history.Passes.{copied_told, work_told}
+use Rattle.inv_all.specs.model.Rounds.{let_index, scheme_of}
+use Rattle.inv_all.specs.shapes.Frame.{WorkFits, stores_held}
 use Rattle.std.proofs.lemmas.List.Elements.{filter-append}
 
 -- the events of guards

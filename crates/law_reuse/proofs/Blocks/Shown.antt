@@ -1,41 +1,41 @@
 -- A history's record says of each guard what it publishes, and so scans read just that.
 use Rattle.std.proofs.Common.{ℕ, ◌≡◌, ◌<◌, true, false, List, [], ◌∷◌, ◌++◌, Option, Some, None, refl, sym, ap, ◌∙◌, subst, arith}
 use Rattle.std.proofs.lemmas.Bool.Decides.{nat_tests}
-use Rattle.law_answers.specs.inv.model.words.Place.{Place}
-use Rattle.law_answers.specs.inv.model.words.declared.layout.Layout.{Layout}
-use Rattle.law_answers.specs.inv.model.defs.declared.call.Call.{Call}
-use Rattle.law_answers.specs.inv.model.defs.declared.event.Event.{Event}
-use Rattle.law_answers.specs.inv.model.defs.declared.event.Event.TheVariants as events
-use Rattle.law_answers.specs.inv.model.defs.declared.event.Guard.{Guard}
-use Rattle.law_answers.specs.inv.model.defs.declared.lifetime.Interval.{Interval}
-use Rattle.law_answers.specs.inv.model.declared.post.Post.{Post}
-use Rattle.law_answers.specs.inv.model.Calls.{AfterScan, ScanAt, ReadGuard, GiveBack, Phase, Idle, Runs, Scans, Works, CallTurn, CallOutcome, GoesOn, Answers}
-use Rattle.law_answers.specs.inv.model.Desks.{Desk}
-use Rattle.law_answers.specs.inv.model.Guards.{guard_at, guard_place, eras_in}
-use Rattle.law_answers.specs.inv.model.Locals.{told_by, told_end}
-use Rattle.law_answers.specs.inv.model.Memory.{found, place_in}
-use Rattle.law_answers.specs.inv.model.Posts.{counted}
-use Rattle.law_answers.specs.inv.model.Scan.{scan_turn}
-use Rattle.law_answers.specs.inv.model.Steps.{phase_move, phase_turn}
-use Rattle.law_answers.specs.inv.model.World.{World, is_busy, may_start, offered}
-use Rattle.law_answers.proofs.inv.model.Facts.{first_of, rest_of}
-use Rattle.law_answers.specs.inv.covers.Covers.{eras_shown}
-use Rattle.law_answers.specs.inv.shapes.Eras.{ErasNeeds}
-use Rattle.law_answers.specs.inv.history.Record.{Past, Each, tells_of}
-use Rattle.law_answers.specs.inv.history.Record.Past.{Then}
-use Rattle.law_answers.proofs.inv.history.Entries.{entries_of_each}
-use Rattle.law_answers.specs.inv.history.History.{Begins, Steps, Made, done, first_made, record_of}
-use Rattle.law_answers.proofs.inv.history.Along.{Steady, items_keep}
-use Rattle.law_answers.proofs.inv.Inv.Ready.{eras_need}
-use Rattle.law_answers.proofs.inv.Inv.Shown.{clock_small}
+use Rattle.laws.specs.words.Place.{Place}
+use Rattle.laws.specs.words.declared.layout.Layout.{Layout}
+use Rattle.laws.specs.defs.declared.call.Call.{Call}
+use Rattle.laws.specs.defs.declared.event.Event.{Event}
+use Rattle.laws.specs.defs.declared.event.Event.TheVariants as events
+use Rattle.laws.specs.defs.declared.event.Guard.{Guard}
+use Rattle.laws.specs.defs.declared.lifetime.Interval.{Interval}
+use Rattle.inv_all.specs.model.declared.post.Post.{Post}
+use Rattle.inv_all.specs.model.Calls.{AfterScan, ScanAt, ReadGuard, GiveBack, Phase, Idle, Runs, Scans, Works, CallTurn, CallOutcome, GoesOn, Answers}
+use Rattle.inv_all.specs.model.Desks.{Desk}
+use Rattle.inv_all.specs.model.Guards.{guard_at, guard_place, eras_in}
+use Rattle.inv_all.specs.model.Locals.{told_by, told_end}
+use Rattle.inv_all.specs.model.Memory.{found, place_in}
+use Rattle.inv_all.specs.model.Posts.{counted}
+use Rattle.inv_all.specs.model.Scan.{scan_turn}
+use Rattle.inv_all.specs.model.Steps.{phase_move, phase_turn}
+use Rattle.inv_all.specs.model.World.{World, is_busy, may_start, offered}
+use Rattle.inv_all.proofs.model.Facts.{first_of, rest_of}
+use Rattle.inv_all.specs.covers.Covers.{eras_shown}
+use Rattle.inv_all.specs.shapes.Eras.{ErasNeeds}
+use Rattle.laws.specs.records.Record.{Past, Each, tells_of}
+use Rattle.laws.specs.records.Record.Past.{Then}
+use Rattle.laws.proofs.records.Entries.{entries_of_each}
+use Rattle.inv_all.specs.history.History.{Begins, Steps, Made, done, first_made, record_of}
+use Rattle.inv_all.proofs.history.Along.{Steady, items_keep}
+use Rattle.inv_all.proofs.Inv.Ready.{eras_need}
+use Rattle.inv_all.proofs.Inv.Shown.{clock_small}
 use Rattle.law_reuse.proofs.Once.Calm.{is_unread, run_unread, work_unread}
 use Rattle.law_reuse.proofs.Once.Keeps.{Keeps, first_keeps, begin_keeps, step_keeps}
-use Rattle.law_answers.specs.laws.StateAt.{value_of, same_span}
-use Rattle.law_answers.specs.laws.ScanLaw.{read_ok}
+use Rattle.laws.specs.StateAt.{value_of, same_span}
+use Rattle.laws.specs.ScanLaw.{read_ok}
 use Rattle.law_reuse.specs.Records.{RecordsReadGuards}
 use Rattle.law_reuse.proofs.Blocks.Placed.{scan_event, scan_tells}
 use Rattle.law_reuse.proofs.Blocks.Reserves.{PhaseWords, phase_words, step_shown, start_shown}
-use Rattle.law_answers.proofs.inv.history.AllOf.{all_of}
+use Rattle.inv_all.proofs.history.AllOf.{all_of}
 
 -- the law
 span_self : (span : Option Interval) → same_span span span ≡ true

@@ -2,23 +2,23 @@
 -- that guard alone.
 use Rattle.std.proofs.Common.{ℕ, ◌≡◌, ◌≤◌, ◌<◌, Bool, true, false, List, [], ◌∷◌, Option, None, refl, sym, ap, ◌∙◌, arith}
 use Rattle.std.specs.Prelude.{◌==◌, ◌&&◌, if◌then◌else◌}
-use Rattle.law_answers.specs.inv.model.words.Packed.{reservation_word, read_reservation, read_span}
-use Rattle.law_answers.specs.inv.model.words.Place as places
-use Rattle.law_answers.specs.inv.model.words.Place.{Place}
-use Rattle.law_answers.specs.inv.model.words.declared.packed.Reservation.{Reservation}
-use Rattle.law_answers.proofs.inv.model.words.Parts.{read_reservation-halves, read_span-halves}
-use Rattle.law_answers.specs.inv.model.defs.declared.event.Event.{Event}
-use Rattle.law_answers.specs.inv.model.defs.declared.event.Event.TheVariants as events
-use Rattle.law_answers.specs.inv.model.defs.declared.event.Guard.{Guard}
-use Rattle.law_answers.specs.inv.model.defs.declared.event.Guard.TheVariants.{Helper, Index, Whole}
-use Rattle.law_answers.specs.inv.model.defs.declared.lifetime.Interval.{Interval}
-use Rattle.law_answers.specs.inv.model.Guards.{guard_place, eras_in, one_era, from_to, interval_in}
-use Rattle.law_answers.specs.inv.model.Memory.{Move, Load, Store, Cas, Or, And, put, written}
-use Rattle.law_answers.specs.inv.model.Spans.{eras_word}
-use Rattle.law_answers.proofs.inv.shapes.Frame.{written_other}
-use Rattle.law_answers.proofs.laws.Along.{along}
-use Rattle.law_answers.specs.laws.StateAt.{reserved_by}
-use Rattle.law_answers.proofs.inv.shapes.Decode.{no_index}
+use Rattle.laws.specs.words.Packed.{reservation_word, read_reservation, read_span}
+use Rattle.laws.specs.words.Place as places
+use Rattle.laws.specs.words.Place.{Place}
+use Rattle.laws.specs.words.declared.packed.Reservation.{Reservation}
+use Rattle.inv_all.proofs.model.words.Parts.{read_reservation-halves, read_span-halves}
+use Rattle.laws.specs.defs.declared.event.Event.{Event}
+use Rattle.laws.specs.defs.declared.event.Event.TheVariants as events
+use Rattle.laws.specs.defs.declared.event.Guard.{Guard}
+use Rattle.laws.specs.defs.declared.event.Guard.TheVariants.{Helper, Index, Whole}
+use Rattle.laws.specs.defs.declared.lifetime.Interval.{Interval}
+use Rattle.inv_all.specs.model.Guards.{guard_place, eras_in, one_era, from_to, interval_in}
+use Rattle.inv_all.specs.model.Memory.{Move, Load, Store, Cas, Or, And, put, written}
+use Rattle.inv_all.specs.model.Spans.{eras_word}
+use Rattle.inv_all.proofs.shapes.Frame.{written_other}
+use Rattle.laws.proofs.Along.{along}
+use Rattle.laws.specs.StateAt.{reserved_by}
+use Rattle.inv_all.proofs.shapes.Decode.{no_index}
 
 -- the word of no guard
 abbrev pub is_plain : Place → Bool

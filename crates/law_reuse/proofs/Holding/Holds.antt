@@ -2,58 +2,58 @@
 use Rattle.std.proofs.Common.{ℕ, ◌≡◌, ◌<◌, Bool, true, false, List, Option, Some, refl, sym, ap, ◌∙◌, subst, arith}
 use Rattle.std.proofs.lemmas.Bool.Decides.{nat_tests}
 use Rattle.std.specs.Prelude.{◌==◌, if◌then◌else◌}
-use Rattle.law_answers.specs.inv.model.defs.Shown.{Shown, keeps}
-use Rattle.law_answers.specs.inv.model.defs.Shown.Shown.{Nothing, Eras}
-use Rattle.law_answers.specs.inv.model.defs.Shown as values
-use Rattle.law_answers.specs.inv.model.words.Place.{is_valid}
-use Rattle.law_answers.specs.inv.model.words.Place.Place.{Clock}
-use Rattle.law_answers.specs.inv.model.words.declared.layout.Layout.{Layout}
-use Rattle.law_answers.specs.inv.model.defs.declared.call.Call.{Call}
-use Rattle.law_answers.specs.inv.model.defs.declared.event.Event.{Event}
-use Rattle.law_answers.specs.inv.model.defs.declared.event.Guard.{Guard}
-use Rattle.law_answers.specs.inv.model.defs.declared.lifetime.Interval.{Interval}
-use Rattle.law_answers.specs.inv.model.Calls.{Why, Runs}
-use Rattle.law_answers.specs.inv.model.Guards.{own_guard}
-use Rattle.law_answers.specs.inv.model.Phases.{Base}
-use Rattle.law_answers.specs.inv.model.Posts.{stands}
-use Rattle.law_answers.specs.inv.model.World.{World, is_busy, start, step, told_in, may_start}
-use Rattle.law_answers.proofs.inv.model.Facts.{both}
-use Rattle.law_answers.specs.inv.requests.Views.{View as Asked}
-use Rattle.law_answers.specs.inv.rows.Agree.{first_rows, rows_after}
-use Rattle.law_answers.proofs.inv.requests.Kept.{requests_begin, requests_start}
-use Rattle.law_answers.specs.inv.rows.Chain.{first_line, line_after}
-use Rattle.law_answers.specs.inv.rows.Queue.{Line}
-use Rattle.law_answers.specs.inv.rows.Rows.{Status, View, is_settled, is_taken, retire_in}
-use Rattle.law_answers.specs.inv.rows.Rows.Status.{Free, Claimed, Born, Linked, InQueue, Cut, Sealed, Listed}
-use Rattle.law_answers.specs.inv.shapes.Slots.{PhaseIn}
-use Rattle.law_answers.specs.inv.covers.Covers.{eras_shown, shown, retired_at, life_of}
-use Rattle.law_answers.proofs.inv.covers.Kept.{before_at}
-use Rattle.law_answers.specs.inv.history.Record.{Past, tells_of}
-use Rattle.law_answers.specs.inv.history.Record.Past.{Start}
-use Rattle.law_answers.specs.inv.history.History.{Item, Begins, Steps, Made, done, made_of, first_made, record_of, world_of}
-use Rattle.law_answers.proofs.inv.history.Along.{Steady, items_keep}
-use Rattle.law_answers.specs.inv.ends.Births.{Given, GivenNeeds, given_after}
-use Rattle.law_answers.proofs.inv.ends.Told.Births.{given_start, given_begin, given_kept}
-use Rattle.law_answers.specs.inv.model.defs.Events.{is_of_rows}
-use Rattle.law_answers.specs.inv.ends.Told.{row_events, birth_in, move_of}
-use Rattle.law_answers.proofs.inv.ends.Told.Rows.{rows_told}
-use Rattle.law_answers.specs.inv.Known.{Known}
-use Rattle.law_answers.proofs.inv.Inv.Ready.{eras_need}
-use Rattle.law_answers.proofs.inv.Inv.Begun.{known_start, known_begin}
-use Rattle.law_answers.proofs.inv.Inv.Kept.{known_kept, asked_next}
-use Rattle.law_answers.proofs.inv.Inv.Rows.{rows_need, covers_need, settled_life}
-use Rattle.law_answers.proofs.inv.Inv.Shapes.{eras_of}
-use Rattle.law_answers.proofs.inv.Inv.Shown.{clock_small}
+use Rattle.laws.specs.defs.Shown.{Shown, keeps}
+use Rattle.laws.specs.defs.Shown.Shown.{Nothing, Eras}
+use Rattle.laws.specs.defs.Shown as values
+use Rattle.laws.specs.words.Place.{is_valid}
+use Rattle.laws.specs.words.Place.Place.{Clock}
+use Rattle.laws.specs.words.declared.layout.Layout.{Layout}
+use Rattle.laws.specs.defs.declared.call.Call.{Call}
+use Rattle.laws.specs.defs.declared.event.Event.{Event}
+use Rattle.laws.specs.defs.declared.event.Guard.{Guard}
+use Rattle.laws.specs.defs.declared.lifetime.Interval.{Interval}
+use Rattle.inv_all.specs.model.Calls.{Why, Runs}
+use Rattle.inv_all.specs.model.Guards.{own_guard}
+use Rattle.inv_all.specs.model.Phases.{Base}
+use Rattle.inv_all.specs.model.Posts.{stands}
+use Rattle.inv_all.specs.model.World.{World, is_busy, start, step, told_in, may_start}
+use Rattle.inv_all.proofs.model.Facts.{both}
+use Rattle.inv_all.specs.requests.Views.{View as Asked}
+use Rattle.inv_all.specs.rows.Agree.{first_rows, rows_after}
+use Rattle.inv_all.proofs.requests.Kept.{requests_begin, requests_start}
+use Rattle.inv_all.specs.rows.Chain.{first_line, line_after}
+use Rattle.inv_all.specs.rows.Queue.{Line}
+use Rattle.inv_all.specs.rows.Rows.{Status, View, is_settled, is_taken, retire_in}
+use Rattle.inv_all.specs.rows.Rows.Status.{Free, Claimed, Born, Linked, InQueue, Cut, Sealed, Listed}
+use Rattle.inv_all.specs.shapes.Slots.{PhaseIn}
+use Rattle.inv_all.specs.covers.Covers.{eras_shown, shown, retired_at, life_of}
+use Rattle.inv_all.proofs.covers.Kept.{before_at}
+use Rattle.laws.specs.records.Record.{Past, tells_of}
+use Rattle.laws.specs.records.Record.Past.{Start}
+use Rattle.inv_all.specs.history.History.{Item, Begins, Steps, Made, done, made_of, first_made, record_of, world_of}
+use Rattle.inv_all.proofs.history.Along.{Steady, items_keep}
+use Rattle.inv_all.specs.ends.Births.{Given, GivenNeeds, given_after}
+use Rattle.inv_all.proofs.ends.Told.Births.{given_start, given_begin, given_kept}
+use Rattle.laws.specs.defs.Events.{is_of_rows}
+use Rattle.inv_all.specs.ends.Told.{row_events, birth_in, move_of}
+use Rattle.inv_all.proofs.ends.Told.Rows.{rows_told}
+use Rattle.inv_all.specs.Known.{Known}
+use Rattle.inv_all.proofs.Inv.Ready.{eras_need}
+use Rattle.inv_all.proofs.Inv.Begun.{known_start, known_begin}
+use Rattle.inv_all.proofs.Inv.Kept.{known_kept, asked_next}
+use Rattle.inv_all.proofs.Inv.Rows.{rows_need, covers_need, settled_life}
+use Rattle.inv_all.proofs.Inv.Shapes.{eras_of}
+use Rattle.inv_all.proofs.Inv.Shown.{clock_small}
 use Rattle.law_reuse.proofs.Reuse.Keeps.{record_stands}
-use Rattle.law_answers.specs.laws.StateAt.{taken_by, taken_at, value_of, birth_of, retire_of, ended_by, life_at}
-use Rattle.law_answers.proofs.laws.Along.{along, along_kind, taken_tells, taken_quiet}
+use Rattle.laws.specs.StateAt.{taken_by, taken_at, value_of, birth_of, retire_of, ended_by, life_at}
+use Rattle.laws.proofs.Along.{along, along_kind, taken_tells, taken_quiet}
 use Rattle.law_reuse.proofs.Once.Moves.{taken_made}
-use Rattle.law_answers.specs.laws.HoldLaw.{is_held}
+use Rattle.laws.specs.HoldLaw.{is_held}
 use Rattle.law_reuse.specs.Records.{RecordsHold, RecordValues}
 use Rattle.law_reuse.proofs.Holding.Lives.{retire_tells, retire_quiet, birth_tells, retire_made}
 use Rattle.law_reuse.proofs.Holding.Values.{Ranges}
 use Rattle.law_reuse.proofs.Blocks.Reserves.{PhaseWords, phase_words, step_shown, start_shown}
-use Rattle.law_answers.proofs.inv.handover.Asks.{run_of}
+use Rattle.inv_all.proofs.ends.Handover.Asks.{run_of}
 
 -- what a record says of guards and lives is so
 pub record Tied (w : World) (v : View) (p : Past) (births : ℕ → ℕ) : Type 0 where

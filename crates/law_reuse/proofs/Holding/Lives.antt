@@ -1,21 +1,21 @@
 -- The life of a row by the record is that of the row.
 use Rattle.std.proofs.Common.{ℕ, ◌≡◌, Bool, true, false, List, [], ◌∷◌, refl, ap, ◌∙◌, sym}
 use Rattle.std.specs.Prelude.{◌==◌, if◌then◌else◌}
-use Rattle.law_answers.specs.inv.model.defs.declared.event.Event.{Event}
-use Rattle.law_answers.specs.inv.model.defs.declared.event.Event.TheVariants as events
-use Rattle.law_answers.specs.inv.rows.Rows.{Status, View, RowMove, made, is_taken, retire_in}
-use Rattle.law_answers.specs.inv.rows.Rows.Status.{Free, Claimed, Born, Linked, InQueue, Cut, Sealed, Listed}
-use Rattle.law_answers.specs.inv.rows.Rows.RowMove.{Stays, Claims, Bears, Drops, Links, Replaces, Appends, Pops, Reads, Seals, Lists, Returns, Adopts}
-use Rattle.law_answers.proofs.inv.rows.Fits.{MoveFits}
-use Rattle.law_answers.specs.inv.ends.Births.{given_by, given_all}
-use Rattle.law_answers.specs.inv.model.defs.Events.{is_of_rows}
-use Rattle.law_answers.specs.inv.ends.Told.{row_events}
-use Rattle.law_answers.specs.inv.history.Record.{Past, tells_of}
-use Rattle.law_answers.specs.inv.history.Record.Past.{Then}
-use Rattle.law_answers.proofs.laws.Along.{along}
-use Rattle.law_answers.specs.laws.StateAt.{born_by, birth_of, ended_by, retire_of}
-use Rattle.law_answers.proofs.inv.model.Facts.{number_is}
-use Rattle.law_answers.proofs.inv.rows.Made.{passed_taken, passed_retire}
+use Rattle.laws.specs.defs.declared.event.Event.{Event}
+use Rattle.laws.specs.defs.declared.event.Event.TheVariants as events
+use Rattle.inv_all.specs.rows.Rows.{Status, View, RowMove, made, is_taken, retire_in}
+use Rattle.inv_all.specs.rows.Rows.Status.{Free, Claimed, Born, Linked, InQueue, Cut, Sealed, Listed}
+use Rattle.inv_all.specs.rows.Rows.RowMove.{Stays, Claims, Bears, Drops, Links, Replaces, Appends, Pops, Reads, Seals, Lists, Returns, Adopts}
+use Rattle.inv_all.proofs.rows.Fits.{MoveFits}
+use Rattle.inv_all.specs.ends.Births.{given_by, given_all}
+use Rattle.laws.specs.defs.Events.{is_of_rows}
+use Rattle.inv_all.specs.ends.Told.{row_events}
+use Rattle.laws.specs.records.Record.{Past, tells_of}
+use Rattle.laws.specs.records.Record.Past.{Then}
+use Rattle.laws.proofs.Along.{along}
+use Rattle.laws.specs.StateAt.{born_by, birth_of, ended_by, retire_of}
+use Rattle.inv_all.proofs.model.Facts.{number_is}
+use Rattle.inv_all.proofs.rows.Made.{passed_taken, passed_retire}
 
 -- the record after all that is told
 pub retire_tells : (s i : ℕ) (told : List Event) (p : Past) → retire_of s (tells_of p i told) ≡ along (ended_by s) told (retire_of s p)

@@ -1,13 +1,13 @@
 -- What is known of a machine before its step.
 use Rattle.std.proofs.Common.{ℕ, ◌≡◌, ◌<◌}
-use Rattle.law_answers.specs.inv.model.words.declared.layout.Layout.{Layout}
-use Rattle.law_answers.specs.inv.model.declared.post.Post.{Post}
-use Rattle.law_answers.specs.inv.model.Calls.{Why}
-use Rattle.law_answers.specs.inv.model.Phases.{Base}
-use Rattle.law_answers.specs.inv.model.Posts.{tag_of}
-use Rattle.law_answers.specs.inv.shapes.Seats.{Run}
-use Rattle.law_answers.specs.inv.shapes.Eras.{SpanIn, base_eras}
-use Rattle.law_answers.specs.inv.shapes.Slots.{WhyIn}
+use Rattle.laws.specs.words.declared.layout.Layout.{Layout}
+use Rattle.inv_all.specs.model.declared.post.Post.{Post}
+use Rattle.inv_all.specs.model.Calls.{Why}
+use Rattle.inv_all.specs.model.Phases.{Base}
+use Rattle.inv_all.specs.model.Posts.{tag_of}
+use Rattle.inv_all.specs.shapes.Seats.{Run}
+use Rattle.inv_all.specs.shapes.Eras.{SpanIn, base_eras}
+use Rattle.inv_all.specs.shapes.Slots.{WhyIn}
 
 pub record Ranges (layout : Layout) (clock : ℕ) (post : Post) (base : Base) : Type 0 where
   pub small : clock < 4294967296

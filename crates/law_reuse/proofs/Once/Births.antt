@@ -3,36 +3,36 @@ use Rattle.std.proofs.Common.{ℕ, ◌≡◌, ◌<◌, Bool, true, false, List, 
 use Rattle.std.proofs.lemmas.Bool.Decides.{nat_tests}
 use Rattle.std.specs.Prelude.{◌==◌, if◌then◌else◌}
 use mathlib.Core.Path.{fun_ext}
-use Rattle.law_answers.specs.inv.model.words.Place.{is_valid}
-use Rattle.law_answers.specs.inv.model.words.declared.layout.Layout.{Layout}
-use Rattle.law_answers.specs.inv.model.defs.declared.call.Call.{Call}
-use Rattle.law_answers.specs.inv.model.defs.declared.event.Event.{Event}
-use Rattle.law_answers.specs.inv.model.defs.declared.event.Event.TheVariants as events
-use Rattle.law_answers.specs.inv.model.World.{World, step, is_busy, told_in, may_start}
-use Rattle.law_answers.specs.inv.requests.Views.{View as Asked}
-use Rattle.law_answers.proofs.inv.requests.Kept.{requests_begin, requests_start}
-use Rattle.law_answers.specs.inv.rows.Chain.{first_line, line_after}
-use Rattle.law_answers.specs.inv.rows.Queue.{Line}
-use Rattle.law_answers.specs.inv.Known.{Known}
-use Rattle.law_answers.proofs.inv.Inv.Begun.{known_start, known_begin}
-use Rattle.law_answers.proofs.inv.Inv.Kept.{known_kept, asked_next}
-use Rattle.law_answers.specs.inv.rows.Agree.{first_rows, rows_after}
-use Rattle.law_answers.specs.inv.rows.Rows.{View, RowMove}
-use Rattle.law_answers.specs.inv.rows.Rows.RowMove.{Stays, Claims, Bears, Drops, Links, Replaces, Appends, Pops, Reads, Seals, Lists, Returns, Adopts}
-use Rattle.law_answers.specs.inv.history.Record.{Past, Each, tells_of}
-use Rattle.law_answers.specs.inv.history.Record.Past.{Then}
-use Rattle.law_answers.proofs.inv.history.Entries.{entries_of_each}
-use Rattle.law_answers.specs.inv.history.History.{Begins, Steps, Made, done, first_made, record_of}
-use Rattle.law_answers.proofs.inv.history.Along.{Steady, items_keep}
-use Rattle.law_answers.specs.inv.ends.Births.{Given, given_by, given_all}
-use Rattle.law_answers.specs.inv.model.defs.Events.{is_of_rows}
-use Rattle.law_answers.specs.inv.ends.Told.{row_events, birth_in, move_of}
-use Rattle.law_answers.proofs.inv.ends.Told.Births.{given_start, given_begin, given_kept, retires_given}
-use Rattle.law_answers.proofs.inv.ends.Told.Rows.{rows_told}
-use Rattle.law_answers.specs.laws.StateAt.{born_by, birth_of}
-use Rattle.law_answers.specs.laws.HistoryEras.{birth_ok}
+use Rattle.laws.specs.words.Place.{is_valid}
+use Rattle.laws.specs.words.declared.layout.Layout.{Layout}
+use Rattle.laws.specs.defs.declared.call.Call.{Call}
+use Rattle.laws.specs.defs.declared.event.Event.{Event}
+use Rattle.laws.specs.defs.declared.event.Event.TheVariants as events
+use Rattle.inv_all.specs.model.World.{World, step, is_busy, told_in, may_start}
+use Rattle.inv_all.specs.requests.Views.{View as Asked}
+use Rattle.inv_all.proofs.requests.Kept.{requests_begin, requests_start}
+use Rattle.inv_all.specs.rows.Chain.{first_line, line_after}
+use Rattle.inv_all.specs.rows.Queue.{Line}
+use Rattle.inv_all.specs.Known.{Known}
+use Rattle.inv_all.proofs.Inv.Begun.{known_start, known_begin}
+use Rattle.inv_all.proofs.Inv.Kept.{known_kept, asked_next}
+use Rattle.inv_all.specs.rows.Agree.{first_rows, rows_after}
+use Rattle.inv_all.specs.rows.Rows.{View, RowMove}
+use Rattle.inv_all.specs.rows.Rows.RowMove.{Stays, Claims, Bears, Drops, Links, Replaces, Appends, Pops, Reads, Seals, Lists, Returns, Adopts}
+use Rattle.laws.specs.records.Record.{Past, Each, tells_of}
+use Rattle.laws.specs.records.Record.Past.{Then}
+use Rattle.laws.proofs.records.Entries.{entries_of_each}
+use Rattle.inv_all.specs.history.History.{Begins, Steps, Made, done, first_made, record_of}
+use Rattle.inv_all.proofs.history.Along.{Steady, items_keep}
+use Rattle.inv_all.specs.ends.Births.{Given, given_by, given_all}
+use Rattle.laws.specs.defs.Events.{is_of_rows}
+use Rattle.inv_all.specs.ends.Told.{row_events, birth_in, move_of}
+use Rattle.inv_all.proofs.ends.Told.Births.{given_start, given_begin, given_kept, retires_given}
+use Rattle.inv_all.proofs.ends.Told.Rows.{rows_told}
+use Rattle.laws.specs.StateAt.{born_by, birth_of}
+use Rattle.laws.specs.HistoryEras.{birth_ok}
 use Rattle.law_reuse.specs.Records.{RecordsKeepBirths}
-use Rattle.law_answers.proofs.laws.Along.{Single, OfKind, single_each}
+use Rattle.laws.proofs.Along.{Single, OfKind, single_each}
 use Rattle.law_reuse.proofs.Holding.Holds.{given_need}
 
 -- what is told of births

@@ -1,34 +1,34 @@
 -- No machine tells that a guard is read or that a row is back, and only the last step of a retirement ends with a life.
 use Rattle.std.proofs.Common.{ℕ, ◌≡◌, ◌+◌, Bool, true, false, List, Option, Some, None, refl}
-use Rattle.law_answers.specs.inv.model.defs.declared.event.Event.{Event}
-use Rattle.law_answers.specs.inv.model.defs.declared.event.Event.TheVariants as events
-use Rattle.law_answers.specs.inv.model.defs.declared.event.Root.{Root}
-use Rattle.law_answers.specs.inv.model.declared.post.Post.{Post}
-use Rattle.law_answers.specs.inv.model.Allocate as allocates
-use Rattle.law_answers.specs.inv.model.Desks.{Desk}
-use Rattle.law_answers.specs.inv.model.Locals.{told_by}
-use Rattle.law_answers.specs.inv.model.Machine as machine
-use Rattle.law_answers.specs.inv.model.Memory.{bump}
-use Rattle.law_answers.specs.inv.model.MoveClock as movers
-use Rattle.law_answers.specs.inv.model.Posts.{upper, reserves_helper}
-use Rattle.law_answers.specs.inv.model.Protect as protects
-use Rattle.law_answers.specs.inv.model.Steps as steps
-use Rattle.law_answers.specs.inv.model.Phases.{Aim, Alone, Follows, BeginAt, ProtectAt, AllocateAt, RetireAt, MoveAt, Walk, Base, Turn, Outcome, Goes, Ends}
-use Rattle.law_answers.specs.inv.model.Phases.BeginAt.{LoadLower, PublishSpan}
-use Rattle.law_answers.specs.inv.model.Phases.ProtectAt.{CheckClock, CheckOwnClock, AnswerOwn, WithdrawHelper, CheckUpper}
-use Rattle.law_answers.specs.inv.model.Phases.AllocateAt.{LoadBirth, ClaimSlot, StoreLife}
-use Rattle.law_answers.specs.inv.model.Phases.RetireAt.{LoadLife, LoadRetire, StoreRetired}
-use Rattle.law_answers.specs.inv.model.Phases.MoveAt.{LoadEra, CheckEra, AnswerAsked, LoadReserved, HandOver, ExchangeClock}
-use Rattle.law_answers.specs.inv.model.Phases.Base.{Begin, Protect, Reload, Allocate, Write, Retire, Move}
-use Rattle.law_answers.specs.inv.model.Calls.{Runs, Works, Why, Work}
-use Rattle.law_answers.proofs.inv.history.Passes.{is_quiet}
-use Rattle.law_answers.specs.inv.model.words.Packed.{read_reservation, reservation_word}
-use Rattle.law_answers.specs.inv.model.Phases.Ending.{Done, Protected, Followed, Allocated, Retired, Clocked}
-use Rattle.law_answers.specs.inv.model.SlowPath.{own_request, asking}
-use Rattle.law_answers.specs.inv.model.WriteRow.{last_written}
+use Rattle.laws.specs.defs.declared.event.Event.{Event}
+use Rattle.laws.specs.defs.declared.event.Event.TheVariants as events
+use Rattle.laws.specs.defs.declared.event.Root.{Root}
+use Rattle.inv_all.specs.model.declared.post.Post.{Post}
+use Rattle.inv_all.specs.model.Allocate as allocates
+use Rattle.inv_all.specs.model.Desks.{Desk}
+use Rattle.inv_all.specs.model.Locals.{told_by}
+use Rattle.inv_all.specs.model.Machine as machine
+use Rattle.inv_all.specs.model.Memory.{bump}
+use Rattle.inv_all.specs.model.MoveClock as movers
+use Rattle.inv_all.specs.model.Posts.{upper, reserves_helper}
+use Rattle.inv_all.specs.model.Protect as protects
+use Rattle.inv_all.specs.model.Steps as steps
+use Rattle.inv_all.specs.model.Phases.{Aim, Alone, Follows, BeginAt, ProtectAt, AllocateAt, RetireAt, MoveAt, Walk, Base, Turn, Outcome, Goes, Ends}
+use Rattle.inv_all.specs.model.Phases.BeginAt.{LoadLower, PublishSpan}
+use Rattle.inv_all.specs.model.Phases.ProtectAt.{CheckClock, CheckOwnClock, AnswerOwn, WithdrawHelper, CheckUpper}
+use Rattle.inv_all.specs.model.Phases.AllocateAt.{LoadBirth, ClaimSlot, StoreLife}
+use Rattle.inv_all.specs.model.Phases.RetireAt.{LoadLife, LoadRetire, StoreRetired}
+use Rattle.inv_all.specs.model.Phases.MoveAt.{LoadEra, CheckEra, AnswerAsked, LoadReserved, HandOver, ExchangeClock}
+use Rattle.inv_all.specs.model.Phases.Base.{Begin, Protect, Reload, Allocate, Write, Retire, Move}
+use Rattle.inv_all.specs.model.Calls.{Runs, Works, Why, Work}
+use Rattle.inv_all.proofs.history.Passes.{is_quiet}
+use Rattle.laws.specs.words.Packed.{read_reservation, reservation_word}
+use Rattle.inv_all.specs.model.Phases.Ending.{Done, Protected, Followed, Allocated, Retired, Clocked}
+use Rattle.inv_all.specs.model.SlowPath.{own_request, asking}
+use Rattle.inv_all.specs.model.WriteRow.{last_written}
 use Rattle.std.specs.Prelude.{◌==◌, if◌then◌else◌}
-use Rattle.law_answers.proofs.inv.history.AllOf.{all_of, of_weaker}
-use Rattle.law_answers.proofs.inv.history.MayTell.{Tells, base_all, Passes, step_all, work_all}
+use Rattle.inv_all.proofs.history.AllOf.{all_of, of_weaker}
+use Rattle.inv_all.proofs.history.MayTell.{Tells, base_all, Passes, step_all, work_all}
 
 -- no guard is read, and no row goes back
 abbrev pub is_unread : Event → Bool

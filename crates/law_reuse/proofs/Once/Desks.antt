@@ -1,31 +1,31 @@
 -- A step of a call leaves the desk as it was, but that a retirement that ends puts its life on the list.
 use Rattle.std.proofs.Common.{ℕ, ◌≡◌, Bool, true, false, List, [], ◌∷◌, ◌++◌, refl}
 use Rattle.std.specs.Prelude.{◌==◌, ◌+◌, ◌-◌, nat_lt, length, Option, Some, None}
-use Rattle.law_answers.specs.inv.model.defs.declared.call.Answer.{Answer}
-use Rattle.law_answers.specs.inv.model.defs.declared.call.Answer.TheVariants as answers
-use Rattle.law_answers.specs.inv.model.defs.declared.call.ClockMove.TheVariants as moves
-use Rattle.law_answers.specs.inv.model.defs.declared.event.Event.TheVariants as events
-use Rattle.law_answers.specs.inv.model.defs.declared.event.Root.TheVariants as roots
-use Rattle.law_answers.specs.inv.model.defs.declared.event.Event.{Event}
-use Rattle.law_answers.specs.inv.model.declared.ends.AllocateEnd.{AllocateEnd}
-use Rattle.law_answers.specs.inv.model.declared.ends.AllocateEnd.TheVariants as allocate_ends
-use Rattle.law_answers.specs.inv.model.declared.ends.FollowEnd.{FollowEnd}
-use Rattle.law_answers.specs.inv.model.declared.ends.FollowEnd.TheVariants as follow_ends
-use Rattle.law_answers.specs.inv.model.declared.ends.ProtectEnd.TheVariants as protect_ends
-use Rattle.law_answers.specs.inv.model.declared.post.Post.{Post}
-use Rattle.law_answers.specs.inv.model.Desks.{Desk, with_life}
-use Rattle.law_answers.specs.inv.model.Phases.{Base, Ending, Outcome, Goes, Ends}
-use Rattle.law_answers.specs.inv.model.Phases.Ending.{Protected, Followed, Allocated, Retired, Clocked}
-use Rattle.law_answers.specs.inv.model.Calls.{ChangeKept, EnqueueKept, Task, Gets, Changes, Holds, Enqueues, Dequeues, Next, Again, MakeRoom, Answering, Retiring, AfterScan, Why, Opens, FollowsHead, Fills, ClearsNext, Clears, Finishes, GivesUp, Retires, Tidies, Advances, Releases, GetAt, FindVersion, FindCount, FindKey, FindValue, ChangeAt, LoadVersion, LoadCount, LoadKey, LoadValue, ExchangeRoot, EnqueueAt, LoadNumber, LoadNext, PassTail, ExchangeNext, ExchangeTail, DequeueAt, SwingTail, ExchangeHead, Work, Getting, Changing, Enqueuing, Dequeuing, LetGo, Released, Rehold, Dropped, Parting, KeepAt, Loosens, LoadHeld, StoreHeld, Looks, Misses, HideSpan, MarkLeft, TakeList, MarkTaken, Keeping, Phase, Works}
-use Rattle.law_answers.specs.inv.model.Rounds.{scheme_of, clear_post, closed, finishing_by, finishing, clearing_by, clearing, clearing_next_by, clearing_next, given_up, let_index}
-use Rattle.law_answers.specs.inv.model.Rounds as rounds
-use Rattle.law_answers.specs.inv.model.Get.{got, finding, found_key, get_turn}
-use Rattle.law_answers.specs.inv.model.Change.{with_read, answer_done, told_linked, at_link, with_walked, no_room, deciding_by, deciding, reading, exchanged, change_turn}
-use Rattle.law_answers.specs.inv.model.Enqueue.{told_link, item_walked, appending, at_next, appended, enqueue_turn}
-use Rattle.law_answers.specs.inv.model.Dequeue.{followed_row, followed, taken, dequeue_turn}
-use Rattle.law_answers.specs.inv.model.Steps.{opened_row, opened_null, opened, filled_by, written_row, filled, followed_by, tidying, retired_by, tidied, advanced, resume, resumed, work_turn}
-use Rattle.law_answers.specs.inv.model.Posts.{withdrawn}
-use Rattle.law_answers.specs.inv.model.Keep.{copied, load_held, looking, looked_key, look_turn, keep_turn, released, taking}
+use Rattle.laws.specs.defs.declared.call.Answer.{Answer}
+use Rattle.laws.specs.defs.declared.call.Answer.TheVariants as answers
+use Rattle.laws.specs.defs.declared.call.ClockMove.TheVariants as moves
+use Rattle.laws.specs.defs.declared.event.Event.TheVariants as events
+use Rattle.laws.specs.defs.declared.event.Root.TheVariants as roots
+use Rattle.laws.specs.defs.declared.event.Event.{Event}
+use Rattle.inv_all.specs.model.declared.ends.AllocateEnd.{AllocateEnd}
+use Rattle.inv_all.specs.model.declared.ends.AllocateEnd.TheVariants as allocate_ends
+use Rattle.inv_all.specs.model.declared.ends.FollowEnd.{FollowEnd}
+use Rattle.inv_all.specs.model.declared.ends.FollowEnd.TheVariants as follow_ends
+use Rattle.inv_all.specs.model.declared.ends.ProtectEnd.TheVariants as protect_ends
+use Rattle.inv_all.specs.model.declared.post.Post.{Post}
+use Rattle.inv_all.specs.model.Desks.{Desk, with_life}
+use Rattle.inv_all.specs.model.Phases.{Base, Ending, Outcome, Goes, Ends}
+use Rattle.inv_all.specs.model.Phases.Ending.{Protected, Followed, Allocated, Retired, Clocked}
+use Rattle.inv_all.specs.model.Calls.{ChangeKept, EnqueueKept, Task, Gets, Changes, Holds, Enqueues, Dequeues, Next, Again, MakeRoom, Answering, Retiring, AfterScan, Why, Opens, FollowsHead, Fills, ClearsNext, Clears, Finishes, GivesUp, Retires, Tidies, Advances, Releases, GetAt, FindVersion, FindCount, FindKey, FindValue, ChangeAt, LoadVersion, LoadCount, LoadKey, LoadValue, ExchangeRoot, EnqueueAt, LoadNumber, LoadNext, PassTail, ExchangeNext, ExchangeTail, DequeueAt, SwingTail, ExchangeHead, Work, Getting, Changing, Enqueuing, Dequeuing, LetGo, Released, Rehold, Dropped, Parting, KeepAt, Loosens, LoadHeld, StoreHeld, Looks, Misses, HideSpan, MarkLeft, TakeList, MarkTaken, Keeping, Phase, Works}
+use Rattle.inv_all.specs.model.Rounds.{scheme_of, clear_post, closed, finishing_by, finishing, clearing_by, clearing, clearing_next_by, clearing_next, given_up, let_index}
+use Rattle.inv_all.specs.model.Rounds as rounds
+use Rattle.inv_all.specs.model.Get.{got, finding, found_key, get_turn}
+use Rattle.inv_all.specs.model.Change.{with_read, answer_done, told_linked, at_link, with_walked, no_room, deciding_by, deciding, reading, exchanged, change_turn}
+use Rattle.inv_all.specs.model.Enqueue.{told_link, item_walked, appending, at_next, appended, enqueue_turn}
+use Rattle.inv_all.specs.model.Dequeue.{followed_row, followed, taken, dequeue_turn}
+use Rattle.inv_all.specs.model.Steps.{opened_row, opened_null, opened, filled_by, written_row, filled, followed_by, tidying, retired_by, tidied, advanced, resume, resumed, work_turn}
+use Rattle.inv_all.specs.model.Posts.{withdrawn}
+use Rattle.inv_all.specs.model.Keep.{copied, load_held, looking, looked_key, look_turn, keep_turn, released, taking}
 
 given_up_desk : (answer : Answer) (post : Post) (desk : Desk) (told : List Event) (o : Option ℕ) → (given_up answer post desk told o).desk ≡ desk
 given_up_desk answer post desk told None = refl

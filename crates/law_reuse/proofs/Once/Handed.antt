@@ -1,37 +1,37 @@
 -- Lists are left and taken over by calls for it, whole and at most once.
 use Rattle.std.proofs.Common.{ℕ, ◌≡◌, ◌<◌, Bool, true, false, List, [], ◌∷◌, length, Option, Some, refl, sym, ap, ◌∙◌, subst}
 use Rattle.std.specs.Prelude.{◌==◌, ◌&&◌, not, nat_lt}
-use Rattle.law_answers.specs.inv.model.words.Place.Place.{PlaceOf}
-use Rattle.law_answers.specs.inv.model.words.declared.layout.Layout.{Layout}
-use Rattle.law_answers.specs.inv.model.defs.declared.call.Call.{Call}
-use Rattle.law_answers.specs.inv.model.defs.declared.call.Call.TheVariants as names
-use Rattle.law_answers.specs.inv.model.defs.declared.event.Event.{Event}
-use Rattle.law_answers.specs.inv.model.defs.declared.event.Event.TheVariants as events
-use Rattle.law_answers.specs.inv.model.defs.declared.lifetime.Lifetime.{Lifetime}
-use Rattle.law_answers.specs.inv.model.declared.post.Post.{Post}
-use Rattle.law_answers.specs.inv.model.Calls.{KeepAt, Loosens, LoadHeld, StoreHeld, Looks, Misses, HideSpan, MarkLeft, TakeList, MarkTaken, Phase, Idle, Runs, Scans, Works, Getting, Changing, Enqueuing, Dequeuing, Keeping}
-use Rattle.law_answers.specs.inv.model.Desks.{Desk}
-use Rattle.law_answers.specs.inv.model.Keep.{taking}
-use Rattle.law_answers.specs.inv.model.Locals.{told_by}
-use Rattle.law_answers.specs.inv.model.Posts.{counted}
-use Rattle.law_answers.specs.inv.model.Steps.{phase_turn}
-use Rattle.law_answers.specs.inv.model.World.{World, finds, is_busy, may_start, offered, told_in}
-use Rattle.law_answers.proofs.inv.model.Facts.{both, first_of, rest_of, same_number}
-use Rattle.law_answers.specs.inv.rows.Agree.{Agree}
-use Rattle.law_answers.specs.inv.rows.Rows.{View}
-use Rattle.law_answers.specs.inv.history.History.{Begins, Made, Steps, done, first_made, record_of}
-use Rattle.law_answers.specs.inv.history.Record.{Each, Past, tells_of}
-use Rattle.law_answers.specs.inv.history.Record.Past.{Then}
-use Rattle.law_answers.proofs.inv.history.AllOf.{all_of}
-use Rattle.law_answers.proofs.inv.history.Along.{Steady, items_keep}
-use Rattle.law_answers.proofs.inv.history.Entries.{entries_of_each}
-use Rattle.law_answers.specs.laws.Once.{is_adopt, lists_ok}
-use Rattle.law_answers.specs.laws.Standing.{is_leave}
-use Rattle.law_answers.specs.laws.Lists.{has_left, is_adopted, list_of}
-use Rattle.law_answers.specs.laws.StateAt.{began_of}
-use Rattle.law_answers.proofs.AnswersTold.Answering as answering
-use Rattle.law_answers.proofs.AnswersTold.Owed.{Serves}
-use Rattle.law_answers.proofs.Leaving.Told.{is_kept, phase_keeps_lists, told_kept}
+use Rattle.laws.specs.words.Place.Place.{PlaceOf}
+use Rattle.laws.specs.words.declared.layout.Layout.{Layout}
+use Rattle.laws.specs.defs.declared.call.Call.{Call}
+use Rattle.laws.specs.defs.declared.call.Call.TheVariants as names
+use Rattle.laws.specs.defs.declared.event.Event.{Event}
+use Rattle.laws.specs.defs.declared.event.Event.TheVariants as events
+use Rattle.laws.specs.defs.declared.lifetime.Lifetime.{Lifetime}
+use Rattle.inv_all.specs.model.declared.post.Post.{Post}
+use Rattle.inv_all.specs.model.Calls.{KeepAt, Loosens, LoadHeld, StoreHeld, Looks, Misses, HideSpan, MarkLeft, TakeList, MarkTaken, Phase, Idle, Runs, Scans, Works, Getting, Changing, Enqueuing, Dequeuing, Keeping}
+use Rattle.inv_all.specs.model.Desks.{Desk}
+use Rattle.inv_all.specs.model.Keep.{taking}
+use Rattle.inv_all.specs.model.Locals.{told_by}
+use Rattle.inv_all.specs.model.Posts.{counted}
+use Rattle.inv_all.specs.model.Steps.{phase_turn}
+use Rattle.inv_all.specs.model.World.{World, finds, is_busy, may_start, offered, told_in}
+use Rattle.inv_all.proofs.model.Facts.{both, first_of, rest_of, same_number}
+use Rattle.inv_all.specs.rows.Agree.{Agree}
+use Rattle.inv_all.specs.rows.Rows.{View}
+use Rattle.inv_all.specs.history.History.{Begins, Made, Steps, done, first_made, record_of}
+use Rattle.laws.specs.records.Record.{Each, Past, tells_of}
+use Rattle.laws.specs.records.Record.Past.{Then}
+use Rattle.inv_all.proofs.history.AllOf.{all_of}
+use Rattle.inv_all.proofs.history.Along.{Steady, items_keep}
+use Rattle.laws.proofs.records.Entries.{entries_of_each}
+use Rattle.laws.specs.Once.{is_adopt, lists_ok}
+use Rattle.laws.specs.Standing.{is_leave}
+use Rattle.laws.specs.Lists.{has_left, is_adopted, list_of}
+use Rattle.laws.specs.StateAt.{began_of}
+use Rattle.law_reuse.proofs.AnswersTold.Answering as answering
+use Rattle.law_reuse.proofs.AnswersTold.Owed.{Serves}
+use Rattle.law_reuse.proofs.Leaving.Told.{is_kept, phase_keeps_lists, told_kept}
 use Rattle.law_reuse.specs.Records.{RecordsKeepLists}
 use Rattle.law_reuse.specs.Rows.{Shows}
 use Rattle.law_reuse.proofs.Once.Keeps as keeping

@@ -3,51 +3,51 @@ use Rattle.std.proofs.Common.{ℕ, ◌≡◌, ◌<◌, Bool, true, false, List, 
 use Rattle.std.proofs.lemmas.Bool.Decides.{nat_tests}
 use Rattle.std.specs.Prelude.{◌==◌, ◌||◌, not, if◌then◌else◌, nat_lt}
 use Rattle.std.specs.List.{list_any}
-use Rattle.law_answers.specs.inv.model.words.Place.{is_valid}
-use Rattle.law_answers.specs.inv.model.words.declared.layout.Layout.{Layout}
-use Rattle.law_answers.specs.inv.model.defs.declared.call.Call.{Call}
-use Rattle.law_answers.specs.inv.model.defs.declared.event.Event.{Event}
-use Rattle.law_answers.specs.inv.model.defs.declared.event.Event.TheVariants as events
-use Rattle.law_answers.specs.inv.model.defs.declared.lifetime.Lifetime.{Lifetime}
-use Rattle.law_answers.specs.inv.model.Posts.{counted}
-use Rattle.law_answers.specs.inv.model.World.{World, begin, finds, is_busy, offered, start, step, told_in, may_start, list_in}
-use Rattle.law_answers.proofs.inv.model.Facts.{both, same_number, first_of, rest_of}
-use Rattle.law_answers.specs.inv.requests.Views.{View as Asked}
-use Rattle.law_answers.proofs.inv.requests.Kept.{requests_begin, requests_start}
-use Rattle.law_answers.specs.inv.rows.Agree.{first_rows, rows_after}
-use Rattle.law_answers.specs.inv.rows.Chain.{first_line, line_after}
-use Rattle.law_answers.specs.inv.rows.Queue.{Line}
-use Rattle.law_answers.specs.inv.rows.Rows.{View, RowMove, made, is_taken}
-use Rattle.law_answers.specs.inv.rows.Rows.Status.{Free, InQueue, Listed}
-use Rattle.law_answers.specs.inv.rows.Rows.RowMove.{Stays, Claims, Bears, Drops, Links, Replaces, Appends, Pops, Reads, Seals, Lists, Returns, Adopts}
-use Rattle.law_answers.proofs.inv.rows.Fits.{MoveFits}
-use Rattle.law_answers.specs.inv.covers.Covers.{CoversNeeds}
-use Rattle.law_answers.proofs.inv.covers.Kept.{before_at}
-use Rattle.law_answers.specs.inv.history.Record.{Past, Each, tells_of}
-use Rattle.law_answers.specs.inv.history.Record.Past.{Start, Then}
-use Rattle.law_answers.proofs.inv.history.Entries.{entries_of_each}
-use Rattle.law_answers.specs.inv.history.History.{Item, Begins, Steps, Made, done, made_of, first_made, record_of}
-use Rattle.law_answers.proofs.inv.history.Along.{Steady, items_keep}
-use Rattle.law_answers.specs.inv.Known.{Known}
-use Rattle.law_answers.proofs.inv.Inv.Begun.{known_start, known_begin}
-use Rattle.law_answers.proofs.inv.Inv.Kept.{known_kept, asked_next}
-use Rattle.law_answers.specs.inv.model.defs.Events.{is_of_rows}
-use Rattle.law_answers.specs.inv.ends.Told.{of_rows, row_events, birth_in, move_of}
-use Rattle.law_answers.proofs.inv.ends.Told.Rows.{rows_told}
-use Rattle.law_answers.specs.laws.HistoryRows.{once_ok, back_ok}
+use Rattle.laws.specs.words.Place.{is_valid}
+use Rattle.laws.specs.words.declared.layout.Layout.{Layout}
+use Rattle.laws.specs.defs.declared.call.Call.{Call}
+use Rattle.laws.specs.defs.declared.event.Event.{Event}
+use Rattle.laws.specs.defs.declared.event.Event.TheVariants as events
+use Rattle.laws.specs.defs.declared.lifetime.Lifetime.{Lifetime}
+use Rattle.inv_all.specs.model.Posts.{counted}
+use Rattle.inv_all.specs.model.World.{World, begin, finds, is_busy, offered, start, step, told_in, may_start, list_in}
+use Rattle.inv_all.proofs.model.Facts.{both, same_number, first_of, rest_of}
+use Rattle.inv_all.specs.requests.Views.{View as Asked}
+use Rattle.inv_all.proofs.requests.Kept.{requests_begin, requests_start}
+use Rattle.inv_all.specs.rows.Agree.{first_rows, rows_after}
+use Rattle.inv_all.specs.rows.Chain.{first_line, line_after}
+use Rattle.inv_all.specs.rows.Queue.{Line}
+use Rattle.inv_all.specs.rows.Rows.{View, RowMove, made, is_taken}
+use Rattle.inv_all.specs.rows.Rows.Status.{Free, InQueue, Listed}
+use Rattle.inv_all.specs.rows.Rows.RowMove.{Stays, Claims, Bears, Drops, Links, Replaces, Appends, Pops, Reads, Seals, Lists, Returns, Adopts}
+use Rattle.inv_all.proofs.rows.Fits.{MoveFits}
+use Rattle.inv_all.specs.covers.Covers.{CoversNeeds}
+use Rattle.inv_all.proofs.covers.Kept.{before_at}
+use Rattle.laws.specs.records.Record.{Past, Each, tells_of}
+use Rattle.laws.specs.records.Record.Past.{Start, Then}
+use Rattle.laws.proofs.records.Entries.{entries_of_each}
+use Rattle.inv_all.specs.history.History.{Item, Begins, Steps, Made, done, made_of, first_made, record_of}
+use Rattle.inv_all.proofs.history.Along.{Steady, items_keep}
+use Rattle.inv_all.specs.Known.{Known}
+use Rattle.inv_all.proofs.Inv.Begun.{known_start, known_begin}
+use Rattle.inv_all.proofs.Inv.Kept.{known_kept, asked_next}
+use Rattle.laws.specs.defs.Events.{is_of_rows}
+use Rattle.inv_all.specs.ends.Told.{of_rows, row_events, birth_in, move_of}
+use Rattle.inv_all.proofs.ends.Told.Rows.{rows_told}
+use Rattle.laws.specs.HistoryRows.{once_ok, back_ok}
 use Rattle.law_reuse.specs.Records.{RecordsKeepOnce, RecordsGoBackOnce}
-use Rattle.law_answers.specs.laws.Lists.{list_of, has_slot, gained_by, is_handed}
-use Rattle.law_answers.specs.laws.StateAt.{taken_by, taken_at, retired_by, retired_at, cut_by, cut_at}
+use Rattle.laws.specs.Lists.{list_of, has_slot, gained_by, is_handed}
+use Rattle.laws.specs.StateAt.{taken_by, taken_at, retired_by, retired_at, cut_by, cut_at}
 use Rattle.law_reuse.specs.Rows.{is_listed, is_cut, Shows, RecordShows}
-use Rattle.law_answers.proofs.laws.Along.{along, along_kind, taken_tells, retired_tells, cut_tells, cut_stays, taken_quiet, retired_quiet, list_quiet, Single, OfKind, single_each}
+use Rattle.laws.proofs.Along.{along, along_kind, taken_tells, retired_tells, cut_tells, cut_stays, taken_quiet, retired_quiet, list_quiet, Single, OfKind, single_each}
 use Rattle.law_reuse.proofs.Once.Moves.{taken_made, retired_made, cuts, CutBefore, cut_made, in_has}
 use Rattle.law_reuse.proofs.Once.Steps.{phase_cuts, told_retires, cut_of, cut_along}
-use Rattle.law_answers.proofs.inv.Inv.Whole.{covers_of}
+use Rattle.inv_all.proofs.Inv.Whole.{covers_of}
 use Rattle.law_reuse.proofs.Holding.Holds.{first_taken}
-use Rattle.law_answers.specs.inv.model.words.Place.Place.{PlaceOf}
-use Rattle.law_answers.proofs.inv.rows.Kept.{own_list}
+use Rattle.laws.specs.words.Place.Place.{PlaceOf}
+use Rattle.inv_all.proofs.rows.Kept.{own_list}
 use Rattle.law_reuse.proofs.Once.Lists.{step_list}
-use Rattle.law_answers.proofs.Leaving.Words.{first_placed, step_placed}
+use Rattle.law_reuse.proofs.Leaving.Words.{first_placed, step_placed}
 
 start_listed : (slots s : ℕ) (same : Bool) → (s == slots) ≡ same → false ≡ is_listed (if s == slots then InQueue else Free)
 start_listed slots s true e = rw e refl

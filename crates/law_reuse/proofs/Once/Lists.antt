@@ -2,35 +2,35 @@
 use Rattle.std.proofs.Common.{ℕ, ◌≡◌, Bool, true, false, List, [], ◌∷◌, ◌++◌, length, refl, sym, ap, ◌∙◌, subst, arith}
 use Rattle.std.proofs.lemmas.Bool.Decides.{nat_tests}
 use Rattle.std.specs.Prelude.{◌==◌, ◌||◌, not, nat_lt, if◌then◌else◌}
-use Rattle.law_answers.specs.inv.model.words.Place.Place.{PlaceOf}
-use Rattle.law_answers.specs.inv.model.defs.declared.call.Call.{Call}
-use Rattle.law_answers.specs.inv.model.defs.declared.event.Event.{Event}
-use Rattle.law_answers.specs.inv.model.defs.declared.event.Event.TheVariants as events
-use Rattle.law_answers.specs.inv.model.defs.declared.lifetime.Lifetime.{Lifetime}
-use Rattle.law_answers.specs.inv.model.declared.post.Post.{Post}
-use Rattle.law_answers.specs.inv.model.Calls.{CallOutcome, CallTurn, GoesOn, Answers, KeepAt, Loosens, LoadHeld, StoreHeld, Looks, Misses, HideSpan, MarkLeft, TakeList, MarkTaken, Phase, Idle, Runs, Scans, Works, Getting, Changing, Enqueuing, Dequeuing, Keeping}
-use Rattle.law_answers.specs.inv.model.Desks.{Desk, noting}
-use Rattle.law_answers.specs.inv.model.Keep.{taking}
-use Rattle.law_answers.specs.inv.model.Locals.{Local, after, may_begin, settled_by, rounds_told, told_by, turn}
-use Rattle.law_answers.specs.inv.model.Posts.{counted}
-use Rattle.law_answers.specs.inv.model.Steps.{phase_turn}
-use Rattle.law_answers.specs.inv.model.World.{World, finds, gift_at, is_busy, is_here, list_in, may_start, offered, step, told_in}
-use Rattle.law_answers.proofs.inv.model.Facts.{both, first_of, number_is, rest_of, same_number}
-use Rattle.law_answers.specs.inv.rows.Agree.{Agree}
-use Rattle.law_answers.specs.inv.rows.Rows.{View, RowMove}
-use Rattle.law_answers.proofs.inv.rows.Kept.{busy_plays, list_here, list_left}
-use Rattle.law_answers.proofs.inv.shapes.Frame.{finds_at, seat_stays, seat_steps}
-use Rattle.law_answers.specs.inv.history.Record.{Past, tells_of}
-use Rattle.law_answers.specs.inv.history.Record.Past.{Then}
-use Rattle.law_answers.proofs.inv.history.AllOf.{all_of}
-use Rattle.law_answers.specs.inv.model.defs.Events.{is_of_rows}
-use Rattle.law_answers.specs.inv.ends.Told.{birth_in, move_of}
-use Rattle.law_answers.proofs.inv.ends.Told.Rows.{rows_told}
-use Rattle.law_answers.specs.Records.{PlacesSay}
-use Rattle.law_answers.specs.laws.Lists.{hands_none, is_adopted, is_handed, list_by, list_of}
-use Rattle.law_answers.proofs.Leaving.Told.{is_kept, phase_keeps_lists, told_kept}
-use Rattle.law_answers.proofs.Leaving.Words.{step_placed}
-use Rattle.law_answers.proofs.laws.Along.{along, along_kind, list_quiet, list_stays, list_tells}
+use Rattle.laws.specs.words.Place.Place.{PlaceOf}
+use Rattle.laws.specs.defs.declared.call.Call.{Call}
+use Rattle.laws.specs.defs.declared.event.Event.{Event}
+use Rattle.laws.specs.defs.declared.event.Event.TheVariants as events
+use Rattle.laws.specs.defs.declared.lifetime.Lifetime.{Lifetime}
+use Rattle.inv_all.specs.model.declared.post.Post.{Post}
+use Rattle.inv_all.specs.model.Calls.{CallOutcome, CallTurn, GoesOn, Answers, KeepAt, Loosens, LoadHeld, StoreHeld, Looks, Misses, HideSpan, MarkLeft, TakeList, MarkTaken, Phase, Idle, Runs, Scans, Works, Getting, Changing, Enqueuing, Dequeuing, Keeping}
+use Rattle.inv_all.specs.model.Desks.{Desk, noting}
+use Rattle.inv_all.specs.model.Keep.{taking}
+use Rattle.inv_all.specs.model.Locals.{Local, after, may_begin, settled_by, rounds_told, told_by, turn}
+use Rattle.inv_all.specs.model.Posts.{counted}
+use Rattle.inv_all.specs.model.Steps.{phase_turn}
+use Rattle.inv_all.specs.model.World.{World, finds, gift_at, is_busy, is_here, list_in, may_start, offered, step, told_in}
+use Rattle.inv_all.proofs.model.Facts.{both, first_of, number_is, rest_of, same_number}
+use Rattle.inv_all.specs.rows.Agree.{Agree}
+use Rattle.inv_all.specs.rows.Rows.{View, RowMove}
+use Rattle.inv_all.proofs.rows.Kept.{busy_plays, list_here, list_left}
+use Rattle.inv_all.proofs.shapes.Frame.{finds_at, seat_stays, seat_steps}
+use Rattle.laws.specs.records.Record.{Past, tells_of}
+use Rattle.laws.specs.records.Record.Past.{Then}
+use Rattle.inv_all.proofs.history.AllOf.{all_of}
+use Rattle.laws.specs.defs.Events.{is_of_rows}
+use Rattle.inv_all.specs.ends.Told.{birth_in, move_of}
+use Rattle.inv_all.proofs.ends.Told.Rows.{rows_told}
+use Rattle.law_reuse.specs.Answers.{PlacesSay}
+use Rattle.laws.specs.Lists.{hands_none, is_adopted, is_handed, list_by, list_of}
+use Rattle.law_reuse.proofs.Leaving.Told.{is_kept, phase_keeps_lists, told_kept}
+use Rattle.law_reuse.proofs.Leaving.Words.{step_placed}
+use Rattle.laws.proofs.Along.{along, along_kind, list_quiet, list_stays, list_tells}
 use Rattle.law_reuse.specs.Rows.{Shows}
 use Rattle.law_reuse.proofs.Once.Desks.{takes_list}
 use Rattle.law_reuse.proofs.Once.Moves.{list_moved, moved_list}

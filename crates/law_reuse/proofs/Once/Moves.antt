@@ -3,18 +3,18 @@ use Rattle.std.proofs.Common.{ℕ, zero, suc, ◌≡◌, Bool, true, false, List
 use Rattle.std.proofs.lemmas.Bool.Decides.{nat_tests}
 use Rattle.std.specs.Prelude.{◌==◌, if◌then◌else◌}
 use Rattle.std.specs.List.{remove}
-use Rattle.law_answers.specs.inv.model.defs.declared.lifetime.Lifetime.{Lifetime}
-use Rattle.law_answers.specs.inv.rows.Hands.{no_entry, each_once, in_list, stands_at}
-use Rattle.law_answers.specs.inv.rows.Rows.{Status, View, RowMove, made, is_taken, passed}
-use Rattle.law_answers.specs.inv.rows.Rows.Status.{Free, Claimed, Born, Linked, InQueue, Cut, Sealed, Listed}
-use Rattle.law_answers.specs.inv.rows.Rows.RowMove.{Stays, Claims, Bears, Drops, Links, Replaces, Appends, Pops, Reads, Seals, Lists, Returns, Adopts}
-use Rattle.law_answers.proofs.inv.rows.Fits.{MoveFits}
-use Rattle.law_answers.proofs.inv.rows.Made.{passed_taken}
-use Rattle.law_answers.specs.inv.ends.Told.{row_events}
-use Rattle.law_answers.specs.laws.Lists.{list_by, without, has_slot}
-use Rattle.law_answers.specs.laws.StateAt.{taken_by, retired_by}
+use Rattle.laws.specs.defs.declared.lifetime.Lifetime.{Lifetime}
+use Rattle.inv_all.specs.rows.Hands.{no_entry, each_once, in_list, stands_at}
+use Rattle.inv_all.specs.rows.Rows.{Status, View, RowMove, made, is_taken, passed}
+use Rattle.inv_all.specs.rows.Rows.Status.{Free, Claimed, Born, Linked, InQueue, Cut, Sealed, Listed}
+use Rattle.inv_all.specs.rows.Rows.RowMove.{Stays, Claims, Bears, Drops, Links, Replaces, Appends, Pops, Reads, Seals, Lists, Returns, Adopts}
+use Rattle.inv_all.proofs.rows.Fits.{MoveFits}
+use Rattle.inv_all.proofs.rows.Made.{passed_taken}
+use Rattle.inv_all.specs.ends.Told.{row_events}
+use Rattle.laws.specs.Lists.{list_by, without, has_slot}
+use Rattle.laws.specs.StateAt.{taken_by, retired_by}
 use Rattle.law_reuse.specs.Rows.{is_listed, is_cut}
-use Rattle.law_answers.proofs.laws.Along.{along}
+use Rattle.laws.proofs.Along.{along}
 
 -- a row in a list that is taken over stays one
 passed_listed : (from to : ℕ) (x : Status) → is_listed (passed from to x) ≡ is_listed x

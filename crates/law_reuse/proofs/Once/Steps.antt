@@ -4,37 +4,37 @@ use Rattle.std.proofs.lemmas.Bool.Decides.{nat_tests}
 use Rattle.std.proofs.lemmas.List.Folds.{list_any-append}
 use Rattle.std.specs.Prelude.{◌==◌, ◌||◌, nat_lt, if◌then◌else◌}
 use Rattle.std.specs.List.{filter, list_any}
-use Rattle.law_answers.specs.inv.model.defs.Shown.{Seen}
-use Rattle.law_answers.specs.inv.model.defs.declared.call.Answer.{Answer}
-use Rattle.law_answers.specs.inv.model.defs.declared.call.Answer.TheVariants as answers
-use Rattle.law_answers.specs.inv.model.defs.declared.call.ClockMove.TheVariants as moves
-use Rattle.law_answers.specs.inv.model.defs.declared.event.Event.{Event}
-use Rattle.law_answers.specs.inv.model.defs.declared.event.Event.TheVariants as events
-use Rattle.law_answers.specs.inv.model.defs.declared.event.Root.TheVariants as roots
-use Rattle.law_answers.specs.inv.model.defs.declared.lifetime.Lifetime.{Lifetime}
-use Rattle.law_answers.specs.inv.model.declared.post.Post.{Post}
-use Rattle.law_answers.specs.inv.model.Allocate.{is_claimed}
-use Rattle.law_answers.specs.inv.model.Calls.{ChangeKept, Task, Changes, Dequeues, Next, Again, MakeRoom, Answering, Retiring, AfterScan, Answered, Repeated, Counted, Why, Fills, Retires, ReadGuard, GiveBack, LoadVersion, LoadCount, LoadKey, LoadValue, ExchangeRoot, LoadNumber, LoadNext, PassTail, ExchangeNext, ExchangeTail, LoadTail, SwingTail, TakeNumber, TakeValue, ExchangeHead, Work, Getting, Changing, Enqueuing, Dequeuing, Phase, Idle, Runs, Scans, Works, CallTurn, KeepAt, Loosens, LoadHeld, StoreHeld, Looks, Misses, HideSpan, MarkLeft, TakeList, MarkTaken, Keeping}
-use Rattle.law_answers.specs.inv.model.Change.{told_linked, told_change, changed_bucket, answer_done}
-use Rattle.law_answers.specs.inv.model.Desks.{Desk}
-use Rattle.law_answers.specs.inv.model.Guards.{guards, guard_at, eras_in, published}
-use Rattle.law_answers.specs.inv.model.Locals.{told_by, told_end}
-use Rattle.law_answers.specs.inv.model.Machine.{after}
-use Rattle.law_answers.specs.inv.model.Phases.{Base, Outcome, Goes, Ends}
-use Rattle.law_answers.specs.inv.model.Phases.AllocateAt.{ClaimSlot}
-use Rattle.law_answers.specs.inv.model.Phases.RetireAt.{LoadLife, LoadRetire, StoreRetired}
-use Rattle.law_answers.specs.inv.model.Phases.Base.{Begin, Protect, Reload, Clear, Finish, Release, Allocate, Write, GiveUp, Retire, Move}
-use Rattle.law_answers.specs.inv.model.Phases.Ending.{Done, Protected, Followed, Allocated, Retired, Clocked}
-use Rattle.law_answers.specs.inv.model.Rounds.{scheme_of, index_of, taken_of, finish_base, clear_base, clear_post, clear_told, given_up, closed, finishing_by, finishing, clearing_by, clearing, clearing_next_by}
-use Rattle.law_answers.specs.inv.model.Scan as scan
-use Rattle.law_answers.specs.inv.model.Steps.{phase_turn, work_turn}
-use Rattle.law_answers.specs.inv.rows.Hands.{task_fills, each_once, is_right, base_row, keep_row, work_row, row_move, linked_row}
-use Rattle.law_answers.specs.inv.rows.Rows.{RowMove}
-use Rattle.law_answers.specs.inv.rows.Rows.RowMove.{Stays, Claims, Bears, Drops, Links, Replaces, Appends, Pops, Reads, Seals, Lists, Returns, Adopts}
-use Rattle.law_answers.specs.inv.model.defs.Events.{is_of_rows}
-use Rattle.law_answers.specs.inv.ends.Told.{row_events}
-use Rattle.law_answers.specs.laws.StateAt.{cut_by}
-use Rattle.law_answers.proofs.laws.Along.{along}
+use Rattle.laws.specs.defs.Shown.{Seen}
+use Rattle.laws.specs.defs.declared.call.Answer.{Answer}
+use Rattle.laws.specs.defs.declared.call.Answer.TheVariants as answers
+use Rattle.laws.specs.defs.declared.call.ClockMove.TheVariants as moves
+use Rattle.laws.specs.defs.declared.event.Event.{Event}
+use Rattle.laws.specs.defs.declared.event.Event.TheVariants as events
+use Rattle.laws.specs.defs.declared.event.Root.TheVariants as roots
+use Rattle.laws.specs.defs.declared.lifetime.Lifetime.{Lifetime}
+use Rattle.inv_all.specs.model.declared.post.Post.{Post}
+use Rattle.inv_all.specs.model.Allocate.{is_claimed}
+use Rattle.inv_all.specs.model.Calls.{ChangeKept, Task, Changes, Dequeues, Next, Again, MakeRoom, Answering, Retiring, AfterScan, Answered, Repeated, Counted, Why, Fills, Retires, ReadGuard, GiveBack, LoadVersion, LoadCount, LoadKey, LoadValue, ExchangeRoot, LoadNumber, LoadNext, PassTail, ExchangeNext, ExchangeTail, LoadTail, SwingTail, TakeNumber, TakeValue, ExchangeHead, Work, Getting, Changing, Enqueuing, Dequeuing, Phase, Idle, Runs, Scans, Works, CallTurn, KeepAt, Loosens, LoadHeld, StoreHeld, Looks, Misses, HideSpan, MarkLeft, TakeList, MarkTaken, Keeping}
+use Rattle.inv_all.specs.model.Change.{told_linked, told_change, changed_bucket, answer_done}
+use Rattle.inv_all.specs.model.Desks.{Desk}
+use Rattle.inv_all.specs.model.Guards.{guards, guard_at, eras_in, published}
+use Rattle.inv_all.specs.model.Locals.{told_by, told_end}
+use Rattle.inv_all.specs.model.Machine.{after}
+use Rattle.inv_all.specs.model.Phases.{Base, Outcome, Goes, Ends}
+use Rattle.inv_all.specs.model.Phases.AllocateAt.{ClaimSlot}
+use Rattle.inv_all.specs.model.Phases.RetireAt.{LoadLife, LoadRetire, StoreRetired}
+use Rattle.inv_all.specs.model.Phases.Base.{Begin, Protect, Reload, Clear, Finish, Release, Allocate, Write, GiveUp, Retire, Move}
+use Rattle.inv_all.specs.model.Phases.Ending.{Done, Protected, Followed, Allocated, Retired, Clocked}
+use Rattle.inv_all.specs.model.Rounds.{scheme_of, index_of, taken_of, finish_base, clear_base, clear_post, clear_told, given_up, closed, finishing_by, finishing, clearing_by, clearing, clearing_next_by}
+use Rattle.inv_all.specs.model.Scan as scan
+use Rattle.inv_all.specs.model.Steps.{phase_turn, work_turn}
+use Rattle.inv_all.specs.rows.Hands.{task_fills, each_once, is_right, base_row, keep_row, work_row, row_move, linked_row}
+use Rattle.inv_all.specs.rows.Rows.{RowMove}
+use Rattle.inv_all.specs.rows.Rows.RowMove.{Stays, Claims, Bears, Drops, Links, Replaces, Appends, Pops, Reads, Seals, Lists, Returns, Adopts}
+use Rattle.laws.specs.defs.Events.{is_of_rows}
+use Rattle.inv_all.specs.ends.Told.{row_events}
+use Rattle.laws.specs.StateAt.{cut_by}
+use Rattle.laws.proofs.Along.{along}
 use Rattle.law_reuse.proofs.Once.Calm.{keeps_list, ends_life, base_keeps}
 use Rattle.law_reuse.proofs.Once.Desks.{left_at, resumed_desk, takes_list, work_desk}
 use Rattle.law_reuse.proofs.Once.Moves.{cuts, retires, moved_list, removed}

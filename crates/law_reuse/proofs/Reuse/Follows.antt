@@ -1,44 +1,44 @@
 -- What stands in a post is what its seat told to hold and not to clear.
-use Rattle.law_answers.specs.inv.ends.Stands as ends
+use Rattle.inv_all.specs.ends.Stands as ends
 use Rattle.std.proofs.Common.{ℕ, ◌≡◌, ◌<◌, ◌+◌, ◌-◌, Bool, true, false, List, [], ◌∷◌, ◌++◌, length, Option, Some, None, refl, sym, ap, ◌∙◌, subst, arith}
 use Rattle.std.proofs.lemmas.Bool.Decides.{nat_tests}
 use Rattle.std.specs.Prelude.{◌==◌, if◌then◌else◌, drop}
-use Rattle.law_answers.specs.inv.model.words.declared.config.SchemeKind.{SchemeKind}
-use Rattle.law_answers.specs.inv.model.words.declared.config.SchemeKind.TheVariants.{He, Ibr, Wfe}
-use Rattle.law_answers.specs.inv.model.words.Packed.{reservation_word, read_reservation}
-use Rattle.law_answers.specs.inv.model.defs.declared.event.Event.{Event}
-use Rattle.law_answers.specs.inv.model.defs.declared.event.Event.TheVariants as events
-use Rattle.law_answers.specs.inv.model.defs.declared.event.Root.{Root}
-use Rattle.law_answers.specs.inv.model.defs.declared.event.Root.TheVariants as roots
-use Rattle.law_answers.specs.inv.model.declared.post.Post.{Post}
-use Rattle.law_answers.specs.inv.model.Allocate as allocates
-use Rattle.law_answers.specs.inv.model.Machine as machine
-use Rattle.law_answers.specs.inv.model.Memory.{bump}
-use Rattle.law_answers.specs.inv.model.MoveClock as movers
-use Rattle.law_answers.specs.inv.model.Posts.{stands, cleared, reserves_helper, with_row, with_tag, withdrawn, tag_of, upper, reserves_index, cleared_from, reserves_span, withdrawn_all}
-use Rattle.law_answers.specs.inv.model.Protect as protects
-use Rattle.law_answers.specs.inv.model.Rounds.{scheme_of, clear_post, clear_told, let_index}
-use Rattle.law_answers.specs.inv.model.Phases.{Aim, Alone, Follows, BeginAt, ProtectAt, AllocateAt, RetireAt, MoveAt, Walk, Base, Turn, RowOf, Tries}
-use Rattle.law_answers.specs.inv.model.Phases.BeginAt.{LoadLower, PublishSpan}
-use Rattle.law_answers.specs.inv.model.Phases.ProtectAt.{CheckClock, CheckOwnClock, AnswerOwn, TakeAnswer, WithdrawHelper, CheckUpper}
-use Rattle.law_answers.specs.inv.model.Phases.AllocateAt.{LoadBirth, ClaimSlot, StoreLife}
-use Rattle.law_answers.specs.inv.model.Phases.RetireAt.{LoadLife, LoadRetire, StoreRetired}
-use Rattle.law_answers.specs.inv.model.Phases.MoveAt.{LoadEra, CheckEra, AnswerAsked, LoadReserved, HandOver, ExchangeClock}
-use Rattle.law_answers.specs.inv.model.Phases.Base.{Begin, Protect, Reload, Clear, Finish, Release, Allocate, Write, GiveUp, Retire, Move}
-use Rattle.law_answers.specs.inv.model.WriteRow.{last_written, after_write}
-use Rattle.law_answers.specs.inv.covers.Held.{index_base}
-use Rattle.law_answers.specs.laws.StateAt.{stood_by}
-use Rattle.law_answers.proofs.inv.history.Passes.{is_quiet, all_quiet, Closed, copied_post, copied_told, work_post, work_told}
-use Rattle.law_answers.specs.inv.model.SlowPath.{own_request, asking}
-use Rattle.law_answers.specs.inv.model.Follow.{after_reload}
-use Rattle.law_answers.specs.inv.model.defs.declared.event.Guard.TheVariants as the_guards
-use Rattle.law_answers.specs.inv.model.Guards.{one_era}
-use Rattle.law_answers.proofs.inv.model.Facts.{first_of, rest_of, number_is}
-use Rattle.law_answers.proofs.inv.model.Standing.{stands-withdrawn_same, stands-with_row_same, stands-withdrawn_other, stands-with_row_other}
-use Rattle.law_answers.specs.inv.model.Calls.{Work, Getting, Changing, Enqueuing, Dequeuing, Keeping, Loosens, LoadHeld, StoreHeld, Looks, Misses, HideSpan, MarkLeft, TakeList, MarkTaken}
-use Rattle.law_answers.specs.inv.model.words.Schemes.{has_one_interval}
-use Rattle.law_answers.specs.inv.covers.Rests.{Vacant, spare}
-use Rattle.law_answers.proofs.inv.ends.Ends.Left.{hidden_stood}
+use Rattle.laws.specs.words.declared.config.SchemeKind.{SchemeKind}
+use Rattle.laws.specs.words.declared.config.SchemeKind.TheVariants.{He, Ibr, Wfe}
+use Rattle.laws.specs.words.Packed.{reservation_word, read_reservation}
+use Rattle.laws.specs.defs.declared.event.Event.{Event}
+use Rattle.laws.specs.defs.declared.event.Event.TheVariants as events
+use Rattle.laws.specs.defs.declared.event.Root.{Root}
+use Rattle.laws.specs.defs.declared.event.Root.TheVariants as roots
+use Rattle.inv_all.specs.model.declared.post.Post.{Post}
+use Rattle.inv_all.specs.model.Allocate as allocates
+use Rattle.inv_all.specs.model.Machine as machine
+use Rattle.inv_all.specs.model.Memory.{bump}
+use Rattle.inv_all.specs.model.MoveClock as movers
+use Rattle.inv_all.specs.model.Posts.{stands, cleared, reserves_helper, with_row, with_tag, withdrawn, tag_of, upper, reserves_index, cleared_from, reserves_span, withdrawn_all}
+use Rattle.inv_all.specs.model.Protect as protects
+use Rattle.inv_all.specs.model.Rounds.{scheme_of, clear_post, clear_told, let_index}
+use Rattle.inv_all.specs.model.Phases.{Aim, Alone, Follows, BeginAt, ProtectAt, AllocateAt, RetireAt, MoveAt, Walk, Base, Turn, RowOf, Tries}
+use Rattle.inv_all.specs.model.Phases.BeginAt.{LoadLower, PublishSpan}
+use Rattle.inv_all.specs.model.Phases.ProtectAt.{CheckClock, CheckOwnClock, AnswerOwn, TakeAnswer, WithdrawHelper, CheckUpper}
+use Rattle.inv_all.specs.model.Phases.AllocateAt.{LoadBirth, ClaimSlot, StoreLife}
+use Rattle.inv_all.specs.model.Phases.RetireAt.{LoadLife, LoadRetire, StoreRetired}
+use Rattle.inv_all.specs.model.Phases.MoveAt.{LoadEra, CheckEra, AnswerAsked, LoadReserved, HandOver, ExchangeClock}
+use Rattle.inv_all.specs.model.Phases.Base.{Begin, Protect, Reload, Clear, Finish, Release, Allocate, Write, GiveUp, Retire, Move}
+use Rattle.inv_all.specs.model.WriteRow.{last_written, after_write}
+use Rattle.inv_all.specs.covers.Held.{index_base}
+use Rattle.laws.specs.StateAt.{stood_by}
+use Rattle.inv_all.proofs.history.Passes.{is_quiet, all_quiet, Closed, copied_post, copied_told, work_post, work_told}
+use Rattle.inv_all.specs.model.SlowPath.{own_request, asking}
+use Rattle.inv_all.specs.model.Follow.{after_reload}
+use Rattle.laws.specs.defs.declared.event.Guard.TheVariants as the_guards
+use Rattle.inv_all.specs.model.Guards.{one_era}
+use Rattle.inv_all.proofs.model.Facts.{first_of, rest_of, number_is}
+use Rattle.inv_all.proofs.model.Standing.{stands-withdrawn_same, stands-with_row_same, stands-withdrawn_other, stands-with_row_other}
+use Rattle.inv_all.specs.model.Calls.{Work, Getting, Changing, Enqueuing, Dequeuing, Keeping, Loosens, LoadHeld, StoreHeld, Looks, Misses, HideSpan, MarkLeft, TakeList, MarkTaken}
+use Rattle.laws.specs.words.Schemes.{has_one_interval}
+use Rattle.inv_all.specs.covers.Rests.{Vacant, spare}
+use Rattle.inv_all.proofs.ends.Ends.Left.{hidden_stood}
 
 -- what these events make of what stood
 abbrev pub stood : ℕ → List Event → Option ℕ → Option ℕ

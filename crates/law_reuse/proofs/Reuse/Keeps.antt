@@ -2,51 +2,51 @@
 use Rattle.std.proofs.Common.{ℕ, zero, suc, ◌≡◌, ◌<◌, Bool, true, false, List, [], ◌∷◌, length, Option, None, refl, sym, ap, ◌∙◌, subst, arith}
 use Rattle.std.proofs.lemmas.Bool.Decides.{nat_tests}
 use Rattle.std.specs.Prelude.{◌==◌, ◌&&◌, not, if◌then◌else◌}
-use Rattle.law_answers.specs.inv.model.words.Place.{is_valid}
-use Rattle.law_answers.specs.inv.model.words.declared.layout.Layout.{Layout}
-use Rattle.law_answers.specs.inv.model.defs.declared.call.Call.{Call}
-use Rattle.law_answers.specs.inv.model.defs.declared.event.Event.{Event}
-use Rattle.law_answers.specs.inv.model.defs.declared.event.Event.TheVariants as events
-use Rattle.law_answers.specs.inv.model.declared.post.Post.{Post}
-use Rattle.law_answers.specs.inv.model.Locals.{Local}
-use Rattle.law_answers.specs.inv.model.Posts.{stands, counted}
-use Rattle.law_answers.specs.inv.model.Phases.{Base}
-use Rattle.law_answers.specs.inv.model.Phases.Base.{Begin, Protect, Reload, Clear, Finish, Release, Allocate, Write, GiveUp, Retire, Move}
-use Rattle.law_answers.specs.inv.model.Calls.{Why, ScanAt, ReadGuard, GiveBack, Phase, Idle, Runs, Scans, Works, Work, Getting, Changing, Enqueuing, Dequeuing, Keeping, LoadHeld, StoreHeld, KeepAt, TakeList, HideSpan}
-use Rattle.law_answers.proofs.inv.model.Ranges.{bounds_of}
-use Rattle.law_answers.specs.inv.model.World.{World, begin, finds, is_busy, offered, start, step, told_in, may_start}
-use Rattle.law_answers.proofs.inv.model.Facts.{first_of, rest_of, and_false, not_of_false, below_length}
-use Rattle.law_answers.specs.inv.shapes.Seats.{Seats}
-use Rattle.law_answers.proofs.inv.shapes.Frame.{seat_stays, begin_stays, begin_begins}
-use Rattle.law_answers.specs.inv.history.Record.{Past, Each, tells_of}
-use Rattle.law_answers.specs.inv.history.Record.Past.{Then}
-use Rattle.law_answers.specs.inv.history.History.{Item, Begins, Steps, Made, done, first_made, made_of, record_of}
-use Rattle.law_answers.proofs.inv.history.Along.{Steady, items_keep}
-use Rattle.law_answers.proofs.inv.history.Entries.{entries_of_each}
-use Rattle.law_answers.specs.inv.rows.Hands.{row_move, keep_row}
-use Rattle.law_answers.specs.inv.covers.Covers.{takes_or_frees}
-use Rattle.law_answers.specs.inv.covers.Held.{index_base}
-use Rattle.law_answers.specs.inv.Inv.{Inv}
-use Rattle.law_answers.proofs.inv.Inv.Begun.{inv_start, inv_begin}
-use Rattle.law_answers.proofs.inv.Inv.Kept.{inv_kept}
-use Rattle.law_answers.proofs.inv.Inv.Shapes.{index_in}
-use Rattle.law_answers.specs.laws.HistoryHolds.{reuse_ok}
-use Rattle.law_answers.specs.laws.NoReuse.{is_reuse}
-use Rattle.law_answers.proofs.laws.Along.{row_of}
+use Rattle.laws.specs.words.Place.{is_valid}
+use Rattle.laws.specs.words.declared.layout.Layout.{Layout}
+use Rattle.laws.specs.defs.declared.call.Call.{Call}
+use Rattle.laws.specs.defs.declared.event.Event.{Event}
+use Rattle.laws.specs.defs.declared.event.Event.TheVariants as events
+use Rattle.inv_all.specs.model.declared.post.Post.{Post}
+use Rattle.inv_all.specs.model.Locals.{Local}
+use Rattle.inv_all.specs.model.Posts.{stands, counted}
+use Rattle.inv_all.specs.model.Phases.{Base}
+use Rattle.inv_all.specs.model.Phases.Base.{Begin, Protect, Reload, Clear, Finish, Release, Allocate, Write, GiveUp, Retire, Move}
+use Rattle.inv_all.specs.model.Calls.{Why, ScanAt, ReadGuard, GiveBack, Phase, Idle, Runs, Scans, Works, Work, Getting, Changing, Enqueuing, Dequeuing, Keeping, LoadHeld, StoreHeld, KeepAt, TakeList, HideSpan}
+use Rattle.inv_all.proofs.model.Ranges.{bounds_of}
+use Rattle.inv_all.specs.model.World.{World, begin, finds, is_busy, offered, start, step, told_in, may_start}
+use Rattle.inv_all.proofs.model.Facts.{first_of, rest_of, and_false, not_of_false, below_length}
+use Rattle.inv_all.specs.shapes.Seats.{Seats}
+use Rattle.inv_all.proofs.shapes.Frame.{seat_stays, begin_stays, begin_begins}
+use Rattle.laws.specs.records.Record.{Past, Each, tells_of}
+use Rattle.laws.specs.records.Record.Past.{Then}
+use Rattle.inv_all.specs.history.History.{Item, Begins, Steps, Made, done, first_made, made_of, record_of}
+use Rattle.inv_all.proofs.history.Along.{Steady, items_keep}
+use Rattle.laws.proofs.records.Entries.{entries_of_each}
+use Rattle.inv_all.specs.rows.Hands.{row_move, keep_row}
+use Rattle.inv_all.specs.covers.Covers.{takes_or_frees}
+use Rattle.inv_all.specs.covers.Held.{index_base}
+use Rattle.inv_all.specs.Inv.{Inv}
+use Rattle.inv_all.proofs.Inv.Begun.{inv_start, inv_begin}
+use Rattle.inv_all.proofs.Inv.Kept.{inv_kept}
+use Rattle.inv_all.proofs.Inv.Shapes.{index_in}
+use Rattle.laws.specs.HistoryHolds.{reuse_ok}
+use Rattle.laws.specs.NoReuse.{is_reuse}
+use Rattle.laws.proofs.Along.{row_of}
 use Rattle.law_reuse.specs.Reuse.{reuses}
-use Rattle.law_answers.specs.laws.StateAt.{stood_by, stood_at, is_row}
+use Rattle.laws.specs.StateAt.{stood_by, stood_at, is_row}
 use Rattle.law_reuse.specs.Records.{RecordsKeepReuse, RecordStands}
 use Rattle.law_reuse.proofs.Reuse.Follows.{stood, Follow, base_follows, follow_closed, copy_index, work_follows}
 use Rattle.law_reuse.proofs.Reuse.Never.{no_reuse}
-use Rattle.law_answers.proofs.inv.history.Passes.{First, scan_told, step_goes}
+use Rattle.inv_all.proofs.history.Passes.{First, scan_told, step_goes}
 use Rattle.law_reuse.proofs.Reuse.Told.{told_free}
 use Rattle.law_reuse.proofs.Reuse.Unheld.{is_unheld, unheld, phase_holds_none, told_unheld}
-use Rattle.law_answers.proofs.inv.handover.Asks.{run_of}
-use Rattle.law_answers.proofs.inv.covers.Held.{stepped_post}
-use Rattle.law_answers.proofs.inv.model.Lists.{or_left, or_right}
-use Rattle.law_answers.specs.inv.shapes.Slots.{Slots, PhaseIn, WorkIn}
-use Rattle.law_answers.specs.inv.rows.Rows.RowMove.{Stays, Adopts}
-use Rattle.law_answers.specs.inv.covers.Rests.{Rests, Vacant, spare, vacant}
+use Rattle.inv_all.proofs.ends.Handover.Asks.{run_of}
+use Rattle.inv_all.proofs.covers.Held.{stepped_post}
+use Rattle.inv_all.proofs.model.Lists.{or_left, or_right}
+use Rattle.inv_all.specs.shapes.Slots.{Slots, PhaseIn, WorkIn}
+use Rattle.inv_all.specs.rows.Rows.RowMove.{Stays, Adopts}
+use Rattle.inv_all.specs.covers.Rests.{Rests, Vacant, spare, vacant}
 
 -- a step leaves of what stands what it tells
 scan_follows : (post : Post) (at : ScanAt) (found : ℕ) → Follow post post (scan_told at post found)

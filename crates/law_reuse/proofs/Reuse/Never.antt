@@ -1,9 +1,9 @@
 -- No step reuses a row that stands.
-use Rattle.law_answers.specs.inv.model.Posts.{counted}
-use Rattle.law_answers.specs.inv.model.World.{finds, offered}
-use Rattle.law_answers.specs.inv.history.History.{world_of}
-use Rattle.law_answers.proofs.inv.Inv.Reached.{inv_reached}
-use Rattle.law_answers.proofs.inv.Inv.Tells.{inv_stays}
+use Rattle.inv_all.specs.model.Posts.{counted}
+use Rattle.inv_all.specs.model.World.{finds, offered}
+use Rattle.inv_all.specs.history.History.{world_of}
+use Rattle.inv_all.proofs.Inv.Reached.{inv_reached}
+use Rattle.inv_all.proofs.Inv.Tells.{inv_stays}
 use Rattle.law_reuse.specs.Reuse.{NoReuse, NeverReused}
 use Rattle.law_reuse.proofs.Reuse.Told.{told_free}
 

@@ -2,16 +2,16 @@
 use Rattle.std.proofs.Common.{ℕ, ◌≡◌, ◌≤◌, true, refl, ◌∙◌, arith}
 use Rattle.std.proofs.lemmas.Bool.Decides.{nat_tests}
 use Rattle.std.specs.Prelude.{nat_le}
-use Rattle.law_answers.specs.inv.rows.Agree.{Agree, claim_of}
-use Rattle.law_answers.specs.inv.rows.Rows.{Status, View, is_taken, retire_in}
-use Rattle.law_answers.specs.inv.covers.Covers.{shown}
-use Rattle.law_answers.specs.inv.model.Guards.{own_guard}
-use Rattle.law_answers.specs.inv.history.History.{world_of}
-use Rattle.law_answers.proofs.inv.Inv.Reached.{inv_reached}
+use Rattle.inv_all.specs.rows.Agree.{Agree, claim_of}
+use Rattle.inv_all.specs.rows.Rows.{Status, View, is_taken, retire_in}
+use Rattle.inv_all.specs.covers.Covers.{shown}
+use Rattle.inv_all.specs.model.Guards.{own_guard}
+use Rattle.inv_all.specs.history.History.{world_of}
+use Rattle.inv_all.proofs.Inv.Reached.{inv_reached}
 use Rattle.law_reuse.specs.Holds.{StandsShown, AlwaysShown}
-use Rattle.law_answers.proofs.inv.Inv.Rows.{settled_life}
+use Rattle.inv_all.proofs.Inv.Rows.{settled_life}
 use Rattle.law_reuse.proofs.Holding.Holds.{settled_taken, stored_keeps}
-use Rattle.law_answers.proofs.inv.model.Facts.{words_below}
+use Rattle.inv_all.proofs.model.Facts.{words_below}
 
 taken_bit : (slots s : ℕ) (x : Status) → is_taken x ≡ true → s ≤ slots → claim_of slots x s ≡ 1
 taken_bit slots s x h m = let b : nat_le s slots ≡ true = grind (arith, nat_tests) in rw b (rw h refl)

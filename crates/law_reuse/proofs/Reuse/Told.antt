@@ -1,26 +1,26 @@
 -- What each step tells: of rows that are given or free again just those that its move of rows claims or frees.
 use Rattle.std.proofs.Common.{ℕ, ◌≡◌, ◌||◌, Bool, true, false, List, [], ◌∷◌, refl}
 use Rattle.std.specs.Prelude.{◌==◌, if◌then◌else◌, not, ◌&&◌}
-use Rattle.law_answers.specs.inv.model.defs.declared.event.Event.{Event}
-use Rattle.law_answers.specs.inv.model.defs.declared.event.Event.TheVariants as events
-use Rattle.law_answers.specs.inv.model.declared.post.Post.{Post}
-use Rattle.law_answers.specs.inv.model.Desks.{Desk}
-use Rattle.law_answers.specs.inv.model.Locals.{told_by}
-use Rattle.law_answers.specs.inv.model.Steps as steps
-use Rattle.law_answers.specs.inv.model.Phases.{Base}
-use Rattle.law_answers.specs.inv.model.Phases.AllocateAt.{ClaimSlot}
-use Rattle.law_answers.specs.inv.model.Phases.Base.{Allocate, GiveUp}
-use Rattle.law_answers.specs.inv.model.Calls.{ReadGuard, GiveBack, Phase, Idle, Runs, Scans, Works}
-use Rattle.law_answers.proofs.inv.model.Facts.{first_of, rest_of, number_is, false_of_not, not_of_false, and_true}
-use Rattle.law_answers.specs.inv.rows.Hands.{base_row, row_move}
-use Rattle.law_answers.specs.inv.covers.Covers.{takes_or_frees}
-use Rattle.law_answers.proofs.inv.history.Passes.{is_quiet, First}
-use Rattle.law_answers.specs.laws.NoReuse.{is_reuse}
+use Rattle.laws.specs.defs.declared.event.Event.{Event}
+use Rattle.laws.specs.defs.declared.event.Event.TheVariants as events
+use Rattle.inv_all.specs.model.declared.post.Post.{Post}
+use Rattle.inv_all.specs.model.Desks.{Desk}
+use Rattle.inv_all.specs.model.Locals.{told_by}
+use Rattle.inv_all.specs.model.Steps as steps
+use Rattle.inv_all.specs.model.Phases.{Base}
+use Rattle.inv_all.specs.model.Phases.AllocateAt.{ClaimSlot}
+use Rattle.inv_all.specs.model.Phases.Base.{Allocate, GiveUp}
+use Rattle.inv_all.specs.model.Calls.{ReadGuard, GiveBack, Phase, Idle, Runs, Scans, Works}
+use Rattle.inv_all.proofs.model.Facts.{first_of, rest_of, number_is, false_of_not, not_of_false, and_true}
+use Rattle.inv_all.specs.rows.Hands.{base_row, row_move}
+use Rattle.inv_all.specs.covers.Covers.{takes_or_frees}
+use Rattle.inv_all.proofs.history.Passes.{is_quiet, First}
+use Rattle.laws.specs.NoReuse.{is_reuse}
 use Rattle.law_reuse.specs.Reuse.{reuses}
-use Rattle.law_answers.proofs.inv.history.MayTell.{Tells, base_all, step_all, work_all}
-use Rattle.law_answers.proofs.inv.history.AllOf.{all_of}
-use Rattle.law_answers.specs.inv.model.Allocate.{is_claimed}
-use Rattle.law_answers.specs.inv.rows.Rows.RowMove.{Stays, Claims}
+use Rattle.inv_all.proofs.history.MayTell.{Tells, base_all, step_all, work_all}
+use Rattle.inv_all.proofs.history.AllOf.{all_of}
+use Rattle.inv_all.specs.model.Allocate.{is_claimed}
+use Rattle.inv_all.specs.rows.Rows.RowMove.{Stays, Claims}
 
 -- these events neither give nor free the row
 abbrev Free : ℕ → List Event → Type 0

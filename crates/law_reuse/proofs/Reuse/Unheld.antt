@@ -1,17 +1,17 @@
 -- A step that gives or frees a row tells of no row that it is held or copied.
 use Rattle.std.proofs.Common.{ℕ, ◌≡◌, Bool, true, false, List, refl}
-use Rattle.law_answers.specs.inv.model.defs.declared.event.Event.{Event}
-use Rattle.law_answers.specs.inv.model.defs.declared.event.Event.TheVariants as events
-use Rattle.law_answers.specs.inv.model.declared.post.Post.{Post}
-use Rattle.law_answers.specs.inv.model.Desks.{Desk}
-use Rattle.law_answers.specs.inv.model.Locals.{told_by}
-use Rattle.law_answers.specs.inv.model.Steps as steps
-use Rattle.law_answers.specs.inv.model.Phases.{Base}
-use Rattle.law_answers.specs.inv.model.Phases.Base.{Begin, Protect, Reload, Clear, Finish, Release, Allocate, Write, GiveUp, Retire, Move}
-use Rattle.law_answers.specs.inv.model.Calls.{ScanAt, ReadGuard, GiveBack, Phase, Idle, Runs, Scans, Works, Work, Getting, Changing, Enqueuing, Dequeuing, Keeping}
-use Rattle.law_answers.proofs.inv.history.Passes.{is_quiet, First, scan_told}
-use Rattle.law_answers.proofs.inv.history.MayTell.{Tells, base_all, step_all}
-use Rattle.law_answers.proofs.inv.history.AllOf.{all_of}
+use Rattle.laws.specs.defs.declared.event.Event.{Event}
+use Rattle.laws.specs.defs.declared.event.Event.TheVariants as events
+use Rattle.inv_all.specs.model.declared.post.Post.{Post}
+use Rattle.inv_all.specs.model.Desks.{Desk}
+use Rattle.inv_all.specs.model.Locals.{told_by}
+use Rattle.inv_all.specs.model.Steps as steps
+use Rattle.inv_all.specs.model.Phases.{Base}
+use Rattle.inv_all.specs.model.Phases.Base.{Begin, Protect, Reload, Clear, Finish, Release, Allocate, Write, GiveUp, Retire, Move}
+use Rattle.inv_all.specs.model.Calls.{ScanAt, ReadGuard, GiveBack, Phase, Idle, Runs, Scans, Works, Work, Getting, Changing, Enqueuing, Dequeuing, Keeping}
+use Rattle.inv_all.proofs.history.Passes.{is_quiet, First, scan_told}
+use Rattle.inv_all.proofs.history.MayTell.{Tells, base_all, step_all}
+use Rattle.inv_all.proofs.history.AllOf.{all_of}
 
 abbrev pub is_unheld : Event → Bool
 is_unheld (events.Held index slot steps) = false

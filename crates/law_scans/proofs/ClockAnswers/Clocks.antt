@@ -1,61 +1,61 @@
 -- What a call has come to of the clock, by where it stands, and what each step leaves of it.
 use Rattle.std.proofs.Common.{ℕ, ◌≡◌, ◌+◌, ◌-◌, ◌%◌, Bool, true, false, List, [], ◌∷◌, ◌++◌, length, Option, Some, None, refl, sym, ap, ◌∙◌, subst}
 use Rattle.std.specs.Prelude.{◌==◌, ◌&&◌, not, nat_lt, if◌then◌else◌, is_none}
-use Rattle.law_places.specs.inv.model.defs.Shown.{Seen}
-use Rattle.law_places.specs.inv.model.words.Packed.{reservation_word, read_reservation}
-use Rattle.law_places.specs.inv.model.defs.declared.call.Answer.{Answer}
-use Rattle.law_places.specs.inv.model.defs.declared.call.Answer.TheVariants as the_answers
-use Rattle.law_places.specs.inv.model.defs.declared.call.Call.{Call}
-use Rattle.law_places.specs.inv.model.defs.declared.call.Call.TheVariants as names
-use Rattle.law_places.specs.inv.model.defs.declared.call.ClockMove.{ClockMove}
-use Rattle.law_places.specs.inv.model.defs.declared.call.ClockMove.TheVariants as moves
-use Rattle.law_places.specs.inv.model.defs.declared.event.Event.{Event}
-use Rattle.law_places.specs.inv.model.defs.declared.event.Event.TheVariants as events
-use Rattle.law_places.specs.inv.model.defs.declared.event.Root.{Root}
-use Rattle.law_places.specs.inv.model.defs.declared.event.Root.TheVariants as roots
-use Rattle.law_places.specs.inv.model.declared.ends.AllocateEnd.{AllocateEnd}
-use Rattle.law_places.specs.inv.model.declared.ends.AllocateEnd.TheVariants as allocate_ends
-use Rattle.law_places.specs.inv.model.declared.ends.FollowEnd.{FollowEnd}
-use Rattle.law_places.specs.inv.model.declared.ends.FollowEnd.TheVariants as follow_ends
-use Rattle.law_places.specs.inv.model.declared.ends.ProtectEnd.TheVariants as protect_ends
-use Rattle.law_places.specs.inv.model.declared.post.Post.{Post}
-use Rattle.law_places.specs.inv.model.Allocate as allocates
-use Rattle.law_places.specs.inv.model.Change as alters
-use Rattle.law_places.specs.inv.model.Desks.{Desk, with_life}
-use Rattle.law_places.specs.inv.model.Dequeue as dequeues
-use Rattle.law_places.specs.inv.model.Enqueue as enqueues
-use Rattle.law_places.specs.inv.model.Get as gets
-use Rattle.law_places.specs.inv.model.Keep as keeps
-use Rattle.law_places.specs.inv.model.Guards.{guards, guard_at, eras_in, published}
-use Rattle.law_places.specs.inv.model.Machine as machine
-use Rattle.law_places.specs.inv.model.Memory.{bump}
-use Rattle.law_places.specs.inv.model.Posts.{stands, withdrawn, cleared, reserves_index}
-use Rattle.law_places.specs.inv.model.Scan as scan
-use Rattle.law_places.specs.inv.model.Steps as steps
-use Rattle.law_places.specs.inv.model.Rounds.{with_clock, scheme_of, bucket_of, index_of, taken_of, begin_base, round, round_by, finish_base, clear_base, clear_post, clear_told, given_up, closed, finishing_by, finishing, clearing_by, clearing, clearing_next_by, clearing_next, let_index, letting, letting_by, release_base}
-use Rattle.law_places.specs.inv.model.Phases.{MoveAt, Base, Ending, Outcome, Goes, Ends}
-use Rattle.law_places.specs.inv.model.Phases.AllocateAt.{ClaimSlot}
-use Rattle.law_places.specs.inv.model.Phases.RetireAt.{LoadLife, LoadRetire, StoreRetired}
-use Rattle.law_places.specs.inv.model.Phases.MoveAt.{LoadEra, CheckEra, AnswerAsked, LoadReserved, HandOver, HideLate, ExchangeClock}
-use Rattle.law_places.specs.inv.model.Phases.Base.{Allocate, Retire, Move}
-use Rattle.law_places.specs.inv.model.Phases.Ending.{Done, Protected, Followed, Allocated, Retired, Clocked}
-use Rattle.law_places.specs.inv.model.Calls.{Task, Gets, Changes, Holds, Enqueues, Dequeues, Next, Again, MakeRoom, Answering, Retiring, AfterScan, Answered, Repeated, Counted, ChangeKept, EnqueueKept, GetAt, FindVersion, FindCount, FindKey, FindValue, ChangeAt, LoadVersion, LoadCount, LoadKey, LoadValue, ExchangeRoot, EnqueueAt, LoadNumber, LoadNext, PassTail, ExchangeNext, ExchangeTail, DequeueAt, SwingTail, ExchangeHead, Work, Getting, Changing, Enqueuing, Dequeuing, ScanAt, ReadGuard, GiveBack, Why, Opens, FollowsHead, Fills, ClearsNext, Clears, Finishes, GivesUp, Retires, Tidies, Advances, Releases, Phase, Idle, Runs, Scans, Works, CallOutcome, GoesOn, Answers, LetGo, Released, Rehold, Dropped, Parting, KeepAt, Loosens, LoadHeld, StoreHeld, Looks, Misses, HideSpan, MarkLeft, TakeList, MarkTaken, Keeping}
-use Rattle.law_places.specs.inv.shapes.Seats.{Kind, ToRetire, ToMove, kind_of, suits, retires, moves as moves_kind}
-use Rattle.law_places.proofs.laws.Along.{along}
-use Rattle.law_places.proofs.inv.history.Passes.{scan_told}
-use Rattle.law_places.specs.inv.model.words.declared.config.Config.{Config}
-use Rattle.law_places.specs.inv.model.defs.Pairs.{Pair}
-use Rattle.law_places.specs.inv.model.defs.declared.fold.Change.{Change}
-use Rattle.law_places.specs.inv.model.defs.declared.fold.Change.TheVariants as changes
-use Rattle.law_places.specs.inv.model.SlowPath.{asking}
-use Rattle.law_places.proofs.inv.model.Facts.{same_number, both}
-use Rattle.law_places.specs.laws.AnswerLaw.{is_advance}
-use Rattle.law_places.specs.laws.HistoryAnswers.{ClockTally, outcome_fits, answer_fits}
+use Rattle.law_reuse.specs.laws.defs.Shown.{Seen}
+use Rattle.law_reuse.specs.laws.words.Packed.{reservation_word, read_reservation}
+use Rattle.law_reuse.specs.laws.defs.declared.call.Answer.{Answer}
+use Rattle.law_reuse.specs.laws.defs.declared.call.Answer.TheVariants as the_answers
+use Rattle.law_reuse.specs.laws.defs.declared.call.Call.{Call}
+use Rattle.law_reuse.specs.laws.defs.declared.call.Call.TheVariants as names
+use Rattle.law_reuse.specs.laws.defs.declared.call.ClockMove.{ClockMove}
+use Rattle.law_reuse.specs.laws.defs.declared.call.ClockMove.TheVariants as moves
+use Rattle.law_reuse.specs.laws.defs.declared.event.Event.{Event}
+use Rattle.law_reuse.specs.laws.defs.declared.event.Event.TheVariants as events
+use Rattle.law_reuse.specs.laws.defs.declared.event.Root.{Root}
+use Rattle.law_reuse.specs.laws.defs.declared.event.Root.TheVariants as roots
+use Rattle.law_reuse.specs.inv.model.declared.ends.AllocateEnd.{AllocateEnd}
+use Rattle.law_reuse.specs.inv.model.declared.ends.AllocateEnd.TheVariants as allocate_ends
+use Rattle.law_reuse.specs.inv.model.declared.ends.FollowEnd.{FollowEnd}
+use Rattle.law_reuse.specs.inv.model.declared.ends.FollowEnd.TheVariants as follow_ends
+use Rattle.law_reuse.specs.inv.model.declared.ends.ProtectEnd.TheVariants as protect_ends
+use Rattle.law_reuse.specs.inv.model.declared.post.Post.{Post}
+use Rattle.law_reuse.specs.inv.model.Allocate as allocates
+use Rattle.law_reuse.specs.inv.model.Change as alters
+use Rattle.law_reuse.specs.inv.model.Desks.{Desk, with_life}
+use Rattle.law_reuse.specs.inv.model.Dequeue as dequeues
+use Rattle.law_reuse.specs.inv.model.Enqueue as enqueues
+use Rattle.law_reuse.specs.inv.model.Get as gets
+use Rattle.law_reuse.specs.inv.model.Keep as keeps
+use Rattle.law_reuse.specs.inv.model.Guards.{guards, guard_at, eras_in, published}
+use Rattle.law_reuse.specs.inv.model.Machine as machine
+use Rattle.law_reuse.specs.inv.model.Memory.{bump}
+use Rattle.law_reuse.specs.inv.model.Posts.{stands, withdrawn, cleared, reserves_index}
+use Rattle.law_reuse.specs.inv.model.Scan as scan
+use Rattle.law_reuse.specs.inv.model.Steps as steps
+use Rattle.law_reuse.specs.inv.model.Rounds.{with_clock, scheme_of, bucket_of, index_of, taken_of, begin_base, round, round_by, finish_base, clear_base, clear_post, clear_told, given_up, closed, finishing_by, finishing, clearing_by, clearing, clearing_next_by, clearing_next, let_index, letting, letting_by, release_base}
+use Rattle.law_reuse.specs.inv.model.Phases.{MoveAt, Base, Ending, Outcome, Goes, Ends}
+use Rattle.law_reuse.specs.inv.model.Phases.AllocateAt.{ClaimSlot}
+use Rattle.law_reuse.specs.inv.model.Phases.RetireAt.{LoadLife, LoadRetire, StoreRetired}
+use Rattle.law_reuse.specs.inv.model.Phases.MoveAt.{LoadEra, CheckEra, AnswerAsked, LoadReserved, HandOver, HideLate, ExchangeClock}
+use Rattle.law_reuse.specs.inv.model.Phases.Base.{Allocate, Retire, Move}
+use Rattle.law_reuse.specs.inv.model.Phases.Ending.{Done, Protected, Followed, Allocated, Retired, Clocked}
+use Rattle.law_reuse.specs.inv.model.Calls.{Task, Gets, Changes, Holds, Enqueues, Dequeues, Next, Again, MakeRoom, Answering, Retiring, AfterScan, Answered, Repeated, Counted, ChangeKept, EnqueueKept, GetAt, FindVersion, FindCount, FindKey, FindValue, ChangeAt, LoadVersion, LoadCount, LoadKey, LoadValue, ExchangeRoot, EnqueueAt, LoadNumber, LoadNext, PassTail, ExchangeNext, ExchangeTail, DequeueAt, SwingTail, ExchangeHead, Work, Getting, Changing, Enqueuing, Dequeuing, ScanAt, ReadGuard, GiveBack, Why, Opens, FollowsHead, Fills, ClearsNext, Clears, Finishes, GivesUp, Retires, Tidies, Advances, Releases, Phase, Idle, Runs, Scans, Works, CallOutcome, GoesOn, Answers, LetGo, Released, Rehold, Dropped, Parting, KeepAt, Loosens, LoadHeld, StoreHeld, Looks, Misses, HideSpan, MarkLeft, TakeList, MarkTaken, Keeping}
+use Rattle.law_reuse.specs.inv.shapes.Seats.{Kind, ToRetire, ToMove, kind_of, suits, retires, moves as moves_kind}
+use Rattle.law_reuse.proofs.laws.Along.{along}
+use Rattle.law_reuse.proofs.history.Passes.{scan_told}
+use Rattle.law_reuse.specs.laws.words.declared.config.Config.{Config}
+use Rattle.law_reuse.specs.laws.defs.Pairs.{Pair}
+use Rattle.law_reuse.specs.laws.defs.declared.fold.Change.{Change}
+use Rattle.law_reuse.specs.laws.defs.declared.fold.Change.TheVariants as changes
+use Rattle.law_reuse.specs.inv.model.SlowPath.{asking}
+use Rattle.law_reuse.proofs.laws.records.defs.Facts.{same_number, both}
+use Rattle.law_reuse.specs.laws.AnswerLaw.{is_advance}
+use Rattle.law_reuse.specs.laws.HistoryAnswers.{ClockTally, outcome_fits, answer_fits}
 use Rattle.law_scans.specs.Outcomes.{clock_by}
 use Rattle.law_scans.proofs.Leaving.{Parts, parts_all, parts_on, takes_on}
 use Rattle.law_scans.proofs.DueScans.Lands.{PhaseRight, due_same}
 use Rattle.law_scans.proofs.DueScans.Still.{claim_front, tick_front, move_front, base_front, front, counts}
-use Rattle.law_places.specs.inv.model.words.Schemes.{has_one_interval}
+use Rattle.law_reuse.specs.laws.words.Schemes.{has_one_interval}
 
 -- an answer that says of the clock at most that it is still
 abbrev pub is_plain : Answer → Bool

@@ -2,33 +2,33 @@
 use Rattle.std.proofs.Common.{ℕ, ◌≡◌, Bool, true, false, List, [], ◌∷◌, refl, sym, ap, ◌∙◌, subst, arith}
 use Rattle.std.proofs.lemmas.Bool.Decides.{nat_tests}
 use Rattle.std.specs.Prelude.{◌==◌, None}
-use Rattle.law_places.specs.inv.model.words.Place.{is_valid}
-use Rattle.law_places.specs.inv.model.words.declared.layout.Layout.{Layout}
-use Rattle.law_places.specs.inv.model.defs.declared.call.Call.{Call}
-use Rattle.law_places.specs.inv.model.defs.declared.event.Event.{Event}
-use Rattle.law_places.specs.inv.model.defs.declared.event.Event.TheVariants as events
-use Rattle.law_places.specs.inv.model.declared.post.Post.{Post}
-use Rattle.law_places.specs.inv.model.Calls.{Phase, CallTurn, CallOutcome, Answers, GoesOn}
-use Rattle.law_places.specs.inv.model.Locals.{Local, begun, begun_post, told_end, turn}
-use Rattle.law_places.specs.inv.model.Posts.{counted}
-use Rattle.law_places.specs.inv.model.World.{World, begin, finds, is_busy, offered, step, told_in, list_in}
-use Rattle.law_places.specs.inv.shapes.Frame.{phase_left}
-use Rattle.law_places.proofs.inv.shapes.Frame.{seat_stays, begin_stays, begin_begins}
-use Rattle.law_places.specs.inv.history.Record.{Past, Each, tells_of}
-use Rattle.law_places.specs.inv.history.Record.Past.{Then}
-use Rattle.law_places.proofs.inv.history.Entries.{entries_of_each}
-use Rattle.law_places.specs.inv.history.History.{Made, first_made, record_of}
-use Rattle.law_places.proofs.inv.history.Along.{Steady, items_keep}
-use Rattle.law_places.proofs.laws.Along.{along}
-use Rattle.law_places.proofs.inv.history.AllOf.{all_of}
-use Rattle.law_places.proofs.answers.AnswersTold.Answering.{owes_of}
-use Rattle.law_places.proofs.answers.AnswersTold.Owed.{is_open, owed, Owes}
-use Rattle.law_places.proofs.Placing.Sums.{along_both}
-use Rattle.law_places.proofs.laws.Tells.{AllRight, each_tells, seen_own, seen_other, seen_tells, seen_stays, tells_both}
-use Rattle.law_places.proofs.inv.model.Facts.{first_of, rest_of}
-use Rattle.law_places.proofs.inv.covers.Held.{stepped_phase, stepped_post}
-use Rattle.law_places.specs.laws.AnswerLaw.{is_advance}
-use Rattle.law_places.specs.laws.HistoryAnswers.{ClockTally, no_clock, clock_right}
+use Rattle.law_reuse.specs.laws.words.Place.{is_valid}
+use Rattle.law_reuse.specs.laws.words.declared.layout.Layout.{Layout}
+use Rattle.law_reuse.specs.laws.defs.declared.call.Call.{Call}
+use Rattle.law_reuse.specs.laws.defs.declared.event.Event.{Event}
+use Rattle.law_reuse.specs.laws.defs.declared.event.Event.TheVariants as events
+use Rattle.law_reuse.specs.inv.model.declared.post.Post.{Post}
+use Rattle.law_reuse.specs.inv.model.Calls.{Phase, CallTurn, CallOutcome, Answers, GoesOn}
+use Rattle.law_reuse.specs.inv.model.Locals.{Local, begun, begun_post, told_end, turn}
+use Rattle.law_reuse.specs.inv.model.Posts.{counted}
+use Rattle.law_reuse.specs.inv.model.World.{World, begin, finds, is_busy, offered, step, told_in, list_in}
+use Rattle.law_reuse.specs.inv.shapes.Frame.{phase_left}
+use Rattle.law_reuse.proofs.shapes.Frame.{seat_stays, begin_stays, begin_begins}
+use Rattle.law_reuse.specs.laws.records.Record.{Past, Each, tells_of}
+use Rattle.law_reuse.specs.laws.records.Record.Past.{Then}
+use Rattle.law_reuse.proofs.laws.records.Entries.{entries_of_each}
+use Rattle.law_reuse.specs.history.History.{Made, first_made, record_of}
+use Rattle.law_reuse.proofs.history.Along.{Steady, items_keep}
+use Rattle.law_reuse.proofs.laws.Along.{along}
+use Rattle.law_reuse.proofs.history.AllOf.{all_of}
+use Rattle.law_reuse.proofs.AnswersTold.Answering.{owes_of}
+use Rattle.law_reuse.proofs.AnswersTold.Owed.{is_open, owed, Owes}
+use Rattle.law_scans.proofs.Placing.Sums.{along_both}
+use Rattle.law_reuse.proofs.laws.Tells.{AllRight, each_tells, seen_own, seen_other, seen_tells, seen_stays, tells_both}
+use Rattle.law_reuse.proofs.laws.records.defs.Facts.{first_of, rest_of}
+use Rattle.law_reuse.proofs.inv.covers.Held.{stepped_phase, stepped_post}
+use Rattle.law_reuse.specs.laws.AnswerLaw.{is_advance}
+use Rattle.law_reuse.specs.laws.HistoryAnswers.{ClockTally, no_clock, clock_right}
 use Rattle.law_scans.specs.Outcomes.{clock_by}
 use Rattle.law_scans.specs.Outcomes.{clock_tally, clocks_ok}
 use Rattle.law_scans.specs.Records.{RecordsKeepOutcomes}

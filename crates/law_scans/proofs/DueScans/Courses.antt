@@ -1,40 +1,40 @@
 -- What may come in a call, by where it stands; and what each step tells of it is right.
 use Rattle.std.proofs.Common.{ℕ, ◌≡◌, ◌+◌, ◌-◌, Bool, true, false, List, [], ◌∷◌, ◌++◌, length, Option, Some, None, refl, sym, ap, ◌∙◌, subst}
 use Rattle.std.specs.Prelude.{◌==◌, ◌&&◌, not, nat_lt, if◌then◌else◌}
-use Rattle.law_places.specs.inv.model.defs.declared.call.Answer.{Answer}
-use Rattle.law_places.specs.inv.model.defs.declared.call.Answer.TheVariants as the_answers
-use Rattle.law_places.specs.inv.model.defs.declared.call.ClockMove.TheVariants as moves
-use Rattle.law_places.specs.inv.model.defs.declared.event.Event.{Event}
-use Rattle.law_places.specs.inv.model.defs.declared.event.Event.TheVariants as events
-use Rattle.law_places.specs.inv.model.defs.declared.event.Root.TheVariants as roots
-use Rattle.law_places.specs.inv.model.declared.ends.FollowEnd.{FollowEnd}
-use Rattle.law_places.specs.inv.model.declared.ends.FollowEnd.TheVariants as follow_ends
-use Rattle.law_places.specs.inv.model.declared.ends.ProtectEnd.TheVariants as protect_ends
-use Rattle.law_places.specs.inv.model.declared.post.Post.{Post}
-use Rattle.law_places.specs.inv.model.Change as alters
-use Rattle.law_places.specs.inv.model.Desks.{Desk}
-use Rattle.law_places.specs.inv.model.Dequeue as dequeues
-use Rattle.law_places.specs.inv.model.Enqueue as enqueues
-use Rattle.law_places.specs.inv.model.Get as gets
-use Rattle.law_places.specs.inv.model.Keep as keeps
-use Rattle.law_places.specs.inv.model.Steps as steps
-use Rattle.law_places.specs.inv.model.Rounds.{scheme_of, bucket_of, index_of, taken_of, begin_base, round, round_by, finish_base, clear_base, clear_post, clear_told, given_up, closed, finishing_by, finishing, clearing_by, clearing, clearing_next_by, clearing_next, let_index, letting, letting_by, release_base}
-use Rattle.law_places.specs.inv.model.Phases.{Base, Ending, Outcome, Goes, Ends}
-use Rattle.law_places.specs.inv.model.Phases.AllocateAt.{StoreLife}
-use Rattle.law_places.specs.inv.model.Phases.Base.{Allocate, Retire, Move}
-use Rattle.law_places.specs.inv.model.Phases.Ending.{Done, Protected, Followed, Allocated, Retired, Clocked}
-use Rattle.law_places.specs.inv.model.Calls.{Task, Gets, Changes, Holds, Enqueues, Dequeues, Next, Again, MakeRoom, Answering, Retiring, AfterScan, Answered, Repeated, Counted, ChangeKept, EnqueueKept, GetAt, FindVersion, FindCount, FindKey, FindValue, ChangeAt, LoadVersion, LoadCount, LoadKey, LoadValue, ExchangeRoot, EnqueueAt, LoadNumber, LoadNext, PassTail, ExchangeNext, ExchangeTail, DequeueAt, SwingTail, ExchangeHead, Work, Getting, Changing, Enqueuing, Dequeuing, ScanAt, ReadGuard, GiveBack, Why, Opens, FollowsHead, Fills, ClearsNext, Clears, Finishes, GivesUp, Retires, Tidies, Advances, Releases, Phase, Idle, Runs, Scans, Works, CallOutcome, GoesOn, Answers, LetGo, Released, Rehold, Dropped, Parting, KeepAt, Loosens, LoadHeld, StoreHeld, Looks, Misses, HideSpan, MarkLeft, TakeList, MarkTaken, Keeping}
-use Rattle.law_places.specs.inv.shapes.Seats.{Kind, ToFill, ToRetire, ToMove, kind_of, suits, fills, retires, moves as moves_kind}
-use Rattle.law_places.specs.inv.rows.Hands.{holds_none}
-use Rattle.law_places.proofs.laws.Along.{along}
-use Rattle.law_places.proofs.laws.Tells.{AllRight}
-use Rattle.law_places.specs.laws.HistoryScans.{Course, Advancing, MayScan, MustScan, Reading, Tally, is_settled, scan_right}
+use Rattle.law_reuse.specs.laws.defs.declared.call.Answer.{Answer}
+use Rattle.law_reuse.specs.laws.defs.declared.call.Answer.TheVariants as the_answers
+use Rattle.law_reuse.specs.laws.defs.declared.call.ClockMove.TheVariants as moves
+use Rattle.law_reuse.specs.laws.defs.declared.event.Event.{Event}
+use Rattle.law_reuse.specs.laws.defs.declared.event.Event.TheVariants as events
+use Rattle.law_reuse.specs.laws.defs.declared.event.Root.TheVariants as roots
+use Rattle.law_reuse.specs.inv.model.declared.ends.FollowEnd.{FollowEnd}
+use Rattle.law_reuse.specs.inv.model.declared.ends.FollowEnd.TheVariants as follow_ends
+use Rattle.law_reuse.specs.inv.model.declared.ends.ProtectEnd.TheVariants as protect_ends
+use Rattle.law_reuse.specs.inv.model.declared.post.Post.{Post}
+use Rattle.law_reuse.specs.inv.model.Change as alters
+use Rattle.law_reuse.specs.inv.model.Desks.{Desk}
+use Rattle.law_reuse.specs.inv.model.Dequeue as dequeues
+use Rattle.law_reuse.specs.inv.model.Enqueue as enqueues
+use Rattle.law_reuse.specs.inv.model.Get as gets
+use Rattle.law_reuse.specs.inv.model.Keep as keeps
+use Rattle.law_reuse.specs.inv.model.Steps as steps
+use Rattle.law_reuse.specs.inv.model.Rounds.{scheme_of, bucket_of, index_of, taken_of, begin_base, round, round_by, finish_base, clear_base, clear_post, clear_told, given_up, closed, finishing_by, finishing, clearing_by, clearing, clearing_next_by, clearing_next, let_index, letting, letting_by, release_base}
+use Rattle.law_reuse.specs.inv.model.Phases.{Base, Ending, Outcome, Goes, Ends}
+use Rattle.law_reuse.specs.inv.model.Phases.AllocateAt.{StoreLife}
+use Rattle.law_reuse.specs.inv.model.Phases.Base.{Allocate, Retire, Move}
+use Rattle.law_reuse.specs.inv.model.Phases.Ending.{Done, Protected, Followed, Allocated, Retired, Clocked}
+use Rattle.law_reuse.specs.inv.model.Calls.{Task, Gets, Changes, Holds, Enqueues, Dequeues, Next, Again, MakeRoom, Answering, Retiring, AfterScan, Answered, Repeated, Counted, ChangeKept, EnqueueKept, GetAt, FindVersion, FindCount, FindKey, FindValue, ChangeAt, LoadVersion, LoadCount, LoadKey, LoadValue, ExchangeRoot, EnqueueAt, LoadNumber, LoadNext, PassTail, ExchangeNext, ExchangeTail, DequeueAt, SwingTail, ExchangeHead, Work, Getting, Changing, Enqueuing, Dequeuing, ScanAt, ReadGuard, GiveBack, Why, Opens, FollowsHead, Fills, ClearsNext, Clears, Finishes, GivesUp, Retires, Tidies, Advances, Releases, Phase, Idle, Runs, Scans, Works, CallOutcome, GoesOn, Answers, LetGo, Released, Rehold, Dropped, Parting, KeepAt, Loosens, LoadHeld, StoreHeld, Looks, Misses, HideSpan, MarkLeft, TakeList, MarkTaken, Keeping}
+use Rattle.law_reuse.specs.inv.shapes.Seats.{Kind, ToFill, ToRetire, ToMove, kind_of, suits, fills, retires, moves as moves_kind}
+use Rattle.law_reuse.specs.inv.rows.Hands.{holds_none}
+use Rattle.law_reuse.proofs.laws.Along.{along}
+use Rattle.law_reuse.proofs.laws.Tells.{AllRight}
+use Rattle.law_reuse.specs.laws.HistoryScans.{Course, Advancing, MayScan, MustScan, Reading, Tally, is_settled, scan_right}
 use Rattle.law_scans.specs.Scans.{tally_by}
-use Rattle.law_places.specs.laws.HistoryEras.{move_right}
+use Rattle.law_reuse.specs.laws.HistoryEras.{move_right}
 use Rattle.law_scans.proofs.DueScans.Still.{base_front, counts}
 use Rattle.law_scans.proofs.Leaving.{Parts, parts_on, takes_on}
-use Rattle.law_places.specs.inv.model.words.Schemes.{has_one_interval}
-use Rattle.law_places.specs.inv.model.Posts.{stands, withdrawn, cleared, reserves_index}
+use Rattle.law_reuse.specs.laws.words.Schemes.{has_one_interval}
+use Rattle.law_reuse.specs.inv.model.Posts.{stands, withdrawn, cleared, reserves_index}
 
 -- both laws at once
 abbrev pub course_right : (all : ℕ) → Event → Tally → Bool

@@ -2,54 +2,54 @@
 use Rattle.std.proofs.Common.{ℕ, ◌≡◌, ◌<◌, Bool, true, false, List, [], ◌∷◌, ◌++◌, refl, sym, ap, ◌∙◌, subst, arith}
 use Rattle.std.proofs.lemmas.Bool.Decides.{nat_tests}
 use Rattle.std.specs.Prelude.{◌==◌}
-use Rattle.law_places.specs.inv.model.words.Place.{is_valid}
-use Rattle.law_places.specs.inv.model.words.declared.layout.Layout.{Layout}
-use Rattle.law_places.specs.inv.model.defs.declared.call.Call.{Call}
-use Rattle.law_places.specs.inv.model.defs.declared.event.Event.{Event}
-use Rattle.law_places.specs.inv.model.defs.declared.event.Event.TheVariants as events
-use Rattle.law_places.specs.inv.model.defs.declared.lifetime.Lifetime.{Lifetime}
-use Rattle.law_places.specs.inv.model.declared.post.Post.{Post}
-use Rattle.law_places.specs.inv.model.Calls.{Phase, Idle, Runs, Scans, Works, CallTurn, CallOutcome, GoesOn, Answers}
-use Rattle.law_places.specs.inv.model.Guards.{guards}
-use Rattle.law_places.specs.inv.model.Locals.{Local, begun, begun_post, told_end, turn}
-use Rattle.law_places.specs.inv.model.Posts.{counted}
-use Rattle.law_places.specs.inv.model.World.{World, begin, finds, is_busy, offered, step, told_in, may_start, list_in}
-use Rattle.law_places.proofs.inv.model.Facts.{both, first_of, rest_of}
-use Rattle.law_places.proofs.inv.covers.Held.{stepped_phase, stepped_post}
-use Rattle.law_places.specs.inv.shapes.Frame.{phase_left}
-use Rattle.law_places.specs.inv.shapes.Seats.{scan_fits, PhaseFits as Shapes}
-use Rattle.law_places.proofs.inv.shapes.Frame.{seat_stays, begin_stays, begin_begins}
-use Rattle.law_places.specs.inv.requests.Views.{View as Asked}
-use Rattle.law_places.proofs.inv.requests.Kept.{requests_begin, requests_start}
-use Rattle.law_places.specs.inv.rows.Agree.{first_rows, rows_after}
-use Rattle.law_places.specs.inv.rows.Chain.{first_line, line_after}
-use Rattle.law_places.specs.inv.rows.Hands.{is_right}
-use Rattle.law_places.specs.inv.rows.Queue.{Line}
-use Rattle.law_places.specs.inv.rows.Rows.{View}
-use Rattle.law_places.specs.inv.history.Record.{Past, Each, EachEntry, tells_of}
-use Rattle.law_places.specs.inv.history.Record.Past.{Then}
-use Rattle.law_places.proofs.inv.history.Entries.{entries_of_each}
-use Rattle.law_places.specs.inv.history.History.{Item, Begins, Steps, Made, done, made_of, first_made, record_of}
-use Rattle.law_places.proofs.inv.history.Along.{Steady, items_keep}
-use Rattle.law_places.specs.inv.Known.{Known}
-use Rattle.law_places.proofs.inv.Inv.Begun.{known_start, known_begin}
-use Rattle.law_places.proofs.inv.Inv.Kept.{known_kept, asked_next}
-use Rattle.law_places.proofs.laws.Along.{along}
-use Rattle.law_places.proofs.inv.history.AllOf.{all_of}
-use Rattle.law_places.proofs.answers.AnswersTold.Answering as answering
-use Rattle.law_places.proofs.answers.AnswersTold.Answering.{owes_of}
-use Rattle.law_places.proofs.answers.AnswersTold.Owed.{is_open, owed, Owes, append_none}
-use Rattle.law_places.proofs.Placing.Sums.{along_both}
-use Rattle.law_places.proofs.laws.Tells.{AllRight, each_tells, seen_own, seen_other, seen_tells, seen_stays}
-use Rattle.law_places.specs.laws.HistoryScans.{Course, Tally, first_course, no_tally, is_settled, scan_right}
+use Rattle.law_reuse.specs.laws.words.Place.{is_valid}
+use Rattle.law_reuse.specs.laws.words.declared.layout.Layout.{Layout}
+use Rattle.law_reuse.specs.laws.defs.declared.call.Call.{Call}
+use Rattle.law_reuse.specs.laws.defs.declared.event.Event.{Event}
+use Rattle.law_reuse.specs.laws.defs.declared.event.Event.TheVariants as events
+use Rattle.law_reuse.specs.laws.defs.declared.lifetime.Lifetime.{Lifetime}
+use Rattle.law_reuse.specs.inv.model.declared.post.Post.{Post}
+use Rattle.law_reuse.specs.inv.model.Calls.{Phase, Idle, Runs, Scans, Works, CallTurn, CallOutcome, GoesOn, Answers}
+use Rattle.law_reuse.specs.inv.model.Guards.{guards}
+use Rattle.law_reuse.specs.inv.model.Locals.{Local, begun, begun_post, told_end, turn}
+use Rattle.law_reuse.specs.inv.model.Posts.{counted}
+use Rattle.law_reuse.specs.inv.model.World.{World, begin, finds, is_busy, offered, step, told_in, may_start, list_in}
+use Rattle.law_reuse.proofs.laws.records.defs.Facts.{both, first_of, rest_of}
+use Rattle.law_reuse.proofs.inv.covers.Held.{stepped_phase, stepped_post}
+use Rattle.law_reuse.specs.inv.shapes.Frame.{phase_left}
+use Rattle.law_reuse.specs.inv.shapes.Seats.{scan_fits, PhaseFits as Shapes}
+use Rattle.law_reuse.proofs.shapes.Frame.{seat_stays, begin_stays, begin_begins}
+use Rattle.law_reuse.specs.inv.requests.Views.{View as Asked}
+use Rattle.law_reuse.proofs.inv.requests.Kept.{requests_begin, requests_start}
+use Rattle.law_reuse.specs.inv.rows.Agree.{first_rows, rows_after}
+use Rattle.law_reuse.specs.inv.rows.Chain.{first_line, line_after}
+use Rattle.law_reuse.specs.inv.rows.Hands.{is_right}
+use Rattle.law_reuse.specs.inv.rows.Queue.{Line}
+use Rattle.law_reuse.specs.inv.rows.Rows.{View}
+use Rattle.law_reuse.specs.laws.records.Record.{Past, Each, EachEntry, tells_of}
+use Rattle.law_reuse.specs.laws.records.Record.Past.{Then}
+use Rattle.law_reuse.proofs.laws.records.Entries.{entries_of_each}
+use Rattle.law_reuse.specs.history.History.{Item, Begins, Steps, Made, done, made_of, first_made, record_of}
+use Rattle.law_reuse.proofs.history.Along.{Steady, items_keep}
+use Rattle.law_reuse.specs.inv.Known.{Known}
+use Rattle.law_reuse.proofs.inv.Inv.Begun.{known_start, known_begin}
+use Rattle.law_reuse.proofs.inv.Inv.Kept.{known_kept, asked_next}
+use Rattle.law_reuse.proofs.laws.Along.{along}
+use Rattle.law_reuse.proofs.history.AllOf.{all_of}
+use Rattle.law_reuse.proofs.AnswersTold.Answering as answering
+use Rattle.law_reuse.proofs.AnswersTold.Answering.{owes_of}
+use Rattle.law_reuse.proofs.AnswersTold.Owed.{is_open, owed, Owes, append_none}
+use Rattle.law_scans.proofs.Placing.Sums.{along_both}
+use Rattle.law_reuse.proofs.laws.Tells.{AllRight, each_tells, seen_own, seen_other, seen_tells, seen_stays}
+use Rattle.law_reuse.specs.laws.HistoryScans.{Course, Tally, first_course, no_tally, is_settled, scan_right}
 use Rattle.law_scans.specs.Scans.{tally_by}
 use Rattle.law_scans.specs.Scans.{tally_of}
-use Rattle.law_places.specs.laws.HistoryEras.{move_right}
+use Rattle.law_reuse.specs.laws.HistoryEras.{move_right}
 use Rattle.law_scans.specs.Records.{RecordsScanWhereDue, RecordsMoveWhereDue}
 use Rattle.law_scans.proofs.DueScans.Courses.{course_right, PhaseFits, OutFits, Lands}
 use Rattle.law_scans.proofs.DueScans.Lands.{PhaseRight, turn_lands, first_fits}
 use Rattle.law_scans.proofs.DueScans.Still.{is_still, Begins as Starts, front, counts, told_begins}
-use Rattle.law_places.proofs.Placing.Keeps.{right_both}
+use Rattle.law_scans.proofs.Placing.Keeps.{right_both}
 
 -- events that change no tally
 still_same : (every : ℕ) (event : Event) (x : Tally) → is_still event ≡ true → tally_by every event x ≡ x

@@ -2,40 +2,40 @@
 use Rattle.std.proofs.Common.{ℕ, ◌≡◌, ◌<◌, ◌+◌, ◌%◌, Bool, true, false, List, [], ◌∷◌, Option, Some, None, refl, sym, ap, ◌∙◌, subst, arith}
 use Rattle.std.proofs.lemmas.Bool.Decides.{nat_tests}
 use Rattle.std.specs.Prelude.{◌==◌, ◌&&◌, not, nat_lt}
-use Rattle.law_places.specs.inv.model.defs.Shown.{Seen}
-use Rattle.law_places.specs.inv.model.defs.declared.call.Answer.{Answer}
-use Rattle.law_places.specs.inv.model.defs.declared.call.Call.{Call}
-use Rattle.law_places.specs.inv.model.defs.declared.call.Call.TheVariants as names
-use Rattle.law_places.specs.inv.model.defs.declared.call.ClockMove.{ClockMove}
-use Rattle.law_places.specs.inv.model.defs.declared.call.ClockMove.TheVariants as moves
-use Rattle.law_places.specs.inv.model.defs.declared.event.Event.{Event}
-use Rattle.law_places.specs.inv.model.defs.declared.event.Event.TheVariants as events
-use Rattle.law_places.specs.inv.model.declared.ends.AllocateEnd.TheVariants as allocate_ends
-use Rattle.law_places.specs.inv.model.declared.post.Post.{Post}
-use Rattle.law_places.specs.inv.model.Allocate as allocates
-use Rattle.law_places.specs.inv.model.Change as alters
-use Rattle.law_places.specs.inv.model.Desks.{Desk, with_life}
-use Rattle.law_places.specs.inv.model.Enqueue as enqueues
-use Rattle.law_places.specs.inv.model.Guards.{guards, guard_at, eras_in, published}
-use Rattle.law_places.specs.inv.model.Machine as machine
-use Rattle.law_places.specs.inv.model.Memory.{bump}
-use Rattle.law_places.specs.inv.model.Posts.{stands}
-use Rattle.law_places.specs.inv.model.Scan as scan
-use Rattle.law_places.specs.inv.model.Steps as steps
-use Rattle.law_places.specs.inv.model.WriteRow.{last_written}
-use Rattle.law_places.specs.inv.model.Phases.{RowOf, Walk, AllocateAt, MoveAt, Base, Ending, Outcome, Goes, Ends}
-use Rattle.law_places.specs.inv.model.Phases.AllocateAt.{LoadBirth, ClaimSlot, StoreLife}
-use Rattle.law_places.specs.inv.model.Phases.RetireAt.{LoadLife, LoadRetire, StoreRetired}
-use Rattle.law_places.specs.inv.model.Phases.MoveAt.{LoadEra, LoadRequest, ShowEra, LoadAsked, CheckEra, AnswerAsked, LoadReserved, HandOver, HideEra, HideLate, ExchangeClock}
-use Rattle.law_places.specs.inv.model.Phases.Base.{Allocate, Write, Retire, Move}
-use Rattle.law_places.specs.inv.model.Phases.Ending.{Done, Protected, Followed, Allocated, Retired, Clocked}
-use Rattle.law_places.specs.inv.model.Calls.{Task, Gets, Changes, Holds, Enqueues, Dequeues, Again, AfterScan, Answered, Repeated, Counted, ScanAt, ReadGuard, GiveBack, Why, Opens, FollowsHead, Fills, ClearsNext, Clears, Finishes, GivesUp, Retires, Tidies, Advances, Releases, Released, Rehold, Dropped, Phase, Idle, Runs, Scans, Works}
-use Rattle.law_places.proofs.inv.model.Facts.{both, rest_of}
-use Rattle.law_places.specs.inv.shapes.Seats.{ToFill, ToRetire, ToMove, kind_of, suits, scan_fits}
-use Rattle.law_places.specs.inv.rows.Hands.{holds_none, task_fills, runs_right}
-use Rattle.law_places.proofs.inv.history.Passes.{scan_told}
-use Rattle.law_places.specs.laws.HistoryScans.{Course, Plain, Advancing, MayScan, MustScan, Reading, Tally, first_course, moved_course, read_course, retired_course, may_read, is_settled}
-use Rattle.law_places.specs.laws.HistoryEras.{may_move}
+use Rattle.law_reuse.specs.laws.defs.Shown.{Seen}
+use Rattle.law_reuse.specs.laws.defs.declared.call.Answer.{Answer}
+use Rattle.law_reuse.specs.laws.defs.declared.call.Call.{Call}
+use Rattle.law_reuse.specs.laws.defs.declared.call.Call.TheVariants as names
+use Rattle.law_reuse.specs.laws.defs.declared.call.ClockMove.{ClockMove}
+use Rattle.law_reuse.specs.laws.defs.declared.call.ClockMove.TheVariants as moves
+use Rattle.law_reuse.specs.laws.defs.declared.event.Event.{Event}
+use Rattle.law_reuse.specs.laws.defs.declared.event.Event.TheVariants as events
+use Rattle.law_reuse.specs.inv.model.declared.ends.AllocateEnd.TheVariants as allocate_ends
+use Rattle.law_reuse.specs.inv.model.declared.post.Post.{Post}
+use Rattle.law_reuse.specs.inv.model.Allocate as allocates
+use Rattle.law_reuse.specs.inv.model.Change as alters
+use Rattle.law_reuse.specs.inv.model.Desks.{Desk, with_life}
+use Rattle.law_reuse.specs.inv.model.Enqueue as enqueues
+use Rattle.law_reuse.specs.inv.model.Guards.{guards, guard_at, eras_in, published}
+use Rattle.law_reuse.specs.inv.model.Machine as machine
+use Rattle.law_reuse.specs.inv.model.Memory.{bump}
+use Rattle.law_reuse.specs.inv.model.Posts.{stands}
+use Rattle.law_reuse.specs.inv.model.Scan as scan
+use Rattle.law_reuse.specs.inv.model.Steps as steps
+use Rattle.law_reuse.specs.inv.model.WriteRow.{last_written}
+use Rattle.law_reuse.specs.inv.model.Phases.{RowOf, Walk, AllocateAt, MoveAt, Base, Ending, Outcome, Goes, Ends}
+use Rattle.law_reuse.specs.inv.model.Phases.AllocateAt.{LoadBirth, ClaimSlot, StoreLife}
+use Rattle.law_reuse.specs.inv.model.Phases.RetireAt.{LoadLife, LoadRetire, StoreRetired}
+use Rattle.law_reuse.specs.inv.model.Phases.MoveAt.{LoadEra, LoadRequest, ShowEra, LoadAsked, CheckEra, AnswerAsked, LoadReserved, HandOver, HideEra, HideLate, ExchangeClock}
+use Rattle.law_reuse.specs.inv.model.Phases.Base.{Allocate, Write, Retire, Move}
+use Rattle.law_reuse.specs.inv.model.Phases.Ending.{Done, Protected, Followed, Allocated, Retired, Clocked}
+use Rattle.law_reuse.specs.inv.model.Calls.{Task, Gets, Changes, Holds, Enqueues, Dequeues, Again, AfterScan, Answered, Repeated, Counted, ScanAt, ReadGuard, GiveBack, Why, Opens, FollowsHead, Fills, ClearsNext, Clears, Finishes, GivesUp, Retires, Tidies, Advances, Releases, Released, Rehold, Dropped, Phase, Idle, Runs, Scans, Works}
+use Rattle.law_reuse.proofs.laws.records.defs.Facts.{both, rest_of}
+use Rattle.law_reuse.specs.inv.shapes.Seats.{ToFill, ToRetire, ToMove, kind_of, suits, scan_fits}
+use Rattle.law_reuse.specs.inv.rows.Hands.{holds_none, task_fills, runs_right}
+use Rattle.law_reuse.proofs.history.Passes.{scan_told}
+use Rattle.law_reuse.specs.laws.HistoryScans.{Course, Plain, Advancing, MayScan, MustScan, Reading, Tally, first_course, moved_course, read_course, retired_course, may_read, is_settled}
+use Rattle.law_reuse.specs.laws.HistoryEras.{may_move}
 use Rattle.law_scans.proofs.DueScans.Still.{claim_front, tick_front, base_front, front}
 use Rattle.law_scans.proofs.Leaving.{parts_all}
 use Rattle.law_scans.proofs.DueScans.Courses.{letting_fits, parts_fit, is_may, is_fresh, is_walked, TaskFits, NextFits, LaterFits, AfterFits, at_guard, at_end, ScanAtFits, FillFits, WhyFits, PhaseFits, OutFits, Lands, other_task, round_fits, closed_fits, clearing_fits, work_fits, silent_lands, resumed_opens, resumed_follows, resumed_next, resumed_clears, resumed_finishes, resumed_gives, resumed_releases}

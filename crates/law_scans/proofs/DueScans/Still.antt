@@ -3,38 +3,38 @@
 use Rattle.std.proofs.Common.{ℕ, ◌≡◌, ◌+◌, Bool, true, false, List, [], ◌∷◌, ◌++◌, Option, Some, None, refl, ap, ◌∙◌}
 use Rattle.std.proofs.lemmas.List.{append_assoc}
 use Rattle.std.specs.Prelude.{◌==◌, if◌then◌else◌}
-use Rattle.law_places.specs.inv.model.words.declared.config.SchemeKind.{SchemeKind}
-use Rattle.law_places.specs.inv.model.words.declared.config.SchemeKind.TheVariants.{He, Ibr, Wfe}
-use Rattle.law_places.specs.inv.model.words.Packed.{reservation_word, read_reservation}
-use Rattle.law_places.specs.inv.model.defs.declared.event.Event.{Event}
-use Rattle.law_places.specs.inv.model.defs.declared.event.Event.TheVariants as events
-use Rattle.law_places.specs.inv.model.defs.declared.event.Root.{Root}
-use Rattle.law_places.specs.inv.model.defs.declared.event.Root.TheVariants as roots
-use Rattle.law_places.specs.inv.model.declared.post.Post.{Post}
-use Rattle.law_places.specs.inv.model.Allocate as allocates
-use Rattle.law_places.specs.inv.model.Desks.{Desk}
-use Rattle.law_places.specs.inv.model.Locals.{told_by}
-use Rattle.law_places.specs.inv.model.Machine as machine
-use Rattle.law_places.specs.inv.model.Memory.{bump}
-use Rattle.law_places.specs.inv.model.MoveClock as movers
-use Rattle.law_places.specs.inv.model.Posts.{reserves_helper, stands, upper, with_tag}
-use Rattle.law_places.specs.inv.model.words.Schemes.{has_one_interval}
-use Rattle.law_places.specs.inv.model.Protect as protects
-use Rattle.law_places.specs.inv.model.Rounds.{scheme_of, clear_post, clear_told}
-use Rattle.law_places.specs.inv.model.Steps as steps
-use Rattle.law_places.specs.inv.model.SlowPath.{asking, own_request}
-use Rattle.law_places.specs.inv.model.WriteRow.{last_written}
-use Rattle.law_places.specs.inv.model.Phases.{Aim, Alone, Follows, ProtectAt, AllocateAt, RetireAt, MoveAt, Walk, Base, Turn}
-use Rattle.law_places.specs.inv.model.Phases.BeginAt.{LoadLower, PublishSpan}
-use Rattle.law_places.specs.inv.model.Phases.ProtectAt.{CheckClock, CheckOwnClock, AnswerOwn, TakeAnswer, WithdrawHelper, CheckUpper}
-use Rattle.law_places.specs.inv.model.Phases.AllocateAt.{LoadBirth, ClaimSlot, StoreLife}
-use Rattle.law_places.specs.inv.model.Phases.RetireAt.{LoadLife, LoadRetire, StoreRetired}
-use Rattle.law_places.specs.inv.model.Phases.MoveAt.{LoadEra, CheckEra, AnswerAsked, LoadReserved, HandOver, ExchangeClock}
-use Rattle.law_places.specs.inv.model.Phases.Base.{Begin, Protect, Reload, Allocate, Write, Retire, Move}
-use Rattle.law_places.specs.inv.model.Calls.{Loosens, LoadHeld, StoreHeld, Looks, Misses, HideSpan, MarkLeft, TakeList, MarkTaken, Work, Getting, Changing, Enqueuing, Dequeuing, Keeping, Phase, Idle, Runs, Scans, Works}
-use Rattle.law_places.proofs.inv.history.Passes.{is_quiet, Closed, First, scan_told, step_goes, copied_post, work_post, work_told}
-use Rattle.law_places.proofs.inv.history.AllOf.{all_of, of_along, of_weaker}
-use Rattle.law_places.proofs.inv.history.MayTell.{Tells, base_all, clear_all, work_all}
+use Rattle.law_reuse.specs.laws.words.declared.config.SchemeKind.{SchemeKind}
+use Rattle.law_reuse.specs.laws.words.declared.config.SchemeKind.TheVariants.{He, Ibr, Wfe}
+use Rattle.law_reuse.specs.laws.words.Packed.{reservation_word, read_reservation}
+use Rattle.law_reuse.specs.laws.defs.declared.event.Event.{Event}
+use Rattle.law_reuse.specs.laws.defs.declared.event.Event.TheVariants as events
+use Rattle.law_reuse.specs.laws.defs.declared.event.Root.{Root}
+use Rattle.law_reuse.specs.laws.defs.declared.event.Root.TheVariants as roots
+use Rattle.law_reuse.specs.inv.model.declared.post.Post.{Post}
+use Rattle.law_reuse.specs.inv.model.Allocate as allocates
+use Rattle.law_reuse.specs.inv.model.Desks.{Desk}
+use Rattle.law_reuse.specs.inv.model.Locals.{told_by}
+use Rattle.law_reuse.specs.inv.model.Machine as machine
+use Rattle.law_reuse.specs.inv.model.Memory.{bump}
+use Rattle.law_reuse.specs.inv.model.MoveClock as movers
+use Rattle.law_reuse.specs.inv.model.Posts.{reserves_helper, stands, upper, with_tag}
+use Rattle.law_reuse.specs.laws.words.Schemes.{has_one_interval}
+use Rattle.law_reuse.specs.inv.model.Protect as protects
+use Rattle.law_reuse.specs.inv.model.Rounds.{scheme_of, clear_post, clear_told}
+use Rattle.law_reuse.specs.inv.model.Steps as steps
+use Rattle.law_reuse.specs.inv.model.SlowPath.{asking, own_request}
+use Rattle.law_reuse.specs.inv.model.WriteRow.{last_written}
+use Rattle.law_reuse.specs.inv.model.Phases.{Aim, Alone, Follows, ProtectAt, AllocateAt, RetireAt, MoveAt, Walk, Base, Turn}
+use Rattle.law_reuse.specs.inv.model.Phases.BeginAt.{LoadLower, PublishSpan}
+use Rattle.law_reuse.specs.inv.model.Phases.ProtectAt.{CheckClock, CheckOwnClock, AnswerOwn, TakeAnswer, WithdrawHelper, CheckUpper}
+use Rattle.law_reuse.specs.inv.model.Phases.AllocateAt.{LoadBirth, ClaimSlot, StoreLife}
+use Rattle.law_reuse.specs.inv.model.Phases.RetireAt.{LoadLife, LoadRetire, StoreRetired}
+use Rattle.law_reuse.specs.inv.model.Phases.MoveAt.{LoadEra, CheckEra, AnswerAsked, LoadReserved, HandOver, ExchangeClock}
+use Rattle.law_reuse.specs.inv.model.Phases.Base.{Begin, Protect, Reload, Allocate, Write, Retire, Move}
+use Rattle.law_reuse.specs.inv.model.Calls.{Loosens, LoadHeld, StoreHeld, Looks, Misses, HideSpan, MarkLeft, TakeList, MarkTaken, Work, Getting, Changing, Enqueuing, Dequeuing, Keeping, Phase, Idle, Runs, Scans, Works}
+use Rattle.law_reuse.proofs.history.Passes.{is_quiet, Closed, First, scan_told, step_goes, copied_post, work_post, work_told}
+use Rattle.law_reuse.proofs.history.AllOf.{all_of, of_along, of_weaker}
+use Rattle.law_reuse.proofs.history.MayTell.{Tells, base_all, clear_all, work_all}
 
 -- an event that leaves a tally as it is
 abbrev pub is_still : Event → Bool

@@ -2,15 +2,15 @@
 use Rattle.std.proofs.Common.{ℕ, zero, suc, ◌≡◌, ◌≤◌, ◌<◌, ◌+◌, ◌*◌, ◌%◌, Bool, true, false, List, [], ◌∷◌, ◌++◌, length, refl, sym, ap, arith, length-append}
 use Rattle.std.proofs.lemmas.Bool.Decides.{nat_tests}
 use Rattle.std.specs.Prelude.{◌==◌, nat_lt, if◌then◌else◌}
-use Rattle.law_places.specs.inv.model.defs.declared.event.Event.{Event}
-use Rattle.law_places.specs.inv.model.defs.declared.event.Event.TheVariants as events
-use Rattle.law_places.specs.inv.model.defs.declared.fold.Change.{Change}
-use Rattle.law_places.specs.inv.model.defs.declared.fold.Change.TheVariants as changes
-use Rattle.law_places.proofs.inv.model.Facts.{rest_of}
-use Rattle.law_places.specs.laws.MapLaw.{map_ok}
-use Rattle.law_places.specs.inv.history.Record.{Past, Test, Each}
-use Rattle.law_places.specs.inv.history.Record.Past.{Start, Then}
-use Rattle.law_places.specs.laws.StateAt.{changes_of, count_of, with_change, taken_of, one, count, told, takes_out}
+use Rattle.law_reuse.specs.laws.defs.declared.event.Event.{Event}
+use Rattle.law_reuse.specs.laws.defs.declared.event.Event.TheVariants as events
+use Rattle.law_reuse.specs.laws.defs.declared.fold.Change.{Change}
+use Rattle.law_reuse.specs.laws.defs.declared.fold.Change.TheVariants as changes
+use Rattle.law_reuse.proofs.laws.records.defs.Facts.{rest_of}
+use Rattle.law_reuse.specs.laws.MapLaw.{map_ok}
+use Rattle.law_reuse.specs.laws.records.Record.{Past, Test, Each}
+use Rattle.law_reuse.specs.laws.records.Record.Past.{Start, Then}
+use Rattle.law_reuse.specs.laws.StateAt.{changes_of, count_of, with_change, taken_of, one, count, told, takes_out}
 use Rattle.law_scans.proofs.FewRetired.Counting.{count_sum, count_where, order_next, none_low}
 
 -- changes of a bucket, and of buckets below a number

@@ -2,11 +2,11 @@
 use Rattle.std.proofs.Common.{ℕ, zero, suc, ◌≡◌, ◌≤◌, ◌+◌, Bool, true, false, List, [], ◌∷◌, refl, ap, arith}
 use Rattle.std.proofs.lemmas.Bool.Decides.{nat_tests}
 use Rattle.std.specs.Prelude.{◌==◌, ◌&&◌, nat_lt}
-use Rattle.law_places.specs.inv.model.defs.Entry.{Entry}
-use Rattle.law_places.specs.inv.model.defs.declared.event.Event.{Event}
-use Rattle.law_places.specs.inv.history.Record.{Past, Test, Each, tells}
-use Rattle.law_places.specs.inv.history.Record.Past.{Start, Then}
-use Rattle.law_places.specs.laws.StateAt.{one, count, told}
+use Rattle.law_reuse.specs.laws.defs.Entry.{Entry}
+use Rattle.law_reuse.specs.laws.defs.declared.event.Event.{Event}
+use Rattle.law_reuse.specs.laws.records.Record.{Past, Test, Each, tells}
+use Rattle.law_reuse.specs.laws.records.Record.Past.{Start, Then}
+use Rattle.law_reuse.specs.laws.StateAt.{one, count, told}
 
 -- a test that is the sum of two
 pub count_sum : (t a b : Test) → ((p : Past) (i : ℕ) (event : Event) → one (t p i event) ≡ one (a p i event) + one (b p i event)) → (p : Past) → count t p ≡ count a p + count b p

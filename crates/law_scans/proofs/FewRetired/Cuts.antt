@@ -2,14 +2,14 @@
 use Rattle.std.proofs.Common.{ℕ, ◌≡◌, ◌≤◌, ◌+◌, Bool, true, false, List, [], ◌∷◌, length, refl, ap, subst, arith}
 use Rattle.std.proofs.lemmas.Bool.Decides.{nat_tests}
 use Rattle.std.specs.Prelude.{◌==◌, ◌||◌}
-use Rattle.law_places.specs.inv.model.defs.declared.event.Event.{Event}
-use Rattle.law_places.specs.inv.model.defs.declared.event.Event.TheVariants as events
-use Rattle.law_places.specs.inv.model.defs.declared.event.Root.TheVariants as roots
-use Rattle.law_places.specs.inv.history.Record.{Past, Each}
-use Rattle.law_places.specs.inv.history.Record.Past.{Start, Then}
-use Rattle.law_places.specs.laws.Once.{Due, due_at, due_cut, meets_due, order_ok, retires_right, retiring_ok}
-use Rattle.law_places.specs.laws.Once.Due.{NoneDue, CutDue, ChangeDue, QueuedDue, TakenDue}
-use Rattle.law_places.specs.laws.StateAt.{without_one, is_among, cuts_by, cuts_of, one, count, told, is_retire, takes_out}
+use Rattle.law_reuse.specs.laws.defs.declared.event.Event.{Event}
+use Rattle.law_reuse.specs.laws.defs.declared.event.Event.TheVariants as events
+use Rattle.law_reuse.specs.laws.defs.declared.event.Root.TheVariants as roots
+use Rattle.law_reuse.specs.laws.records.Record.{Past, Each}
+use Rattle.law_reuse.specs.laws.records.Record.Past.{Start, Then}
+use Rattle.law_reuse.specs.laws.Once.{Due, due_at, due_cut, meets_due, order_ok, retires_right, retiring_ok}
+use Rattle.law_reuse.specs.laws.Once.Due.{NoneDue, CutDue, ChangeDue, QueuedDue, TakenDue}
+use Rattle.law_reuse.specs.laws.StateAt.{without_one, is_among, cuts_by, cuts_of, one, count, told, is_retire, takes_out}
 use Rattle.law_scans.proofs.FewRetired.Counting.{by_seat, other_part, own_part, told_less}
 
 -- the event cuts a row

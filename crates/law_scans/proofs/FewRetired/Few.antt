@@ -1,21 +1,21 @@
 -- In the record of each history few rows are retired.
 use Rattle.std.proofs.Common.{ℕ, ◌≡◌, ◌≤◌, ◌<◌, ◌+◌, ◌*◌, true, List, [], refl, subst, arith}
 use Rattle.std.proofs.lemmas.Nat.{mul-le}
-use Rattle.law_places.specs.inv.model.words.Place.{is_valid}
-use Rattle.law_places.specs.inv.model.words.declared.layout.Layout.{Layout}
-use Rattle.law_places.proofs.inv.model.Ranges.{bounds_of}
-use Rattle.law_places.specs.inv.model.Valid as ranges
-use Rattle.law_places.proofs.inv.history.Entries.{each_of_entries, each_before}
-use Rattle.law_places.specs.laws.MapLaw.{map_ok}
-use Rattle.law_places.specs.inv.model.defs.Entry.{Entry}
-use Rattle.law_places.specs.inv.history.Record.{Past, Each, tells}
-use Rattle.law_places.specs.inv.history.History.{Item, record_of}
-use Rattle.law_places.proofs.answers.Lawful.Maps.{records_keep_map}
-use Rattle.law_places.specs.laws.HistoryRows.{OrderLaw}
-use Rattle.law_places.specs.laws.Once.{order_ok, retiring_ok}
-use Rattle.law_places.proofs.Placing.Keeps.{records_retire_cuts}
-use Rattle.law_places.proofs.Ordering.Ordered.{records_keep_order}
-use Rattle.law_places.specs.laws.StateAt.{told, is_retire, takes_out}
+use Rattle.law_reuse.specs.laws.words.Place.{is_valid}
+use Rattle.law_reuse.specs.laws.words.declared.layout.Layout.{Layout}
+use Rattle.law_reuse.proofs.inv.model.Ranges.{bounds_of}
+use Rattle.law_reuse.specs.inv.model.Valid as ranges
+use Rattle.law_reuse.proofs.laws.records.Entries.{each_of_entries, each_before}
+use Rattle.law_reuse.specs.laws.MapLaw.{map_ok}
+use Rattle.law_reuse.specs.laws.defs.Entry.{Entry}
+use Rattle.law_reuse.specs.laws.records.Record.{Past, Each, tells}
+use Rattle.law_reuse.specs.history.History.{Item, record_of}
+use Rattle.law_reuse.proofs.Lawful.Maps.{records_keep_map}
+use Rattle.law_reuse.specs.laws.HistoryRows.{OrderLaw}
+use Rattle.law_reuse.specs.laws.Once.{order_ok, retiring_ok}
+use Rattle.law_scans.proofs.Placing.Keeps.{records_retire_cuts}
+use Rattle.law_scans.proofs.Ordering.Ordered.{records_keep_order}
+use Rattle.law_reuse.specs.laws.StateAt.{told, is_retire, takes_out}
 use Rattle.law_scans.specs.Records.{RecordsRetireFew}
 use Rattle.law_scans.proofs.FewRetired.Cuts.{retired_taken}
 use Rattle.law_scans.proofs.FewRetired.Changes.{out_most}

@@ -2,26 +2,26 @@
 use Rattle.std.proofs.Common.{ℕ, ◌≡◌, ◌≤◌, ◌<◌, ◌+◌, ◌%◌, Bool, true, false, List, ◌∷◌, None, refl, sym, ap, ◌∙◌, subst, arith}
 use Rattle.std.proofs.lemmas.Bool.Decides.{nat_tests}
 use Rattle.std.specs.Prelude.{◌==◌, ◌&&◌, nat_lt, if◌then◌else◌}
-use Rattle.law_places.specs.inv.model.words.Place.{is_valid}
-use Rattle.law_places.specs.inv.model.words.declared.layout.Layout.{Layout}
-use Rattle.law_places.specs.inv.model.defs.Entry.{Entry}
-use Rattle.law_places.specs.inv.model.defs.declared.event.Event.{Event}
-use Rattle.law_places.specs.inv.model.defs.declared.event.Event.TheVariants as events
-use Rattle.law_places.specs.inv.model.Guards.{guards}
-use Rattle.law_places.specs.inv.model.Memory.{bump}
-use Rattle.law_places.specs.inv.history.Record.{Past, tells}
-use Rattle.law_places.specs.inv.history.Record.Past.{Start, Then}
-use Rattle.law_places.specs.inv.history.History.{Item, record_of}
-use Rattle.law_places.specs.laws.HistoryScans.{Tally, retired_course, scan_right, plain_by, plain_tally}
+use Rattle.law_reuse.specs.laws.words.Place.{is_valid}
+use Rattle.law_reuse.specs.laws.words.declared.layout.Layout.{Layout}
+use Rattle.law_reuse.specs.laws.defs.Entry.{Entry}
+use Rattle.law_reuse.specs.laws.defs.declared.event.Event.{Event}
+use Rattle.law_reuse.specs.laws.defs.declared.event.Event.TheVariants as events
+use Rattle.law_reuse.specs.inv.model.Guards.{guards}
+use Rattle.law_reuse.specs.inv.model.Memory.{bump}
+use Rattle.law_reuse.specs.laws.records.Record.{Past, tells}
+use Rattle.law_reuse.specs.laws.records.Record.Past.{Start, Then}
+use Rattle.law_reuse.specs.history.History.{Item, record_of}
+use Rattle.law_reuse.specs.laws.HistoryScans.{Tally, retired_course, scan_right, plain_by, plain_tally}
 use Rattle.law_scans.specs.Scans.{tally_by}
 use Rattle.law_scans.specs.Scans.{tally_of}
-use Rattle.law_places.specs.laws.HistoryEras.{move_right}
-use Rattle.law_places.specs.laws.HistoryAnswers.{ClockTally, clock_right, plain_clock_by, plain_clock}
+use Rattle.law_reuse.specs.laws.HistoryEras.{move_right}
+use Rattle.law_reuse.specs.laws.HistoryAnswers.{ClockTally, clock_right, plain_clock_by, plain_clock}
 use Rattle.law_scans.specs.Outcomes.{clock_by}
 use Rattle.law_scans.specs.Outcomes.{clock_tally}
 use Rattle.law_scans.proofs.DueScans.Keeps.{records_scan_where_due, records_move_where_due}
 use Rattle.law_scans.proofs.ClockAnswers.Kept.{records_keep_outcomes}
-use Rattle.law_places.specs.laws.StateAt.{one, told, is_retire, total_retires}
+use Rattle.law_reuse.specs.laws.StateAt.{one, told, is_retire, total_retires}
 use Rattle.law_scans.specs.Records.{RecordsCountPlainly, RecordsScanPlainly, RecordsMovePlainly, RecordsAnswerPlainly}
 use Rattle.law_scans.proofs.FewRetired.Counting.{count_less, count_later, other_part, own_part}
 use Rattle.law_scans.proofs.FewRetired.Few.{records_retire_few}

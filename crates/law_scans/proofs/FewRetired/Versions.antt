@@ -1,22 +1,22 @@
 -- In the record of each history no bucket has more changes than there are versions, and no more values were taken than there are
 -- numbers.
 use Rattle.std.proofs.Common.{ℕ, ◌≡◌, ◌≤◌, ◌<◌, true, false, List, length, refl, sym, subst, arith}
-use Rattle.law_places.specs.inv.model.words.Place.{is_valid}
-use Rattle.law_places.specs.inv.model.words.declared.layout.Layout.{Layout}
-use Rattle.law_places.specs.inv.model.defs.declared.call.Call.{Call}
-use Rattle.law_places.specs.inv.model.defs.declared.fold.Change.{Change}
-use Rattle.law_places.specs.inv.model.World.{World, is_busy, told_in, may_start}
-use Rattle.law_places.specs.inv.contents.Gives.{QueueCounts}
-use Rattle.law_places.proofs.inv.contents.Items.Gives.{items_count}
-use Rattle.law_places.specs.inv.history.Record.{Past}
-use Rattle.law_places.specs.laws.StateAt.{changes_of, count_of, taken_of}
-use Rattle.law_places.specs.inv.history.History.{Item, Begins, Steps, Made, done, made_of, first_made}
-use Rattle.law_places.proofs.inv.history.Along.{Steady, items_keep}
-use Rattle.law_places.specs.inv.Inv.{Inv}
-use Rattle.law_places.proofs.inv.Inv.Begun.{inv_start, inv_begin}
-use Rattle.law_places.proofs.inv.Inv.Kept.{inv_kept}
-use Rattle.law_places.proofs.answers.Lawful.Maps.{told_changes}
-use Rattle.law_places.proofs.answers.Lawful.Queues.{Agrees, told_agrees}
+use Rattle.law_reuse.specs.laws.words.Place.{is_valid}
+use Rattle.law_reuse.specs.laws.words.declared.layout.Layout.{Layout}
+use Rattle.law_reuse.specs.laws.defs.declared.call.Call.{Call}
+use Rattle.law_reuse.specs.laws.defs.declared.fold.Change.{Change}
+use Rattle.law_reuse.specs.inv.model.World.{World, is_busy, told_in, may_start}
+use Rattle.law_reuse.specs.inv.contents.Gives.{QueueCounts}
+use Rattle.law_reuse.proofs.inv.contents.Items.Gives.{items_count}
+use Rattle.law_reuse.specs.laws.records.Record.{Past}
+use Rattle.law_reuse.specs.laws.StateAt.{changes_of, count_of, taken_of}
+use Rattle.law_reuse.specs.history.History.{Item, Begins, Steps, Made, done, made_of, first_made}
+use Rattle.law_reuse.proofs.history.Along.{Steady, items_keep}
+use Rattle.law_reuse.specs.inv.Inv.{Inv}
+use Rattle.law_reuse.proofs.inv.Inv.Begun.{inv_start, inv_begin}
+use Rattle.law_reuse.proofs.inv.Inv.Kept.{inv_kept}
+use Rattle.law_reuse.proofs.Lawful.Maps.{told_changes}
+use Rattle.law_reuse.proofs.Lawful.Queues.{Agrees, told_agrees}
 
 -- what a history keeps: the record's changes and counts are the book's
 record Keeps (layout : Layout) (made : Made) : Type 0 where

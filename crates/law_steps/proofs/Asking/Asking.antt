@@ -25,20 +25,20 @@ use Rattle.law_scans.specs.inv.model.Phases.MoveAt.{ShowEra, HandOver, HideEra, 
 use Rattle.law_scans.specs.inv.model.Phases.Base.{Begin, Protect, Clear, Finish, Release, Move}
 use Rattle.law_scans.specs.inv.model.Calls.{Work, Getting, Changing, Enqueuing, Dequeuing, Keeping, Loosens, LoadHeld, StoreHeld, Looks, Misses, HideSpan, MarkLeft, TakeList, MarkTaken, Task, Gets, Changes, Holds, Enqueues, Dequeues, AfterScan, Answered, Repeated, Counted, Why, Opens, FollowsHead, Fills, ClearsNext, Clears, Finishes, GivesUp, Retires, Tidies, Advances, Releases}
 use Rattle.law_scans.proofs.inv.model.Facts.{same_number, first_of, rest_of}
-use Rattle.law_held.specs.turns.inv.shapes.Seats.{Shaped, kind_of, suits, index_by}
-use Rattle.law_held.specs.turns.inv.history.Record.{Past, Test, Each, tells_of}
-use Rattle.law_held.specs.turns.inv.history.Record.Past.{Then}
-use Rattle.law_held.proofs.turns.inv.history.AllOf.{all_of, of_weaker}
-use Rattle.law_held.proofs.turns.inv.history.Passes.{Closed, copied_told, work_told}
-use Rattle.law_held.proofs.turns.Counting.Passing.{Apart}
-use Rattle.law_held.proofs.turns.inv.history.MayTell.{cleared_from_all, concluded_told, publishes, is_reserve, no_reserve, held_any}
+use Rattle.law_scans.specs.inv.shapes.Seats.{Shaped, kind_of, suits, index_by}
+use Rattle.law_scans.specs.laws.records.Record.{Past, Test, Each, tells_of}
+use Rattle.law_scans.specs.laws.records.Record.Past.{Then}
+use Rattle.law_scans.proofs.reuse.history.AllOf.{all_of, of_weaker}
+use Rattle.law_scans.proofs.reuse.history.Passes.{Closed, copied_told, work_told}
+use Rattle.law_turns.proofs.Counting.Passing.{Apart}
+use Rattle.law_scans.proofs.reuse.history.MayTell.{cleared_from_all, concluded_told, publishes, is_reserve, no_reserve, held_any}
 use Rattle.law_scans.specs.laws.HistoryScans.{Course}
 use Rattle.law_scans.specs.laws.HistoryEras.{may_move}
 use Rattle.law_scans.specs.Scans.{tally_of}
 use Rattle.law_scans.proofs.DueScans.Courses as courses
 use Rattle.law_scans.specs.laws.StateAt.{tried_of, shown_of}
-use Rattle.law_held.proofs.turns.TurnCounts.Trying.{base_tried}
-use Rattle.law_held.proofs.turns.Withdrawals.Withdrawing.{is_mute, all_mute, quiet_mute, clear_mute, base_shows}
+use Rattle.law_turns.proofs.TurnCounts.Trying.{base_tried}
+use Rattle.law_turns.proofs.Withdrawals.Withdrawing.{is_mute, all_mute, quiet_mute, clear_mute, base_shows}
 use Rattle.law_scans.specs.laws.HistorySteps.{failed_at, failed_once}
 
 -- both laws at once

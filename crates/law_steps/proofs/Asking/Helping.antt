@@ -22,28 +22,28 @@ use Rattle.law_scans.specs.inv.model.Phases.Base.{Protect, Clear, Move}
 use Rattle.law_scans.specs.inv.model.Calls.{Work, Why, Opens, FollowsHead, Fills, ClearsNext, Clears, Finishes, GivesUp, Retires, Tidies, Advances, Releases, ReadGuard, GiveBack, Phase, Idle, Runs, Scans, Works}
 use Rattle.law_scans.proofs.inv.model.Facts.{same_number, both, first_of, rest_of}
 use Rattle.law_scans.specs.inv.model.words.Schemes.{is_wfe}
-use Rattle.law_held.specs.turns.inv.shapes.Seats.{PhaseFits, kind_of, suits}
-use Rattle.law_held.specs.turns.inv.history.Record.{Past, Each, tells_of}
-use Rattle.law_held.specs.turns.inv.history.Record.Past.{Then}
-use Rattle.law_held.proofs.turns.inv.history.Entries.{entries_of_each}
-use Rattle.law_held.specs.turns.inv.history.Turns as schedule
-use Rattle.law_held.specs.turns.inv.history.Turns.{record_of}
-use Rattle.law_held.specs.turns.inv.history.History.{Made}
-use Rattle.law_held.specs.turns.inv.history.History as histories
-use Rattle.law_held.specs.turns.answers.Heard.{IsCounted}
-use Rattle.law_held.proofs.turns.answers.Turns.Counted.{histories_count}
-use Rattle.law_held.proofs.turns.inv.history.Passes.{Closed, First, step_goes, work_told}
-use Rattle.law_held.proofs.turns.inv.history.MayTell.{work_all}
-use Rattle.law_held.proofs.turns.answers.OneStep.Along.{Around, Kept, history_keeps}
+use Rattle.law_scans.specs.inv.shapes.Seats.{PhaseFits, kind_of, suits}
+use Rattle.law_scans.specs.laws.records.Record.{Past, Each, tells_of}
+use Rattle.law_scans.specs.laws.records.Record.Past.{Then}
+use Rattle.law_scans.proofs.laws.records.Entries.{entries_of_each}
+use Rattle.law_scans.specs.laws.records.Turns as schedule
+use Rattle.law_scans.specs.laws.records.Turns.{record_of}
+use Rattle.law_scans.specs.inv.history.History.{Made}
+use Rattle.law_scans.specs.inv.history.History as histories
+use Rattle.law_scans.specs.reuse.Heard.{IsCounted}
+use Rattle.law_scans.proofs.reuse.Turns.Counted.{histories_count}
+use Rattle.law_scans.proofs.reuse.history.Passes.{Closed, First, step_goes, work_told}
+use Rattle.law_scans.proofs.reuse.history.MayTell.{work_all}
+use Rattle.law_scans.proofs.reuse.OneStep.Along.{Around, Kept, history_keeps}
 use Rattle.law_scans.specs.laws.HistoryTurns.{turns_since}
 use Rattle.law_scans.specs.laws.StateAt.{tried_by, tried_of, last_of}
 use Rattle.law_scans.specs.laws.HistorySteps.{tried_enough, helper_ok}
 use Rattle.law_steps.specs.Records.{RecordsKeepHelpers}
-use Rattle.law_held.proofs.turns.Withdrawals.Withdrawing.{is_mute, all_mute, quiet_mute, clear_mute, is_plain, all_plain, base_plain}
-use Rattle.law_held.proofs.turns.TurnCounts.Trying.{base_tried}
-use Rattle.law_held.proofs.turns.TurnCounts.Tried.{why_tried, phase_tried}
-use Rattle.law_held.proofs.turns.TurnCounts.Underway as underway
-use Rattle.law_held.proofs.turns.TurnCounts.Underway.{Lasts}
+use Rattle.law_turns.proofs.Withdrawals.Withdrawing.{is_mute, all_mute, quiet_mute, clear_mute, is_plain, all_plain, base_plain}
+use Rattle.law_turns.proofs.TurnCounts.Trying.{base_tried}
+use Rattle.law_turns.proofs.TurnCounts.Tried.{why_tried, phase_tried}
+use Rattle.law_turns.proofs.TurnCounts.Underway as underway
+use Rattle.law_turns.proofs.TurnCounts.Underway.{Lasts}
 
 -- an event of the seat, where a protection at the index has published so often
 abbrev event_helps : (tries : ℕ) → Event → ℕ → Bool

@@ -15,19 +15,19 @@ use Rattle.law_scans.specs.inv.model.Phases.Base.{Protect}
 use Rattle.law_scans.specs.inv.model.Posts.{counted}
 use Rattle.law_scans.specs.inv.model.World.{World, finds, offered, told_in}
 use Rattle.law_scans.specs.inv.model.words.Schemes.{is_wfe}
-use Rattle.law_held.specs.turns.inv.shapes.Seats.{kind_of, suits}
-use Rattle.law_held.specs.turns.inv.shapes.Seats as seats
-use Rattle.law_held.specs.turns.inv.history.Record.{Past, Each, EachEntry}
-use Rattle.law_held.proofs.turns.inv.history.Entries.{entries_of_each}
-use Rattle.law_held.specs.turns.inv.history.Turns as schedule
-use Rattle.law_held.specs.turns.inv.history.Turns.{record_of}
-use Rattle.law_held.specs.turns.inv.history.History.{Item, Made}
-use Rattle.law_held.specs.turns.inv.history.History as histories
-use Rattle.law_held.specs.turns.answers.Heard.{IsCounted}
-use Rattle.law_held.proofs.turns.answers.Turns.Counted.{histories_count}
-use Rattle.law_held.proofs.turns.inv.history.Passes.{First, step_goes}
-use Rattle.law_held.proofs.turns.answers.OneStep.Along.{Around, Kept, history_keeps}
-use Rattle.law_held.proofs.turns.Counting.Passing.{Apart}
+use Rattle.law_scans.specs.inv.shapes.Seats.{kind_of, suits}
+use Rattle.law_scans.specs.inv.shapes.Seats as seats
+use Rattle.law_scans.specs.laws.records.Record.{Past, Each, EachEntry}
+use Rattle.law_scans.proofs.laws.records.Entries.{entries_of_each}
+use Rattle.law_scans.specs.laws.records.Turns as schedule
+use Rattle.law_scans.specs.laws.records.Turns.{record_of}
+use Rattle.law_scans.specs.inv.history.History.{Item, Made}
+use Rattle.law_scans.specs.inv.history.History as histories
+use Rattle.law_scans.specs.reuse.Heard.{IsCounted}
+use Rattle.law_scans.proofs.reuse.Turns.Counted.{histories_count}
+use Rattle.law_scans.proofs.reuse.history.Passes.{First, step_goes}
+use Rattle.law_scans.proofs.reuse.OneStep.Along.{Around, Kept, history_keeps}
+use Rattle.law_turns.proofs.Counting.Passing.{Apart}
 use Rattle.law_scans.specs.laws.HistoryTurns.{turns_since}
 use Rattle.law_scans.specs.laws.HistoryScans.{Tally, plain_tally}
 use Rattle.law_scans.specs.laws.HistoryEras.{may_move}
@@ -36,11 +36,11 @@ use Rattle.law_scans.proofs.DueScans.Courses as courses
 use Rattle.law_scans.proofs.DueScans.Keeps as scans
 use Rattle.law_scans.proofs.FewRetired.Plain.{records_count_plainly}
 use Rattle.law_scans.specs.laws.StateAt.{tried_of, last_of, shown_of}
-use Rattle.law_held.proofs.turns.TurnCounts.Lasting.{base_apart}
-use Rattle.law_held.proofs.turns.TurnCounts.Tried.{why_tried, phase_tried}
-use Rattle.law_held.proofs.turns.TurnCounts.Underway as underway
-use Rattle.law_held.proofs.turns.TurnCounts.Underway.{Lasts}
-use Rattle.law_held.proofs.turns.Withdrawals.Withdrawing.{phase_shows}
+use Rattle.law_turns.proofs.TurnCounts.Lasting.{base_apart}
+use Rattle.law_turns.proofs.TurnCounts.Tried.{why_tried, phase_tried}
+use Rattle.law_turns.proofs.TurnCounts.Underway as underway
+use Rattle.law_turns.proofs.TurnCounts.Underway.{Lasts}
+use Rattle.law_turns.proofs.Withdrawals.Withdrawing.{phase_shows}
 use Rattle.law_scans.specs.laws.HistorySteps.{failed_once, shows_ok, takes_ok}
 use Rattle.law_steps.specs.Records.{RecordsShowLate, RecordsTakeLate}
 use Rattle.law_steps.proofs.Asking.Asking.{work_asks, Asks, asks_ok, asks_closed, Tries, base_asks, move_course, told_each}

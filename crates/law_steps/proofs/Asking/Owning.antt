@@ -26,29 +26,29 @@ use Rattle.law_scans.specs.inv.model.Steps as steps
 use Rattle.law_scans.specs.inv.model.Steps.{phase_move}
 use Rattle.law_scans.specs.inv.model.World.{World, begin, finds, offered, step, told_in}
 use Rattle.law_scans.proofs.inv.model.Facts.{both, first_of, rest_of, number_is, same_number}
-use Rattle.law_held.specs.turns.inv.shapes.Eras.{Eras}
-use Rattle.law_held.specs.turns.inv.shapes.Seats.{PhaseFits, Run, kind_of, suits}
-use Rattle.law_held.specs.turns.inv.history.History as histories
-use Rattle.law_held.specs.turns.inv.history.History.{Made}
-use Rattle.law_held.specs.turns.inv.history.Record.{Past, Test, Each, tells_of}
-use Rattle.law_held.specs.turns.inv.history.Record.Past.{Then}
-use Rattle.law_held.specs.turns.inv.history.Turns as schedule
-use Rattle.law_held.specs.turns.inv.history.Turns.{record_of}
-use Rattle.law_held.specs.turns.inv.history.Turns.History.{Starts}
-use Rattle.law_held.specs.turns.answers.Heard.{IsCounted}
-use Rattle.law_held.proofs.turns.answers.OneStep.Along.{Around, Kept, history_keeps}
-use Rattle.law_held.proofs.turns.answers.Turns.Counted.{histories_count}
-use Rattle.law_held.proofs.turns.inv.Inv.Shapes.{eras_of}
-use Rattle.law_held.proofs.turns.inv.handover.Asks.{run_of}
-use Rattle.law_held.proofs.turns.inv.history.Entries.{entries_of_each}
-use Rattle.law_held.proofs.turns.inv.history.Passes.{Closed, First, step_goes, work_told}
-use Rattle.law_held.proofs.turns.inv.shapes.Frame.{begin_begins, begin_stays, seat_stays}
-use Rattle.law_held.proofs.turns.inv.shapes.Kept.{begun_fits}
-use Rattle.law_held.proofs.turns.TurnCounts.Tried.{phase_tried, why_tried}
-use Rattle.law_held.proofs.turns.TurnCounts.Underway as underway
-use Rattle.law_held.proofs.turns.TurnCounts.Underway.{Lasts}
-use Rattle.law_held.proofs.turns.Withdrawals.Leaving.{Leads, Left, first_new, stepped_leads, tries_none}
-use Rattle.law_held.proofs.turns.Withdrawals.Withdrawing.{all_plain, base_plain, clear_mute, is_plain, quiet_mute}
+use Rattle.law_scans.specs.inv.shapes.Eras.{Eras}
+use Rattle.law_scans.specs.inv.shapes.Seats.{PhaseFits, Run, kind_of, suits}
+use Rattle.law_scans.specs.inv.history.History as histories
+use Rattle.law_scans.specs.inv.history.History.{Made}
+use Rattle.law_scans.specs.laws.records.Record.{Past, Test, Each, tells_of}
+use Rattle.law_scans.specs.laws.records.Record.Past.{Then}
+use Rattle.law_scans.specs.laws.records.Turns as schedule
+use Rattle.law_scans.specs.laws.records.Turns.{record_of}
+use Rattle.law_scans.specs.laws.records.Turns.History.{Starts}
+use Rattle.law_scans.specs.reuse.Heard.{IsCounted}
+use Rattle.law_scans.proofs.reuse.OneStep.Along.{Around, Kept, history_keeps}
+use Rattle.law_scans.proofs.reuse.Turns.Counted.{histories_count}
+use Rattle.law_scans.proofs.inv.Inv.Shapes.{eras_of}
+use Rattle.law_scans.proofs.inv.ends.Handover.Asks.{run_of}
+use Rattle.law_scans.proofs.laws.records.Entries.{entries_of_each}
+use Rattle.law_scans.proofs.reuse.history.Passes.{Closed, First, step_goes, work_told}
+use Rattle.law_scans.proofs.reuse.shapes.Frame.{begin_begins, begin_stays, seat_stays}
+use Rattle.law_scans.proofs.reuse.shapes.Kept.{begun_fits}
+use Rattle.law_turns.proofs.TurnCounts.Tried.{phase_tried, why_tried}
+use Rattle.law_turns.proofs.TurnCounts.Underway as underway
+use Rattle.law_turns.proofs.TurnCounts.Underway.{Lasts}
+use Rattle.law_turns.proofs.Withdrawals.Leaving.{Leads, Left, first_new, stepped_leads, tries_none}
+use Rattle.law_turns.proofs.Withdrawals.Withdrawing.{all_plain, base_plain, clear_mute, is_plain, quiet_mute}
 use Rattle.law_scans.specs.laws.HistorySteps.{asks_ok}
 use Rattle.law_scans.specs.laws.StateAt.{own_last_by, own_last_of, own_rising_by, own_rising_of}
 use Rattle.law_scans.specs.laws.HistoryTurns.{turns_since}

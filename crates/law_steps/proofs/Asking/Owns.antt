@@ -30,10 +30,10 @@ use Rattle.law_scans.specs.inv.model.Protect as protects
 use Rattle.law_scans.specs.inv.model.SlowPath as slow
 use Rattle.law_scans.specs.inv.model.WriteRow.{last_written}
 use Rattle.law_scans.proofs.inv.model.Facts.{both, first_of, rest_of, same_number}
-use Rattle.law_held.specs.turns.inv.history.Record.{Past}
-use Rattle.law_held.specs.turns.inv.history.Record.Past.{Start, Then}
-use Rattle.law_held.proofs.turns.Withdrawals.Leaving.{is_first, is_new}
-use Rattle.law_held.proofs.turns.Withdrawals.Withdrawing.{is_mute, all_mute}
+use Rattle.law_scans.specs.laws.records.Record.{Past}
+use Rattle.law_scans.specs.laws.records.Record.Past.{Start, Then}
+use Rattle.law_turns.proofs.Withdrawals.Leaving.{is_first, is_new}
+use Rattle.law_turns.proofs.Withdrawals.Withdrawing.{is_mute, all_mute}
 use Rattle.law_scans.specs.laws.StateAt.{own_last_by, own_last_of, own_rising_by, own_rising_of}
 use Rattle.law_scans.specs.laws.StateAt.{is_index_word, one_more, tried_by, tried_of}
 use Rattle.law_scans.specs.laws.StateAt.{era_grows}

@@ -22,9 +22,9 @@ use Rattle.law_scans.specs.inv.model.Phases.Base.{Protect, Clear, Release, Move}
 use Rattle.law_scans.specs.inv.model.Calls.{Gets, Holds, Answering, Counted, Opens, Clears, Advances, Releases, Released, Rehold, Dropped, KeepAt, Loosens, LoadHeld, StoreHeld, Looks, Misses, HideSpan, MarkLeft, TakeList, MarkTaken, Keeping, ScanAt, ReadGuard, GiveBack, GetAt, FindVersion, FindCount, FindKey, FindValue, Getting, Phase, Runs, Scans, Works, CallOutcome, GoesOn, Answers}
 use Rattle.law_scans.proofs.inv.model.Facts.{both}
 use Rattle.law_scans.specs.inv.model.words.Schemes.{has_one_interval, is_wfe}
-use Rattle.law_held.specs.turns.inv.shapes.Frame.{KeepFits}
-use Rattle.law_held.specs.turns.inv.shapes.Slots.{GetIn, KeepIn}
-use Rattle.law_held.specs.turns.inv.shapes.Seats.{Kind, suits}
+use Rattle.law_scans.specs.inv.shapes.Frame.{KeepFits}
+use Rattle.law_scans.specs.inv.shapes.Slots.{GetIn, KeepIn}
+use Rattle.law_scans.specs.inv.shapes.Seats.{Kind, suits}
 use Rattle.law_scans.specs.laws.HistorySteps.{steps_right}
 
 -- the only phase of a release

@@ -29,10 +29,10 @@ use Rattle.law_scans.specs.inv.model.Phases.Base.{Protect, Clear, Release, Move}
 use Rattle.law_scans.specs.inv.model.Phases.Ending.{Protected, Clocked}
 use Rattle.law_scans.specs.inv.model.Calls.{Task, Gets, Holds, Next, Answering, Why, Opens, Clears, Advances, Releases, Rehold, GetAt, FindVersion, FindCount, FindKey, FindValue, Getting, Phase, Runs, Works, CallOutcome, GoesOn, Answers}
 use Rattle.law_scans.specs.inv.model.words.Schemes.{is_wfe}
-use Rattle.law_held.specs.turns.inv.shapes.Seats.{Kind, kind_of, suits, move_fits}
-use Rattle.law_held.specs.turns.inv.shapes.Slots.{GetIn}
-use Rattle.law_held.specs.turns.inv.requests.Paces.{Falls}
-use Rattle.law_held.proofs.turns.answers.AnswersTold.Owed.{out_clocked}
+use Rattle.law_scans.specs.inv.shapes.Seats.{Kind, kind_of, suits, move_fits}
+use Rattle.law_scans.specs.inv.shapes.Slots.{GetIn}
+use Rattle.law_scans.specs.inv.requests.Paces.{Falls}
+use Rattle.law_scans.proofs.reuse.AnswersTold.Owed.{out_clocked}
 use Rattle.law_steps.proofs.CallCounts.Counting.{short_move, at_advance, alone_steps, at_hold, getting_steps, at_get, Out}
 use Rattle.law_scans.proofs.inv.model.Facts.{le_of_test, le_test}
 

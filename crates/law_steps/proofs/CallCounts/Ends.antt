@@ -16,7 +16,7 @@ use Rattle.law_scans.specs.inv.model.Desks.{Desk, noting}
 use Rattle.law_scans.specs.inv.model.Guards.{guards, guard_at, published as publishes}
 use Rattle.law_scans.specs.inv.model.Scan as scans
 use Rattle.law_scans.specs.inv.model.Phases.{Base}
-use Rattle.law_held.proofs.turns.inv.shapes.Kept.{work_counted}
+use Rattle.law_scans.proofs.reuse.shapes.Kept.{work_counted}
 use Rattle.law_scans.specs.inv.model.Locals.{Local, busy_in, begun_post, told_by, told_end, turn, rounds_told, settled_by}
 use Rattle.law_scans.specs.inv.model.Phases.Base.{Move}
 use Rattle.law_scans.specs.inv.model.Posts.{counted, stands}
@@ -29,29 +29,29 @@ use Rattle.law_scans.specs.inv.model.World.{World, begin, finds, is_busy, offere
 use Rattle.law_scans.proofs.inv.model.Frames.{after_same}
 use Rattle.law_scans.proofs.inv.model.Facts.{same_number, first_of, rest_of}
 use Rattle.law_scans.specs.inv.model.words.Schemes.{is_wfe}
-use Rattle.law_held.specs.turns.inv.shapes.Seats.{PhaseFits, Run}
-use Rattle.law_held.specs.turns.inv.shapes.Slots.{PhaseIn}
-use Rattle.law_held.proofs.turns.inv.shapes.Frame.{seat_stays, seat_steps, begin_stays, begin_begins}
-use Rattle.law_held.specs.turns.inv.history.Record.{Past, Each, tells_of}
-use Rattle.law_held.specs.turns.inv.history.Record.Past.{Then}
-use Rattle.law_held.proofs.turns.inv.history.Entries.{entries_of_each}
-use Rattle.law_held.specs.turns.inv.history.Turns as schedule
-use Rattle.law_held.specs.turns.inv.history.Turns.History.{Starts, Turns}
-use Rattle.law_held.specs.turns.inv.history.History.{Begins, Steps, Made, done}
-use Rattle.law_held.specs.turns.inv.history.History as histories
-use Rattle.law_held.proofs.turns.inv.requests.Paced.{in_time}
-use Rattle.law_held.proofs.turns.inv.requests.Falling.{moves_on}
-use Rattle.law_held.proofs.turns.inv.covers.Held.{stepped_post}
-use Rattle.law_held.specs.turns.inv.Inv.{Inv}
+use Rattle.law_scans.specs.inv.shapes.Seats.{PhaseFits, Run}
+use Rattle.law_scans.specs.inv.shapes.Slots.{PhaseIn}
+use Rattle.law_scans.proofs.reuse.shapes.Frame.{seat_stays, seat_steps, begin_stays, begin_begins}
+use Rattle.law_scans.specs.laws.records.Record.{Past, Each, tells_of}
+use Rattle.law_scans.specs.laws.records.Record.Past.{Then}
+use Rattle.law_scans.proofs.laws.records.Entries.{entries_of_each}
+use Rattle.law_scans.specs.laws.records.Turns as schedule
+use Rattle.law_scans.specs.laws.records.Turns.History.{Starts, Turns}
+use Rattle.law_scans.specs.inv.history.History.{Begins, Steps, Made, done}
+use Rattle.law_scans.specs.inv.history.History as histories
+use Rattle.law_scans.proofs.inv.requests.Paced.{in_time}
+use Rattle.law_scans.proofs.inv.requests.Falling.{moves_on}
+use Rattle.law_scans.proofs.inv.covers.Held.{stepped_post}
+use Rattle.law_scans.specs.inv.Inv.{Inv}
 use Rattle.law_scans.specs.laws.StateAt.{began_of, backs_by, backs_of}
-use Rattle.law_held.proofs.turns.answers.AnswersTold.Answering as answering
-use Rattle.law_held.proofs.turns.inv.Machines.{within_of}
-use Rattle.law_held.proofs.turns.answers.AnswersTold.Answering.{began_along, first_all, owes_of}
-use Rattle.law_held.proofs.turns.answers.AnswersTold.Moves.{phase_ends}
-use Rattle.law_held.proofs.turns.answers.AnswersTold.Owed.{is_open}
-use Rattle.law_held.proofs.turns.answers.AnswersTold.Owing.{PhaseEnds}
-use Rattle.law_held.proofs.turns.inv.history.AllOf.{all_of}
-use Rattle.law_held.proofs.turns.answers.OneStep.Along.{Around, Kept, history_keeps}
+use Rattle.law_scans.proofs.reuse.AnswersTold.Answering as answering
+use Rattle.law_scans.proofs.inv.Machines.{within_of}
+use Rattle.law_scans.proofs.reuse.AnswersTold.Answering.{began_along, first_all, owes_of}
+use Rattle.law_scans.proofs.reuse.AnswersTold.Moves.{phase_ends}
+use Rattle.law_scans.proofs.reuse.AnswersTold.Owed.{is_open}
+use Rattle.law_scans.proofs.reuse.AnswersTold.Owing.{PhaseEnds}
+use Rattle.law_scans.proofs.reuse.history.AllOf.{all_of}
+use Rattle.law_scans.proofs.reuse.OneStep.Along.{Around, Kept, history_keeps}
 use Rattle.law_scans.specs.laws.HistorySteps.{steps_right, end_ok}
 use Rattle.law_steps.specs.Records.{RecordsKeepEnds}
 use Rattle.law_steps.proofs.CallCounts.Counting.{at_release, at_drop, at_copy, at_look, at_scan, at_advance, at_hold, at_get, call_steps, Out, release_out, drop_out, copy_out, look_out, scan_small, backs_at, scan_out}

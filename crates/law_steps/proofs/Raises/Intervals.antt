@@ -18,7 +18,7 @@ use Rattle.law_scans.specs.inv.model.Links.{parent_of}
 use Rattle.law_scans.specs.inv.model.Machine as machine
 use Rattle.law_scans.specs.inv.model.Memory.{bump}
 use Rattle.law_scans.specs.inv.model.Posts.{stands, cleared, upper, lower, withdrawn, with_span, reserves_span}
-use Rattle.law_held.proofs.turns.Counting.Runs.{bump_low, calm_kind, is_calm, calm_of}
+use Rattle.law_turns.proofs.Counting.Runs.{bump_low, calm_kind, is_calm, calm_of}
 use Rattle.law_scans.specs.inv.model.Protect as protects
 use Rattle.law_scans.specs.inv.model.Rounds.{scheme_of}
 use Rattle.law_scans.specs.inv.model.Phases.{Aim, Alone, Follows, Tries, BeginAt, ProtectAt, Base, Turn, Ending, Outcome, Goes, Ends, goes, ends}
@@ -29,15 +29,15 @@ use Rattle.law_scans.specs.inv.model.Phases.Ending.{Done, Protected, Followed, A
 use Rattle.law_scans.specs.inv.model.Calls.{Task, Gets, Changes, Holds, Enqueues, Dequeues, Why, Opens, FollowsHead, Fills, ClearsNext, Clears, Finishes, GivesUp, Retires, Tidies, Advances, Releases}
 use Rattle.law_scans.proofs.inv.model.Facts.{both, first_of, rest_of, and_true, zero_of_test, le_of_test, le_one_more, no_truth}
 use Rattle.law_scans.specs.inv.model.words.Schemes.{is_ibr}
-use Rattle.law_held.specs.turns.inv.shapes.Frame.{Moves, Passed}
-use Rattle.law_held.specs.turns.inv.shapes.Seats.{PostFits, PhaseFits, Run, protect_fits, kind_of, protects as protecting, index_by, root_by, aim_by}
+use Rattle.law_scans.specs.inv.shapes.Frame.{Moves, Passed}
+use Rattle.law_scans.specs.inv.shapes.Seats.{PostFits, PhaseFits, Run, protect_fits, kind_of, protects as protecting, index_by, root_by, aim_by}
 use Rattle.law_scans.specs.laws.StateAt.{is_whole, spanned_by, raised_by}
 use Rattle.law_scans.specs.laws.StepLaw.{number_raised}
 use Rattle.law_steps.proofs.Raises.Raising.{spanned_along, raised_along, counts_along, still_spans, still_raises, still_counts, at_raised, base_raised, Out, Made, made_if, calm_still, calm_span}
-use Rattle.law_held.proofs.turns.TurnCounts.Tried.{is_follow, other_kind, is_other, calm_other, other_of_kind}
-use Rattle.law_held.proofs.turns.Withdrawals.Withdrawing.{tells_link}
-use Rattle.law_held.proofs.turns.TryCounts.{task_index}
-use Rattle.law_held.proofs.turns.inv.history.MayTell.{concluded_told}
+use Rattle.law_turns.proofs.TurnCounts.Tried.{is_follow, other_kind, is_other, calm_other, other_of_kind}
+use Rattle.law_turns.proofs.Withdrawals.Withdrawing.{tells_link}
+use Rattle.law_turns.proofs.TryCounts.{task_index}
+use Rattle.law_scans.proofs.reuse.history.MayTell.{concluded_told}
 
 -- what is known of a machine that makes a step; `count` are the steps of its call before it
 pub record Stage (i : ℕ) (s : Bool) (r : ℕ) (layout : Layout) (why : Why) (base : Base) (post : Post) (found count : ℕ) : Type 0 where

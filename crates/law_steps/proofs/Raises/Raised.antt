@@ -25,36 +25,36 @@ use Rattle.law_scans.specs.inv.model.Phases.Ending.{Done, Protected, Followed, A
 use Rattle.law_scans.specs.inv.model.Calls.{Again, Why, Opens, FollowsHead, Fills, ClearsNext, Clears, Finishes, GivesUp, Retires, Tidies, Advances, Releases, ReadGuard, GiveBack, Phase, Idle, Runs, Scans, Works, CallTurn}
 use Rattle.law_scans.proofs.inv.model.Facts.{same_number, first_of, rest_of, zero_of_test}
 use Rattle.law_scans.specs.inv.model.words.Schemes.{is_ibr}
-use Rattle.law_held.specs.turns.inv.shapes.Frame.{Moves, phase_left}
-use Rattle.law_held.specs.turns.inv.shapes.Seats.{PostFits, PhaseFits, Run}
-use Rattle.law_held.proofs.turns.inv.shapes.Frame.{seat_stays, begin_stays, begin_begins}
-use Rattle.law_held.proofs.turns.inv.shapes.Inside.{shape_moves}
-use Rattle.law_held.proofs.turns.inv.shapes.Kept.{begun_fits, counted_fits, run_counted}
-use Rattle.law_held.specs.turns.inv.history.Record.{Past, Each, tells_of}
-use Rattle.law_held.specs.turns.inv.history.Record.Past.{Then}
-use Rattle.law_held.proofs.turns.inv.history.Entries.{entries_of_each}
-use Rattle.law_held.specs.turns.inv.history.Turns as schedule
-use Rattle.law_held.specs.turns.inv.history.Turns.{record_of}
-use Rattle.law_held.specs.turns.inv.history.Turns.History.{Starts, Turns}
-use Rattle.law_held.specs.turns.inv.history.History.{Begins, Steps, Made, done}
-use Rattle.law_held.specs.turns.inv.history.History as histories
-use Rattle.law_held.specs.turns.inv.requests.Parents.{OutcomeStands, why_stands, phase_stands}
-use Rattle.law_held.proofs.turns.inv.requests.Standings.{machine_stands}
-use Rattle.law_held.proofs.turns.inv.covers.Held.{stepped_post, stepped_phase}
-use Rattle.law_held.specs.turns.inv.Inv.{Inv}
-use Rattle.law_held.proofs.turns.inv.history.Passes.{First, step_goes, work_told}
-use Rattle.law_held.specs.turns.answers.Heard.{IsCounted}
-use Rattle.law_held.proofs.turns.answers.Turns.Counted.{histories_count}
-use Rattle.law_held.proofs.turns.answers.OneStep.Along.{Around, Kept, history_keeps}
-use Rattle.law_held.proofs.turns.Counting.Runs.{bump_low}
+use Rattle.law_scans.specs.inv.shapes.Frame.{Moves, phase_left}
+use Rattle.law_scans.specs.inv.shapes.Seats.{PostFits, PhaseFits, Run}
+use Rattle.law_scans.proofs.reuse.shapes.Frame.{seat_stays, begin_stays, begin_begins}
+use Rattle.law_scans.proofs.reuse.shapes.Inside.{shape_moves}
+use Rattle.law_scans.proofs.reuse.shapes.Kept.{begun_fits, counted_fits, run_counted}
+use Rattle.law_scans.specs.laws.records.Record.{Past, Each, tells_of}
+use Rattle.law_scans.specs.laws.records.Record.Past.{Then}
+use Rattle.law_scans.proofs.laws.records.Entries.{entries_of_each}
+use Rattle.law_scans.specs.laws.records.Turns as schedule
+use Rattle.law_scans.specs.laws.records.Turns.{record_of}
+use Rattle.law_scans.specs.laws.records.Turns.History.{Starts, Turns}
+use Rattle.law_scans.specs.inv.history.History.{Begins, Steps, Made, done}
+use Rattle.law_scans.specs.inv.history.History as histories
+use Rattle.law_scans.specs.inv.requests.Parents.{OutcomeStands, why_stands, phase_stands}
+use Rattle.law_scans.proofs.inv.requests.Standings.{machine_stands}
+use Rattle.law_scans.proofs.inv.covers.Held.{stepped_post, stepped_phase}
+use Rattle.law_scans.specs.inv.Inv.{Inv}
+use Rattle.law_scans.proofs.reuse.history.Passes.{First, step_goes, work_told}
+use Rattle.law_scans.specs.reuse.Heard.{IsCounted}
+use Rattle.law_scans.proofs.reuse.Turns.Counted.{histories_count}
+use Rattle.law_scans.proofs.reuse.OneStep.Along.{Around, Kept, history_keeps}
+use Rattle.law_turns.proofs.Counting.Runs.{bump_low}
 use Rattle.law_scans.specs.laws.StateAt.{spanned_by, spanned_of, raised_by, raised_of}
 use Rattle.law_scans.specs.laws.StepLaw.{number_raised, raise_ok}
 use Rattle.law_steps.specs.Records.{RecordsKeepRaises}
-use Rattle.law_held.proofs.turns.Withdrawals.Leaving.{protects_at, is_first, is_new, Leads, Left, stepped_leads, first_new}
+use Rattle.law_turns.proofs.Withdrawals.Leaving.{protects_at, is_first, is_new, Leads, Left, stepped_leads, first_new}
 use Rattle.law_steps.proofs.Raises.Raising.{spanned_along, raised_along, counts_along, raised_both, low_raises, low_counts, work_low, work_spans, spans_closed, counts_closed, none_closed, at_raised, base_raised, Out}
 use Rattle.law_steps.proofs.Raises.Intervals.{Stage, run_made}
-use Rattle.law_held.proofs.turns.TurnCounts.Tried.{is_follow}
-use Rattle.law_held.proofs.turns.inv.requests.Parents.{why_counted}
+use Rattle.law_turns.proofs.TurnCounts.Tried.{is_follow}
+use Rattle.law_scans.proofs.inv.requests.Parents.{why_counted}
 use Rattle.law_scans.proofs.inv.model.Standing.{stands-withdrawn_other}
 
 abbrev pub phase_raised : Phase → (most raised : ℕ) → Bool

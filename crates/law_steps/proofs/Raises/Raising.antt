@@ -27,12 +27,12 @@ use Rattle.law_scans.specs.inv.model.Phases.MoveAt.{LoadEra, CheckEra, AnswerAsk
 use Rattle.law_scans.specs.inv.model.Phases.Base.{Begin, Protect, Reload, Clear, Finish, Release, Allocate, Write, Retire, Move}
 use Rattle.law_scans.specs.inv.model.Phases.Ending.{Followed}
 use Rattle.law_scans.proofs.inv.model.Facts.{both, first_of, rest_of, same_number}
-use Rattle.law_held.proofs.turns.inv.history.Passes.{is_quiet, all_quiet, Closed, copied_post, copied_told, keep_told, work_post, work_told}
+use Rattle.law_scans.proofs.reuse.history.Passes.{is_quiet, all_quiet, Closed, copied_post, copied_told, keep_told, work_post, work_told}
 use Rattle.law_scans.specs.laws.StateAt.{spanned_by, raised_by}
 use Rattle.law_scans.specs.laws.StepLaw.{number_raised}
-use Rattle.law_held.proofs.turns.Counting.Runs.{is_calm}
-use Rattle.law_held.proofs.turns.inv.history.MayTell.{Tells, base_all, cleared_all, clear_all, work_all}
-use Rattle.law_held.proofs.turns.inv.history.AllOf.{all_of, of_weaker}
+use Rattle.law_turns.proofs.Counting.Runs.{is_calm}
+use Rattle.law_scans.proofs.reuse.history.MayTell.{Tells, base_all, cleared_all, clear_all, work_all}
+use Rattle.law_scans.proofs.reuse.history.AllOf.{all_of, of_weaker}
 
 -- along what a step tells
 abbrev pub spanned_along : (seat : ℕ) → List Event → Bool → Bool

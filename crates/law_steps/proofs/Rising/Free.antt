@@ -16,21 +16,21 @@ use Rattle.law_scans.specs.inv.model.Phases.ProtectAt.{LoadClock}
 use Rattle.law_scans.specs.inv.model.Phases.Base.{Protect}
 use Rattle.law_scans.proofs.inv.model.Facts.{first_of, rest_of}
 use Rattle.law_scans.specs.inv.model.words.Schemes.{is_ibr}
-use Rattle.law_held.specs.turns.inv.history.Record.{Past, tells_of}
-use Rattle.law_held.specs.turns.inv.history.Record.Past.{Then}
-use Rattle.law_held.specs.turns.inv.history.Turns as schedule
-use Rattle.law_held.specs.turns.inv.history.Turns.History.{Blank, Starts, Turns}
-use Rattle.law_held.specs.turns.inv.history.History.{Item, world_of, record_of}
+use Rattle.law_scans.specs.laws.records.Record.{Past, tells_of}
+use Rattle.law_scans.specs.laws.records.Record.Past.{Then}
+use Rattle.law_scans.specs.laws.records.Turns as schedule
+use Rattle.law_scans.specs.laws.records.Turns.History.{Blank, Starts, Turns}
+use Rattle.law_scans.specs.inv.history.History.{Item, world_of, record_of}
 use Rattle.law_scans.specs.laws.StateAt.{same_guard, value_of, is_index_word, one_more, reserves_of}
-use Rattle.law_held.specs.turns.answers.Heard.{IsCounted}
-use Rattle.law_held.specs.turns.inv.history.Heard.{heard_of}
-use Rattle.law_held.proofs.turns.answers.Turns.Counted.{histories_count}
+use Rattle.law_scans.specs.reuse.Heard.{IsCounted}
+use Rattle.law_scans.specs.inv.history.Heard.{heard_of}
+use Rattle.law_scans.proofs.reuse.Turns.Counted.{histories_count}
 use Rattle.law_scans.specs.laws.HistoryTurns.{turns_since, event_handed, events_handed, handed_right}
-use Rattle.law_held.specs.turns.inv.history.Turns.{EachTurn}
-use Rattle.law_held.proofs.turns.answers.OneStep.Along.{history_keeps}
-use Rattle.law_held.proofs.turns.Counting.Counting.{Keeps, first_kept, kept}
-use Rattle.law_held.proofs.turns.Counting.Fits.{own}
-use Rattle.law_held.proofs.turns.Handovers.{handovers_meet}
+use Rattle.law_scans.specs.laws.records.Turns.{EachTurn}
+use Rattle.law_scans.proofs.reuse.OneStep.Along.{history_keeps}
+use Rattle.law_turns.proofs.Counting.Counting.{Keeps, first_kept, kept}
+use Rattle.law_turns.proofs.Counting.Fits.{own}
+use Rattle.law_turns.proofs.Handovers.{handovers_meet}
 use Rattle.law_scans.proofs.laws.Along.{index_guard}
 
 -- an index word that publishes has been told to since its seat told nothing of it

@@ -13,23 +13,23 @@ use Rattle.law_scans.specs.inv.model.Phases.ProtectAt.{LoadClock, PublishEra, Ch
 use Rattle.law_scans.specs.inv.model.Phases.Base.{Protect}
 use Rattle.law_scans.specs.inv.model.Posts.{counted, upper}
 use Rattle.law_scans.specs.inv.model.World.{World, step, finds}
-use Rattle.law_held.specs.turns.inv.shapes.Eras.{SpanIn, PhaseEras}
-use Rattle.law_held.specs.turns.inv.requests.Deals.{is_quiet}
-use Rattle.law_held.specs.turns.inv.requests.Roles.{shows, publishes}
-use Rattle.law_held.specs.turns.inv.requests.Standing.{Requests}
-use Rattle.law_held.specs.turns.inv.requests.Views.{View as Asked, Deal, Role}
-use Rattle.law_held.specs.turns.inv.requests.Views.Deal.{Answered}
-use Rattle.law_held.specs.turns.inv.rows.Rows.{View}
-use Rattle.law_held.specs.turns.inv.covers.Covers.{eras_shown}
-use Rattle.law_held.proofs.turns.inv.covers.Held.{finds_at}
-use Rattle.law_held.proofs.turns.inv.handover.Deals.{handed_deal}
-use Rattle.law_held.proofs.turns.inv.handover.Others.{other_index, other_helper}
-use Rattle.law_held.proofs.turns.inv.handover.Shown.{helper_shows, index_shows}
-use Rattle.law_held.proofs.turns.inv.handover.Words.{Handed, index_stays, helper_stays}
-use Rattle.law_held.specs.turns.inv.handover.Handover.{HandoverNeeds}
-use Rattle.law_held.proofs.turns.inv.links.Origins.Opened.{fit_of}
+use Rattle.law_scans.specs.inv.shapes.Eras.{SpanIn, PhaseEras}
+use Rattle.law_scans.specs.inv.requests.Deals.{is_quiet}
+use Rattle.law_scans.specs.inv.requests.Roles.{shows, publishes}
+use Rattle.law_scans.specs.inv.requests.Standing.{Requests}
+use Rattle.law_scans.specs.inv.requests.Views.{View as Asked, Deal, Role}
+use Rattle.law_scans.specs.inv.requests.Views.Deal.{Answered}
+use Rattle.law_scans.specs.inv.rows.Rows.{View}
+use Rattle.law_scans.specs.inv.covers.Covers.{eras_shown}
+use Rattle.law_scans.proofs.inv.covers.Held.{finds_at}
+use Rattle.law_scans.proofs.inv.ends.Handover.Deals.{handed_deal}
+use Rattle.law_scans.proofs.inv.ends.Handover.Others.{other_index, other_helper}
+use Rattle.law_scans.proofs.inv.ends.Handover.Shown.{helper_shows, index_shows}
+use Rattle.law_scans.proofs.inv.ends.Handover.Words.{Handed, index_stays, helper_stays}
+use Rattle.law_scans.specs.inv.ends.Handover.{HandoverNeeds}
+use Rattle.law_scans.proofs.inv.links.Origins.Opened.{fit_of}
 use Rattle.law_steps.proofs.Rising.Rises.{era_under, protect_risen, PhaseRisen, protect_raises}
-use Rattle.law_held.proofs.turns.inv.requests.Known.{stands_as}
+use Rattle.law_scans.proofs.inv.requests.Known.{stands_as}
 
 -- what the words of a seat publish
 abbrev pub SeatRisen : World → ℕ → Type 0

@@ -23,19 +23,19 @@ use Rattle.law_scans.specs.inv.model.Posts.{stands, cleared, cleared_from, lower
 use Rattle.law_scans.specs.inv.model.Calls.{Work, Getting, Changing, Enqueuing, Dequeuing, Keeping, Loosens, LoadHeld, StoreHeld, Looks, Misses, HideSpan, MarkLeft, TakeList, MarkTaken}
 use Rattle.law_scans.specs.inv.model.words.Schemes.{has_one_interval}
 use Rattle.law_scans.specs.inv.model.words.declared.config.Config.{Config}
-use Rattle.law_held.specs.turns.inv.shapes.Slots.{WorkIn}
+use Rattle.law_scans.specs.inv.shapes.Slots.{WorkIn}
 use Rattle.law_scans.specs.inv.model.Protect as protects
 use Rattle.law_scans.specs.inv.model.Rounds.{scheme_of, clear_told, let_index}
 use Rattle.law_scans.proofs.inv.model.Facts.{both, first_of, rest_of}
-use Rattle.law_held.specs.turns.inv.history.Record.{Past, Test, Each, tells_of}
-use Rattle.law_held.specs.turns.inv.history.Record.Past.{Then}
-use Rattle.law_held.proofs.turns.inv.history.Passes.{is_quiet, Closed, copied_told, work_told}
+use Rattle.law_scans.specs.laws.records.Record.{Past, Test, Each, tells_of}
+use Rattle.law_scans.specs.laws.records.Record.Past.{Then}
+use Rattle.law_scans.proofs.reuse.history.Passes.{is_quiet, Closed, copied_told, work_told}
 use Rattle.law_scans.specs.laws.StateAt.{value_of}
-use Rattle.law_held.proofs.turns.inv.history.AllOf.{all_of, of_along, of_weaker}
+use Rattle.law_scans.proofs.reuse.history.AllOf.{all_of, of_along, of_weaker}
 use Rattle.law_scans.specs.laws.HistoryEras.{span_grows}
 use Rattle.law_scans.specs.laws.StateAt.{era_grows}
 use Rattle.law_steps.proofs.Rising.Rises.{era_under, protect_risen}
-use Rattle.law_held.proofs.turns.inv.history.MayTell.{publishes, is_reserve, no_reserve, held_any, cleared_all, cleared_from_all, clear_all, concluded_told}
+use Rattle.law_scans.proofs.reuse.history.MayTell.{publishes, is_reserve, no_reserve, held_any, cleared_all, cleared_from_all, clear_all, concluded_told}
 
 -- both laws in one, by what each guard publishes
 abbrev pub grows_right : (teller : ℕ) → (value : Guard → Option Interval) → Event → Bool

@@ -28,14 +28,14 @@ use Rattle.law_scans.specs.inv.model.Protect as protects
 use Rattle.law_scans.specs.inv.model.Rounds.{protect_at, scheme_of}
 use Rattle.law_scans.specs.inv.model.SlowPath.{own_request, answer_in, lost_turn}
 use Rattle.law_scans.specs.inv.model.WriteRow.{last_written}
-use Rattle.law_held.specs.turns.inv.shapes.Frame.{Grows, Moves, Onward, Owes}
-use Rattle.law_held.specs.turns.inv.shapes.Seats.{PhaseFits, PostFits}
-use Rattle.law_held.proofs.turns.inv.shapes.Frame.{moves_with}
-use Rattle.law_held.proofs.turns.inv.shapes.Inside.{shape_moves}
-use Rattle.law_held.proofs.turns.inv.shapes.Kept.{bared_fits, counted_fits, run_counted, work_counted}
-use Rattle.law_held.proofs.turns.inv.ends.Told.Births.{each_stores}
-use Rattle.law_held.proofs.turns.inv.shapes.Shapes.{shape_grows}
-use Rattle.law_held.proofs.turns.inv.links.Origins.Plain.{out_moves, moves_on}
+use Rattle.law_scans.specs.inv.shapes.Frame.{Grows, Moves, Onward, Owes}
+use Rattle.law_scans.specs.inv.shapes.Seats.{PhaseFits, PostFits}
+use Rattle.law_scans.proofs.reuse.shapes.Frame.{moves_with}
+use Rattle.law_scans.proofs.reuse.shapes.Inside.{shape_moves}
+use Rattle.law_scans.proofs.reuse.shapes.Kept.{bared_fits, counted_fits, run_counted, work_counted}
+use Rattle.law_scans.proofs.inv.ends.Told.Births.{each_stores}
+use Rattle.law_scans.proofs.reuse.shapes.Shapes.{shape_grows}
+use Rattle.law_scans.proofs.inv.links.Origins.Plain.{out_moves, moves_on}
 
 -- what an index word publishes ends before this era
 abbrev pub era_under : Option Interval → ℕ → Bool

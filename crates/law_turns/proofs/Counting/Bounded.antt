@@ -2,27 +2,27 @@
 use Rattle.std.proofs.Common.{ℕ, ◌≡◌, ◌+◌, ◌*◌, Bool, true, false, List, [], ◌∷◌, refl, sym, subst, arith}
 use Rattle.std.proofs.lemmas.Bool.Decides.{nat_tests}
 use Rattle.std.specs.Prelude.{◌==◌, nat_le, if◌then◌else◌}
-use Rattle.law_answers.specs.inv.model.defs.declared.event.Event.{Event}
-use Rattle.law_answers.specs.inv.model.defs.declared.event.Event.TheVariants as events
-use Rattle.law_answers.proofs.inv.model.Facts.{both, first_of, rest_of}
-use Rattle.law_answers.specs.inv.history.Record.{Past, Each, tells_of}
-use Rattle.law_answers.specs.inv.history.Record.Past.{Then}
-use Rattle.law_answers.proofs.inv.history.Entries.{each_of_entries}
-use Rattle.law_answers.specs.inv.history.Turns.{History, record_of, turns_of, EachTurn}
-use Rattle.law_answers.specs.inv.history.Turns.History.{Blank, Starts, Turns}
-use Rattle.law_answers.specs.inv.history.History as histories
-use Rattle.law_answers.specs.laws.HistorySteps.{steps_ok, event_bounded, events_bounded, turns_bounded}
-use Rattle.law_answers.specs.laws.StepLaw.{few_steps}
-use Rattle.law_answers.proofs.Lawful.Counts.{records_keep_steps}
-use Rattle.law_answers.proofs.inv.history.AllOf.{all_of}
-use Rattle.law_answers.specs.inv.history.Heard.{heard_of}
-use Rattle.law_answers.specs.Heard.{IsCounted}
-use Rattle.law_answers.proofs.Turns.Counted.{histories_count}
-use Rattle.law_answers.specs.laws.StateAt.{reserves_of}
-use Rattle.law_answers.specs.laws.HistoryTurns.{turns_since, number_right, event_right, events_right, numbers_right}
+use Rattle.law_reuse.specs.laws.defs.declared.event.Event.{Event}
+use Rattle.law_reuse.specs.laws.defs.declared.event.Event.TheVariants as events
+use Rattle.law_reuse.proofs.laws.records.defs.Facts.{both, first_of, rest_of}
+use Rattle.law_reuse.specs.laws.records.Record.{Past, Each, tells_of}
+use Rattle.law_reuse.specs.laws.records.Record.Past.{Then}
+use Rattle.law_reuse.proofs.laws.records.Entries.{each_of_entries}
+use Rattle.law_reuse.specs.laws.records.Turns.{History, record_of, turns_of, EachTurn}
+use Rattle.law_reuse.specs.laws.records.Turns.History.{Blank, Starts, Turns}
+use Rattle.law_reuse.specs.history.History as histories
+use Rattle.law_reuse.specs.laws.HistorySteps.{steps_ok, event_bounded, events_bounded, turns_bounded}
+use Rattle.law_reuse.specs.laws.StepLaw.{few_steps}
+use Rattle.law_reuse.proofs.Lawful.Counts.{records_keep_steps}
+use Rattle.law_reuse.proofs.history.AllOf.{all_of}
+use Rattle.law_reuse.specs.history.Heard.{heard_of}
+use Rattle.law_reuse.specs.Heard.{IsCounted}
+use Rattle.law_reuse.proofs.Turns.Counted.{histories_count}
+use Rattle.law_reuse.specs.laws.StateAt.{reserves_of}
+use Rattle.law_reuse.specs.laws.HistoryTurns.{turns_since, number_right, event_right, events_right, numbers_right}
 use Rattle.law_turns.specs.Records.{ProtectionsEnd}
 use Rattle.law_turns.proofs.Counting.Counting.{protections_count}
-use Rattle.law_answers.proofs.inv.steps_left.Rest.Falling.{wfe_plain}
+use Rattle.law_reuse.proofs.inv.steps_left.Rest.Falling.{wfe_plain}
 
 -- the entries of a turn
 few_told : (tries i : ℕ) (told : List Event) (p : Past) → Each (steps_ok tries) (tells_of p i told) → (all_of (few_steps tries) told ≡ true) × Each (steps_ok tries) p

@@ -2,57 +2,57 @@
 use Rattle.std.proofs.Common.{ℕ, ◌≡◌, ◌≤◌, ◌<◌, ◌+◌, ◌^◌, Bool, true, false, List, [], ◌∷◌, refl, sym, ap, ◌∙◌, subst, arith}
 use Rattle.std.proofs.lemmas.Bool.Decides.{nat_tests}
 use Rattle.std.specs.Prelude.{◌==◌, if◌then◌else◌}
-use Rattle.law_answers.specs.inv.model.words.Place.{is_valid, Place as places}
-use Rattle.law_answers.specs.inv.model.words.Place.Place.{Clock}
-use Rattle.law_answers.specs.inv.model.words.Packed.{reservation_word}
-use Rattle.law_answers.specs.inv.model.words.declared.layout.Layout.{Layout}
-use Rattle.law_answers.specs.inv.model.defs.declared.call.Call.{Call}
-use Rattle.law_answers.specs.inv.model.defs.declared.event.Event.{Event}
-use Rattle.law_answers.specs.inv.model.defs.declared.event.Event.TheVariants as events
-use Rattle.law_answers.specs.inv.model.defs.declared.event.Root.{Root}
-use Rattle.law_answers.specs.inv.model.declared.post.Post.{Post}
-use Rattle.law_answers.specs.inv.model.Links.{link_number}
-use Rattle.law_answers.specs.inv.model.Locals.{Local, busy_in, begun_post, turn}
-use Rattle.law_answers.specs.inv.model.Posts.{counted}
-use Rattle.law_answers.specs.inv.model.Rest.{rest}
-use Rattle.law_answers.specs.inv.model.Steps as steps
-use Rattle.law_answers.specs.inv.model.World.{World, begin, finds, is_busy, offered, step, told_in}
-use Rattle.law_answers.specs.inv.model.Phases.{Aim, ProtectAt, MoveAt, Base}
-use Rattle.law_answers.specs.inv.model.Phases.ProtectAt.{PublishEra, TakeAnswer}
-use Rattle.law_answers.specs.inv.model.Phases.MoveAt.{HandOver}
-use Rattle.law_answers.specs.inv.model.Phases.Base.{Protect, Reload, Move}
-use Rattle.law_answers.specs.inv.model.Calls.{Why, KeepAt, StoreHeld, Work, Keeping, Phase, Idle, Runs, Scans, Works, ReadGuard, GiveBack, CallTurn}
-use Rattle.law_answers.proofs.inv.model.Facts.{same_number, both, first_of, rest_of}
-use Rattle.law_answers.proofs.inv.model.Ranges.{bounds_of}
-use Rattle.law_answers.specs.inv.history.Turns as schedule
-use Rattle.law_answers.specs.inv.history.Turns.{record_of, turns_of, EachTurn}
-use Rattle.law_answers.specs.inv.history.Turns.History.{Blank, Starts, Turns}
-use Rattle.law_answers.specs.inv.history.History.{Begins, Steps, Made, done, first_made}
-use Rattle.law_answers.specs.inv.shapes.Eras.{EraIn}
-use Rattle.law_answers.specs.inv.model.words.Schemes.{is_ibr}
-use Rattle.law_answers.specs.inv.shapes.Frame.{phase_left}
-use Rattle.law_answers.specs.inv.shapes.Seats.{PostFits, PhaseFits}
-use Rattle.law_answers.specs.inv.shapes.Slots.{KeepIn, WorkIn, PhaseIn}
-use Rattle.law_answers.proofs.inv.shapes.Kept.{work_counted}
-use Rattle.law_answers.proofs.inv.shapes.Frame.{seat_stays, begin_stays, begin_begins}
-use Rattle.law_answers.specs.inv.requests.Deals.{answered_with, in_time}
-use Rattle.law_answers.specs.inv.requests.Standing.{Requests}
-use Rattle.law_answers.specs.inv.requests.Views.{Deal}
-use Rattle.law_answers.specs.inv.requests.Views.Deal.{Quiet, Open, Answered, Passed, Taken}
-use Rattle.law_answers.specs.inv.covers.Rests.{spare}
-use Rattle.law_answers.proofs.inv.covers.Held.{stepped_post, stepped_phase, finds_at}
-use Rattle.law_answers.proofs.inv.handover.Asks.{Asker, asker, fits_at}
-use Rattle.law_answers.proofs.inv.handover.Deals.{handed_deal}
-use Rattle.law_answers.proofs.inv.handover.Words.{Handed}
-use Rattle.law_answers.specs.inv.Inv.{Inv}
-use Rattle.law_answers.proofs.inv.Inv.Shapes.{eras_of}
-use Rattle.law_answers.proofs.inv.Inv.Guards.{rests_need}
-use Rattle.law_answers.proofs.inv.Inv.Whole.{handover_need}
-use Rattle.law_answers.proofs.inv.history.Passes.{First, step_goes}
-use Rattle.law_answers.specs.laws.StateAt.{reserves_of}
-use Rattle.law_answers.specs.laws.HistoryTurns.{turns_since, event_right, events_right, numbers_right}
+use Rattle.law_reuse.specs.laws.words.Place.{is_valid, Place as places}
+use Rattle.law_reuse.specs.laws.words.Place.Place.{Clock}
+use Rattle.law_reuse.specs.laws.words.Packed.{reservation_word}
+use Rattle.law_reuse.specs.laws.words.declared.layout.Layout.{Layout}
+use Rattle.law_reuse.specs.laws.defs.declared.call.Call.{Call}
+use Rattle.law_reuse.specs.laws.defs.declared.event.Event.{Event}
+use Rattle.law_reuse.specs.laws.defs.declared.event.Event.TheVariants as events
+use Rattle.law_reuse.specs.laws.defs.declared.event.Root.{Root}
+use Rattle.law_reuse.specs.inv.model.declared.post.Post.{Post}
+use Rattle.law_reuse.specs.inv.model.Links.{link_number}
+use Rattle.law_reuse.specs.inv.model.Locals.{Local, busy_in, begun_post, turn}
+use Rattle.law_reuse.specs.inv.model.Posts.{counted}
+use Rattle.law_reuse.specs.inv.model.Rest.{rest}
+use Rattle.law_reuse.specs.inv.model.Steps as steps
+use Rattle.law_reuse.specs.inv.model.World.{World, begin, finds, is_busy, offered, step, told_in}
+use Rattle.law_reuse.specs.inv.model.Phases.{Aim, ProtectAt, MoveAt, Base}
+use Rattle.law_reuse.specs.inv.model.Phases.ProtectAt.{PublishEra, TakeAnswer}
+use Rattle.law_reuse.specs.inv.model.Phases.MoveAt.{HandOver}
+use Rattle.law_reuse.specs.inv.model.Phases.Base.{Protect, Reload, Move}
+use Rattle.law_reuse.specs.inv.model.Calls.{Why, KeepAt, StoreHeld, Work, Keeping, Phase, Idle, Runs, Scans, Works, ReadGuard, GiveBack, CallTurn}
+use Rattle.law_reuse.proofs.laws.records.defs.Facts.{same_number, both, first_of, rest_of}
+use Rattle.law_reuse.proofs.inv.model.Ranges.{bounds_of}
+use Rattle.law_reuse.specs.laws.records.Turns as schedule
+use Rattle.law_reuse.specs.laws.records.Turns.{record_of, turns_of, EachTurn}
+use Rattle.law_reuse.specs.laws.records.Turns.History.{Blank, Starts, Turns}
+use Rattle.law_reuse.specs.history.History.{Begins, Steps, Made, done, first_made}
+use Rattle.law_reuse.specs.inv.shapes.Eras.{EraIn}
+use Rattle.law_reuse.specs.laws.words.Schemes.{is_ibr}
+use Rattle.law_reuse.specs.inv.shapes.Frame.{phase_left}
+use Rattle.law_reuse.specs.inv.shapes.Seats.{PostFits, PhaseFits}
+use Rattle.law_reuse.specs.inv.shapes.Slots.{KeepIn, WorkIn, PhaseIn}
+use Rattle.law_reuse.proofs.shapes.Kept.{work_counted}
+use Rattle.law_reuse.proofs.shapes.Frame.{seat_stays, begin_stays, begin_begins}
+use Rattle.law_reuse.specs.inv.requests.Deals.{answered_with, in_time}
+use Rattle.law_reuse.specs.inv.requests.Standing.{Requests}
+use Rattle.law_reuse.specs.inv.requests.Views.{Deal}
+use Rattle.law_reuse.specs.inv.requests.Views.Deal.{Quiet, Open, Answered, Passed, Taken}
+use Rattle.law_reuse.specs.inv.covers.Rests.{spare}
+use Rattle.law_reuse.proofs.inv.covers.Held.{stepped_post, stepped_phase, finds_at}
+use Rattle.law_reuse.proofs.inv.ends.Handover.Asks.{Asker, asker, fits_at}
+use Rattle.law_reuse.proofs.inv.ends.Handover.Deals.{handed_deal}
+use Rattle.law_reuse.proofs.inv.ends.Handover.Words.{Handed}
+use Rattle.law_reuse.specs.inv.Inv.{Inv}
+use Rattle.law_reuse.proofs.inv.Inv.Shapes.{eras_of}
+use Rattle.law_reuse.proofs.inv.Inv.Guards.{rests_need}
+use Rattle.law_reuse.proofs.inv.Inv.Whole.{handover_need}
+use Rattle.law_reuse.proofs.history.Passes.{First, step_goes}
+use Rattle.law_reuse.specs.laws.StateAt.{reserves_of}
+use Rattle.law_reuse.specs.laws.HistoryTurns.{turns_since, event_right, events_right, numbers_right}
 use Rattle.law_turns.specs.Records.{ProtectionsCount}
-use Rattle.law_answers.proofs.OneStep.Along.{Around, Kept, history_keeps}
+use Rattle.law_reuse.proofs.OneStep.Along.{Around, Kept, history_keeps}
 use Rattle.law_turns.proofs.Counting.Fits.{own, base_own, unused, Clean, Fits, Left, WorkRight, first_fits}
 use Rattle.law_turns.proofs.Counting.Passing.{SomeEra, Apart, turned, base_comes}
 use Rattle.law_turns.proofs.Counting.Runs.{phase_x, PhaseRight, Seat, turn_fits, turn_rights}

@@ -3,49 +3,49 @@
 use Rattle.std.proofs.Common.{ℕ, ◌≡◌, ◌≢◌, ◌≤◌, ◌<◌, ◌+◌, ◌-◌, Bool, true, false, List, [], ◌∷◌, ◌++◌, drop, length, Option, Some, None, refl, sym, ◌∙◌, subst, arith}
 use Rattle.std.proofs.lemmas.Bool.Decides.{nat_tests}
 use Rattle.std.specs.Prelude.{◌==◌, ◌&&◌, ◌||◌, ◌*◌, ◌%◌, not, nat_le, nat_lt, is_none, is_some, if◌then◌else◌}
-use Rattle.law_answers.specs.inv.model.words.declared.config.SchemeKind.{SchemeKind}
-use Rattle.law_answers.specs.inv.model.words.declared.config.SchemeKind.TheVariants.{He, Ibr, Wfe}
-use Rattle.law_answers.specs.inv.model.defs.declared.call.Answer.{Answer}
-use Rattle.law_answers.specs.inv.model.defs.declared.call.Answer.TheVariants as the_answers
-use Rattle.law_answers.specs.inv.model.defs.declared.call.Call.{Call}
-use Rattle.law_answers.specs.inv.model.defs.declared.call.Call.TheVariants as names
-use Rattle.law_answers.specs.inv.model.defs.declared.call.ClockMove.TheVariants as moves
-use Rattle.law_answers.specs.inv.model.defs.declared.event.Event.{Event}
-use Rattle.law_answers.specs.inv.model.defs.declared.event.Event.TheVariants as events
-use Rattle.law_answers.specs.inv.model.defs.declared.event.Root.{Root}
-use Rattle.law_answers.specs.inv.model.defs.declared.event.Root.TheVariants as roots
-use Rattle.law_answers.specs.inv.model.declared.ends.AllocateEnd.{AllocateEnd}
-use Rattle.law_answers.specs.inv.model.declared.ends.AllocateEnd.TheVariants as allocate_ends
-use Rattle.law_answers.specs.inv.model.declared.ends.FollowEnd.{FollowEnd}
-use Rattle.law_answers.specs.inv.model.declared.ends.FollowEnd.TheVariants as follow_ends
-use Rattle.law_answers.specs.inv.model.declared.ends.ProtectEnd.TheVariants as protect_ends
-use Rattle.law_answers.specs.inv.model.declared.post.Post.{Post}
-use Rattle.law_answers.specs.inv.model.Change as alters
-use Rattle.law_answers.specs.inv.model.Dequeue as dequeues
-use Rattle.law_answers.specs.inv.model.Desks.{Desk, with_life}
-use Rattle.law_answers.specs.inv.model.Enqueue as enqueues
-use Rattle.law_answers.specs.inv.model.Get as gets
-use Rattle.law_answers.specs.inv.model.Guards.{guards, guard_at, eras_in, one_era, published}
-use Rattle.law_answers.specs.inv.model.Keep as keeps
-use Rattle.law_answers.specs.inv.model.Posts.{reserves_index, standing_from, stands, with_row}
-use Rattle.law_answers.specs.laws.StateAt.{one_more}
-use Rattle.law_answers.specs.inv.model.Rounds.{scheme_of, bucket_of, index_of, root_of, taken_of, begin_base, protect_base, let_index, letting, letting_by, release_base, clear_base, finish_base, opening, round_by, round, given_up, closed, finishing_by, finishing, clearing_by, clearing, clearing_next_by, clearing_next}
-use Rattle.law_answers.specs.inv.model.Scan as scan
-use Rattle.law_answers.specs.inv.model.Steps as steps
-use Rattle.law_answers.specs.inv.model.Phases.{Tries, Endless, Failed, ProtectAt, Base, Ending, Outcome, Goes, Ends}
-use Rattle.law_answers.specs.inv.model.Phases.ProtectAt.{LoadClock, PublishEra, LoadLink, CheckClock, PublishRequest, LoadOwnClock, PublishHelper, LoadOwnLink, CheckOwnClock, AnswerOwn, LoadAnswer, TakeAnswer, WithdrawRequest, WithdrawHelper, LoadWithin, CheckUpper, RaiseUpper}
-use Rattle.law_answers.specs.inv.model.Phases.Base.{Protect, Reload}
-use Rattle.law_answers.specs.inv.model.Phases.Ending.{Done, Protected, Followed, Allocated, Retired, Clocked}
-use Rattle.law_answers.specs.inv.model.Calls.{Task, Gets, Changes, Holds, Enqueues, Dequeues, Next, Again, MakeRoom, Answering, Retiring, AfterScan, Answered, Repeated, Counted, ChangeKept, EnqueueKept, GetAt, FindVersion, FindCount, FindKey, FindValue, ChangeAt, LoadVersion, LoadCount, LoadKey, LoadValue, ExchangeRoot, EnqueueAt, LoadNumber, LoadNext, PassTail, ExchangeNext, ExchangeTail, DequeueAt, LoadTail, SwingTail, TakeNumber, TakeValue, ExchangeHead, Work, Getting, Changing, Enqueuing, Dequeuing, Keeping, KeepAt, Loosens, LoadHeld, StoreHeld, Looks, Misses, HideSpan, MarkLeft, TakeList, MarkTaken, LetGo, Released, Rehold, Dropped, Parting, ScanAt, ReadGuard, GiveBack, Why, Opens, FollowsHead, Fills, ClearsNext, Clears, Finishes, GivesUp, Retires, Tidies, Advances, Releases, Phase, Idle, Runs, Scans, Works, CallTurn}
-use Rattle.law_answers.specs.inv.model.words.Schemes.{has_one_interval, is_ibr, is_he}
-use Rattle.law_answers.specs.inv.model.defs.declared.fold.Change.TheVariants as changes
-use Rattle.law_answers.proofs.inv.model.Facts.{false_not_true}
-use Rattle.law_answers.proofs.inv.model.Standing.{stands-with_row_same, stands-with_row_other}
-use Rattle.law_answers.specs.inv.shapes.Frame.{KeepFits, phase_left}
-use Rattle.law_answers.specs.inv.covers.Rests.{spare, bare, beside, within, deep, vacant_later, vacant_work}
-use Rattle.law_answers.proofs.inv.covers.Resting.{bare_own}
-use Rattle.law_answers.proofs.inv.covers.Vacant.{beside_bare}
-use Rattle.law_answers.proofs.inv.covers.Rests.{spare_bare}
+use Rattle.law_reuse.specs.laws.words.declared.config.SchemeKind.{SchemeKind}
+use Rattle.law_reuse.specs.laws.words.declared.config.SchemeKind.TheVariants.{He, Ibr, Wfe}
+use Rattle.law_reuse.specs.laws.defs.declared.call.Answer.{Answer}
+use Rattle.law_reuse.specs.laws.defs.declared.call.Answer.TheVariants as the_answers
+use Rattle.law_reuse.specs.laws.defs.declared.call.Call.{Call}
+use Rattle.law_reuse.specs.laws.defs.declared.call.Call.TheVariants as names
+use Rattle.law_reuse.specs.laws.defs.declared.call.ClockMove.TheVariants as moves
+use Rattle.law_reuse.specs.laws.defs.declared.event.Event.{Event}
+use Rattle.law_reuse.specs.laws.defs.declared.event.Event.TheVariants as events
+use Rattle.law_reuse.specs.laws.defs.declared.event.Root.{Root}
+use Rattle.law_reuse.specs.laws.defs.declared.event.Root.TheVariants as roots
+use Rattle.law_reuse.specs.inv.model.declared.ends.AllocateEnd.{AllocateEnd}
+use Rattle.law_reuse.specs.inv.model.declared.ends.AllocateEnd.TheVariants as allocate_ends
+use Rattle.law_reuse.specs.inv.model.declared.ends.FollowEnd.{FollowEnd}
+use Rattle.law_reuse.specs.inv.model.declared.ends.FollowEnd.TheVariants as follow_ends
+use Rattle.law_reuse.specs.inv.model.declared.ends.ProtectEnd.TheVariants as protect_ends
+use Rattle.law_reuse.specs.inv.model.declared.post.Post.{Post}
+use Rattle.law_reuse.specs.inv.model.Change as alters
+use Rattle.law_reuse.specs.inv.model.Dequeue as dequeues
+use Rattle.law_reuse.specs.inv.model.Desks.{Desk, with_life}
+use Rattle.law_reuse.specs.inv.model.Enqueue as enqueues
+use Rattle.law_reuse.specs.inv.model.Get as gets
+use Rattle.law_reuse.specs.inv.model.Guards.{guards, guard_at, eras_in, one_era, published}
+use Rattle.law_reuse.specs.inv.model.Keep as keeps
+use Rattle.law_reuse.specs.inv.model.Posts.{reserves_index, standing_from, stands, with_row}
+use Rattle.law_reuse.specs.laws.StateAt.{one_more}
+use Rattle.law_reuse.specs.inv.model.Rounds.{scheme_of, bucket_of, index_of, root_of, taken_of, begin_base, protect_base, let_index, letting, letting_by, release_base, clear_base, finish_base, opening, round_by, round, given_up, closed, finishing_by, finishing, clearing_by, clearing, clearing_next_by, clearing_next}
+use Rattle.law_reuse.specs.inv.model.Scan as scan
+use Rattle.law_reuse.specs.inv.model.Steps as steps
+use Rattle.law_reuse.specs.inv.model.Phases.{Tries, Endless, Failed, ProtectAt, Base, Ending, Outcome, Goes, Ends}
+use Rattle.law_reuse.specs.inv.model.Phases.ProtectAt.{LoadClock, PublishEra, LoadLink, CheckClock, PublishRequest, LoadOwnClock, PublishHelper, LoadOwnLink, CheckOwnClock, AnswerOwn, LoadAnswer, TakeAnswer, WithdrawRequest, WithdrawHelper, LoadWithin, CheckUpper, RaiseUpper}
+use Rattle.law_reuse.specs.inv.model.Phases.Base.{Protect, Reload}
+use Rattle.law_reuse.specs.inv.model.Phases.Ending.{Done, Protected, Followed, Allocated, Retired, Clocked}
+use Rattle.law_reuse.specs.inv.model.Calls.{Task, Gets, Changes, Holds, Enqueues, Dequeues, Next, Again, MakeRoom, Answering, Retiring, AfterScan, Answered, Repeated, Counted, ChangeKept, EnqueueKept, GetAt, FindVersion, FindCount, FindKey, FindValue, ChangeAt, LoadVersion, LoadCount, LoadKey, LoadValue, ExchangeRoot, EnqueueAt, LoadNumber, LoadNext, PassTail, ExchangeNext, ExchangeTail, DequeueAt, LoadTail, SwingTail, TakeNumber, TakeValue, ExchangeHead, Work, Getting, Changing, Enqueuing, Dequeuing, Keeping, KeepAt, Loosens, LoadHeld, StoreHeld, Looks, Misses, HideSpan, MarkLeft, TakeList, MarkTaken, LetGo, Released, Rehold, Dropped, Parting, ScanAt, ReadGuard, GiveBack, Why, Opens, FollowsHead, Fills, ClearsNext, Clears, Finishes, GivesUp, Retires, Tidies, Advances, Releases, Phase, Idle, Runs, Scans, Works, CallTurn}
+use Rattle.law_reuse.specs.laws.words.Schemes.{has_one_interval, is_ibr, is_he}
+use Rattle.law_reuse.specs.laws.defs.declared.fold.Change.TheVariants as changes
+use Rattle.law_reuse.proofs.laws.records.defs.Facts.{false_not_true}
+use Rattle.law_reuse.proofs.inv.model.Standing.{stands-with_row_same, stands-with_row_other}
+use Rattle.law_reuse.specs.inv.shapes.Frame.{KeepFits, phase_left}
+use Rattle.law_reuse.specs.inv.covers.Rests.{spare, bare, beside, within, deep, vacant_later, vacant_work}
+use Rattle.law_reuse.proofs.inv.covers.Resting.{bare_own}
+use Rattle.law_reuse.proofs.inv.covers.Vacant.{beside_bare}
+use Rattle.law_reuse.proofs.inv.covers.Rests.{spare_bare}
 
 -- the indexes at which the seat surely publishes nothing
 abbrev pub free_why : Why → ℕ → Bool

@@ -2,38 +2,38 @@
 use Rattle.std.proofs.Common.{ℕ, ◌≡◌, ◌≢◌, ◌≤◌, ◌-◌, ◌+◌, Bool, true, false, length, Option, Some, None, refl, sym, ap, ◌∙◌, arith}
 use Rattle.std.proofs.lemmas.Bool.Decides.{nat_tests}
 use Rattle.std.specs.Prelude.{◌==◌, ◌&&◌, ◌||◌, ◌*◌, nat_le, nat_lt, if◌then◌else◌, not}
-use Rattle.law_answers.specs.inv.model.words.declared.config.Config.{Config}
-use Rattle.law_answers.specs.inv.model.words.declared.config.SchemeKind.{SchemeKind}
-use Rattle.law_answers.specs.inv.model.words.declared.config.SchemeKind.TheVariants.{He, Ibr, Wfe}
-use Rattle.law_answers.specs.inv.model.words.declared.packed.Request.{Request}
-use Rattle.law_answers.specs.inv.model.words.declared.packed.Request.TheVariants as requests
-use Rattle.law_answers.specs.inv.model.words.Packed.{reservation_word}
-use Rattle.law_answers.specs.inv.model.defs.declared.event.Event.TheVariants as events
-use Rattle.law_answers.specs.inv.model.defs.declared.event.Guard.TheVariants.{Index}
-use Rattle.law_answers.specs.inv.model.defs.declared.event.Root.{Root}
-use Rattle.law_answers.specs.inv.model.defs.declared.event.Root.TheVariants as roots
-use Rattle.law_answers.specs.inv.model.declared.post.Post.{Post}
-use Rattle.law_answers.specs.inv.model.Guards.{one_era}
-use Rattle.law_answers.specs.inv.model.Machine as machine
-use Rattle.law_answers.specs.inv.model.Memory.{bump}
-use Rattle.law_answers.specs.inv.model.MoveClock as movers
-use Rattle.law_answers.specs.inv.model.Posts.{stands, with_row, cleared, reserves_index}
-use Rattle.law_answers.specs.inv.model.Protect.{failed_once, held_post, trying}
-use Rattle.law_answers.specs.inv.model.Rounds.{scheme_of, index_of}
-use Rattle.law_answers.specs.inv.model.SlowPath.{answer_in, lost_turn}
-use Rattle.law_answers.specs.inv.model.Phases.{Tries, Endless, Failed, ProtectAt, Base}
-use Rattle.law_answers.specs.inv.model.Phases.ProtectAt.{PublishEra, LoadLink, PublishRequest, TakeAnswer}
-use Rattle.law_answers.specs.inv.model.Phases.MoveAt.{HandOver}
-use Rattle.law_answers.specs.inv.model.Phases.Base.{Protect, Clear, Move}
-use Rattle.law_answers.specs.inv.model.Calls.{Task, Gets, Changes, Holds, Enqueues, Dequeues, Why, Opens, FollowsHead}
-use Rattle.law_answers.proofs.inv.model.Facts.{same_number, both}
-use Rattle.law_answers.specs.inv.model.words.Schemes.{is_ibr, is_he}
-use Rattle.law_answers.specs.inv.shapes.Seats.{try_fits, index_by, root_by, kind_of, protects}
-use Rattle.law_answers.specs.laws.StateAt.{reserves_by}
-use Rattle.law_answers.specs.laws.HistoryTurns.{number_right}
+use Rattle.law_reuse.specs.laws.words.declared.config.Config.{Config}
+use Rattle.law_reuse.specs.laws.words.declared.config.SchemeKind.{SchemeKind}
+use Rattle.law_reuse.specs.laws.words.declared.config.SchemeKind.TheVariants.{He, Ibr, Wfe}
+use Rattle.law_reuse.specs.laws.words.declared.packed.Request.{Request}
+use Rattle.law_reuse.specs.laws.words.declared.packed.Request.TheVariants as requests
+use Rattle.law_reuse.specs.laws.words.Packed.{reservation_word}
+use Rattle.law_reuse.specs.laws.defs.declared.event.Event.TheVariants as events
+use Rattle.law_reuse.specs.laws.defs.declared.event.Guard.TheVariants.{Index}
+use Rattle.law_reuse.specs.laws.defs.declared.event.Root.{Root}
+use Rattle.law_reuse.specs.laws.defs.declared.event.Root.TheVariants as roots
+use Rattle.law_reuse.specs.inv.model.declared.post.Post.{Post}
+use Rattle.law_reuse.specs.inv.model.Guards.{one_era}
+use Rattle.law_reuse.specs.inv.model.Machine as machine
+use Rattle.law_reuse.specs.inv.model.Memory.{bump}
+use Rattle.law_reuse.specs.inv.model.MoveClock as movers
+use Rattle.law_reuse.specs.inv.model.Posts.{stands, with_row, cleared, reserves_index}
+use Rattle.law_reuse.specs.inv.model.Protect.{failed_once, held_post, trying}
+use Rattle.law_reuse.specs.inv.model.Rounds.{scheme_of, index_of}
+use Rattle.law_reuse.specs.inv.model.SlowPath.{answer_in, lost_turn}
+use Rattle.law_reuse.specs.inv.model.Phases.{Tries, Endless, Failed, ProtectAt, Base}
+use Rattle.law_reuse.specs.inv.model.Phases.ProtectAt.{PublishEra, LoadLink, PublishRequest, TakeAnswer}
+use Rattle.law_reuse.specs.inv.model.Phases.MoveAt.{HandOver}
+use Rattle.law_reuse.specs.inv.model.Phases.Base.{Protect, Clear, Move}
+use Rattle.law_reuse.specs.inv.model.Calls.{Task, Gets, Changes, Holds, Enqueues, Dequeues, Why, Opens, FollowsHead}
+use Rattle.law_reuse.proofs.laws.records.defs.Facts.{same_number, both}
+use Rattle.law_reuse.specs.laws.words.Schemes.{is_ibr, is_he}
+use Rattle.law_reuse.specs.inv.shapes.Seats.{try_fits, index_by, root_by, kind_of, protects}
+use Rattle.law_reuse.specs.laws.StateAt.{reserves_by}
+use Rattle.law_reuse.specs.laws.HistoryTurns.{number_right}
 use Rattle.law_turns.proofs.Counting.Fits.{tried, free_why, holds_why, holds_task, Clean, since, paced, stands_taken, taken}
 use Rattle.law_turns.proofs.Counting.Told.{reserved_along, dull_reserved, cleared_dull, index_more, index_none, index_other, held_reserved, reserved_both, unindexed_reserved}
-use Rattle.law_answers.proofs.inv.model.Standing.{stands-with_row_same, stands-with_row_other}
+use Rattle.law_reuse.proofs.inv.model.Standing.{stands-with_row_same, stands-with_row_other}
 
 -- what a machine's step makes of what the seat has published at its index word j
 abbrev pub protect_x : (index : ℕ) → ProtectAt → ℕ → ℕ → ℕ

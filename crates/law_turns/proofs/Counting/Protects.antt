@@ -1,33 +1,33 @@
 -- The steps of a protection: what its seat has published, and the turns since, go on with its steps.
 use Rattle.std.proofs.Common.{ℕ, ◌≡◌, ◌-◌, ◌+◌, Bool, true, false, List, [], ◌++◌, length, Option, None, refl, subst, arith, sym, ap, ◌∙◌}
 use Rattle.std.specs.Prelude.{◌==◌, ◌&&◌, ◌||◌, ◌*◌, not, nat_le, nat_lt, if◌then◌else◌}
-use Rattle.law_answers.specs.inv.model.words.Packed.{read_request}
-use Rattle.law_answers.specs.inv.model.defs.declared.event.Event.{Event}
-use Rattle.law_answers.specs.inv.model.defs.declared.event.Root.{Root}
-use Rattle.law_answers.specs.inv.model.declared.ends.FollowEnd.TheVariants as follow_ends
-use Rattle.law_answers.specs.inv.model.declared.ends.ProtectEnd.TheVariants as protect_ends
-use Rattle.law_answers.specs.inv.model.declared.post.Post.{Post}
-use Rattle.law_answers.specs.inv.model.Links.{parent_of}
-use Rattle.law_answers.specs.inv.model.Machine as machine
-use Rattle.law_answers.specs.inv.model.Posts.{stands, with_tag, tag_of, reserves_index, reserves_helper}
-use Rattle.law_answers.specs.inv.model.Protect.{failed_once, held_post, told_held, concluded, trying}
-use Rattle.law_answers.specs.inv.model.Rounds.{scheme_of, index_of}
-use Rattle.law_answers.specs.inv.model.SlowPath.{own_request, answer_in, lost_turn}
-use Rattle.law_answers.specs.inv.model.Phases.{Aim, Alone, Follows, ProtectAt, Turn, goes, ends}
-use Rattle.law_answers.specs.inv.model.Phases.ProtectAt.{LoadClock, PublishEra, LoadLink, CheckClock, PublishRequest, LoadOwnClock, PublishHelper, LoadOwnLink, CheckOwnClock, AnswerOwn, LoadAnswer, TakeAnswer, WithdrawRequest, WithdrawHelper, LoadWithin, CheckUpper, RaiseUpper}
-use Rattle.law_answers.specs.inv.model.Phases.Base.{Protect, Reload}
-use Rattle.law_answers.specs.inv.model.Phases.Ending.{Protected, Followed}
-use Rattle.law_answers.specs.inv.model.Calls.{Task, Why, Opens, FollowsHead, Fills, ClearsNext, Clears, Finishes, GivesUp, Retires, Tidies, Advances, Releases}
-use Rattle.law_answers.proofs.inv.model.Facts.{both, first_of, rest_of, number_is, false_not_true, implies_or, three_more, le_one_more}
-use Rattle.law_answers.specs.inv.model.words.Schemes.{is_ibr, is_he}
-use Rattle.law_answers.specs.inv.shapes.Seats.{protect_fits, aim_by, index_by, root_by, kind_of, protects}
-use Rattle.law_answers.specs.laws.HistoryTurns.{events_right}
+use Rattle.law_reuse.specs.laws.words.Packed.{read_request}
+use Rattle.law_reuse.specs.laws.defs.declared.event.Event.{Event}
+use Rattle.law_reuse.specs.laws.defs.declared.event.Root.{Root}
+use Rattle.law_reuse.specs.inv.model.declared.ends.FollowEnd.TheVariants as follow_ends
+use Rattle.law_reuse.specs.inv.model.declared.ends.ProtectEnd.TheVariants as protect_ends
+use Rattle.law_reuse.specs.inv.model.declared.post.Post.{Post}
+use Rattle.law_reuse.specs.inv.model.Links.{parent_of}
+use Rattle.law_reuse.specs.inv.model.Machine as machine
+use Rattle.law_reuse.specs.inv.model.Posts.{stands, with_tag, tag_of, reserves_index, reserves_helper}
+use Rattle.law_reuse.specs.inv.model.Protect.{failed_once, held_post, told_held, concluded, trying}
+use Rattle.law_reuse.specs.inv.model.Rounds.{scheme_of, index_of}
+use Rattle.law_reuse.specs.inv.model.SlowPath.{own_request, answer_in, lost_turn}
+use Rattle.law_reuse.specs.inv.model.Phases.{Aim, Alone, Follows, ProtectAt, Turn, goes, ends}
+use Rattle.law_reuse.specs.inv.model.Phases.ProtectAt.{LoadClock, PublishEra, LoadLink, CheckClock, PublishRequest, LoadOwnClock, PublishHelper, LoadOwnLink, CheckOwnClock, AnswerOwn, LoadAnswer, TakeAnswer, WithdrawRequest, WithdrawHelper, LoadWithin, CheckUpper, RaiseUpper}
+use Rattle.law_reuse.specs.inv.model.Phases.Base.{Protect, Reload}
+use Rattle.law_reuse.specs.inv.model.Phases.Ending.{Protected, Followed}
+use Rattle.law_reuse.specs.inv.model.Calls.{Task, Why, Opens, FollowsHead, Fills, ClearsNext, Clears, Finishes, GivesUp, Retires, Tidies, Advances, Releases}
+use Rattle.law_reuse.proofs.laws.records.defs.Facts.{both, first_of, rest_of, number_is, false_not_true, implies_or, three_more, le_one_more}
+use Rattle.law_reuse.specs.laws.words.Schemes.{is_ibr, is_he}
+use Rattle.law_reuse.specs.inv.shapes.Seats.{protect_fits, aim_by, index_by, root_by, kind_of, protects}
+use Rattle.law_reuse.specs.laws.HistoryTurns.{events_right}
 use Rattle.law_turns.proofs.Counting.Fits.{tried, free_why, holds_why, holds_task, is_hold, Clean, since, paced, stands_taken, taken, Passes, Opened}
-use Rattle.law_answers.proofs.inv.history.MayTell.{concluded_told}
+use Rattle.law_reuse.proofs.history.MayTell.{concluded_told}
 use Rattle.law_turns.proofs.Counting.Told.{held_right}
 use Rattle.law_turns.proofs.Counting.Passing.{tried_of, tried_with, tried_again, he_tried, he_first, he_publish, protect_x, turned, since_next, since_publish, publish_next, since_again, first_next, few_next, number_of, own_x, paced_trying, taken_trying, paced_lost, taken_lost, paced_answer, taken_answer, held_other, held_taken, protect_clean}
-use Rattle.law_answers.proofs.Turns.Steady.{held_same}
-use Rattle.law_answers.proofs.inv.requests.Paced.{wfe_not_he}
+use Rattle.law_reuse.proofs.Turns.Steady.{held_same}
+use Rattle.law_reuse.proofs.inv.requests.Paced.{wfe_not_he}
 
 -- what is known of a protection that makes a step: `n` is the step's number, `count` the steps of its call before it
 pub record Site (x u : ℕ → ℕ) (buckets : ℕ) (why : Why) (aim : Aim) (index : ℕ) (root : Root) (steps n count : ℕ) (at : ProtectAt) (post : Post) : Type 0 where

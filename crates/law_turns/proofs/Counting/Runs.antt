@@ -2,45 +2,45 @@
 use Rattle.std.proofs.Common.{ℕ, ◌≡◌, ◌≢◌, ◌≤◌, ◌<◌, ◌+◌, ◌^◌, Bool, true, false, [], ◌∷◌, length, Option, Some, None, refl, sym, ap, ◌∙◌, subst, arith}
 use Rattle.std.proofs.lemmas.Bool.Decides.{nat_tests}
 use Rattle.std.specs.Prelude.{◌==◌, ◌&&◌, ◌||◌, ◌*◌, nat_le, nat_lt, if◌then◌else◌, not}
-use Rattle.law_answers.specs.inv.model.words.Place.{is_valid}
-use Rattle.law_answers.specs.inv.model.words.Packed.{read_reservation, reservation_word}
-use Rattle.law_answers.specs.inv.model.words.declared.layout.Layout.{Layout}
-use Rattle.law_answers.specs.inv.model.defs.declared.event.Event.TheVariants as events
-use Rattle.law_answers.specs.inv.model.declared.post.Post.{Post}
-use Rattle.law_answers.specs.inv.model.Allocate as allocates
-use Rattle.law_answers.specs.inv.model.Desks.{Desk}
-use Rattle.law_answers.specs.inv.model.Machine as machine
-use Rattle.law_answers.specs.inv.model.Memory.{bump}
-use Rattle.law_answers.specs.inv.model.MoveClock as movers
-use Rattle.law_answers.specs.inv.model.Posts.{stands, with_row, withdrawn, counted}
-use Rattle.law_answers.specs.inv.model.Rounds.{scheme_of, index_of, let_index}
-use Rattle.law_answers.specs.inv.model.SlowPath.{asking}
-use Rattle.law_answers.specs.inv.model.Steps as steps
-use Rattle.law_answers.specs.inv.model.WriteRow.{last_written}
-use Rattle.law_answers.specs.inv.model.Phases.{Aim, ProtectAt, AllocateAt, RetireAt, MoveAt, Walk, Base, Turn, Ending, Outcome, Goes, Ends, ends}
-use Rattle.law_answers.specs.inv.model.defs.declared.event.Root.{Root}
-use Rattle.law_answers.specs.inv.model.Phases.AllocateAt.{LoadBirth, ClaimSlot, StoreLife}
-use Rattle.law_answers.specs.inv.model.Phases.RetireAt.{LoadLife, LoadRetire, StoreRetired}
-use Rattle.law_answers.specs.inv.model.Phases.MoveAt.{LoadEra, CheckEra, AnswerAsked, LoadReserved, HandOver, ExchangeClock}
-use Rattle.law_answers.specs.inv.model.Phases.Base.{Begin, Protect, Reload, Clear, Finish, Release, Allocate, Write, GiveUp, Retire, Move}
-use Rattle.law_answers.specs.inv.model.declared.ends.FollowEnd.TheVariants as follow_ends
-use Rattle.law_answers.specs.inv.model.Phases.Ending.{Followed}
-use Rattle.law_answers.specs.inv.model.Calls.{Task, Gets, Changes, Holds, Enqueues, Dequeues, Why, Opens, FollowsHead, Fills, ClearsNext, Clears, Finishes, GivesUp, Retires, Tidies, Advances, Releases, LetGo, Released, Rehold, Dropped, Parting, Keeping, Next, ReadGuard, GiveBack, Phase, Idle, Runs, Scans, Works}
-use Rattle.law_answers.proofs.inv.model.Facts.{first_of, rest_of, false_not_true, and_true, le_of_test, no_truth}
-use Rattle.law_answers.specs.inv.rows.Hands.{runs_right, task_fills}
-use Rattle.law_answers.specs.inv.model.words.Schemes.{is_ibr, is_he}
-use Rattle.law_answers.specs.inv.shapes.Frame.{Moves, Passed}
-use Rattle.law_answers.specs.inv.shapes.Seats.{Kind, protect_fits, kind_of, suits, PostFits, PhaseFits, Run}
-use Rattle.law_answers.proofs.inv.shapes.Inside.{shape_moves}
-use Rattle.law_answers.proofs.inv.shapes.Kept.{counted_fits, run_counted, work_counted}
-use Rattle.law_answers.specs.inv.covers.Rests.{spare, bare, beside, within, deep}
-use Rattle.law_answers.proofs.inv.history.Passes.{First}
-use Rattle.law_answers.specs.laws.HistoryTurns.{event_right, events_right}
+use Rattle.law_reuse.specs.laws.words.Place.{is_valid}
+use Rattle.law_reuse.specs.laws.words.Packed.{read_reservation, reservation_word}
+use Rattle.law_reuse.specs.laws.words.declared.layout.Layout.{Layout}
+use Rattle.law_reuse.specs.laws.defs.declared.event.Event.TheVariants as events
+use Rattle.law_reuse.specs.inv.model.declared.post.Post.{Post}
+use Rattle.law_reuse.specs.inv.model.Allocate as allocates
+use Rattle.law_reuse.specs.inv.model.Desks.{Desk}
+use Rattle.law_reuse.specs.inv.model.Machine as machine
+use Rattle.law_reuse.specs.inv.model.Memory.{bump}
+use Rattle.law_reuse.specs.inv.model.MoveClock as movers
+use Rattle.law_reuse.specs.inv.model.Posts.{stands, with_row, withdrawn, counted}
+use Rattle.law_reuse.specs.inv.model.Rounds.{scheme_of, index_of, let_index}
+use Rattle.law_reuse.specs.inv.model.SlowPath.{asking}
+use Rattle.law_reuse.specs.inv.model.Steps as steps
+use Rattle.law_reuse.specs.inv.model.WriteRow.{last_written}
+use Rattle.law_reuse.specs.inv.model.Phases.{Aim, ProtectAt, AllocateAt, RetireAt, MoveAt, Walk, Base, Turn, Ending, Outcome, Goes, Ends, ends}
+use Rattle.law_reuse.specs.laws.defs.declared.event.Root.{Root}
+use Rattle.law_reuse.specs.inv.model.Phases.AllocateAt.{LoadBirth, ClaimSlot, StoreLife}
+use Rattle.law_reuse.specs.inv.model.Phases.RetireAt.{LoadLife, LoadRetire, StoreRetired}
+use Rattle.law_reuse.specs.inv.model.Phases.MoveAt.{LoadEra, CheckEra, AnswerAsked, LoadReserved, HandOver, ExchangeClock}
+use Rattle.law_reuse.specs.inv.model.Phases.Base.{Begin, Protect, Reload, Clear, Finish, Release, Allocate, Write, GiveUp, Retire, Move}
+use Rattle.law_reuse.specs.inv.model.declared.ends.FollowEnd.TheVariants as follow_ends
+use Rattle.law_reuse.specs.inv.model.Phases.Ending.{Followed}
+use Rattle.law_reuse.specs.inv.model.Calls.{Task, Gets, Changes, Holds, Enqueues, Dequeues, Why, Opens, FollowsHead, Fills, ClearsNext, Clears, Finishes, GivesUp, Retires, Tidies, Advances, Releases, LetGo, Released, Rehold, Dropped, Parting, Keeping, Next, ReadGuard, GiveBack, Phase, Idle, Runs, Scans, Works}
+use Rattle.law_reuse.proofs.laws.records.defs.Facts.{first_of, rest_of, false_not_true, and_true, le_of_test, no_truth}
+use Rattle.law_reuse.specs.inv.rows.Hands.{runs_right, task_fills}
+use Rattle.law_reuse.specs.laws.words.Schemes.{is_ibr, is_he}
+use Rattle.law_reuse.specs.inv.shapes.Frame.{Moves, Passed}
+use Rattle.law_reuse.specs.inv.shapes.Seats.{Kind, protect_fits, kind_of, suits, PostFits, PhaseFits, Run}
+use Rattle.law_reuse.proofs.shapes.Inside.{shape_moves}
+use Rattle.law_reuse.proofs.shapes.Kept.{counted_fits, run_counted, work_counted}
+use Rattle.law_reuse.specs.inv.covers.Rests.{spare, bare, beside, within, deep}
+use Rattle.law_reuse.proofs.history.Passes.{First}
+use Rattle.law_reuse.specs.laws.HistoryTurns.{event_right, events_right}
 use Rattle.law_turns.proofs.Counting.Fits.{free_released, free_why, holds_why, holds_task, unused, work_x, WorkRight, keep_fits, fills_task, Clean, since, paced, taken, base_own, Fits, Passes, Resumes, Left, work_fits, scan_fits, resumed_fits}
 use Rattle.law_turns.proofs.Counting.Told.{base_rights, work_rights}
 use Rattle.law_turns.proofs.Counting.Passing.{after_x, turned, since_next, few_next, number_of}
 use Rattle.law_turns.proofs.Counting.Protects.{Site, protect_passes, protect_rights, u_next, rights_if}
-use Rattle.law_answers.proofs.inv.model.Standing.{stands-withdrawn_other, stands-with_row_other}
+use Rattle.law_reuse.proofs.inv.model.Standing.{stands-withdrawn_other, stands-with_row_other}
 
 -- the machines that touch no index word of their own
 abbrev pub is_calm : Base → Bool

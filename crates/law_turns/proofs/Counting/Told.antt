@@ -2,30 +2,30 @@
 use Rattle.std.proofs.Common.{ℕ, ◌≡◌, ◌≤◌, ◌+◌, Bool, true, false, List, [], ◌∷◌, ◌++◌, Option, Some, None, refl, ap, ◌∙◌, arith}
 use Rattle.std.proofs.lemmas.Bool.Decides.{nat_tests}
 use Rattle.std.specs.Prelude.{◌==◌, ◌&&◌, drop, if◌then◌else◌, not, is_some}
-use Rattle.law_answers.specs.inv.model.words.declared.config.SchemeKind.{SchemeKind}
-use Rattle.law_answers.specs.inv.model.defs.declared.event.Event.{Event}
-use Rattle.law_answers.specs.inv.model.defs.declared.event.Event.TheVariants as events
-use Rattle.law_answers.specs.inv.model.defs.declared.event.Guard.TheVariants.{Helper, Index, Whole}
-use Rattle.law_answers.specs.inv.model.defs.declared.event.Root.{Root}
-use Rattle.law_answers.specs.inv.model.defs.declared.lifetime.Interval.{Interval}
-use Rattle.law_answers.specs.inv.model.declared.post.Post.{Post}
-use Rattle.law_answers.specs.inv.model.Guards.{one_era}
-use Rattle.law_answers.specs.inv.model.Machine as machine
-use Rattle.law_answers.specs.inv.model.Posts.{cleared, cleared_from, reserves_index, reserves_span, stands}
-use Rattle.law_answers.specs.inv.model.Protect as protects
-use Rattle.law_answers.specs.inv.model.Rounds.{scheme_of, clear_told, let_index}
-use Rattle.law_answers.specs.inv.model.words.Schemes.{has_one_interval}
-use Rattle.law_answers.specs.inv.model.Calls.{KeepAt, Loosens, LoadHeld, StoreHeld, Looks, Misses, HideSpan, MarkLeft, TakeList, MarkTaken, Work, Keeping}
-use Rattle.law_answers.specs.inv.model.Phases.{Base}
-use Rattle.law_answers.proofs.inv.model.Facts.{same_number, both, first_of, rest_of, and_true}
-use Rattle.law_answers.specs.inv.history.Record.{Past, tells_of}
-use Rattle.law_answers.specs.inv.history.Record.Past.{Then}
-use Rattle.law_answers.proofs.inv.history.Passes.{is_quiet, all_quiet, Closed, copied_told, keep_told, work_told}
-use Rattle.law_answers.specs.laws.StateAt.{one_more, reserves_by, reserves_of}
-use Rattle.law_answers.specs.laws.HistoryTurns.{event_right, events_right}
-use Rattle.law_answers.proofs.inv.history.MayTell.{Tells, base_all, held_any, cleared_all, cleared_from_all, clear_all, is_find, is_index, finds, stores_index, no_find, no_index, work_all}
-use Rattle.law_answers.proofs.inv.history.AllOf.{all_of, of_along, of_weaker, of_both}
-use Rattle.law_answers.specs.inv.shapes.Frame.{KeepFits, WorkFits}
+use Rattle.law_reuse.specs.laws.words.declared.config.SchemeKind.{SchemeKind}
+use Rattle.law_reuse.specs.laws.defs.declared.event.Event.{Event}
+use Rattle.law_reuse.specs.laws.defs.declared.event.Event.TheVariants as events
+use Rattle.law_reuse.specs.laws.defs.declared.event.Guard.TheVariants.{Helper, Index, Whole}
+use Rattle.law_reuse.specs.laws.defs.declared.event.Root.{Root}
+use Rattle.law_reuse.specs.laws.defs.declared.lifetime.Interval.{Interval}
+use Rattle.law_reuse.specs.inv.model.declared.post.Post.{Post}
+use Rattle.law_reuse.specs.inv.model.Guards.{one_era}
+use Rattle.law_reuse.specs.inv.model.Machine as machine
+use Rattle.law_reuse.specs.inv.model.Posts.{cleared, cleared_from, reserves_index, reserves_span, stands}
+use Rattle.law_reuse.specs.inv.model.Protect as protects
+use Rattle.law_reuse.specs.inv.model.Rounds.{scheme_of, clear_told, let_index}
+use Rattle.law_reuse.specs.laws.words.Schemes.{has_one_interval}
+use Rattle.law_reuse.specs.inv.model.Calls.{KeepAt, Loosens, LoadHeld, StoreHeld, Looks, Misses, HideSpan, MarkLeft, TakeList, MarkTaken, Work, Keeping}
+use Rattle.law_reuse.specs.inv.model.Phases.{Base}
+use Rattle.law_reuse.proofs.laws.records.defs.Facts.{same_number, both, first_of, rest_of, and_true}
+use Rattle.law_reuse.specs.laws.records.Record.{Past, tells_of}
+use Rattle.law_reuse.specs.laws.records.Record.Past.{Then}
+use Rattle.law_reuse.proofs.history.Passes.{is_quiet, all_quiet, Closed, copied_told, keep_told, work_told}
+use Rattle.law_reuse.specs.laws.StateAt.{one_more, reserves_by, reserves_of}
+use Rattle.law_reuse.specs.laws.HistoryTurns.{event_right, events_right}
+use Rattle.law_reuse.proofs.history.MayTell.{Tells, base_all, held_any, cleared_all, cleared_from_all, clear_all, is_find, is_index, finds, stores_index, no_find, no_index, work_all}
+use Rattle.law_reuse.proofs.history.AllOf.{all_of, of_along, of_weaker, of_both}
+use Rattle.law_reuse.specs.inv.shapes.Frame.{KeepFits, WorkFits}
 use Rattle.law_turns.proofs.Counting.Fits.{work_x}
 
 -- along what a step tells

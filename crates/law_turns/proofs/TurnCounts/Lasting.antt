@@ -2,35 +2,35 @@
 use Rattle.std.proofs.Common.{ℕ, ◌≡◌, ◌≤◌, ◌<◌, ◌+◌, Bool, true, false, List, [], ◌∷◌, refl, sym, ap, ◌∙◌, subst, arith}
 use Rattle.std.proofs.lemmas.Bool.Decides.{nat_tests}
 use Rattle.std.specs.Prelude.{◌==◌, ◌&&◌, ◌||◌, ◌*◌, not, nat_le, nat_lt, if◌then◌else◌}
-use Rattle.law_answers.specs.inv.model.words.declared.config.Config.{Config}
-use Rattle.law_answers.specs.inv.model.words.declared.config.SchemeKind.{SchemeKind}
-use Rattle.law_answers.specs.inv.model.words.declared.layout.Layout.{Layout}
-use Rattle.law_answers.specs.inv.model.defs.declared.event.Event.{Event}
-use Rattle.law_answers.specs.inv.model.defs.declared.event.Root.{Root}
-use Rattle.law_answers.specs.inv.model.declared.ends.FollowEnd.{FollowEnd}
-use Rattle.law_answers.specs.inv.model.declared.ends.FollowEnd.TheVariants as follow_ends
-use Rattle.law_answers.specs.inv.model.declared.post.Post.{Post}
-use Rattle.law_answers.specs.inv.model.Machine as machine
-use Rattle.law_answers.specs.inv.model.Posts.{counted, stands}
-use Rattle.law_answers.specs.inv.model.World.{World, finds, offered, told_in}
-use Rattle.law_answers.specs.inv.model.Phases.{Aim, ProtectAt, Base, Ending, Outcome, Goes, Ends}
-use Rattle.law_answers.specs.inv.model.Phases.ProtectAt.{LoadClock, PublishEra, LoadLink, CheckClock, WithdrawRequest, WithdrawHelper, LoadWithin, CheckUpper, RaiseUpper}
-use Rattle.law_answers.specs.inv.model.Phases.MoveAt.{HandOver}
-use Rattle.law_answers.specs.inv.model.Phases.Base.{Protect, Reload, Clear, Move}
-use Rattle.law_answers.specs.inv.model.Phases.Ending.{Done, Protected, Followed, Allocated, Retired, Clocked}
-use Rattle.law_answers.specs.inv.model.Calls.{Again, Why, FollowsHead, ClearsNext, ReadGuard, GiveBack, Phase, Idle, Runs, Scans, Works}
-use Rattle.law_answers.proofs.inv.model.Facts.{same_number, both, first_of, rest_of, false_not_true, zero_test, or_left_true}
-use Rattle.law_answers.specs.inv.shapes.Eras.{Eras}
-use Rattle.law_answers.specs.inv.model.words.Schemes.{is_ibr, is_wfe}
-use Rattle.law_answers.specs.inv.shapes.Frame.{Passed}
-use Rattle.law_answers.specs.inv.shapes.Seats.{PhaseFits, Run, protect_fits, Kind, kind_of, suits, protects, reloads}
-use Rattle.law_answers.specs.inv.history.Record.{Past, tells_of}
-use Rattle.law_answers.specs.inv.history.Record.Past.{Then}
-use Rattle.law_answers.proofs.inv.requests.Paced.{in_time}
-use Rattle.law_answers.specs.inv.Inv.{Inv}
-use Rattle.law_answers.proofs.inv.Inv.Shapes.{eras_of}
-use Rattle.law_answers.proofs.inv.history.Passes.{First, step_goes, work_told}
-use Rattle.law_answers.specs.laws.StateAt.{tried_by, tried_of, last_by, last_of}
+use Rattle.law_reuse.specs.laws.words.declared.config.Config.{Config}
+use Rattle.law_reuse.specs.laws.words.declared.config.SchemeKind.{SchemeKind}
+use Rattle.law_reuse.specs.laws.words.declared.layout.Layout.{Layout}
+use Rattle.law_reuse.specs.laws.defs.declared.event.Event.{Event}
+use Rattle.law_reuse.specs.laws.defs.declared.event.Root.{Root}
+use Rattle.law_reuse.specs.inv.model.declared.ends.FollowEnd.{FollowEnd}
+use Rattle.law_reuse.specs.inv.model.declared.ends.FollowEnd.TheVariants as follow_ends
+use Rattle.law_reuse.specs.inv.model.declared.post.Post.{Post}
+use Rattle.law_reuse.specs.inv.model.Machine as machine
+use Rattle.law_reuse.specs.inv.model.Posts.{counted, stands}
+use Rattle.law_reuse.specs.inv.model.World.{World, finds, offered, told_in}
+use Rattle.law_reuse.specs.inv.model.Phases.{Aim, ProtectAt, Base, Ending, Outcome, Goes, Ends}
+use Rattle.law_reuse.specs.inv.model.Phases.ProtectAt.{LoadClock, PublishEra, LoadLink, CheckClock, WithdrawRequest, WithdrawHelper, LoadWithin, CheckUpper, RaiseUpper}
+use Rattle.law_reuse.specs.inv.model.Phases.MoveAt.{HandOver}
+use Rattle.law_reuse.specs.inv.model.Phases.Base.{Protect, Reload, Clear, Move}
+use Rattle.law_reuse.specs.inv.model.Phases.Ending.{Done, Protected, Followed, Allocated, Retired, Clocked}
+use Rattle.law_reuse.specs.inv.model.Calls.{Again, Why, FollowsHead, ClearsNext, ReadGuard, GiveBack, Phase, Idle, Runs, Scans, Works}
+use Rattle.law_reuse.proofs.laws.records.defs.Facts.{same_number, both, first_of, rest_of, false_not_true, zero_test, or_left_true}
+use Rattle.law_reuse.specs.inv.shapes.Eras.{Eras}
+use Rattle.law_reuse.specs.laws.words.Schemes.{is_ibr, is_wfe}
+use Rattle.law_reuse.specs.inv.shapes.Frame.{Passed}
+use Rattle.law_reuse.specs.inv.shapes.Seats.{PhaseFits, Run, protect_fits, Kind, kind_of, suits, protects, reloads}
+use Rattle.law_reuse.specs.laws.records.Record.{Past, tells_of}
+use Rattle.law_reuse.specs.laws.records.Record.Past.{Then}
+use Rattle.law_reuse.proofs.inv.requests.Paced.{in_time}
+use Rattle.law_reuse.specs.inv.Inv.{Inv}
+use Rattle.law_reuse.proofs.inv.Inv.Shapes.{eras_of}
+use Rattle.law_reuse.proofs.history.Passes.{First, step_goes, work_told}
+use Rattle.law_reuse.specs.laws.StateAt.{tried_by, tried_of, last_by, last_of}
 use Rattle.law_turns.proofs.Counting.Fits.{own, base_own, paced, taken, since}
 use Rattle.law_turns.proofs.Counting.Passing.{Apart, turned}
 use Rattle.law_turns.proofs.Withdrawals.Due as due

@@ -3,29 +3,29 @@ use Rattle.law_turns.proofs.Withdrawals.Leaving.{tries_none}
 use Rattle.std.proofs.Common.{ℕ, ◌≡◌, ◌≤◌, ◌+◌, Bool, true, false, List, refl, sym, ◌∙◌, subst, arith, Option, Some, None}
 use Rattle.std.proofs.lemmas.Bool.Decides.{nat_tests}
 use Rattle.std.specs.Prelude.{◌==◌, ◌&&◌, ◌||◌, not, nat_le, if◌then◌else◌}
-use Rattle.law_answers.specs.inv.model.words.Packed.{read_request}
-use Rattle.law_answers.specs.inv.model.words.declared.packed.Request.{Request}
-use Rattle.law_answers.specs.inv.model.words.declared.packed.Request.TheVariants as requests
-use Rattle.law_answers.specs.inv.model.words.declared.config.Config.{Config}
-use Rattle.law_answers.specs.inv.model.defs.declared.event.Event.{Event}
-use Rattle.law_answers.specs.inv.model.defs.declared.event.Event.TheVariants as events
-use Rattle.law_answers.specs.inv.model.defs.declared.event.Guard.TheVariants.{Index}
-use Rattle.law_answers.specs.inv.model.defs.declared.event.Root.{Root}
-use Rattle.law_answers.specs.inv.model.declared.post.Post.{Post}
-use Rattle.law_answers.specs.inv.model.Guards.{one_era}
-use Rattle.law_answers.specs.inv.model.Machine as machine
-use Rattle.law_answers.specs.inv.model.Posts.{reserves_helper}
-use Rattle.law_answers.specs.inv.model.Protect as protects
-use Rattle.law_answers.specs.inv.model.Rounds.{scheme_of}
-use Rattle.law_answers.specs.inv.model.SlowPath as slow
-use Rattle.law_answers.specs.inv.model.Phases.{Aim, Alone, Follows, Tries, Endless, Failed, ProtectAt, Base}
-use Rattle.law_answers.specs.inv.model.Phases.ProtectAt.{LoadClock, PublishEra, LoadLink, CheckClock, PublishRequest, LoadOwnClock, PublishHelper, LoadOwnLink, CheckOwnClock, AnswerOwn, LoadAnswer, TakeAnswer, WithdrawRequest, WithdrawHelper}
-use Rattle.law_answers.specs.inv.model.Phases.Base.{Protect}
-use Rattle.law_answers.proofs.inv.model.Facts.{both, false_not_true, zero_of_test, zero_test}
-use Rattle.law_answers.specs.inv.model.words.Schemes.{is_ibr}
-use Rattle.law_answers.specs.inv.shapes.Seats.{protect_fits}
+use Rattle.law_reuse.specs.laws.words.Packed.{read_request}
+use Rattle.law_reuse.specs.laws.words.declared.packed.Request.{Request}
+use Rattle.law_reuse.specs.laws.words.declared.packed.Request.TheVariants as requests
+use Rattle.law_reuse.specs.laws.words.declared.config.Config.{Config}
+use Rattle.law_reuse.specs.laws.defs.declared.event.Event.{Event}
+use Rattle.law_reuse.specs.laws.defs.declared.event.Event.TheVariants as events
+use Rattle.law_reuse.specs.laws.defs.declared.event.Guard.TheVariants.{Index}
+use Rattle.law_reuse.specs.laws.defs.declared.event.Root.{Root}
+use Rattle.law_reuse.specs.inv.model.declared.post.Post.{Post}
+use Rattle.law_reuse.specs.inv.model.Guards.{one_era}
+use Rattle.law_reuse.specs.inv.model.Machine as machine
+use Rattle.law_reuse.specs.inv.model.Posts.{reserves_helper}
+use Rattle.law_reuse.specs.inv.model.Protect as protects
+use Rattle.law_reuse.specs.inv.model.Rounds.{scheme_of}
+use Rattle.law_reuse.specs.inv.model.SlowPath as slow
+use Rattle.law_reuse.specs.inv.model.Phases.{Aim, Alone, Follows, Tries, Endless, Failed, ProtectAt, Base}
+use Rattle.law_reuse.specs.inv.model.Phases.ProtectAt.{LoadClock, PublishEra, LoadLink, CheckClock, PublishRequest, LoadOwnClock, PublishHelper, LoadOwnLink, CheckOwnClock, AnswerOwn, LoadAnswer, TakeAnswer, WithdrawRequest, WithdrawHelper}
+use Rattle.law_reuse.specs.inv.model.Phases.Base.{Protect}
+use Rattle.law_reuse.proofs.laws.records.defs.Facts.{both, false_not_true, zero_of_test, zero_test}
+use Rattle.law_reuse.specs.laws.words.Schemes.{is_ibr}
+use Rattle.law_reuse.specs.inv.shapes.Seats.{protect_fits}
 use Rattle.law_turns.proofs.Counting.Told.{index_more}
-use Rattle.law_answers.specs.laws.StateAt.{tried_by}
+use Rattle.law_reuse.specs.laws.StateAt.{tried_by}
 use Rattle.law_turns.proofs.Withdrawals.Withdrawing.{tells_link}
 use Rattle.law_turns.proofs.TurnCounts.Trying.{tried_along, last_along, so_many, at_tried, at_last, base_tried, Made, made_if, on, own_of, other_of, told_last, told_other, told_own, conclude}
 

@@ -2,31 +2,31 @@
 use Rattle.std.proofs.Common.{ℕ, ◌≡◌, ◌+◌, Bool, true, false, List, [], ◌∷◌, ◌++◌, refl, sym, ap, ◌∙◌, subst, arith}
 use Rattle.std.proofs.lemmas.Bool.Decides.{nat_tests}
 use Rattle.std.specs.Prelude.{◌==◌, ◌&&◌, ◌||◌, ◌*◌, nat_le, if◌then◌else◌}
-use Rattle.law_answers.specs.inv.model.words.Packed.{reservation_word}
-use Rattle.law_answers.specs.inv.model.words.declared.config.Config.{Config}
-use Rattle.law_answers.specs.inv.model.words.declared.layout.Layout.{Layout}
-use Rattle.law_answers.specs.inv.model.defs.declared.event.Event.{Event}
-use Rattle.law_answers.specs.inv.model.defs.declared.event.Root.{Root}
-use Rattle.law_answers.specs.inv.model.declared.ends.FollowEnd.{FollowEnd}
-use Rattle.law_answers.specs.inv.model.declared.ends.FollowEnd.TheVariants as follow_ends
-use Rattle.law_answers.specs.inv.model.declared.post.Post.{Post}
-use Rattle.law_answers.specs.inv.model.Guards.{one_era}
-use Rattle.law_answers.specs.inv.model.Machine as machine
-use Rattle.law_answers.specs.inv.model.Memory.{bump}
-use Rattle.law_answers.specs.inv.model.MoveClock as movers
-use Rattle.law_answers.specs.inv.model.Posts.{stands, cleared, reserves_index}
-use Rattle.law_answers.specs.inv.model.Phases.{Aim, Alone, Follows, Base, Ending, Outcome, Goes, Ends}
-use Rattle.law_answers.specs.inv.model.Phases.MoveAt.{HandOver}
-use Rattle.law_answers.specs.inv.model.Phases.Base.{Begin, Protect, Reload, Clear, Finish, Release, Allocate, Write, GiveUp, Retire, Move}
-use Rattle.law_answers.specs.inv.model.Phases.Ending.{Done, Protected, Followed, Allocated, Retired, Clocked}
-use Rattle.law_answers.specs.inv.model.Calls.{Gets, Changes, Holds, Enqueues, Dequeues, Why, Opens, FollowsHead, Fills, ClearsNext, Clears, Finishes, GivesUp, Retires, Tidies, Advances, Releases, Phase, Runs}
-use Rattle.law_answers.proofs.inv.model.Facts.{first_of, rest_of, false_not_true, zero_of_test, zero_test, no_truth}
-use Rattle.law_answers.specs.inv.model.words.Schemes.{is_ibr}
-use Rattle.law_answers.specs.inv.shapes.Frame.{Moves, Passed}
-use Rattle.law_answers.specs.inv.shapes.Seats.{PostFits, PhaseFits, Run, protect_fits, Kind, kind_of, suits, protects, reloads, aim_by, index_by, root_by}
+use Rattle.law_reuse.specs.laws.words.Packed.{reservation_word}
+use Rattle.law_reuse.specs.laws.words.declared.config.Config.{Config}
+use Rattle.law_reuse.specs.laws.words.declared.layout.Layout.{Layout}
+use Rattle.law_reuse.specs.laws.defs.declared.event.Event.{Event}
+use Rattle.law_reuse.specs.laws.defs.declared.event.Root.{Root}
+use Rattle.law_reuse.specs.inv.model.declared.ends.FollowEnd.{FollowEnd}
+use Rattle.law_reuse.specs.inv.model.declared.ends.FollowEnd.TheVariants as follow_ends
+use Rattle.law_reuse.specs.inv.model.declared.post.Post.{Post}
+use Rattle.law_reuse.specs.inv.model.Guards.{one_era}
+use Rattle.law_reuse.specs.inv.model.Machine as machine
+use Rattle.law_reuse.specs.inv.model.Memory.{bump}
+use Rattle.law_reuse.specs.inv.model.MoveClock as movers
+use Rattle.law_reuse.specs.inv.model.Posts.{stands, cleared, reserves_index}
+use Rattle.law_reuse.specs.inv.model.Phases.{Aim, Alone, Follows, Base, Ending, Outcome, Goes, Ends}
+use Rattle.law_reuse.specs.inv.model.Phases.MoveAt.{HandOver}
+use Rattle.law_reuse.specs.inv.model.Phases.Base.{Begin, Protect, Reload, Clear, Finish, Release, Allocate, Write, GiveUp, Retire, Move}
+use Rattle.law_reuse.specs.inv.model.Phases.Ending.{Done, Protected, Followed, Allocated, Retired, Clocked}
+use Rattle.law_reuse.specs.inv.model.Calls.{Gets, Changes, Holds, Enqueues, Dequeues, Why, Opens, FollowsHead, Fills, ClearsNext, Clears, Finishes, GivesUp, Retires, Tidies, Advances, Releases, Phase, Runs}
+use Rattle.law_reuse.proofs.laws.records.defs.Facts.{first_of, rest_of, false_not_true, zero_of_test, zero_test, no_truth}
+use Rattle.law_reuse.specs.laws.words.Schemes.{is_ibr}
+use Rattle.law_reuse.specs.inv.shapes.Frame.{Moves, Passed}
+use Rattle.law_reuse.specs.inv.shapes.Seats.{PostFits, PhaseFits, Run, protect_fits, Kind, kind_of, suits, protects, reloads, aim_by, index_by, root_by}
 use Rattle.law_turns.proofs.Counting.Passing.{Apart}
 use Rattle.law_turns.proofs.Counting.Told.{all_dull, cleared_dull, index_none, index_other, base_dull}
-use Rattle.law_answers.specs.laws.StateAt.{tried_by}
+use Rattle.law_reuse.specs.laws.StateAt.{tried_by}
 use Rattle.law_turns.proofs.Withdrawals.Withdrawing.{tells_link}
 use Rattle.law_turns.proofs.TurnCounts.Trying.{tried_along, last_along, dull_tried, at_tried, at_last, base_tried, Out, Made, made_if}
 use Rattle.law_turns.proofs.TurnCounts.Machines.{TriedEra, protect_made}

@@ -3,30 +3,30 @@ use Rattle.law_turns.proofs.Withdrawals.Leaving.{tries_none}
 use Rattle.std.proofs.Common.{ℕ, ◌≡◌, ◌-◌, ◌+◌, Bool, true, false, List, [], ◌∷◌, ◌++◌, Option, Some, None, refl, ap, ◌∙◌, arith}
 use Rattle.std.proofs.lemmas.Bool.Decides.{nat_tests}
 use Rattle.std.specs.Prelude.{◌==◌, ◌&&◌, ◌||◌, not, nat_le, if◌then◌else◌}
-use Rattle.law_answers.specs.inv.model.words.declared.config.Config.{Config}
-use Rattle.law_answers.specs.inv.model.defs.declared.event.Event.{Event}
-use Rattle.law_answers.specs.inv.model.defs.declared.event.Event.TheVariants as events
-use Rattle.law_answers.specs.inv.model.defs.declared.event.Guard.TheVariants.{Helper, Index, Whole}
-use Rattle.law_answers.specs.inv.model.defs.declared.event.Root.{Root}
-use Rattle.law_answers.specs.inv.model.defs.declared.event.Root.TheVariants as roots
-use Rattle.law_answers.specs.inv.model.declared.ends.FollowEnd.TheVariants as follow_ends
-use Rattle.law_answers.specs.inv.model.declared.post.Post.{Post}
-use Rattle.law_answers.specs.inv.model.Protect as protects
-use Rattle.law_answers.specs.inv.model.Guards.{one_era}
-use Rattle.law_answers.specs.inv.model.Posts.{cleared, reserves_index, stands}
-use Rattle.law_answers.specs.inv.model.words.Schemes.{has_one_interval}
-use Rattle.law_answers.specs.inv.model.Calls.{KeepAt, Loosens, LoadHeld, StoreHeld, Looks, Misses, HideSpan, MarkLeft, TakeList, MarkTaken, Work, Keeping}
-use Rattle.law_answers.specs.inv.model.Rounds.{scheme_of, clear_told, let_index}
-use Rattle.law_answers.specs.inv.model.Phases.{Aim, Alone, Follows, Tries, Endless, Failed, ProtectAt, Base, Turn, Outcome, Goes, Ends}
-use Rattle.law_answers.specs.inv.model.Phases.ProtectAt.{LoadClock, PublishEra, LoadLink, CheckClock, WithdrawRequest, WithdrawHelper, LoadWithin, CheckUpper, RaiseUpper}
-use Rattle.law_answers.specs.inv.model.Phases.Base.{Protect, Reload}
-use Rattle.law_answers.specs.inv.model.Phases.Ending.{Followed}
-use Rattle.law_answers.proofs.inv.model.Facts.{first_of, rest_of}
-use Rattle.law_answers.proofs.inv.history.Passes.{Closed, copied_told, keep_told, work_told}
+use Rattle.law_reuse.specs.laws.words.declared.config.Config.{Config}
+use Rattle.law_reuse.specs.laws.defs.declared.event.Event.{Event}
+use Rattle.law_reuse.specs.laws.defs.declared.event.Event.TheVariants as events
+use Rattle.law_reuse.specs.laws.defs.declared.event.Guard.TheVariants.{Helper, Index, Whole}
+use Rattle.law_reuse.specs.laws.defs.declared.event.Root.{Root}
+use Rattle.law_reuse.specs.laws.defs.declared.event.Root.TheVariants as roots
+use Rattle.law_reuse.specs.inv.model.declared.ends.FollowEnd.TheVariants as follow_ends
+use Rattle.law_reuse.specs.inv.model.declared.post.Post.{Post}
+use Rattle.law_reuse.specs.inv.model.Protect as protects
+use Rattle.law_reuse.specs.inv.model.Guards.{one_era}
+use Rattle.law_reuse.specs.inv.model.Posts.{cleared, reserves_index, stands}
+use Rattle.law_reuse.specs.laws.words.Schemes.{has_one_interval}
+use Rattle.law_reuse.specs.inv.model.Calls.{KeepAt, Loosens, LoadHeld, StoreHeld, Looks, Misses, HideSpan, MarkLeft, TakeList, MarkTaken, Work, Keeping}
+use Rattle.law_reuse.specs.inv.model.Rounds.{scheme_of, clear_told, let_index}
+use Rattle.law_reuse.specs.inv.model.Phases.{Aim, Alone, Follows, Tries, Endless, Failed, ProtectAt, Base, Turn, Outcome, Goes, Ends}
+use Rattle.law_reuse.specs.inv.model.Phases.ProtectAt.{LoadClock, PublishEra, LoadLink, CheckClock, WithdrawRequest, WithdrawHelper, LoadWithin, CheckUpper, RaiseUpper}
+use Rattle.law_reuse.specs.inv.model.Phases.Base.{Protect, Reload}
+use Rattle.law_reuse.specs.inv.model.Phases.Ending.{Followed}
+use Rattle.law_reuse.proofs.laws.records.defs.Facts.{first_of, rest_of}
+use Rattle.law_reuse.proofs.history.Passes.{Closed, copied_told, keep_told, work_told}
 use Rattle.law_turns.proofs.Counting.Told.{is_dull, all_dull, cleared_dull, hide_dull}
-use Rattle.law_answers.specs.laws.StateAt.{one_more, tried_by, last_by}
+use Rattle.law_reuse.specs.laws.StateAt.{one_more, tried_by, last_by}
 use Rattle.law_turns.proofs.Withdrawals.Withdrawing.{is_mute, all_mute, quiet_mute, clear_mute, tells_link}
-use Rattle.law_answers.proofs.inv.history.AllOf.{of_weaker}
+use Rattle.law_reuse.proofs.history.AllOf.{of_weaker}
 
 -- along what a step tells
 abbrev pub tried_along : (seat index : ℕ) → List Event → ℕ → ℕ

@@ -2,46 +2,46 @@
 use Rattle.std.proofs.Common.{ℕ, ◌≡◌, ◌≤◌, ◌<◌, ◌+◌, Bool, true, false, List, refl, sym, ap, ◌∙◌, subst, arith}
 use Rattle.std.proofs.lemmas.Bool.Decides.{nat_tests}
 use Rattle.std.specs.Prelude.{◌==◌, ◌*◌, nat_le, if◌then◌else◌}
-use Rattle.law_answers.specs.inv.model.words.declared.config.Config.{Config}
-use Rattle.law_answers.specs.inv.model.words.declared.layout.Layout.{Layout}
-use Rattle.law_answers.specs.inv.model.defs.declared.call.Call.{Call}
-use Rattle.law_answers.specs.inv.model.defs.declared.event.Event.{Event}
-use Rattle.law_answers.specs.inv.model.Locals.{Local, busy_in, begun_post}
-use Rattle.law_answers.specs.inv.model.Machine as machine
-use Rattle.law_answers.specs.inv.model.Posts.{counted}
-use Rattle.law_answers.specs.inv.model.Steps as steps
-use Rattle.law_answers.specs.inv.model.World.{World, begin, step, finds, is_busy, told_in}
-use Rattle.law_answers.specs.inv.model.Phases.{Base, Turn}
-use Rattle.law_answers.specs.inv.model.Phases.Base.{Protect, Reload}
-use Rattle.law_answers.specs.inv.model.Calls.{Why, Opens, FollowsHead, Fills, ClearsNext, Clears, Finishes, GivesUp, Retires, Tidies, Advances, Releases, Phase, Idle, Runs, Scans, Works}
-use Rattle.law_answers.proofs.inv.model.Facts.{zero_of_test, le_test}
-use Rattle.law_answers.specs.inv.model.words.Schemes.{is_ibr, is_wfe}
-use Rattle.law_answers.specs.inv.shapes.Frame.{Moves}
-use Rattle.law_answers.specs.inv.shapes.Seats.{PostFits, PhaseFits, Run, kind_of, suits, index_by}
-use Rattle.law_answers.proofs.inv.shapes.Frame.{seat_stays, begin_stays, begin_begins}
-use Rattle.law_answers.proofs.inv.shapes.Inside.{shape_moves}
-use Rattle.law_answers.proofs.inv.shapes.Kept.{begun_fits, counted_fits, run_counted}
-use Rattle.law_answers.specs.inv.history.Record.{tells_of}
-use Rattle.law_answers.specs.inv.history.Turns as schedule
-use Rattle.law_answers.specs.inv.history.Turns.{record_of, EachTurn}
-use Rattle.law_answers.specs.inv.history.Turns.History.{Blank, Starts, Turns}
-use Rattle.law_answers.specs.inv.history.History.{Begins, Steps, Made, done, first_made}
-use Rattle.law_answers.specs.inv.Inv.{Inv}
-use Rattle.law_answers.specs.laws.HistoryTurns.{turns_since}
-use Rattle.law_answers.proofs.OneStep.Along.{Around, Kept, history_keeps}
+use Rattle.law_reuse.specs.laws.words.declared.config.Config.{Config}
+use Rattle.law_reuse.specs.laws.words.declared.layout.Layout.{Layout}
+use Rattle.law_reuse.specs.laws.defs.declared.call.Call.{Call}
+use Rattle.law_reuse.specs.laws.defs.declared.event.Event.{Event}
+use Rattle.law_reuse.specs.inv.model.Locals.{Local, busy_in, begun_post}
+use Rattle.law_reuse.specs.inv.model.Machine as machine
+use Rattle.law_reuse.specs.inv.model.Posts.{counted}
+use Rattle.law_reuse.specs.inv.model.Steps as steps
+use Rattle.law_reuse.specs.inv.model.World.{World, begin, step, finds, is_busy, told_in}
+use Rattle.law_reuse.specs.inv.model.Phases.{Base, Turn}
+use Rattle.law_reuse.specs.inv.model.Phases.Base.{Protect, Reload}
+use Rattle.law_reuse.specs.inv.model.Calls.{Why, Opens, FollowsHead, Fills, ClearsNext, Clears, Finishes, GivesUp, Retires, Tidies, Advances, Releases, Phase, Idle, Runs, Scans, Works}
+use Rattle.law_reuse.proofs.laws.records.defs.Facts.{zero_of_test, le_test}
+use Rattle.law_reuse.specs.laws.words.Schemes.{is_ibr, is_wfe}
+use Rattle.law_reuse.specs.inv.shapes.Frame.{Moves}
+use Rattle.law_reuse.specs.inv.shapes.Seats.{PostFits, PhaseFits, Run, kind_of, suits, index_by}
+use Rattle.law_reuse.proofs.shapes.Frame.{seat_stays, begin_stays, begin_begins}
+use Rattle.law_reuse.proofs.shapes.Inside.{shape_moves}
+use Rattle.law_reuse.proofs.shapes.Kept.{begun_fits, counted_fits, run_counted}
+use Rattle.law_reuse.specs.laws.records.Record.{tells_of}
+use Rattle.law_reuse.specs.laws.records.Turns as schedule
+use Rattle.law_reuse.specs.laws.records.Turns.{record_of, EachTurn}
+use Rattle.law_reuse.specs.laws.records.Turns.History.{Blank, Starts, Turns}
+use Rattle.law_reuse.specs.history.History.{Begins, Steps, Made, done, first_made}
+use Rattle.law_reuse.specs.inv.Inv.{Inv}
+use Rattle.law_reuse.specs.laws.HistoryTurns.{turns_since}
+use Rattle.law_reuse.proofs.OneStep.Along.{Around, Kept, history_keeps}
 use Rattle.law_turns.proofs.Counting.Counting as counting
 use Rattle.law_turns.proofs.Counting.Counting.{published, since_of, turned_here}
 use Rattle.law_turns.proofs.Counting.Fits.{own, base_own}
 use Rattle.law_turns.proofs.Counting.Passing.{turned}
-use Rattle.law_answers.specs.laws.HistorySteps.{due_of, under_way, lasts_right}
-use Rattle.law_answers.specs.laws.StateAt.{tried_of, last_of}
+use Rattle.law_reuse.specs.laws.HistorySteps.{due_of, under_way, lasts_right}
+use Rattle.law_reuse.specs.laws.StateAt.{tried_of, last_of}
 use Rattle.law_turns.specs.Records.{ProtectionsLast}
 use Rattle.law_turns.proofs.Withdrawals.Due as due
 use Rattle.law_turns.proofs.Withdrawals.Leaving.{Left, stepped_leads, first_new}
 use Rattle.law_turns.proofs.TurnCounts.Trying.{tried_along, last_along, work_zero}
 use Rattle.law_turns.proofs.TurnCounts.Tried.{why_tried, phase_tried, Stage, is_follow, run_made}
 use Rattle.law_turns.proofs.TurnCounts.Lasting.{own_told, told_comes, tried_tells, last_tells, tried_stays, last_stays, base_apart, base_era, protect_turns, reload_turns, InBound, bound, phase_turns, new_tried, out_tried}
-use Rattle.law_answers.proofs.inv.steps_left.Rest.Falling.{wfe_plain}
+use Rattle.law_reuse.proofs.inv.steps_left.Rest.Falling.{wfe_plain}
 
 -- along a history
 pub record Lasts (layout : Layout) (made : Made) (h : schedule.History) : Type 0 where

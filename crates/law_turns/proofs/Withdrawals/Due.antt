@@ -1,54 +1,54 @@
 -- Along a history it is known which helper words publish, and which have to be withdrawn.
-use Rattle.law_answers.specs.inv.model.words.Schemes.{is_ibr}
+use Rattle.law_reuse.specs.laws.words.Schemes.{is_ibr}
 use Rattle.std.proofs.Common.{ℕ, ◌≡◌, ◌+◌, Bool, true, false, List, [], ◌∷◌, ◌++◌, refl, sym, ap, ◌∙◌, subst, arith, Option, Some, None}
 use Rattle.std.proofs.lemmas.Bool.Decides.{nat_tests}
 use Rattle.std.specs.Prelude.{◌==◌, nat_le, nat_lt, if◌then◌else◌}
-use Rattle.law_answers.specs.inv.model.words.Packed.{reservation_word, read_reservation, read_request}
-use Rattle.law_answers.specs.inv.model.words.declared.packed.Request.{Request}
-use Rattle.law_answers.specs.inv.model.words.declared.packed.Request.TheVariants as requests
-use Rattle.law_answers.specs.inv.model.words.declared.config.Config.{Config}
-use Rattle.law_answers.specs.inv.model.words.declared.layout.Layout.{Layout}
-use Rattle.law_answers.specs.inv.model.defs.declared.call.Call.{Call}
-use Rattle.law_answers.specs.inv.model.defs.declared.event.Event.{Event}
-use Rattle.law_answers.specs.inv.model.defs.declared.event.Root.{Root}
-use Rattle.law_answers.specs.inv.model.declared.post.Post.{Post}
-use Rattle.law_answers.specs.inv.model.Allocate as allocates
-use Rattle.law_answers.specs.inv.model.Desks.{Desk}
-use Rattle.law_answers.specs.inv.model.Locals.{Local, busy_in, begun_post, told_by}
-use Rattle.law_answers.specs.inv.model.Machine as machine
-use Rattle.law_answers.specs.inv.model.Memory.{bump}
-use Rattle.law_answers.specs.inv.model.MoveClock as movers
-use Rattle.law_answers.specs.inv.model.Posts.{counted, upper, reserves_helper}
-use Rattle.law_answers.specs.inv.model.Protect as protects
-use Rattle.law_answers.specs.inv.model.SlowPath as slow
-use Rattle.law_answers.specs.inv.model.Steps as steps
-use Rattle.law_answers.specs.inv.model.WriteRow.{last_written}
-use Rattle.law_answers.specs.inv.model.World.{World, begin, finds, is_busy, offered, step, told_in}
-use Rattle.law_answers.specs.inv.model.Phases.{Aim, Alone, Follows, Tries, Endless, Failed, ProtectAt, MoveAt, Walk, Base, Turn, Outcome, Goes, Ends}
-use Rattle.law_answers.specs.inv.model.Phases.BeginAt.{LoadLower}
-use Rattle.law_answers.specs.inv.model.Phases.ProtectAt.{LoadClock, PublishEra, LoadLink, CheckClock, PublishRequest, PublishHelper, CheckOwnClock, AnswerOwn, LoadAnswer, WithdrawRequest, WithdrawHelper, LoadWithin, CheckUpper}
-use Rattle.law_answers.specs.inv.model.Phases.AllocateAt.{ClaimSlot}
-use Rattle.law_answers.specs.inv.model.Phases.RetireAt.{LoadLife}
-use Rattle.law_answers.specs.inv.model.Phases.MoveAt.{LoadEra, LoadRequest, ShowEra, CheckEra, AnswerAsked, LoadReserved, HandOver, ExchangeClock}
-use Rattle.law_answers.specs.inv.model.Phases.Base.{Begin, Protect, Reload, Allocate, Write, Retire, Move}
-use Rattle.law_answers.specs.inv.model.Calls.{Why, Phase, Idle, Runs, Scans, Works}
-use Rattle.law_answers.proofs.inv.model.Facts.{same_number}
-use Rattle.law_answers.specs.inv.shapes.Eras.{Eras}
-use Rattle.law_answers.proofs.inv.shapes.Frame.{seat_stays, begin_stays, begin_begins}
-use Rattle.law_answers.proofs.inv.shapes.Kept.{begun_fits}
-use Rattle.law_answers.specs.inv.history.Record.{Past, tells_of}
-use Rattle.law_answers.specs.inv.history.Record.Past.{Then}
-use Rattle.law_answers.specs.inv.history.Turns as schedule
-use Rattle.law_answers.specs.inv.history.Turns.{record_of, EachTurn}
-use Rattle.law_answers.specs.inv.history.Turns.History.{Blank, Starts, Turns}
-use Rattle.law_answers.specs.inv.history.History.{Begins, Steps, Made, done, first_made}
-use Rattle.law_answers.specs.inv.Inv.{Inv}
-use Rattle.law_answers.proofs.inv.Inv.Shapes.{eras_of}
-use Rattle.law_answers.proofs.inv.history.Passes.{Closed, step_goes}
-use Rattle.law_answers.proofs.OneStep.Along.{Around, Kept, history_keeps}
-use Rattle.law_answers.proofs.inv.history.MayTell.{concluded_told}
-use Rattle.law_answers.specs.laws.StateAt.{shown_by, shown_of}
-use Rattle.law_answers.specs.laws.HistorySteps.{found_shown, one_less, due_of, withdraws_first, withdraws_by, withdrawn_right}
+use Rattle.law_reuse.specs.laws.words.Packed.{reservation_word, read_reservation, read_request}
+use Rattle.law_reuse.specs.laws.words.declared.packed.Request.{Request}
+use Rattle.law_reuse.specs.laws.words.declared.packed.Request.TheVariants as requests
+use Rattle.law_reuse.specs.laws.words.declared.config.Config.{Config}
+use Rattle.law_reuse.specs.laws.words.declared.layout.Layout.{Layout}
+use Rattle.law_reuse.specs.laws.defs.declared.call.Call.{Call}
+use Rattle.law_reuse.specs.laws.defs.declared.event.Event.{Event}
+use Rattle.law_reuse.specs.laws.defs.declared.event.Root.{Root}
+use Rattle.law_reuse.specs.inv.model.declared.post.Post.{Post}
+use Rattle.law_reuse.specs.inv.model.Allocate as allocates
+use Rattle.law_reuse.specs.inv.model.Desks.{Desk}
+use Rattle.law_reuse.specs.inv.model.Locals.{Local, busy_in, begun_post, told_by}
+use Rattle.law_reuse.specs.inv.model.Machine as machine
+use Rattle.law_reuse.specs.inv.model.Memory.{bump}
+use Rattle.law_reuse.specs.inv.model.MoveClock as movers
+use Rattle.law_reuse.specs.inv.model.Posts.{counted, upper, reserves_helper}
+use Rattle.law_reuse.specs.inv.model.Protect as protects
+use Rattle.law_reuse.specs.inv.model.SlowPath as slow
+use Rattle.law_reuse.specs.inv.model.Steps as steps
+use Rattle.law_reuse.specs.inv.model.WriteRow.{last_written}
+use Rattle.law_reuse.specs.inv.model.World.{World, begin, finds, is_busy, offered, step, told_in}
+use Rattle.law_reuse.specs.inv.model.Phases.{Aim, Alone, Follows, Tries, Endless, Failed, ProtectAt, MoveAt, Walk, Base, Turn, Outcome, Goes, Ends}
+use Rattle.law_reuse.specs.inv.model.Phases.BeginAt.{LoadLower}
+use Rattle.law_reuse.specs.inv.model.Phases.ProtectAt.{LoadClock, PublishEra, LoadLink, CheckClock, PublishRequest, PublishHelper, CheckOwnClock, AnswerOwn, LoadAnswer, WithdrawRequest, WithdrawHelper, LoadWithin, CheckUpper}
+use Rattle.law_reuse.specs.inv.model.Phases.AllocateAt.{ClaimSlot}
+use Rattle.law_reuse.specs.inv.model.Phases.RetireAt.{LoadLife}
+use Rattle.law_reuse.specs.inv.model.Phases.MoveAt.{LoadEra, LoadRequest, ShowEra, CheckEra, AnswerAsked, LoadReserved, HandOver, ExchangeClock}
+use Rattle.law_reuse.specs.inv.model.Phases.Base.{Begin, Protect, Reload, Allocate, Write, Retire, Move}
+use Rattle.law_reuse.specs.inv.model.Calls.{Why, Phase, Idle, Runs, Scans, Works}
+use Rattle.law_reuse.proofs.laws.records.defs.Facts.{same_number}
+use Rattle.law_reuse.specs.inv.shapes.Eras.{Eras}
+use Rattle.law_reuse.proofs.shapes.Frame.{seat_stays, begin_stays, begin_begins}
+use Rattle.law_reuse.proofs.shapes.Kept.{begun_fits}
+use Rattle.law_reuse.specs.laws.records.Record.{Past, tells_of}
+use Rattle.law_reuse.specs.laws.records.Record.Past.{Then}
+use Rattle.law_reuse.specs.laws.records.Turns as schedule
+use Rattle.law_reuse.specs.laws.records.Turns.{record_of, EachTurn}
+use Rattle.law_reuse.specs.laws.records.Turns.History.{Blank, Starts, Turns}
+use Rattle.law_reuse.specs.history.History.{Begins, Steps, Made, done, first_made}
+use Rattle.law_reuse.specs.inv.Inv.{Inv}
+use Rattle.law_reuse.proofs.inv.Inv.Shapes.{eras_of}
+use Rattle.law_reuse.proofs.history.Passes.{Closed, step_goes}
+use Rattle.law_reuse.proofs.OneStep.Along.{Around, Kept, history_keeps}
+use Rattle.law_reuse.proofs.history.MayTell.{concluded_told}
+use Rattle.law_reuse.specs.laws.StateAt.{shown_by, shown_of}
+use Rattle.law_reuse.specs.laws.HistorySteps.{found_shown, one_less, due_of, withdraws_first, withdraws_by, withdrawn_right}
 use Rattle.law_turns.specs.Records.{WithdrawalsFollow}
 use Rattle.law_turns.proofs.Withdrawals.Leaving.{is_first, is_new, Leads, Left, stepped_leads, first_new}
 use Rattle.law_turns.proofs.Withdrawals.Withdrawing.{shown_along, at_shows, move_shows, base_shows, phase_shows, base_leaves, phase_leaves, tells_link, base_finds, phase_finds, Shows, PhaseEra, first_shown, shows_closed}

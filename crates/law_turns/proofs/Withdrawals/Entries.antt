@@ -2,48 +2,48 @@
 use Rattle.std.proofs.Common.{ℕ, ◌≡◌, ◌-◌, Bool, true, false, List, [], ◌∷◌, ◌++◌, Option, refl, sym, ap, ◌∙◌, subst, arith, zero, suc}
 use Rattle.std.proofs.lemmas.Bool.Decides.{nat_tests}
 use Rattle.std.specs.Prelude.{◌==◌, ◌&&◌, ◌||◌, not, is_some, is_none, if◌then◌else◌}
-use Rattle.law_answers.specs.inv.model.defs.declared.call.Call.{Call}
-use Rattle.law_answers.specs.inv.model.defs.declared.event.Event.{Event}
-use Rattle.law_answers.specs.inv.model.defs.declared.event.Event.TheVariants as events
-use Rattle.law_answers.specs.inv.model.defs.declared.event.Guard.{Guard}
-use Rattle.law_answers.specs.inv.model.defs.declared.event.Guard.TheVariants.{Helper, Index, Whole}
-use Rattle.law_answers.specs.inv.model.defs.declared.event.Root.{Root}
-use Rattle.law_answers.specs.inv.model.defs.declared.event.Root.TheVariants as roots
-use Rattle.law_answers.specs.inv.model.defs.declared.lifetime.Interval.{Interval}
-use Rattle.law_answers.specs.inv.model.declared.post.Post.{Post}
-use Rattle.law_answers.specs.inv.model.Calls.{ReadGuard, GiveBack, Phase, Idle, Runs, Scans, Works}
-use Rattle.law_answers.specs.inv.model.Desks.{Desk}
-use Rattle.law_answers.specs.inv.model.Guards.{one_era}
-use Rattle.law_answers.specs.inv.model.Locals.{busy_in, told_by}
-use Rattle.law_answers.specs.inv.model.Memory.{bump}
-use Rattle.law_answers.specs.inv.model.Phases.{Base}
-use Rattle.law_answers.specs.inv.model.Phases.ProtectAt.{TakeAnswer}
-use Rattle.law_answers.specs.inv.model.Phases.Base.{Protect}
-use Rattle.law_answers.specs.inv.model.Posts.{counted}
-use Rattle.law_answers.specs.inv.model.Protect as protects
-use Rattle.law_answers.specs.inv.model.Steps as steps
-use Rattle.law_answers.specs.inv.model.World.{World, finds, is_busy, offered, told_in}
-use Rattle.law_answers.proofs.inv.model.Facts.{both, first_of, rest_of, number_is, same_number}
-use Rattle.law_answers.specs.inv.Inv.{Inv}
-use Rattle.law_answers.specs.inv.history.Heard.{heard_of}
-use Rattle.law_answers.specs.inv.history.History as histories
-use Rattle.law_answers.specs.inv.history.History.{Begins, Item, Made, Steps, done, first_made}
-use Rattle.law_answers.specs.inv.history.Record.{Past, Test, Each, tells_of}
-use Rattle.law_answers.specs.inv.history.Record.Past.{Start, Then}
-use Rattle.law_answers.specs.inv.history.Turns as schedule
-use Rattle.law_answers.specs.inv.history.Turns.{record_of}
-use Rattle.law_answers.specs.inv.history.Turns.History.{Starts, Turns}
-use Rattle.law_answers.proofs.inv.history.AllOf.{all_of}
-use Rattle.law_answers.proofs.inv.history.Entries.{entries_of_each}
-use Rattle.law_answers.proofs.inv.history.MayTell.{Passes, Tells, base_all, base_helper, base_shows, same_span, step_all, work_all}
-use Rattle.law_answers.proofs.inv.history.Passes.{First, is_quiet}
-use Rattle.law_answers.proofs.OneStep.Along.{Around, Kept, history_keeps}
-use Rattle.law_answers.proofs.Turns.Counted.{histories_count}
-use Rattle.law_answers.specs.Heard.{IsCounted}
-use Rattle.law_answers.specs.laws.StateAt.{is_helper, reserved_by, shown_by, shown_of, value_of}
-use Rattle.law_answers.specs.laws.HistorySteps.{due_of, ends_found, found_last, found_shown, one_less, tells_nothing, withdraws_by, withdraws_first}
-use Rattle.law_answers.specs.laws.StateAt.{is_found}
-use Rattle.law_answers.specs.laws.StepLaw.{withdraw_ok, withdrawal_due, withdraws}
+use Rattle.law_reuse.specs.laws.defs.declared.call.Call.{Call}
+use Rattle.law_reuse.specs.laws.defs.declared.event.Event.{Event}
+use Rattle.law_reuse.specs.laws.defs.declared.event.Event.TheVariants as events
+use Rattle.law_reuse.specs.laws.defs.declared.event.Guard.{Guard}
+use Rattle.law_reuse.specs.laws.defs.declared.event.Guard.TheVariants.{Helper, Index, Whole}
+use Rattle.law_reuse.specs.laws.defs.declared.event.Root.{Root}
+use Rattle.law_reuse.specs.laws.defs.declared.event.Root.TheVariants as roots
+use Rattle.law_reuse.specs.laws.defs.declared.lifetime.Interval.{Interval}
+use Rattle.law_reuse.specs.inv.model.declared.post.Post.{Post}
+use Rattle.law_reuse.specs.inv.model.Calls.{ReadGuard, GiveBack, Phase, Idle, Runs, Scans, Works}
+use Rattle.law_reuse.specs.inv.model.Desks.{Desk}
+use Rattle.law_reuse.specs.inv.model.Guards.{one_era}
+use Rattle.law_reuse.specs.inv.model.Locals.{busy_in, told_by}
+use Rattle.law_reuse.specs.inv.model.Memory.{bump}
+use Rattle.law_reuse.specs.inv.model.Phases.{Base}
+use Rattle.law_reuse.specs.inv.model.Phases.ProtectAt.{TakeAnswer}
+use Rattle.law_reuse.specs.inv.model.Phases.Base.{Protect}
+use Rattle.law_reuse.specs.inv.model.Posts.{counted}
+use Rattle.law_reuse.specs.inv.model.Protect as protects
+use Rattle.law_reuse.specs.inv.model.Steps as steps
+use Rattle.law_reuse.specs.inv.model.World.{World, finds, is_busy, offered, told_in}
+use Rattle.law_reuse.proofs.laws.records.defs.Facts.{both, first_of, rest_of, number_is, same_number}
+use Rattle.law_reuse.specs.inv.Inv.{Inv}
+use Rattle.law_reuse.specs.history.Heard.{heard_of}
+use Rattle.law_reuse.specs.history.History as histories
+use Rattle.law_reuse.specs.history.History.{Begins, Item, Made, Steps, done, first_made}
+use Rattle.law_reuse.specs.laws.records.Record.{Past, Test, Each, tells_of}
+use Rattle.law_reuse.specs.laws.records.Record.Past.{Start, Then}
+use Rattle.law_reuse.specs.laws.records.Turns as schedule
+use Rattle.law_reuse.specs.laws.records.Turns.{record_of}
+use Rattle.law_reuse.specs.laws.records.Turns.History.{Starts, Turns}
+use Rattle.law_reuse.proofs.history.AllOf.{all_of}
+use Rattle.law_reuse.proofs.laws.records.Entries.{entries_of_each}
+use Rattle.law_reuse.proofs.history.MayTell.{Passes, Tells, base_all, base_helper, base_shows, same_span, step_all, work_all}
+use Rattle.law_reuse.proofs.history.Passes.{First, is_quiet}
+use Rattle.law_reuse.proofs.OneStep.Along.{Around, Kept, history_keeps}
+use Rattle.law_reuse.proofs.Turns.Counted.{histories_count}
+use Rattle.law_reuse.specs.Heard.{IsCounted}
+use Rattle.law_reuse.specs.laws.StateAt.{is_helper, reserved_by, shown_by, shown_of, value_of}
+use Rattle.law_reuse.specs.laws.HistorySteps.{due_of, ends_found, found_last, found_shown, one_less, tells_nothing, withdraws_by, withdraws_first}
+use Rattle.law_reuse.specs.laws.StateAt.{is_found}
+use Rattle.law_reuse.specs.laws.StepLaw.{withdraw_ok, withdrawal_due, withdraws}
 use Rattle.law_turns.specs.Records.{RecordsWithdrawNext, TurnsFindLast}
 use Rattle.law_turns.proofs.Withdrawals.Due as due
 use Rattle.law_turns.proofs.Withdrawals.Due.{Keeps, after_due, begin_kept, phase_due, step_kept}

@@ -1,37 +1,37 @@
 -- Where a seat stands after a step: at what its machine goes on to, or at the first phase of something else.
-use Rattle.law_answers.specs.inv.model.declared.ends.FollowEnd.TheVariants as follow_ends
-use Rattle.law_answers.specs.inv.model.Phases.Ending.{Followed}
+use Rattle.law_reuse.specs.inv.model.declared.ends.FollowEnd.TheVariants as follow_ends
+use Rattle.law_reuse.specs.inv.model.Phases.Ending.{Followed}
 use Rattle.std.proofs.Common.{ℕ, ◌≡◌, Bool, true, false, List, refl, sym, subst, ap, ◌∙◌}
 use Rattle.std.specs.Prelude.{◌==◌, ◌&&◌}
-use Rattle.law_answers.specs.inv.model.words.Place.{is_valid}
-use Rattle.law_answers.specs.inv.model.words.declared.config.SchemeKind.{SchemeKind}
-use Rattle.law_answers.specs.inv.model.words.declared.config.SchemeKind.TheVariants.{He, Ibr, Wfe}
-use Rattle.law_answers.specs.inv.model.words.declared.layout.Layout.{Layout}
-use Rattle.law_answers.specs.inv.model.defs.declared.call.Call.{Call}
-use Rattle.law_answers.specs.inv.model.defs.declared.event.Event.{Event}
-use Rattle.law_answers.specs.inv.model.declared.post.Post.{Post}
-use Rattle.law_answers.specs.inv.model.Desks.{Desk}
-use Rattle.law_answers.specs.inv.model.Machine as machine
-use Rattle.law_answers.specs.inv.model.Phases.{Tries, Endless, Failed, ProtectAt, AllocateAt, RetireAt, MoveAt, BeginAt, Base, Outcome, Goes, Ends, Ending}
-use Rattle.law_answers.specs.inv.model.Phases.BeginAt.{LoadLower}
-use Rattle.law_answers.specs.inv.model.Phases.ProtectAt.{LoadClock, LoadWithin}
-use Rattle.law_answers.specs.inv.model.Phases.AllocateAt.{LoadBirth}
-use Rattle.law_answers.specs.inv.model.Phases.RetireAt.{LoadLife}
-use Rattle.law_answers.specs.inv.model.Phases.MoveAt.{LoadEra}
-use Rattle.law_answers.specs.inv.model.Phases.Base.{Begin, Protect, Reload, Clear, Finish, Release, Allocate, Write, GiveUp, Retire, Move}
-use Rattle.law_answers.specs.inv.model.Posts.{counted}
-use Rattle.law_answers.specs.inv.model.Rounds.{scheme_of, protect_at, clear_base, clearing_next_by}
-use Rattle.law_answers.specs.inv.model.Steps as steps
-use Rattle.law_answers.specs.inv.model.World.{World, finds, offered, step}
-use Rattle.law_answers.specs.inv.model.Calls.{Why, LoadHeld, Work, Keeping, Phase, Idle, Runs, Scans, Works, FollowsHead, ClearsNext, Again}
-use Rattle.law_answers.specs.inv.shapes.Frame.{Grows, Passed, Stores, phase_left}
-use Rattle.law_answers.specs.inv.model.words.Schemes.{is_ibr}
-use Rattle.law_answers.specs.inv.shapes.Seats.{PostFits, PhaseFits, Seats}
-use Rattle.law_answers.proofs.inv.shapes.Inside.{shape_moves}
-use Rattle.law_answers.proofs.inv.shapes.Kept.{bared_fits, counted_fits, run_counted, work_counted}
-use Rattle.law_answers.proofs.inv.shapes.Shapes.{shape_grows}
-use Rattle.law_answers.proofs.inv.shapes.Works.{resume_left, work_left, scan_left, first_grows}
-use Rattle.law_answers.proofs.inv.covers.Held.{stepped_phase}
+use Rattle.law_reuse.specs.laws.words.Place.{is_valid}
+use Rattle.law_reuse.specs.laws.words.declared.config.SchemeKind.{SchemeKind}
+use Rattle.law_reuse.specs.laws.words.declared.config.SchemeKind.TheVariants.{He, Ibr, Wfe}
+use Rattle.law_reuse.specs.laws.words.declared.layout.Layout.{Layout}
+use Rattle.law_reuse.specs.laws.defs.declared.call.Call.{Call}
+use Rattle.law_reuse.specs.laws.defs.declared.event.Event.{Event}
+use Rattle.law_reuse.specs.inv.model.declared.post.Post.{Post}
+use Rattle.law_reuse.specs.inv.model.Desks.{Desk}
+use Rattle.law_reuse.specs.inv.model.Machine as machine
+use Rattle.law_reuse.specs.inv.model.Phases.{Tries, Endless, Failed, ProtectAt, AllocateAt, RetireAt, MoveAt, BeginAt, Base, Outcome, Goes, Ends, Ending}
+use Rattle.law_reuse.specs.inv.model.Phases.BeginAt.{LoadLower}
+use Rattle.law_reuse.specs.inv.model.Phases.ProtectAt.{LoadClock, LoadWithin}
+use Rattle.law_reuse.specs.inv.model.Phases.AllocateAt.{LoadBirth}
+use Rattle.law_reuse.specs.inv.model.Phases.RetireAt.{LoadLife}
+use Rattle.law_reuse.specs.inv.model.Phases.MoveAt.{LoadEra}
+use Rattle.law_reuse.specs.inv.model.Phases.Base.{Begin, Protect, Reload, Clear, Finish, Release, Allocate, Write, GiveUp, Retire, Move}
+use Rattle.law_reuse.specs.inv.model.Posts.{counted}
+use Rattle.law_reuse.specs.inv.model.Rounds.{scheme_of, protect_at, clear_base, clearing_next_by}
+use Rattle.law_reuse.specs.inv.model.Steps as steps
+use Rattle.law_reuse.specs.inv.model.World.{World, finds, offered, step}
+use Rattle.law_reuse.specs.inv.model.Calls.{Why, LoadHeld, Work, Keeping, Phase, Idle, Runs, Scans, Works, FollowsHead, ClearsNext, Again}
+use Rattle.law_reuse.specs.inv.shapes.Frame.{Grows, Passed, Stores, phase_left}
+use Rattle.law_reuse.specs.laws.words.Schemes.{is_ibr}
+use Rattle.law_reuse.specs.inv.shapes.Seats.{PostFits, PhaseFits, Seats}
+use Rattle.law_reuse.proofs.shapes.Inside.{shape_moves}
+use Rattle.law_reuse.proofs.shapes.Kept.{bared_fits, counted_fits, run_counted, work_counted}
+use Rattle.law_reuse.proofs.shapes.Shapes.{shape_grows}
+use Rattle.law_reuse.proofs.shapes.Works.{resume_left, work_left, scan_left, first_grows}
+use Rattle.law_reuse.proofs.inv.covers.Held.{stepped_phase}
 
 -- the first step of a machine
 abbrev pub begins_at : BeginAt → Bool

@@ -2,35 +2,35 @@
 use Rattle.std.proofs.Common.{ℕ, ◌≡◌, ◌≤◌, ◌-◌, Bool, true, false, List, [], ◌∷◌, ◌++◌, Some, None, refl, ap, ◌∙◌, arith}
 use Rattle.std.proofs.lemmas.Bool.Decides.{nat_tests}
 use Rattle.std.specs.Prelude.{◌==◌, ◌&&◌, ◌||◌, is_some, if◌then◌else◌, is_none, not}
-use Rattle.law_answers.specs.inv.model.words.Packed.{reservation_word}
-use Rattle.law_answers.specs.inv.model.words.declared.config.SchemeKind.{SchemeKind}
-use Rattle.law_answers.specs.inv.model.defs.declared.event.Event.{Event}
-use Rattle.law_answers.specs.inv.model.defs.declared.event.Event.TheVariants as events
-use Rattle.law_answers.specs.inv.model.defs.declared.event.Guard.TheVariants.{Helper, Index, Whole}
-use Rattle.law_answers.specs.inv.model.defs.declared.event.Root.{Root}
-use Rattle.law_answers.specs.inv.model.defs.declared.lifetime.Interval.{Interval}
-use Rattle.law_answers.specs.inv.model.defs.declared.event.Root.TheVariants as roots
-use Rattle.law_answers.specs.inv.model.declared.post.Post.{Post}
-use Rattle.law_answers.specs.inv.model.Guards.{one_era}
-use Rattle.law_answers.specs.inv.model.Machine as machine
-use Rattle.law_answers.specs.inv.model.Memory.{bump}
-use Rattle.law_answers.specs.inv.model.MoveClock as movers
-use Rattle.law_answers.specs.inv.model.Posts.{reserves_helper}
-use Rattle.law_answers.specs.inv.model.Protect as protects
-use Rattle.law_answers.specs.inv.model.Rounds.{scheme_of, clear_told}
-use Rattle.law_answers.specs.inv.model.Phases.{Aim, ProtectAt, MoveAt, Base}
-use Rattle.law_answers.specs.inv.model.Phases.ProtectAt.{PublishHelper, LoadOwnLink, CheckOwnClock, AnswerOwn, LoadAnswer, TakeAnswer, WithdrawRequest, WithdrawHelper}
-use Rattle.law_answers.specs.inv.model.Phases.MoveAt.{LoadEra, LoadRequest, ShowEra, LoadAsked, CheckEra, AnswerAsked, LoadReserved, HandOver, HideEra, HideLate, ExchangeClock}
-use Rattle.law_answers.specs.inv.model.Phases.Base.{Protect, Move}
-use Rattle.law_answers.specs.inv.model.Calls.{ReadGuard, GiveBack, Phase, Idle, Runs, Scans, Works}
-use Rattle.law_answers.proofs.inv.model.Facts.{first_of, rest_of, and_false, or_false, false_not_true}
-use Rattle.law_answers.proofs.inv.history.Passes.{is_quiet, all_quiet, Closed, First, work_told}
-use Rattle.law_answers.specs.laws.StateAt.{shown_by}
-use Rattle.law_answers.specs.laws.HistorySteps.{found_shown}
-use Rattle.law_answers.specs.laws.StateAt.{is_found}
-use Rattle.law_answers.proofs.inv.history.MayTell as may
-use Rattle.law_answers.proofs.inv.history.MayTell.{Tells, may_store, may_publish, same_span, span_of, publishes, finds, is_find, bare, no_find, base_tells, base_all, clear_all, concluded_told}
-use Rattle.law_answers.proofs.inv.history.AllOf.{all_of, of_weaker, of_both}
+use Rattle.law_reuse.specs.laws.words.Packed.{reservation_word}
+use Rattle.law_reuse.specs.laws.words.declared.config.SchemeKind.{SchemeKind}
+use Rattle.law_reuse.specs.laws.defs.declared.event.Event.{Event}
+use Rattle.law_reuse.specs.laws.defs.declared.event.Event.TheVariants as events
+use Rattle.law_reuse.specs.laws.defs.declared.event.Guard.TheVariants.{Helper, Index, Whole}
+use Rattle.law_reuse.specs.laws.defs.declared.event.Root.{Root}
+use Rattle.law_reuse.specs.laws.defs.declared.lifetime.Interval.{Interval}
+use Rattle.law_reuse.specs.laws.defs.declared.event.Root.TheVariants as roots
+use Rattle.law_reuse.specs.inv.model.declared.post.Post.{Post}
+use Rattle.law_reuse.specs.inv.model.Guards.{one_era}
+use Rattle.law_reuse.specs.inv.model.Machine as machine
+use Rattle.law_reuse.specs.inv.model.Memory.{bump}
+use Rattle.law_reuse.specs.inv.model.MoveClock as movers
+use Rattle.law_reuse.specs.inv.model.Posts.{reserves_helper}
+use Rattle.law_reuse.specs.inv.model.Protect as protects
+use Rattle.law_reuse.specs.inv.model.Rounds.{scheme_of, clear_told}
+use Rattle.law_reuse.specs.inv.model.Phases.{Aim, ProtectAt, MoveAt, Base}
+use Rattle.law_reuse.specs.inv.model.Phases.ProtectAt.{PublishHelper, LoadOwnLink, CheckOwnClock, AnswerOwn, LoadAnswer, TakeAnswer, WithdrawRequest, WithdrawHelper}
+use Rattle.law_reuse.specs.inv.model.Phases.MoveAt.{LoadEra, LoadRequest, ShowEra, LoadAsked, CheckEra, AnswerAsked, LoadReserved, HandOver, HideEra, HideLate, ExchangeClock}
+use Rattle.law_reuse.specs.inv.model.Phases.Base.{Protect, Move}
+use Rattle.law_reuse.specs.inv.model.Calls.{ReadGuard, GiveBack, Phase, Idle, Runs, Scans, Works}
+use Rattle.law_reuse.proofs.laws.records.defs.Facts.{first_of, rest_of, and_false, or_false, false_not_true}
+use Rattle.law_reuse.proofs.history.Passes.{is_quiet, all_quiet, Closed, First, work_told}
+use Rattle.law_reuse.specs.laws.StateAt.{shown_by}
+use Rattle.law_reuse.specs.laws.HistorySteps.{found_shown}
+use Rattle.law_reuse.specs.laws.StateAt.{is_found}
+use Rattle.law_reuse.proofs.history.MayTell as may
+use Rattle.law_reuse.proofs.history.MayTell.{Tells, may_store, may_publish, same_span, span_of, publishes, finds, is_find, bare, no_find, base_tells, base_all, clear_all, concluded_told}
+use Rattle.law_reuse.proofs.history.AllOf.{all_of, of_weaker, of_both}
 
 -- along what a step tells
 abbrev pub shown_along : (seat : ℕ) → List Event → Bool → Bool

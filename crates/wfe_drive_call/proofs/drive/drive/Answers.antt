@@ -2,8 +2,8 @@
 use Rattle.std.proofs.Common.{ap, sym, ◌∙◌}
 use Rattle.wfe_core.specs.Calls.{Phase}
 use Rattle.wfe_core.specs.Locals.{busy_in}
-use Rattle.wfe_drive_change.specs.drive_words.Called.{at_phase}
-use Rattle.wfe_drive_change.proofs.drive_words.Leading.{closes_from, here_as}
+use Rattle.wfe_drive_runs.specs.drive_words.Called.{at_phase}
+use Rattle.wfe_drive_runs.proofs.drive_words.Leading.{closes_from, here_as}
 use Rattle.wfe_drive_call.proofs.Starting.{first_busy}
 use Rattle.wfe_drive_call.proofs.drive.drive.Goals as goal
 

@@ -6,8 +6,8 @@ use Rattle.wfe_core.specs.Calls.{Idle}
 use Rattle.wfe_core.specs.DeskHeld.{desk_of}
 use Rattle.wfe_core.specs.Desks.{Desk, Notes, no_notes}
 use Rattle.wfe_core.specs.declared.desk.Desk.{Desk as HeldDesk}
-use Rattle.wfe_drive_change.specs.drive_words.Called.{at_phase}
-use Rattle.wfe_drive_change.proofs.drive_words.Makes.{Over, called_by, here_begun, over_by, starts_at}
+use Rattle.wfe_drive_runs.specs.drive_words.Called.{at_phase}
+use Rattle.wfe_drive_runs.proofs.drive_words.Makes.{Over, called_by, here_begun, over_by, starts_at}
 use Rattle.wfe_drive_call.proofs.drive.drive_call.Goals as goal
 
 pub start-requires-clause-idle : goal.start-requires-clause-idle

@@ -1,9 +1,9 @@
 -- Where the seat is, its numbers are in range; and where its interval would end it keeps no row.
 use Rattle.std.proofs.Common.{sym}
 use Rattle.wfe_core.specs.Steps.{first_phase}
-use Rattle.wfe_drive_change.specs.drive_words.Called.{at_phase}
-use Rattle.wfe_drive_change.specs.drive_words.Readiness.{MayAsk}
-use Rattle.wfe_drive_change.proofs.drive_words.Makes.{may_ask_at}
+use Rattle.wfe_drive_runs.specs.drive_words.Called.{at_phase}
+use Rattle.wfe_drive_runs.specs.drive_words.Readiness.{MayAsk}
+use Rattle.wfe_drive_runs.proofs.drive_words.Makes.{may_ask_at}
 use Rattle.wfe_drive_call.proofs.Starting.{ends_free}
 use Rattle.wfe_drive_call.proofs.drive.drive_ibr.Goals as goal
 

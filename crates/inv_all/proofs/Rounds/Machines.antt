@@ -1,0 +1,415 @@
+-- A machine's step has lost no more rounds than has changed.
+use Rattle.std.proofs.Common.{ℕ, ◌∙◌, ◌≡◌, ◌≤◌, ◌+◌, ◌-◌, Bool, true, false, [], ◌∷◌, arith, refl, sym, ap, subst}
+use Rattle.std.proofs.lemmas.Bool.Decides.{nat_tests}
+use Rattle.inv_contents.specs.model.Steps as steps
+use Rattle.inv_contents.specs.model.Phases.Base.{Move, Allocate, Begin, Clear, Finish, GiveUp, Protect, Release, Reload, Retire, Write}
+use Rattle.inv_contents.specs.model.Memory.{bump}
+use Rattle.inv_steps_left.proofs.Rest.Runs.{EndsWell, ends_well}
+use Rattle.inv_contents.specs.words.Place.Place.{Clock}
+use Rattle.inv_contents.specs.defs.declared.event.Event.TheVariants as events
+use Rattle.inv_contents.specs.defs.declared.call.Answer.TheVariants as answers
+use Rattle.inv_contents.specs.model.declared.ends.ProtectEnd.TheVariants as protect_ends
+use Rattle.inv_contents.specs.model.declared.ends.FollowEnd.TheVariants as follow_ends
+use Rattle.inv_contents.specs.model.declared.ends.AllocateEnd.TheVariants as allocate_ends
+use Rattle.inv_steps_left.proofs.Rest.Told.{Tells, base_steady, protect_steady, protect_tells}
+use Rattle.inv_contents.specs.model.Allocate.{is_claimed, next_slot, walk_past, walking}
+use Rattle.inv_contents.specs.model.Calls.{AfterScan, LetGo, Next, Task, Why}
+use Rattle.inv_contents.specs.model.Calls.Next.{Answering}
+use Rattle.inv_contents.specs.model.Calls.Phase.{Runs}
+use Rattle.inv_contents.specs.model.Calls.Task.{Changes, Dequeues, Enqueues, Gets, Holds}
+use Rattle.inv_contents.specs.model.Calls.Why.{Advances, Clears, ClearsNext, Fills, Finishes, FollowsHead, GivesUp, Opens, Releases, Retires, Tidies}
+use Rattle.inv_contents.specs.model.Desks.{Desk}
+use Rattle.inv_contents.specs.model.Follow.{after_reload}
+use Rattle.inv_contents.specs.model.Guards.{from_to}
+use Rattle.inv_contents.specs.model.Locals.{rounds_told}
+use Rattle.inv_contents.specs.model.Machine.{after, protect_turn}
+use Rattle.inv_contents.specs.model.Phases.{AllocateAt, Base, Outcome, ProtectAt, RowOf, Turn, Walk, ends, goes}
+use Rattle.inv_contents.specs.model.Phases.Aim.{Alone, Follows}
+use Rattle.inv_contents.specs.model.Phases.AllocateAt.{ClaimSlot, LoadBirth, StoreLife}
+use Rattle.inv_contents.specs.model.Phases.BeginAt.{LoadLower, PublishSpan}
+use Rattle.inv_contents.specs.model.Phases.Ending.{Allocated, Clocked, Done, Followed, Protected, Retired}
+use Rattle.inv_contents.specs.model.Phases.Outcome.{Ends, Goes}
+use Rattle.inv_contents.specs.model.Phases.ProtectAt.{AnswerOwn, CheckClock, CheckOwnClock, CheckUpper, LoadAnswer, LoadClock, LoadLink, LoadOwnClock, LoadOwnLink, LoadWithin, PublishEra, PublishHelper, PublishRequest, RaiseUpper, TakeAnswer, WithdrawHelper, WithdrawRequest}
+use Rattle.inv_contents.specs.model.Posts.{counted, reserves_span, upper, with_row, with_span, withdrawn}
+use Rattle.inv_contents.specs.model.Protect.{failed_once, protect_end, protected}
+use Rattle.inv_contents.specs.model.Rest.{is_told, lost_by, rounds_most}
+use Rattle.inv_contents.specs.model.SlowPath.{answer_in, lost_turn, own_request}
+use Rattle.inv_contents.specs.model.Steps.{resumed, run_turn}
+use Rattle.inv_contents.specs.model.World.{World, finds, offered}
+use Rattle.inv_contents.specs.model.WriteRow.{after_write, last_written}
+use Rattle.inv_contents.specs.model.declared.post.Post.{Post}
+use Rattle.inv_contents.specs.defs.declared.call.Answer.{Answer}
+use Rattle.inv_contents.specs.defs.declared.event.Event.{Event}
+use Rattle.inv_contents.specs.defs.declared.event.Root.{Root}
+use Rattle.inv_links.specs.shapes.Seats.{Run, task_root}
+use Rattle.inv_links.specs.Tracked.{carries_at, carries_in, root_base}
+use Rattle.inv_steps_left.proofs.Rest.Closes.{clear_rounds}
+use Rattle.inv_steps_left.proofs.Rest.Falling.{fit_clock}
+use Rattle.inv_steps_left.proofs.Rest.Loses.{EndsFollow, ends_follow, is_hold}
+use Rattle.inv_steps_left.proofs.Rest.Machines.{at_clock}
+use Rattle.inv_steps_left.proofs.Rest.Seats.{follows_alone, once_told, own_root}
+use Rattle.inv_steps_left.specs.Losses.{fills_fit, is_queue, opens_fit, why_fit}
+use Rattle.inv_all.proofs.Rounds.Paced.{TurnPaced, advanced_paced, clearing_paced, closed_paced, filled_by_paced, fills_something, finishing_paced, followed_paced, link_since, opened_null_paced, opened_row_paced, opening_paced, released_paced, retired_paced, tidied_paced, written_paced}
+use Rattle.inv_all.specs.Tallies.{Tally, fills_paced, head_since, lag_since, later_paced, next_paced, passes_so_far, since_test, task_good, task_paced, why_good, why_paced}
+use Rattle.inv_contents.specs.words.Packed.{read_request}
+use Rattle.inv_contents.specs.words.declared.config.Config.{Config}
+use Rattle.std.specs.Prelude.{List, Option, Some, None, not, if◌then◌else◌, ◌==◌}
+use Rattle.inv_contents.proofs.model.Facts.{rest_of, both, if_by}
+
+-- with which link a protection ends
+abbrev pub EndCarries : (clock upto : ℕ) → ProtectAt → Outcome → Type 0
+EndCarries clock upto at (Goes base) = Unit {0}
+EndCarries clock upto at (Ends (Protected (protect_ends.Held slot era))) = carries_at clock upto at (slot + 1) ≡ true
+EndCarries clock upto at (Ends (Protected protect_ends.Null)) = carries_at clock upto at 0 ≡ true
+EndCarries clock upto at (Ends Done) = Unit {0}
+EndCarries clock upto at (Ends (Followed ending)) = Unit {0}
+EndCarries clock upto at (Ends (Allocated ending)) = Unit {0}
+EndCarries clock upto at (Ends (Retired life)) = Unit {0}
+EndCarries clock upto at (Ends (Clocked time)) = Unit {0}
+
+link_carries : (clock upto : ℕ) (at : ProtectAt) (link era : ℕ) → ((x : ℕ) → (link == x) ≡ true → carries_at clock upto at x ≡ true) → EndCarries clock upto at (Ends (Protected (protect_end link era)))
+link_carries clock upto at link era h = by_link (link == 0) refl
+  where
+    by_link : (b : Bool) → (link == 0) ≡ b → EndCarries clock upto at (Ends (Protected (if b then protect_ends.Null else protect_ends.Held (link - 1) era)))
+    by_link true e = h 0 e
+    by_link false e = h (link - 1 + 1) (grind (arith, nat_tests, e))
+
+pub protect_carries : (clock : ℕ) (index : ℕ) (root : Root) (n : ℕ) (at : ProtectAt) (post : Post) (found : ℕ) → at_clock at found clock → EndCarries clock (upper post.span) at (protect_turn Alone index root n at post found).outcome
+protect_carries clock index root n (LoadClock tries) post found k = tt
+protect_carries clock index root n (PublishEra era tries) post found k = tt
+protect_carries clock index root n (LoadLink era tries) post found k = tt
+protect_carries clock index root n (CheckClock era tries link) post found k =
+    if_by (found == era) (protected Alone index root n link era post) (goes post [] (Protect Alone index root n (PublishEra found (failed_once tries)))) (λ (t : Turn). EndCarries clock (upper post.span) (CheckClock era tries link) t.outcome)
+    (λ e. link_carries clock (upper post.span) (CheckClock era tries link) link era (λ x h. both (link == x) (clock == era) h (rw (← k) e))) (λ e. tt)
+protect_carries clock index root n PublishRequest post found k = tt
+protect_carries clock index root n LoadOwnClock post found k = tt
+protect_carries clock index root n (PublishHelper first era last) post found k = tt
+protect_carries clock index root n (LoadOwnLink first era last) post found k = tt
+protect_carries clock index root n (CheckOwnClock first era last link) post found k =
+    if_by (found == era) (goes post [] (Protect Alone index root n (AnswerOwn first era link))) (goes post [] (Protect Alone index root n (lost_turn first last found))) (λ (t : Turn). EndCarries clock (upper post.span) (CheckOwnClock first era last link) t.outcome) (λ e. tt) (λ e. tt)
+protect_carries clock index root n (AnswerOwn first era link) post found k =
+    if_by (found == own_request post index root) (goes post [] (Protect Alone index root n (TakeAnswer link era))) (goes post [] (Protect Alone index root n (answer_in (read_request found)))) (λ (t : Turn). EndCarries clock (upper post.span) (AnswerOwn first era link) t.outcome) (λ e. tt) (λ e. tt)
+protect_carries clock index root n (LoadAnswer first) post found k = tt
+protect_carries clock index root n (TakeAnswer link era) post found k = tt
+protect_carries clock index root n (WithdrawRequest link era) post found k = tt
+protect_carries clock index root n (WithdrawHelper link era) post found k = link_carries clock (upper post.span) (WithdrawHelper link era) link era (λ x h. h)
+protect_carries clock index root n LoadWithin post found k = tt
+protect_carries clock index root n (CheckUpper link) post found k =
+    if_by (found == upper post.span) (protected Alone index root n link found post) (goes post [] (Protect Alone index root n (RaiseUpper found))) (λ (t : Turn). EndCarries clock (upper post.span) (CheckUpper link) t.outcome)
+    (λ e. link_carries clock (upper post.span) (CheckUpper link) link found (λ x h. both (link == x) (clock == upper post.span) h (rw (← k) e))) (λ e. tt)
+protect_carries clock index root n (RaiseUpper era) post found k = tt
+
+-- the link with which it ends is good for its root
+abbrev pub EndGood : Tally → Task → ℕ → Root → Outcome → Type 0
+EndGood u task lost root (Goes base) = Unit {0}
+EndGood u task lost root (Ends (Protected (protect_ends.Held slot era))) = task_good u task lost root (slot + 1) ≡ true
+EndGood u task lost root (Ends (Protected protect_ends.Null)) = task_good u task lost root 0 ≡ true
+EndGood u task lost root (Ends Done) = Unit {0}
+EndGood u task lost root (Ends (Followed ending)) = Unit {0}
+EndGood u task lost root (Ends (Allocated ending)) = Unit {0}
+EndGood u task lost root (Ends (Retired life)) = Unit {0}
+EndGood u task lost root (Ends (Clocked time)) = Unit {0}
+
+pub carried_good : (clock upto : ℕ) (at : ProtectAt) (u : Tally) (task : Task) (lost : ℕ) (root : Root) (outcome : Outcome) → ((x : ℕ) → carries_at clock upto at x ≡ true → task_good u task lost root x ≡ true) → EndCarries clock upto at outcome → EndGood u task lost root outcome
+carried_good clock upto at u task lost root (Goes base) h e = tt
+carried_good clock upto at u task lost root (Ends (Protected (protect_ends.Held slot era))) h e = h (slot + 1) e
+carried_good clock upto at u task lost root (Ends (Protected protect_ends.Null)) h e = h 0 e
+carried_good clock upto at u task lost root (Ends Done) h e = tt
+carried_good clock upto at u task lost root (Ends (Followed ending)) h e = tt
+carried_good clock upto at u task lost root (Ends (Allocated ending)) h e = tt
+carried_good clock upto at u task lost root (Ends (Retired life)) h e = tt
+carried_good clock upto at u task lost root (Ends (Clocked time)) h e = tt
+
+good_since : (u : Tally) (task : Task) (lost x : ℕ) → task_paced u task lost → task_good u task lost (task_root u.buckets task) x ≡ true → link_since u task x lost
+good_since u (Gets key) lost x p g = tt
+good_since u (Changes kept) lost x p g = record { lost_few = p; moved = g }
+good_since u (Holds key) lost x p g = tt
+good_since u (Enqueues kept) lost x p g = record { lost_few = p; moved = rest_of (not (x == 0)) (since_test (u.tail == x) lost (passes_so_far u kept)) g }
+good_since u Dequeues lost x p g = record { lost_few = p; moved = rest_of (not (x == 0)) (since_test (u.head == x) lost u.takes) g }
+
+pub never_null : (u : Tally) (task : Task) (lost : ℕ) → is_queue task ≡ true → task_good u task lost (task_root u.buckets task) 0 ≡ true → false ≡ true
+never_null u (Gets key) lost q g = absurd (cc)
+never_null u (Changes kept) lost q g = absurd (cc)
+never_null u (Holds key) lost q g = absurd (cc)
+never_null u (Enqueues kept) lost q g = absurd (cc)
+never_null u Dequeues lost q g = absurd (cc)
+
+-- the protection of an own root, at index 0
+own_opens : (u : Tally) (rounds : ℕ) (task : Task) (desk : Desk) (post : Post) (told : List Event) (outcome : Outcome) (lost : ℕ) → task_paced u task lost → Tells lost (rounds_told rounds told) outcome → EndsWell outcome → EndGood u task lost (task_root u.buckets task) outcome
+    → TurnPaced u rounds (resumed (Opens task) desk post told outcome)
+own_opens u rounds task desk post told (Goes base) lost p t w g = rw t p
+own_opens u rounds task desk post told (Ends (Protected (protect_ends.Held slot era))) lost p t w g = opened_row_paced u rounds task slot post desk told lost t (good_since u task lost (slot + 1) p g)
+own_opens u rounds task desk post told (Ends (Protected protect_ends.Null)) lost p t w g = by_queue (is_queue task) refl
+  where
+    by_queue : (b : Bool) → is_queue task ≡ b → TurnPaced u rounds (steps.opened_null task post desk told)
+    by_queue true q = absurd (let x = never_null u task lost q g in cc)
+    by_queue false q = opened_null_paced u rounds task post desk told lost q t (good_since u task lost 0 p g)
+own_opens u rounds task desk post told (Ends Done) lost p t w g = absurd (cc)
+own_opens u rounds task desk post told (Ends (Followed ending)) lost p t w g = absurd (cc)
+own_opens u rounds task desk post told (Ends (Allocated ending)) lost p t w g = absurd (cc)
+own_opens u rounds task desk post told (Ends (Retired life)) lost p t w g = absurd (cc)
+own_opens u rounds task desk post told (Ends (Clocked time)) lost p t w g = absurd (cc)
+
+hold_opens : (u : Tally) (rounds key : ℕ) (desk : Desk) (post : Post) (told : List Event) (outcome : Outcome) → EndsWell outcome → TurnPaced u rounds (resumed (Opens (Holds key)) desk post told outcome)
+hold_opens u rounds key desk post told (Goes base) w = tt
+hold_opens u rounds key desk post told (Ends (Protected (protect_ends.Held slot era))) w = tt
+hold_opens u rounds key desk post told (Ends (Protected protect_ends.Null)) w = clearing_paced u rounds (Holds key) (Answering answers.Nothing) post desk told tt
+hold_opens u rounds key desk post told (Ends Done) w = absurd (cc)
+hold_opens u rounds key desk post told (Ends (Followed ending)) w = absurd (cc)
+hold_opens u rounds key desk post told (Ends (Allocated ending)) w = absurd (cc)
+hold_opens u rounds key desk post told (Ends (Retired life)) w = absurd (cc)
+hold_opens u rounds key desk post told (Ends (Clocked time)) w = absurd (cc)
+
+-- what is known of a seat whose machine makes its step, with the counts after it
+pub record Steps (w : World) (i : ℕ) (u : Tally) (why : Why) (base : Base) : Type 0 where
+  pub at : (w.seat i).phase ≡ Runs why base
+  pub run : Run w.layout why base (w.seat i).post
+  pub buckets : u.buckets ≡ w.layout.config.buckets
+  pub paced : why_paced u (w.seat i).rounds base why
+  pub fits : why_fit w.layout.config (w.seat i).rounds base why
+  pub good : (x : ℕ) → carries_in (w.mem Clock) (upper (w.seat i).post.span) (Runs why base) x ≡ true → why_good u (w.seat i).rounds base why (root_base base) x ≡ true
+  pub moved : (head tail parent index slot era n : ℕ) → why ≡ FollowsHead head tail → base ≡ Reload parent index slot era n → (finds w i == parent + 1) ≡ false → (w.seat i).rounds ≤ u.takes
+
+abbrev pub PacedAfter : World → ℕ → Tally → Why → Base → Type 0
+PacedAfter w i u why base = TurnPaced u (w.seat i).rounds (run_turn why (offered w i).desk (after base (counted (w.seat i).post) (finds w i)))
+
+pub once_told_by : (c : Config) (rounds : ℕ) (task : Task) (told : Bool) → is_hold task ≡ false → opens_fit c rounds task told → told ≡ true → 1 ≤ rounds
+once_told_by c rounds (Gets key) told h f e = once_told (rounds_most c (Gets key)) rounds told f e
+once_told_by c rounds (Changes kept) told h f e = once_told (rounds_most c (Changes kept)) rounds told f e
+once_told_by c rounds (Holds key) told h f e = absurd (cc)
+once_told_by c rounds (Enqueues kept) told h f e = once_told (rounds_most c (Enqueues kept)) rounds told f e
+once_told_by c rounds Dequeues told h f e = once_told (rounds_most c Dequeues) rounds told f e
+
+own_protects : (w : World) (i : ℕ) (u : Tally) (task : Task) (index : ℕ) (root : Root) (n : ℕ) (at : ProtectAt) → Steps w i u (Opens task) (Protect Alone index root n at) → is_hold task ≡ false → (index == 0) ≡ true → PacedAfter w i u (Opens task) (Protect Alone index root n at)
+own_protects w i u task index root n at s d z =
+    let r : ℕ = (w.seat i).rounds in
+    let post : Post = counted (w.seat i).post in
+    let base : Base = Protect Alone index root n at in
+    let t : Turn = after base post (finds w i) in
+    let o = own_root w.layout.config.buckets task root s.run.shape.of in
+    let is : root ≡ task_root u.buckets task = s.run.shape.of ∙ ap (λ (b : ℕ). task_root b task) (sym s.buckets) in
+    let c = protect_carries (w.mem Clock) index root (bump n) at post (finds w i) (fit_clock w i (Opens task) Alone index root n at s.at) in
+    let g : EndGood u task (lost_by r (is_told base)) root t.outcome = carried_good (w.mem Clock) (upper (w.seat i).post.span) at u task (lost_by r (is_told base)) root t.outcome s.good c in
+    own_opens u r task (offered w i).desk t.post t.told t.outcome (lost_by r (is_told base)) s.paced
+    (protect_tells r index root n (bump n) at post (finds w i) z o (once_told_by w.layout.config r task (is_told base) d s.fits)) (ends_well index root (bump n) at post (finds w i))
+    (subst (λ (x : Root). EndGood u task (lost_by r (is_told base)) x t.outcome) is g)
+
+opens_protects : (w : World) (i : ℕ) (u : Tally) (task : Task) (index : ℕ) (root : Root) (n : ℕ) (at : ProtectAt) → Steps w i u (Opens task) (Protect Alone index root n at) → PacedAfter w i u (Opens task) (Protect Alone index root n at)
+opens_protects w i u (Gets key) index root n at s = own_protects w i u (Gets key) index root n at s refl (let e : index ≡ 0 = s.run.shape.at in rw e refl)
+opens_protects w i u (Changes kept) index root n at s = own_protects w i u (Changes kept) index root n at s refl (let e : index ≡ 0 = s.run.shape.at in rw e refl)
+opens_protects w i u (Holds key) index root n at s =
+    let t : Turn = after (Protect Alone index root n at) (counted (w.seat i).post) (finds w i) in
+    hold_opens u (w.seat i).rounds key (offered w i).desk t.post t.told t.outcome (ends_well index root (bump n) at (counted (w.seat i).post) (finds w i))
+opens_protects w i u (Enqueues kept) index root n at s = own_protects w i u (Enqueues kept) index root n at s refl (let e : index ≡ 0 = s.run.shape.at in rw e refl)
+opens_protects w i u Dequeues index root n at s = own_protects w i u Dequeues index root n at s refl (let e : index ≡ 0 = s.run.shape.at in rw e refl)
+
+opens_step : (w : World) (i : ℕ) (u : Tally) (task : Task) (base : Base) → Steps w i u (Opens task) base → PacedAfter w i u (Opens task) base
+opens_step w i u task (Begin LoadLower) s = s.paced
+opens_step w i u task (Begin (PublishSpan era)) s = opening_paced u (w.seat i).rounds task (with_span (counted (w.seat i).post) (from_to era era)) s.paced
+opens_step w i u task (Protect Alone index root n at) s = opens_protects w i u task index root n at s
+opens_step w i u task (Protect Follows index root n at) s = absurd (let e = follows_alone s.run.shape.aimed in cc)
+opens_step w i u task (Reload parent index slot era n) s = absurd (let e = s.run.suited in cc)
+opens_step w i u task (Clear index) s = absurd (let e = s.run.suited in cc)
+opens_step w i u task Finish s = absurd (let e = s.run.suited in cc)
+opens_step w i u task (Release index) s = absurd (let e = s.run.suited in cc)
+opens_step w i u task (Allocate at) s = absurd (let e = s.run.suited in cc)
+opens_step w i u task (Write slot row place) s = absurd (let e = s.run.suited in cc)
+opens_step w i u task (GiveUp slot) s = absurd (let e = s.run.suited in cc)
+opens_step w i u task (Retire at) s = absurd (let e = s.run.suited in cc)
+opens_step w i u task (Move at) s = absurd (let e = s.run.suited in cc)
+
+-- a follow
+
+follow_resumes : (u : Tally) (rounds head tail : ℕ) (desk : Desk) (post : Post) (told : List Event) (outcome : Outcome) → head_since u head (rounds - 1) → lag_since u head (tail == head + 1) (rounds - 1) → rounds_told rounds told ≡ rounds → EndsFollow outcome → TurnPaced u rounds (resumed (FollowsHead head tail) desk post told outcome)
+follow_resumes u rounds head tail desk post told (Goes base) i l e w = rw e (i, l)
+follow_resumes u rounds head tail desk post told (Ends (Followed follow_ends.NoNext)) i l e w = followed_paced u rounds head tail follow_ends.NoNext post desk told i l e tt
+follow_resumes u rounds head tail desk post told (Ends (Followed (follow_ends.Followed slot))) i l e w = absurd (cc)
+follow_resumes u rounds head tail desk post told (Ends (Followed (follow_ends.RootMoved seen))) i l e w = absurd (cc)
+follow_resumes u rounds head tail desk post told (Ends Done) i l e w = absurd (cc)
+follow_resumes u rounds head tail desk post told (Ends (Protected ending)) i l e w = absurd (cc)
+follow_resumes u rounds head tail desk post told (Ends (Allocated ending)) i l e w = absurd (cc)
+follow_resumes u rounds head tail desk post told (Ends (Retired life)) i l e w = absurd (cc)
+follow_resumes u rounds head tail desk post told (Ends (Clocked time)) i l e w = absurd (cc)
+
+reload_paced : (u : Tally) (rounds head tail parent index slot n : ℕ) (post : Post) (desk : Desk) (found : ℕ) → (index == 0) ≡ false → head_since u head (rounds - 1) → lag_since u head (tail == head + 1) (rounds - 1) → ((found == parent + 1) ≡ false → rounds ≤ u.takes) → TurnPaced u rounds (run_turn (FollowsHead head tail) desk (after_reload parent index slot n post found))
+reload_paced u rounds head tail parent index slot n post desk found z i l m =
+    if_by (found == parent + 1) (ends (with_row post index slot) (events.Held index slot n ∷ []) (Followed (follow_ends.Followed slot))) (ends post [] (Followed (follow_ends.RootMoved found))) (λ (t : Turn). TurnPaced u rounds (run_turn (FollowsHead head tail) desk t))
+    (λ e. followed_paced u rounds head tail (follow_ends.Followed slot) (with_row post index slot) desk (events.Held index slot n ∷ []) i l (rw z refl) tt)
+    (λ e. followed_paced u rounds head tail (follow_ends.RootMoved found) post desk [] i l refl (m e))
+
+follows_step : (w : World) (i : ℕ) (u : Tally) (head tail : ℕ) (base : Base) → Steps w i u (FollowsHead head tail) base → PacedAfter w i u (FollowsHead head tail) base
+follows_step w i u head tail (Protect Follows index root n at) s =
+    let t : Turn = after (Protect Follows index root n at) (counted (w.seat i).post) (finds w i) in
+    let z : (index == 0) ≡ false = (let e : index ≡ 1 = s.run.shape.at in rw e refl) in
+    follow_resumes u (w.seat i).rounds head tail (offered w i).desk t.post t.told t.outcome s.paced.0 s.paced.1 (protect_steady (w.seat i).rounds Follows index root (bump n) at (counted (w.seat i).post) (finds w i) z) (ends_follow index root (bump n) at (counted (w.seat i).post) (finds w i))
+follows_step w i u head tail (Protect Alone index root n at) s = absurd (let e = follows_alone (sym s.run.shape.aimed) in cc)
+follows_step w i u head tail (Reload parent index slot era n) s =
+    let z : (index == 0) ≡ false = (let e : index ≡ 1 = s.run.shape.at in rw e refl) in
+    reload_paced u (w.seat i).rounds head tail parent index slot (bump n) (counted (w.seat i).post) (offered w i).desk (finds w i) z s.paced.0 s.paced.1 (s.moved head tail parent index slot era n refl refl)
+follows_step w i u head tail (Begin at) s = absurd (let e = s.run.suited in cc)
+follows_step w i u head tail (Clear index) s = absurd (let e = s.run.suited in cc)
+follows_step w i u head tail Finish s = absurd (let e = s.run.suited in cc)
+follows_step w i u head tail (Release index) s = absurd (let e = s.run.suited in cc)
+follows_step w i u head tail (Allocate at) s = absurd (let e = s.run.suited in cc)
+follows_step w i u head tail (Write slot row place) s = absurd (let e = s.run.suited in cc)
+follows_step w i u head tail (GiveUp slot) s = absurd (let e = s.run.suited in cc)
+follows_step w i u head tail (Retire at) s = absurd (let e = s.run.suited in cc)
+follows_step w i u head tail (Move at) s = absurd (let e = s.run.suited in cc)
+
+-- a row is filled
+
+filler : (c : Config) (rounds : ℕ) (task : Task) → fills_fit c rounds task → fills_something task ≡ true
+filler c rounds (Gets key) f = absurd (cc)
+filler c rounds (Changes kept) f = refl
+filler c rounds (Holds key) f = absurd (cc)
+filler c rounds (Enqueues kept) f = refl
+filler c rounds Dequeues f = absurd (cc)
+
+walking_paced : (u : Tally) (rounds : ℕ) (task : Task) (birth : ℕ) (post : Post) (desk : Desk) (walk : Option Walk) → fills_paced u task (rounds - 1) → fills_something task ≡ true → TurnPaced u rounds (run_turn (Fills task) desk (walking birth post walk))
+walking_paced u rounds task birth post desk None f h = filled_by_paced u rounds task allocate_ends.Full post desk [] f h refl
+walking_paced u rounds task birth post desk (Some walk) f h = f
+
+allocates_step : (w : World) (i : ℕ) (u : Tally) (task : Task) (at : AllocateAt) → Steps w i u (Fills task) (Allocate at) → PacedAfter w i u (Fills task) (Allocate at)
+allocates_step w i u task LoadBirth s = s.paced
+allocates_step w i u task (ClaimSlot birth walk) s =
+    let post : Post = counted (w.seat i).post in
+    if_by (is_claimed (finds w i) walk.slot) (walking birth post (walk_past post.layout.config.slots walk (finds w i))) (goes (record post { cursor = next_slot post.layout.config.slots walk.slot }) (events.Give walk.slot birth ∷ []) (Allocate (StoreLife birth walk.slot)))
+    (λ (t : Turn). TurnPaced u (w.seat i).rounds (run_turn (Fills task) (offered w i).desk t))
+    (λ e. walking_paced u (w.seat i).rounds task birth post (offered w i).desk (walk_past post.layout.config.slots walk (finds w i)) s.paced (filler w.layout.config (w.seat i).rounds task s.fits)) (λ e. s.paced)
+allocates_step w i u task (StoreLife birth slot) s =
+    filled_by_paced u (w.seat i).rounds task (allocate_ends.Given slot birth) (counted (w.seat i).post) (offered w i).desk [] s.paced (filler w.layout.config (w.seat i).rounds task s.fits) refl
+
+writes_paced : (u : Tally) (rounds : ℕ) (task : Task) (slot : ℕ) (row : RowOf) (place : ℕ) (post : Post) (desk : Desk) → fills_paced u task (rounds - 1) → fills_something task ≡ true → TurnPaced u rounds (run_turn (Fills task) desk (after_write slot row place post))
+writes_paced u rounds task slot row place post desk f h =
+    if_by (place == last_written row) (ends post [] Done) (goes post [] (Write slot row (place + 1))) (λ (t : Turn). TurnPaced u rounds (run_turn (Fills task) desk t)) (λ e. written_paced u rounds task post desk [] f h refl) (λ e. f)
+
+fills_step : (w : World) (i : ℕ) (u : Tally) (task : Task) (base : Base) → Steps w i u (Fills task) base → PacedAfter w i u (Fills task) base
+fills_step w i u task (Allocate at) s = allocates_step w i u task at s
+fills_step w i u task (Write slot row place) s = writes_paced u (w.seat i).rounds task slot row place (counted (w.seat i).post) (offered w i).desk s.paced (filler w.layout.config (w.seat i).rounds task s.fits)
+fills_step w i u task (Begin at) s = absurd (let e = s.run.suited in cc)
+fills_step w i u task (Protect aim index root n at) s = absurd (let e = s.run.suited in cc)
+fills_step w i u task (Reload parent index slot era n) s = absurd (let e = s.run.suited in cc)
+fills_step w i u task (Clear index) s = absurd (let e = s.run.suited in cc)
+fills_step w i u task Finish s = absurd (let e = s.run.suited in cc)
+fills_step w i u task (Release index) s = absurd (let e = s.run.suited in cc)
+fills_step w i u task (GiveUp slot) s = absurd (let e = s.run.suited in cc)
+fills_step w i u task (Retire at) s = absurd (let e = s.run.suited in cc)
+fills_step w i u task (Move at) s = absurd (let e = s.run.suited in cc)
+
+-- the machines by which a round ends, and those that come once
+
+after_next : (u : Tally) (rounds other : ℕ) (task : Task) (next : Next) → other ≡ rounds → next_paced u task next rounds → next_paced u task next other
+after_next u rounds other task next e n = rw e n
+
+retire_resumes : (u : Tally) (rounds : ℕ) (answer : Answer) (desk : Desk) (post : Post) (told : List Event) (outcome : Outcome) → TurnPaced u rounds (resumed (Retires answer) desk post told outcome)
+retire_resumes u rounds answer desk post told (Goes base) = tt
+retire_resumes u rounds answer desk post told (Ends ending) = retired_paced u rounds answer ending post desk told
+
+advance_resumes : (u : Tally) (rounds : ℕ) (desk : Desk) (post : Post) (told : List Event) (outcome : Outcome) → TurnPaced u rounds (resumed Advances desk post told outcome)
+advance_resumes u rounds desk post told (Goes base) = tt
+advance_resumes u rounds desk post told (Ends ending) = advanced_paced u rounds ending post desk told
+
+tidy_resumes : (u : Tally) (rounds : ℕ) (later : AfterScan) (desk : Desk) (post : Post) (told : List Event) (outcome : Outcome) → rounds_told rounds told ≡ rounds → later_paced u later rounds → TurnPaced u rounds (resumed (Tidies later) desk post told outcome)
+tidy_resumes u rounds later desk post told (Goes base) e l = rw e l
+tidy_resumes u rounds later desk post told (Ends ending) e l = tidied_paced u rounds later ending post desk told e l
+
+nexts_step : (w : World) (i : ℕ) (u : Tally) (next : Next) (base : Base) → Steps w i u (ClearsNext next) base → PacedAfter w i u (ClearsNext next) base
+nexts_step w i u next (Clear index) s =
+    let told : List Event = (after (Clear index) (counted (w.seat i).post) (finds w i)).told in
+    clearing_paced u (w.seat i).rounds Dequeues next (withdrawn (counted (w.seat i).post) index) (offered w i).desk told (after_next u (w.seat i).rounds (rounds_told (w.seat i).rounds told) Dequeues next (clear_rounds w i index) s.paced)
+nexts_step w i u next (Begin at) s = absurd (let e = s.run.suited in cc)
+nexts_step w i u next (Protect aim index root n at) s = absurd (let e = s.run.suited in cc)
+nexts_step w i u next (Reload parent index slot era n) s = absurd (let e = s.run.suited in cc)
+nexts_step w i u next Finish s = absurd (let e = s.run.suited in cc)
+nexts_step w i u next (Release index) s = absurd (let e = s.run.suited in cc)
+nexts_step w i u next (Allocate at) s = absurd (let e = s.run.suited in cc)
+nexts_step w i u next (Write slot row place) s = absurd (let e = s.run.suited in cc)
+nexts_step w i u next (GiveUp slot) s = absurd (let e = s.run.suited in cc)
+nexts_step w i u next (Retire at) s = absurd (let e = s.run.suited in cc)
+nexts_step w i u next (Move at) s = absurd (let e = s.run.suited in cc)
+
+clears_step : (w : World) (i : ℕ) (u : Tally) (task : Task) (next : Next) (base : Base) → Steps w i u (Clears task next) base → PacedAfter w i u (Clears task next) base
+clears_step w i u task next (Clear index) s =
+    let told : List Event = (after (Clear index) (counted (w.seat i).post) (finds w i)).told in
+    finishing_paced u (w.seat i).rounds task next (withdrawn (counted (w.seat i).post) index) (offered w i).desk told (after_next u (w.seat i).rounds (rounds_told (w.seat i).rounds told) task next (clear_rounds w i index) s.paced)
+clears_step w i u task next (Begin at) s = absurd (let e = s.run.suited in cc)
+clears_step w i u task next (Protect aim index root n at) s = absurd (let e = s.run.suited in cc)
+clears_step w i u task next (Reload parent index slot era n) s = absurd (let e = s.run.suited in cc)
+clears_step w i u task next Finish s = absurd (let e = s.run.suited in cc)
+clears_step w i u task next (Release index) s = absurd (let e = s.run.suited in cc)
+clears_step w i u task next (Allocate at) s = absurd (let e = s.run.suited in cc)
+clears_step w i u task next (Write slot row place) s = absurd (let e = s.run.suited in cc)
+clears_step w i u task next (GiveUp slot) s = absurd (let e = s.run.suited in cc)
+clears_step w i u task next (Retire at) s = absurd (let e = s.run.suited in cc)
+clears_step w i u task next (Move at) s = absurd (let e = s.run.suited in cc)
+
+finishes_step : (w : World) (i : ℕ) (u : Tally) (task : Task) (next : Next) (base : Base) → Steps w i u (Finishes task next) base → PacedAfter w i u (Finishes task next) base
+finishes_step w i u task next Finish s = closed_paced u (w.seat i).rounds task next (with_span (counted (w.seat i).post) None) (offered w i).desk (reserves_span (counted (w.seat i).post) None) s.paced
+finishes_step w i u task next (Begin at) s = absurd (let e = s.run.suited in cc)
+finishes_step w i u task next (Protect aim index root n at) s = absurd (let e = s.run.suited in cc)
+finishes_step w i u task next (Reload parent index slot era n) s = absurd (let e = s.run.suited in cc)
+finishes_step w i u task next (Clear index) s = absurd (let e = s.run.suited in cc)
+finishes_step w i u task next (Release index) s = absurd (let e = s.run.suited in cc)
+finishes_step w i u task next (Allocate at) s = absurd (let e = s.run.suited in cc)
+finishes_step w i u task next (Write slot row place) s = absurd (let e = s.run.suited in cc)
+finishes_step w i u task next (GiveUp slot) s = absurd (let e = s.run.suited in cc)
+finishes_step w i u task next (Retire at) s = absurd (let e = s.run.suited in cc)
+finishes_step w i u task next (Move at) s = absurd (let e = s.run.suited in cc)
+
+gives_step : (w : World) (i : ℕ) (u : Tally) (answer : Answer) (base : Base) → Steps w i u (GivesUp answer) base → PacedAfter w i u (GivesUp answer) base
+gives_step w i u answer (GiveUp slot) s = tt
+gives_step w i u answer (Begin at) s = absurd (let e = s.run.suited in cc)
+gives_step w i u answer (Protect aim index root n at) s = absurd (let e = s.run.suited in cc)
+gives_step w i u answer (Reload parent index slot era n) s = absurd (let e = s.run.suited in cc)
+gives_step w i u answer (Clear index) s = absurd (let e = s.run.suited in cc)
+gives_step w i u answer Finish s = absurd (let e = s.run.suited in cc)
+gives_step w i u answer (Release index) s = absurd (let e = s.run.suited in cc)
+gives_step w i u answer (Allocate at) s = absurd (let e = s.run.suited in cc)
+gives_step w i u answer (Write slot row place) s = absurd (let e = s.run.suited in cc)
+gives_step w i u answer (Retire at) s = absurd (let e = s.run.suited in cc)
+gives_step w i u answer (Move at) s = absurd (let e = s.run.suited in cc)
+
+tidies_step : (w : World) (i : ℕ) (u : Tally) (later : AfterScan) (base : Base) → Steps w i u (Tidies later) base → PacedAfter w i u (Tidies later) base
+tidies_step w i u later (Move at) s =
+    let t : Turn = after (Move at) (counted (w.seat i).post) (finds w i) in
+    tidy_resumes u (w.seat i).rounds later (offered w i).desk t.post t.told t.outcome (base_steady (w.seat i).rounds (Move at) (counted (w.seat i).post) (finds w i) refl) s.paced
+tidies_step w i u later (Begin at) s = absurd (let e = s.run.suited in cc)
+tidies_step w i u later (Protect aim index root n at) s = absurd (let e = s.run.suited in cc)
+tidies_step w i u later (Reload parent index slot era n) s = absurd (let e = s.run.suited in cc)
+tidies_step w i u later (Clear index) s = absurd (let e = s.run.suited in cc)
+tidies_step w i u later Finish s = absurd (let e = s.run.suited in cc)
+tidies_step w i u later (Release index) s = absurd (let e = s.run.suited in cc)
+tidies_step w i u later (Allocate at) s = absurd (let e = s.run.suited in cc)
+tidies_step w i u later (Write slot row place) s = absurd (let e = s.run.suited in cc)
+tidies_step w i u later (GiveUp slot) s = absurd (let e = s.run.suited in cc)
+tidies_step w i u later (Retire at) s = absurd (let e = s.run.suited in cc)
+
+releases_step : (w : World) (i : ℕ) (u : Tally) (let_go : LetGo) (base : Base) → Steps w i u (Releases let_go) base → PacedAfter w i u (Releases let_go) base
+releases_step w i u let_go (Clear index) s =
+    let t : Turn = after (Clear index) (counted (w.seat i).post) (finds w i) in
+    released_paced u (w.seat i).rounds let_go (withdrawn (counted (w.seat i).post) index) (offered w i).desk t.told
+releases_step w i u let_go (Release index) s =
+    let t : Turn = after (Release index) (counted (w.seat i).post) (finds w i) in
+    released_paced u (w.seat i).rounds let_go t.post (offered w i).desk t.told
+releases_step w i u let_go (Begin at) s = absurd (let e = s.run.suited in cc)
+releases_step w i u let_go (Protect aim index root n at) s = absurd (let e = s.run.suited in cc)
+releases_step w i u let_go (Reload parent index slot era n) s = absurd (let e = s.run.suited in cc)
+releases_step w i u let_go Finish s = absurd (let e = s.run.suited in cc)
+releases_step w i u let_go (Allocate at) s = absurd (let e = s.run.suited in cc)
+releases_step w i u let_go (Write slot row place) s = absurd (let e = s.run.suited in cc)
+releases_step w i u let_go (GiveUp slot) s = absurd (let e = s.run.suited in cc)
+releases_step w i u let_go (Retire at) s = absurd (let e = s.run.suited in cc)
+releases_step w i u let_go (Move at) s = absurd (let e = s.run.suited in cc)
+
+pub run_paced : (w : World) (i : ℕ) (u : Tally) (why : Why) (base : Base) → Steps w i u why base → PacedAfter w i u why base
+run_paced w i u (Opens task) base s = opens_step w i u task base s
+run_paced w i u (FollowsHead head tail) base s = follows_step w i u head tail base s
+run_paced w i u (Fills task) base s = fills_step w i u task base s
+run_paced w i u (ClearsNext next) base s = nexts_step w i u next base s
+run_paced w i u (Clears task next) base s = clears_step w i u task next base s
+run_paced w i u (Finishes task next) base s = finishes_step w i u task next base s
+run_paced w i u (GivesUp answer) base s = gives_step w i u answer base s
+run_paced w i u (Retires answer) base s = let t : Turn = after base (counted (w.seat i).post) (finds w i) in retire_resumes u (w.seat i).rounds answer (offered w i).desk t.post t.told t.outcome
+run_paced w i u (Tidies later) base s = tidies_step w i u later base s
+run_paced w i u Advances base s = let t : Turn = after base (counted (w.seat i).post) (finds w i) in advance_resumes u (w.seat i).rounds (offered w i).desk t.post t.told t.outcome
+run_paced w i u (Releases let_go) base s = releases_step w i u let_go base s

@@ -1,5 +1,0 @@
-use Rattle.inv_handover.proofs.Back.{followed_rows_stand}
-use Rattle.inv_handover.proofs.parents_of_links_stand.Goals as goal
-
-pub returns : goal.returns
-returns c = followed_rows_stand

@@ -1,0 +1,5 @@
+use Rattle.law_all.proofs.Records as records
+use Rattle.law_all.proofs.logs_grow.Goals as goal
+
+pub returns : goal.returns
+returns c = records.logs_grow

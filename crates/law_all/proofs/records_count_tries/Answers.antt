@@ -1,0 +1,5 @@
+use Rattle.law_all.proofs.Tried as tried
+use Rattle.law_all.proofs.records_count_tries.Goals as goal
+
+pub returns : goal.returns
+returns c = tried.records_count_tries

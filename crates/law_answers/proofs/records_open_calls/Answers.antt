@@ -1,5 +1,0 @@
-use Rattle.law_answers.proofs.OpenCalls as keeps
-use Rattle.law_answers.proofs.records_open_calls.Goals as goal
-
-pub returns : goal.returns
-returns c = keeps.records_open_calls

@@ -1,5 +1,0 @@
-use Rattle.law_answers.proofs.OneStep.OneStep as one
-use Rattle.law_answers.proofs.turns_tell_one.Goals as goal
-
-pub returns : goal.returns
-returns c = one.turns_tell_one

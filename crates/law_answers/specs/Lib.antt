@@ -1,6 +1,0 @@
-pub use Rattle.laws.specs as laws
-pub use Rattle.inv_all.specs as inv
-pub use Rattle.inv_all.specs.history as history
-pub mod Heard
-pub mod MapKept
-pub mod Records

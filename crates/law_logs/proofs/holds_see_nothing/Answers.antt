@@ -1,5 +1,0 @@
-use Rattle.law_logs.proofs.Records as records
-use Rattle.law_logs.proofs.holds_see_nothing.Goals as goal
-
-pub returns : goal.returns
-returns c = records.holds_see_nothing

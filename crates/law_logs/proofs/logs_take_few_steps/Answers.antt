@@ -1,5 +1,0 @@
-use Rattle.law_logs.proofs.Steps as steps
-use Rattle.law_logs.proofs.logs_take_few_steps.Goals as goal
-
-pub returns : goal.returns
-returns c = steps.logs_take_few_steps

@@ -1,5 +1,0 @@
-use Rattle.law_logs.proofs.Steps as steps
-use Rattle.law_logs.proofs.scans_tell_backs.Goals as goal
-
-pub returns : goal.returns
-returns c = steps.scans_tell_backs

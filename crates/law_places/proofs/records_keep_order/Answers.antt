@@ -1,5 +1,0 @@
-use Rattle.law_places.proofs.Ordering.Ordered as ordered
-use Rattle.law_places.proofs.records_keep_order.Goals as goal
-
-pub returns : goal.returns
-returns c = ordered.records_keep_order

@@ -1,5 +1,0 @@
-use Rattle.law_places.proofs.Placing.Keeps as keeps
-use Rattle.law_places.proofs.records_retire_cuts.Goals as goal
-
-pub returns : goal.returns
-returns c = keeps.records_retire_cuts

@@ -1,5 +1,0 @@
-use Rattle.law_steps.proofs.Tried as tried
-use Rattle.law_steps.proofs.records_count_tries.Goals as goal
-
-pub returns : goal.returns
-returns c = tried.records_count_tries

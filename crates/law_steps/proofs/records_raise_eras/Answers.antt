@@ -1,5 +1,0 @@
-use Rattle.law_steps.proofs.Rising.RiseKeeps as keeps
-use Rattle.law_steps.proofs.records_raise_eras.Goals as goal
-
-pub returns : goal.returns
-returns c = keeps.records_raise_eras

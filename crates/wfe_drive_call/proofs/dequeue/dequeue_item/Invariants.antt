@@ -1,0 +1,25 @@
+-- The call stands before a round.
+use Rattle.wfe_core.specs.defs.declared.call.Call.TheVariants.{Dequeue}
+use Rattle.wfe_core.specs.Calls.{Dequeues}
+use Rattle.wfe_core.specs.DeskHeld.{HasRoom}
+use Rattle.wfe_core.specs.Rounds.{round}
+use Rattle.wfe_core.specs.Steps.{first_phase}
+use Rattle.wfe_drive_runs.specs.drive_words.Called.{at_phase}
+use Rattle.wfe_drive_runs.specs.drive_words.Path.{Leads}
+use Rattle.wfe_drive_runs.specs.Pieces.{IsFree}
+use Rattle.wfe_drive_call.proofs.dequeue.dequeue_item.Given as goal
+
+abbrev pub invariant-loop-words : goal.invariant-loop-words
+invariant-loop-words g l =
+    let words = g.W.Words in
+    record {
+      valid : words.valid l.words;
+      same : words.same l.fn.words l.words;
+      room : HasRoom l.desk l.post.layout;
+      free : IsFree l.post;
+      leads : Leads (words.at l.fn.words) (words.at l.words) (words.stands l.fn.words) (words.stands l.words)
+          (at_phase (first_phase Dequeue l.fn.post) l.fn.post l.fn.desk) (at_phase (round Dequeues l.post) l.post l.desk);
+    }
+
+abbrev pub decreases-loop-words : goal.decreases-loop-words
+decreases-loop-words g l = g.W.Words.rest l.words

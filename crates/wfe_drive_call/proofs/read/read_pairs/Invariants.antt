@@ -1,0 +1,22 @@
+-- So many pairs were read.
+use Rattle.std.proofs.Common.{length, ◌≡◌, ◌≤◌}
+use Rattle.wfe_core.specs.DeskHeld.{desk_of}
+use Rattle.wfe_drive_runs.specs.drive_words.Path.{Leads}
+use Rattle.wfe_drive_call.specs.Changing.{kept_of, pairs_at, step_post}
+use Rattle.wfe_drive_call.proofs.read.read_pairs.Given as goal
+
+abbrev pub invariant-loop-pair : goal.invariant-loop-pair
+invariant-loop-pair g l =
+    let words = g.W.Words in
+    record {
+      valid : words.valid l.words;
+      same : words.same l.fn.words l.words;
+      below : l.pair ≤ l.count;
+      many : length l.kept.pairs ≡ l.pair;
+      rest : words.rest l.words ≤ words.rest l.fn.words;
+      leads : Leads (words.at l.fn.words) (words.at l.words) (words.stands l.fn.words) (words.stands l.words)
+          (pairs_at (kept_of l.fn.kept) l.slot l.count (step_post l.post l.before) (desk_of l._desk)) (pairs_at (kept_of l.kept) l.slot l.count (step_post l.post l.steps) (desk_of l._desk));
+    }
+
+abbrev pub decreases-loop-pair : goal.decreases-loop-pair
+decreases-loop-pair g l = g.W.Words.rest l.words

@@ -1,4 +1,0 @@
-pub use Rattle.wfe_drive_runs.specs as drive_runs
-pub use Rattle.wfe_drive_runs.specs.drive_words as drive_words
-pub mod Items
-pub mod Taking

@@ -1,5 +1,0 @@
-use Rattle.wfe_server_given.proofs.Kept.{given_of_version}
-use Rattle.wfe_server_given.proofs.lines_are_of_their_version.Goals as goal
-
-pub returns : goal.returns
-returns c = given_of_version

@@ -1,5 +1,0 @@
-use Rattle.wfe_server_given.proofs.Begins.{records_begin}
-use Rattle.wfe_server_given.proofs.records_begin_calls_of_their_lines.Goals as goal
-
-pub returns : goal.returns
-returns c = records_begin
