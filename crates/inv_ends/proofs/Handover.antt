@@ -1,3 +1,4 @@
+-- What covers a row in the slow path, from a helper's load on to the index word of the seat that asked.
 pub mod Asks
 pub mod Back
 pub mod Begun

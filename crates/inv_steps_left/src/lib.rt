@@ -1,4 +1,4 @@
-//! How many steps a call has left, and why it loses few rounds. Each function here does nothing, and carries
+//! How many steps a call has left. Each function here does nothing, and carries
 //! a theorem.
 #![tactic(auto)]
 

@@ -1,5 +1,5 @@
-//! All laws that each history keeps, as one statement; and the law of runs: what the logs of all seats, and the table that
-//! they leave, say together. Each function here does nothing, and carries a theorem.
+//! All laws that each history keeps, as one statement; what the answers in a seat's log say; and the law of runs: what the logs of
+//! all seats, and the table that they leave, say together. Each function here does nothing, and carries a theorem.
 #![tactic(auto)]
 
 ghost use Rattle.law_all.specs.Runs.{RunsAddUp, RunsAgree, RunsAreLawful, RunsKeep, RunsList, RunsTick};

@@ -1,4 +1,4 @@
-//! Which eras are told. Each function here does nothing, and carries
+//! Which eras are told, and which calls answer. Each function here does nothing, and carries
 //! a theorem.
 #![tactic(auto)]
 

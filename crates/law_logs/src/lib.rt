@@ -1,5 +1,5 @@
-//! What a seat's log is, by the record of its history, and what the answers in it say of the map and of the queue: which
-//! versions and numbers a seat has met. Each function here does nothing, and carries a theorem.
+//! What a seat's log is, by the record of its history, and in `specs` what the answers in it say of the map and of the queue:
+//! which versions and numbers a seat has met. Each function here does nothing, and carries a theorem.
 #![tactic(auto)]
 
 ghost use Rattle.law_logs.specs.Records.{LogsAreCut, LogsExtend, RecordReads, RecordsGrow, RecordsKeepLogs, TurnsLeaveNotes};

@@ -1,5 +1,5 @@
-//! What a replay prints where its work is done: a record that a check finds lawful.
-//! The function here does nothing, and carries a theorem.
+//! What a replay prints where its work is done: a record that a check finds lawful; and of which version the lines of a trace
+//! are, with the calls that their record begins. Each function here does nothing, and carries a theorem.
 #![tactic(auto)]
 
 ghost use Rattle.law_printed.specs.Printed.{PrintsLawful};

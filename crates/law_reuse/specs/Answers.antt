@@ -1,4 +1,4 @@
--- What the record and the turns of each history keep, whatever calls begin and whichever seats make their steps.
+-- What calls answer and how turns tell it in each history, whatever calls begin and whichever seats make their steps.
 use Rattle.std.specs.Prelude.{List, true, ℕ, ◌≡◌, nat_lt}
 use Rattle.inv_all.specs.model.World.{World}
 use Rattle.inv_all.specs.model.words.Place.{Place, is_valid}

@@ -1,4 +1,4 @@
--- What the record and the turns of each history keep, whatever calls begin and whichever seats make their steps.
+-- Which rows calls are given, link, cut and retire in each history, whatever calls begin and whichever seats make their steps.
 use Rattle.std.specs.Prelude.{List, true, ◌≡◌}
 use Rattle.law_reuse.specs.inv.model.words.Place.{is_valid}
 use Rattle.law_reuse.specs.inv.model.words.declared.layout.Layout.{Layout}
