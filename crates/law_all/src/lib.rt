@@ -121,7 +121,7 @@ pub fn logs_grow()
     ensures { LogsGrow }
 {}
 
-/// They never fall.
+/// The versions and numbers that a seat has met never fall.
 pub fn logs_rise()
     ensures { LogsRise }
 {}

@@ -1,10 +1,6 @@
-//! Tests of whole commands over memory: worked traces, bad and hostile input, sources and sinks that
-//! fail, and replays with watchers: counts, and deleters.
+//! Tests of whole commands over memory: worked traces, bad and hostile input, and sources and sinks that
+//! fail.
 #![tactic(auto)]
 
 #[cfg(test)]
-mod deleters;
-#[cfg(test)]
 mod replays;
-#[cfg(test)]
-mod watchers;

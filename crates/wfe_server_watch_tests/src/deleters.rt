@@ -1,9 +1,10 @@
 // A whole replay with deleters: objects of the test that belong to rows, each called once its row went
 // back.
 use std::test::Fail;
-use wfe_cli::main_call;
+use wfe_drive_table::TableCells;
 use wfe_final::{Deleter, FinalWatcher, Ledger};
 use wfe_outside::{MemSink, MemSource, Watcher};
+use wfe_server::{Rig, replay};
 use wfe_trace::Status;
 
 /// An object with nothing but its id.
@@ -31,7 +32,6 @@ fn deleters_are_called_where_their_rows_went_back(rt: HostRuntime) -> Result<(),
     let trace =
         b"wfe 1\nscheme he\nseats 1\nindexes 3\nslots 8\nbuckets 1\ntries 2\nevery 1\nlast_era 100\nlast_version 100\nbegin\n\
 0 put 7 1\n0 run\n0 put 7 2\n0 run\n0 put 7 3\n0 run\nend\n";
-    let words = vec![in rt.alloc(); String::from_str(rt.alloc(), "replay")?]?;
     let mut store = Vec::new(rt.alloc());
     for id in [11, 12, 13] {
         store.push(Owned { id })?;
@@ -41,10 +41,8 @@ fn deleters_are_called_where_their_rows_went_back(rt: HostRuntime) -> Result<(),
     watchers.push(Box::new(rt.alloc(), watcher)?)?;
     let mut source = MemSource::new(rt.alloc(), trace, &[])?;
     let mut sink = MemSink::new(rt.alloc(), 65_536, &[])?;
-    let status = main_call(
-        &rt,
+    let status = replay::<Rig<TableCells>, MemSource, MemSink>(
         rt.alloc(),
-        &words,
         &mut source,
         &mut sink,
         &mut watchers,

@@ -1,7 +1,8 @@
 // A whole replay with the watchers that count.
 use std::test::Fail;
-use wfe_cli::main_call;
+use wfe_drive_table::TableCells;
 use wfe_outside::{MemSink, MemSource, Watcher};
+use wfe_server::{Rig, replay};
 use wfe_trace::Status;
 use wfe_watch::{GarbageCounter, KeyCounter};
 
@@ -10,17 +11,14 @@ fn watchers_are_told_each_event_and_show_their_rows(rt: HostRuntime) -> Result<(
     let trace =
         b"wfe 1\nscheme he\nseats 1\nindexes 3\nslots 8\nbuckets 1\ntries 2\nevery 1\nlast_era 100\nlast_version 100\nbegin\n\
 0 put 7 1\n0 run\n0 put 3 1\n0 run\n0 put 7 2\n0 run\n0 remove 3\n0 run\nend\n";
-    let words = vec![in rt.alloc(); String::from_str(rt.alloc(), "replay")?]?;
     let mut watchers: Vec<Box<dyn Watcher>> = Vec::new(rt.alloc());
     let garbage = GarbageCounter::new(rt.alloc(), 1)?;
     watchers.push(Box::new(rt.alloc(), garbage)?)?;
     watchers.push(Box::new(rt.alloc(), KeyCounter::new(rt.alloc()))?)?;
     let mut source = MemSource::new(rt.alloc(), trace, &[])?;
     let mut sink = MemSink::new(rt.alloc(), 65_536, &[])?;
-    let status = main_call(
-        &rt,
+    let status = replay::<Rig<TableCells>, MemSource, MemSink>(
         rt.alloc(),
-        &words,
         &mut source,
         &mut sink,
         &mut watchers,
