@@ -1,7 +1,7 @@
 // What a step tells of itself.
 use crate::{Answer, Call, Interval};
 
-/// A word that publishes a reservation.
+/// A word that publishes a reservation, or a row.
 #[derive(Clone, Copy, Debug, PartialEq, Eq)]
 pub enum Guard {
     /// The seat's helper word (Nikolaev and Ravindran 2020).
@@ -47,6 +47,16 @@ pub enum Event {
     Read {
         guard: Guard,
         span: Option<Interval>,
+    },
+    /// A guard publishes a row, or nothing (Michael 2004).
+    Hazard {
+        guard: Guard,
+        slot: Option<u32>,
+    },
+    /// A scan reads a guard that publishes rows.
+    Saw {
+        guard: Guard,
+        slot: Option<u32>,
     },
     /// A free row is taken, with its birth era.
     Give {

@@ -13,7 +13,7 @@ use Rattle.wfe_record_words.specs.Reader.{Read, one, done}
 use Rattle.wfe_record_words.proofs.Joined.{Reads, then_sound, step_found, by_value}
 use Rattle.wfe_record_words.proofs.Lines.{line_by_words, words_by_line, whole_sound, whole_found}
 use Rattle.wfe_record_words.proofs.Parts.{seat_reads}
-use Rattle.wfe_record_words.proofs.Plain.{long_plain, short_plain, seat_plain, index_plain, slot_plain, bucket_plain, guard-plain, root-plain, span-plain, value-plain}
+use Rattle.wfe_record_words.proofs.Plain.{long_plain, short_plain, seat_plain, index_plain, slot_plain, bucket_plain, guard-plain, root-plain, shown-plain, span-plain, value-plain}
 use Rattle.wfe_record_answers.proofs.Plain.{answer-plain}
 use Rattle.wfe_record_calls.proofs.Plain.{call-plain}
 use Rattle.wfe_record.specs.Entry.{IsEvent, IsEntry}
@@ -32,6 +32,7 @@ event-plain version config small event is =
       bucket_plain config small,
       guard-plain config small,
       root-plain config small,
+      shown-plain config small,
       span-plain,
       value-plain,
       call-plain version config small,

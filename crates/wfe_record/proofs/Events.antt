@@ -8,10 +8,10 @@ use Rattle.wfe_record_words.specs.Within.{Small}
 use Rattle.wfe_record.specs.Entry.{IsEvent}
 use Rattle.wfe_record_words.specs.Reader.{unknown}
 use Rattle.wfe_record_contents.specs.Reader.{contents_event_table, leaving_event_table, contents_event_by, leaving_event_by}
-use Rattle.wfe_record.specs.Reader.{event_table, row_event_table, standing_event_table, row_event_by, standing_event_by, event_by, event}
+use Rattle.wfe_record.specs.Reader.{event_table, hazard_event_table, row_event_table, standing_event_table, hazard_event_by, row_event_by, standing_event_by, event_by, event}
 use Rattle.wfe_record_words.proofs.Joined.{Reads, Rows, SoundBy, row_one, row_two, row_three, row_four, row_since, by_sound, unknown_sound, named_sound}
 use Rattle.wfe_record_words.proofs.Found.{one_found, two_found, three_found, four_found, one_since, two_since, three_since}
-use Rattle.wfe_record_words.proofs.Parts.{long_reads, short_reads, seat_reads, index_reads, slot_reads, bucket_reads, value_reads, span_reads, guard_reads, root_reads}
+use Rattle.wfe_record_words.proofs.Parts.{long_reads, short_reads, seat_reads, index_reads, slot_reads, bucket_reads, value_reads, shown_reads, span_reads, guard_reads, root_reads}
 use Rattle.wfe_record_answers.proofs.Answers.{answer_reads}
 use Rattle.wfe_record_calls.proofs.Calls.{call_reads}
 
@@ -31,6 +31,16 @@ event_rows version config small =
           ),
         ),
       ),
+    )
+
+hazard_event_rows : (version : ℕ) (config : Config) → Small config → Rows (hazard_event_table version config) event_words (IsEvent version config)
+hazard_event_rows version config small =
+    let words = event_words in
+    let is = IsEvent version config in
+    let guard = guard_reads config small in
+    let shown = shown_reads config small in (
+      row_since 5 version (codes "hazard") _ words is (λ l. row_two guard shown events.Hazard (codes "hazard") words is (λ x y v i j. (refl, (l, i, j)))),
+      (row_since 5 version (codes "saw") _ words is (λ l. row_two guard shown events.Saw (codes "saw") words is (λ x y v i j. (refl, (l, i, j)))), tt),
     )
 
 row_event_rows : (version : ℕ) (config : Config) → Small config → Rows (row_event_table config) event_words (IsEvent version config)
@@ -97,23 +107,26 @@ leaving_event_rows version config small =
     )
 
 event_sound : (version : ℕ) (config : Config) → Small config → SoundBy (event_by version config) event_words (IsEvent version config)
-unfolding event_by row_event_by standing_event_by contents_event_by leaving_event_by
+unfolding event_by hazard_event_by row_event_by standing_event_by contents_event_by leaving_event_by
 event_sound version config small =
     let words = event_words in
     let is = IsEvent version config in
-    by_sound (event_table version config) (row_event_by version config) words is (event_rows version config small)
+    by_sound (event_table version config) (hazard_event_by version config) words is (event_rows version config small)
+    (by_sound (hazard_event_table version config) (row_event_by version config) words is (hazard_event_rows version config small)
     (by_sound (row_event_table config) (standing_event_by version config) words is (row_event_rows version config small)
     (by_sound (standing_event_table version config) (contents_event_by version config) words is (standing_event_rows version config small)
     (by_sound (contents_event_table config) (leaving_event_by version config) words is (contents_event_rows version config small)
-    (by_sound (leaving_event_table version config) unknown words is (leaving_event_rows version config small) (unknown_sound words is)))))
+    (by_sound (leaving_event_table version config) unknown words is (leaving_event_rows version config small) (unknown_sound words is))))))
 
 event-complete : (version : ℕ) (config : Config) → Small config → (x : Event) (rest : List (List ℕ)) → IsEvent version config x → event version config (event_words x ++ rest) ≡ Some (x, rest)
-unfolding event_by row_event_by standing_event_by contents_event_by leaving_event_by
+unfolding event_by hazard_event_by row_event_by standing_event_by contents_event_by leaving_event_by
 event-complete version config small (events.Begin call) rest is = one_found (call_reads version config small) events.Begin call rest is
 event-complete version config small (events.End steps answer) rest is = two_found long_reads (answer_reads version config small) events.End steps answer rest is.0 is.1
 event-complete version config small (events.Era era) rest is = one_found short_reads events.Era era rest is
 event-complete version config small (events.Reserve guard span) rest is = two_found (guard_reads config small) span_reads events.Reserve guard span rest is.0 is.1
 event-complete version config small (events.Read guard span) rest is = two_found (guard_reads config small) span_reads events.Read guard span rest is.0 is.1
+event-complete version config small (events.Hazard guard slot) rest is = two_since 5 version is.0 (guard_reads config small) (shown_reads config small) events.Hazard guard slot rest is.1 is.2
+event-complete version config small (events.Saw guard slot) rest is = two_since 5 version is.0 (guard_reads config small) (shown_reads config small) events.Saw guard slot rest is.1 is.2
 event-complete version config small (events.Give slot birth) rest is = two_found (slot_reads config small) short_reads events.Give slot birth rest is.0 is.1
 event-complete version config small (events.Unused slot) rest is = one_found (slot_reads config small) events.Unused slot rest is
 event-complete version config small (events.Link root slot) rest is = two_found (root_reads config small) (slot_reads config small) events.Link root slot rest is.0 is.1

@@ -5,7 +5,7 @@ use Rattle.wfe_defs.specs.declared.event.Event.{Event}
 use Rattle.wfe_defs.specs.declared.event.Event.TheVariants as events
 use Rattle.wfe_trace.specs.Fits.{NumberFits, ValueFits}
 use Rattle.wfe_trace.specs.Record.{event_line}
-use Rattle.wfe_record_words.specs.Within.{IsShort, IsSeat, IsIndex, IsSlot, IsBucket, Since, IsGuard, IsSpan, IsRoot}
+use Rattle.wfe_record_words.specs.Within.{IsShort, IsSeat, IsIndex, IsSlot, IsBucket, Since, IsGuard, IsShown, IsSpan, IsRoot}
 use Rattle.wfe_record_answers.specs.Answers.{IsAnswer}
 use Rattle.wfe_record_calls.specs.Calls.{IsCall}
 
@@ -16,6 +16,8 @@ IsEvent version config (events.End steps answer) = NumberFits steps × IsAnswer 
 IsEvent version config (events.Era era) = IsShort era
 IsEvent version config (events.Reserve guard span) = IsGuard config guard × IsSpan span
 IsEvent version config (events.Read guard span) = IsGuard config guard × IsSpan span
+IsEvent version config (events.Hazard guard slot) = Since 5 version × IsGuard config guard × IsShown config slot
+IsEvent version config (events.Saw guard slot) = Since 5 version × IsGuard config guard × IsShown config slot
 IsEvent version config (events.Give slot birth) = IsSlot config slot × IsShort birth
 IsEvent version config (events.Unused slot) = IsSlot config slot
 IsEvent version config (events.Link root slot) = IsRoot config root × IsSlot config slot

@@ -3,7 +3,7 @@ use Rattle.std.specs.Prelude.{ℕ, List, [], ◌∷◌, Option, codes}
 use Rattle.wfe_words.specs.declared.config.Config.{Config}
 use Rattle.wfe_defs.specs.declared.event.Event.{Event}
 use Rattle.wfe_defs.specs.declared.event.Event.TheVariants as events
-use Rattle.wfe_record_words.specs.Reader.{Read, ◌>>=◌, done, one, two, three, first, whole, long, short, seat, index, slot, span, guard, root, Named, by, since}
+use Rattle.wfe_record_words.specs.Reader.{Read, ◌>>=◌, done, one, two, three, first, whole, long, short, seat, index, slot, shown, span, guard, root, Named, by, since}
 use Rattle.wfe_record_answers.specs.Reader.{answer}
 use Rattle.wfe_record_calls.specs.Reader.{call}
 use Rattle.wfe_record_contents.specs.Reader.{contents_event_by}
@@ -13,6 +13,12 @@ abbrev pub event_table : ℕ → Config → List (Named Event)
 event_table version config =
     (codes "begin", one (call version config) events.Begin) ∷ (codes "end", two long (answer version config) events.End)
     ∷ (codes "era", one short events.Era) ∷ (codes "reserve", two (guard config) span events.Reserve) ∷ (codes "read", two (guard config) span events.Read) ∷ []
+
+-- the events of guards that publish rows
+abbrev pub hazard_event_table : ℕ → Config → List (Named Event)
+hazard_event_table version config =
+    (codes "hazard", since 5 version (two (guard config) (shown config) events.Hazard))
+    ∷ (codes "saw", since 5 version (two (guard config) (shown config) events.Saw)) ∷ []
 
 -- the events of rows
 abbrev pub row_event_table : Config → List (Named Event)
@@ -34,8 +40,11 @@ standing_event_by version config w = by (standing_event_table version config) (c
 unfoldable pub row_event_by : ℕ → Config → List ℕ → Read Event
 row_event_by version config w = by (row_event_table config) (standing_event_by version config) w
 
+unfoldable pub hazard_event_by : ℕ → Config → List ℕ → Read Event
+hazard_event_by version config w = by (hazard_event_table version config) (row_event_by version config) w
+
 unfoldable pub event_by : ℕ → Config → List ℕ → Read Event
-event_by version config w = by (event_table version config) (row_event_by version config) w
+event_by version config w = by (event_table version config) (hazard_event_by version config) w
 
 abbrev pub event : ℕ → Config → Read Event
 event version config = do

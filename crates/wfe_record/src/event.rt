@@ -4,7 +4,7 @@ ghost use Rattle.wfe_defs.specs.declared.event.Event.{Event as AnyEvent};
 ghost use Rattle.wfe_trace.specs.Words.{words};
 ghost use Rattle.wfe_record_words.specs.Within.{Small};
 ghost use Rattle.wfe_record.specs.Entry.{IsEntry};
-ghost use Rattle.wfe_record.specs.Reader.{event as event_of, event_by, entry as entry_of, entry_in as entry_by, row_event_by, standing_event_by};
+ghost use Rattle.wfe_record.specs.Reader.{event as event_of, event_by, entry as entry_of, entry_in as entry_by, hazard_event_by, row_event_by, standing_event_by};
 
 use wfe_defs::Event;
 use wfe_record_answers::read_answer;
@@ -84,6 +84,28 @@ fn row_event(name: &[u8], line: &mut Words<'_>, version: u32, config: &Config) -
     }
 }
 
+// An event of a guard that publishes rows, or one of those that follow.
+#[tactic(auto, unfolding(crate::specs::Reader::hazard_event_by))]
+fn hazard_event(name: &[u8], line: &mut Words<'_>, version: u32, config: &Config) -> Option<Event>
+    ensures { option_map (λ event. (event, line.new)) result ≡ hazard_event_by version config.now name.now line.old }
+{
+    if name == b"hazard".as_slice() {
+        since(5, version)?;
+        Some(Event::Hazard {
+            guard: line.guard(config)?,
+            slot: line.shown(config)?,
+        })
+    } else if name == b"saw".as_slice() {
+        since(5, version)?;
+        Some(Event::Saw {
+            guard: line.guard(config)?,
+            slot: line.shown(config)?,
+        })
+    } else {
+        row_event(name, line, version, config)
+    }
+}
+
 // An event of a call, of the clock or of a guard, or one of those that follow.
 #[tactic(auto, unfolding(crate::specs::Reader::event_by))]
 fn call_event(name: &[u8], line: &mut Words<'_>, version: u32, config: &Config) -> Option<Event>
@@ -111,7 +133,7 @@ fn call_event(name: &[u8], line: &mut Words<'_>, version: u32, config: &Config) 
             span: line.span()?,
         })
     } else {
-        row_event(name, line, version, config)
+        hazard_event(name, line, version, config)
     }
 }
 

@@ -13,16 +13,16 @@ use Rattle.wfe_words.specs.declared.config.SchemeKind.{SchemeKind}
 use Rattle.wfe_words.specs.declared.config.SchemeKind.TheVariants as schemes
 use Rattle.wfe_words.specs.Config.{allows, number_of, or_bad, bad_field}
 use Rattle.wfe_trace.specs.Record.{spaced, scheme_word, setting_words}
-use Rattle.wfe_trace.specs.Setting.{pairs_in}
+use Rattle.wfe_trace.specs.Setting.{pairs_in, scheme_version}
 use Rattle.wfe_trace.specs.Words.{words, number_in}
 use Rattle.wfe_trace.proofs.Decimals.{number_in-decimal, lacks}
 use Rattle.wfe_trace.proofs.EventWords.{Plain}
 use Rattle.wfe_trace.proofs.Settings.{allows-pairs_in}
 use Rattle.wfe_record_header.specs.declared.TheConstants.{LAST_VERSION}
 use Rattle.wfe_record_header.specs.Header.{IsHeader}
-use Rattle.wfe_record_words.specs.Reader.{given, word}
+use Rattle.wfe_record_words.specs.Reader.{given, done, word}
 use Rattle.wfe_record_header.specs.Reader.{scheme_in, scheme, setting_in, setting, version_in, version, config, exactly, header, header_in}
-use Rattle.wfe_record_words.proofs.Joined.{Reads, given-some, word_reads, then_sound, by_value}
+use Rattle.wfe_record_words.proofs.Joined.{Reads, given-some, word_reads, then_sound, by_value, since_found, since_known}
 use Rattle.wfe_record_words.proofs.Parts.{chosen, same_some, number-word}
 use Rattle.wfe_record_words.proofs.Plain.{long_plain}
 use Rattle.wfe_record_words.proofs.Lines.{line_by_words, words_by_line, whole_sound, whole_found}
@@ -44,13 +44,15 @@ scheme-sound w x h =
     let P : SchemeKind → Type 0 = λ s. (w ≡ scheme_word s) × (Unit {0}) in
     chosen P (bytes_eq w (codes "he")) (Some schemes.He) _ (λ t y f. same_some P schemes.He y f ((bytes_eq-Decides w (codes "he")).0 t, tt))
     (chosen P (bytes_eq w (codes "ibr")) (Some schemes.Ibr) _ (λ t y f. same_some P schemes.Ibr y f ((bytes_eq-Decides w (codes "ibr")).0 t, tt))
-    (chosen P (bytes_eq w (codes "wfe")) (Some schemes.Wfe) None (λ t y f. same_some P schemes.Wfe y f ((bytes_eq-Decides w (codes "wfe")).0 t, tt)) (λ y f. absurd (cc)))) x h
+    (chosen P (bytes_eq w (codes "wfe")) (Some schemes.Wfe) _ (λ t y f. same_some P schemes.Wfe y f ((bytes_eq-Decides w (codes "wfe")).0 t, tt))
+    (chosen P (bytes_eq w (codes "hp")) (Some schemes.Hp) None (λ t y f. same_some P schemes.Hp y f ((bytes_eq-Decides w (codes "hp")).0 t, tt)) (λ y f. absurd (cc))))) x h
 
 scheme-read : (x : SchemeKind) → scheme_in (scheme_word x) ≡ Some x
 unfolding scheme_in
 scheme-read schemes.He = refl
 scheme-read schemes.Ibr = refl
 scheme-read schemes.Wfe = refl
+scheme-read schemes.Hp = refl
 
 scheme_reads : Reads scheme (λ s. scheme_word s ∷ []) (λ s. Unit {0})
 scheme_reads = word_reads scheme_in scheme_word (λ s. Unit {0}) scheme-sound (λ x i. scheme-read x)
@@ -179,17 +181,19 @@ abbrev header_words : ℕ × Config → List (List ℕ)
 header_words x = codes "record" ∷ decimal x.0 ∷ setting_words x.1
 
 abbrev IsIn : ℕ × Config → Type 0
-IsIn x = ((1 ≤ x.0) × (x.0 ≤ LAST_VERSION)) × IsSetting (pairs_in x.0) x.1
+IsIn x = ((1 ≤ x.0) × (x.0 ≤ LAST_VERSION)) × IsSetting (pairs_in x.0) x.1 × (scheme_version x.1.scheme ≤ x.0)
 
 header-sound : (ws : List (List ℕ)) (x : ℕ × Config) (rest : List (List ℕ)) → header ws ≡ Some (x, rest) → (ws ≡ header_words x ++ rest) × IsIn x
 header-sound ws x rest h =
     then_sound name_reads ws _ (x, rest) (λ v. (v ≡ header_words x ++ rest) × IsIn x) h
     (λ u v0 i0 h0. then_sound version_reads v0 _ (x, rest) (λ v. (codes "record" ∷ v ≡ header_words x ++ rest) × IsIn x) h0
     (λ n v1 i1 h1. then_sound (config_reads (pairs_in n) (allows-pairs_in n)) v1 _ (x, rest) (λ v. (codes "record" ∷ decimal n ∷ v ≡ header_words x ++ rest) × IsIn x) h1
-    (λ c v2 i2 h2. by_value header_words IsIn (n, c) x (codes "record" ∷ decimal n ∷ (setting_words c ++ v2)) v2 rest h2 (refl, (i1, i2)))))
+    (λ c v2 i2 h2.
+    let (l, h3) = since_known (scheme_version c.scheme) n (done (n, c)) v2 (x, rest) h2 in
+    by_value header_words IsIn (n, c) x (codes "record" ∷ decimal n ∷ (setting_words c ++ v2)) v2 rest h3 (refl, (i1, i2, l)))))
 
 header-complete : (x : ℕ × Config) (rest : List (List ℕ)) → IsIn x → header (header_words x ++ rest) ≡ Some (x, rest)
-header-complete x rest is = rw (exactly-read tt tt, version-read x.0 is.0, config-read (pairs_in x.0) x.1 rest is.1) refl
+header-complete x rest is = rw (exactly-read tt tt, version-read x.0 is.0, config-read (pairs_in x.0) x.1 rest is.1, since_found (scheme_version x.1.scheme) x.0 (done x) rest is.2) refl
 
 header_reads : Reads header header_words IsIn
 header_reads = record { sound = header-sound; complete = header-complete }
@@ -204,12 +208,14 @@ header_read bytes x h =
       last = is.0.1;
       within = is.1.0;
       pairs = is.1.1;
+      known = is.2;
     }
 
 scheme-plain : (s : SchemeKind) → lacks 32 (scheme_word s) ≡ true
 scheme-plain schemes.He = refl
 scheme-plain schemes.Ibr = refl
 scheme-plain schemes.Wfe = refl
+scheme-plain schemes.Hp = refl
 
 setting-plain : (c : Config) → bad_field c ≡ None → Plain (setting_words c)
 setting-plain c h =
@@ -239,7 +245,7 @@ header_known bytes number c is =
     let text : codes "record" ++ spaced (decimal number ∷ setting_words c) ≡ bytes = append_cancel_right (codes "record" ++ spaced (decimal number ∷ setting_words c)) bytes (codes "\n") is.text in
     let found : words bytes ≡ header_words (number, c) =
     ap words (sym text) ∙ words_by_line (codes "record") (decimal number ∷ setting_words c) refl (long_plain number fits, setting-plain c is.within) in
-    ap header_in found ∙ whole_found header_reads (number, c) ((is.first, is.last), (is.within, is.pairs))
+    ap header_in found ∙ whole_found header_reads (number, c) ((is.first, is.last), (is.within, is.pairs), is.known)
 
 pub read_if : (bytes : List ℕ) (o : Option (ℕ × Config)) → o ≡ header_in (words bytes) → IfSome o (λ x. IsHeader bytes x.0 x.1)
 read_if bytes None e = tt

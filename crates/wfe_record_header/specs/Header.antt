@@ -3,7 +3,7 @@ use Rattle.std.specs.Prelude.{◌≡◌, ◌≤◌, ◌++◌, ℕ, List, None, c
 use Rattle.wfe_words.specs.declared.config.Config.{Config}
 use Rattle.wfe_words.specs.Config.{bad_field}
 use Rattle.wfe_trace.specs.Record.{header_line}
-use Rattle.wfe_trace.specs.Setting.{pairs_in}
+use Rattle.wfe_trace.specs.Setting.{pairs_in, scheme_version}
 use Rattle.wfe_record_header.specs.declared.TheConstants.{LAST_VERSION}
 
 -- the bytes are the first line of a record of the version with the setting
@@ -13,3 +13,4 @@ pub record IsHeader (bytes : List ℕ) (version : ℕ) (config : Config) : Type 
   pub last : version ≤ LAST_VERSION
   pub within : bad_field config ≡ None
   pub pairs : config.pairs ≡ pairs_in version
+  pub known : scheme_version config.scheme ≤ version

@@ -7,16 +7,17 @@ use Rattle.wfe_words.specs.declared.config.SchemeKind.TheVariants as schemes
 use Rattle.wfe_words.specs.declared.config.Field.{Field}
 use Rattle.wfe_words.specs.declared.config.Field.TheVariants as fields
 use Rattle.wfe_words.specs.Config.{allows}
-use Rattle.wfe_trace.specs.Setting.{pairs_in}
+use Rattle.wfe_trace.specs.Setting.{pairs_in, scheme_version}
 use Rattle.wfe_trace.specs.Words.{number_in}
-use Rattle.wfe_record_words.specs.Reader.{Read, given, ◌>>=◌, done, whole, word}
+use Rattle.wfe_record_words.specs.Reader.{Read, given, ◌>>=◌, done, whole, word, since}
 use Rattle.wfe_record_header.specs.declared.TheConstants.{LAST_VERSION}
 
 unfoldable pub scheme_in : List ℕ → Option SchemeKind
 scheme_in w =
     if bytes_eq w (codes "he") then Some schemes.He else
     if bytes_eq w (codes "ibr") then Some schemes.Ibr else
-    if bytes_eq w (codes "wfe") then Some schemes.Wfe else None
+    if bytes_eq w (codes "wfe") then Some schemes.Wfe else
+    if bytes_eq w (codes "hp") then Some schemes.Hp else None
 
 abbrev pub scheme : Read SchemeKind
 scheme = word scheme_in
@@ -58,7 +59,7 @@ header = do
   name ← word (exactly (codes "record"))
   number ← version
   setting ← config (pairs_in number)
-  done (number, setting)
+  since (scheme_version setting.scheme) number (done (number, setting))
 
 -- the version and the setting of a line's words
 abbrev pub header_in : List (List ℕ) → Option (ℕ × Config)

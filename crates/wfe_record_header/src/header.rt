@@ -8,8 +8,8 @@ ghost use Rattle.wfe_record_header.specs.Header.{IsHeader};
 ghost use Rattle.wfe_record_header.specs.Reader.{header as header_of, header_in as header_by, scheme_in, scheme as scheme_of, setting_in as setting_by, setting as setting_of, version_in as version_by, version as version_of, config as config_of, exactly as exactly_by};
 
 use crate::LAST_VERSION;
-use wfe_record_words::Words;
-use wfe_trace::number_of;
+use wfe_record_words::{Words, since};
+use wfe_trace::{number_of, scheme_version};
 use wfe_words::{Config, Field, SchemeKind};
 
 #[tactic(auto, unfolding(crate::specs::Reader::scheme_in))]
@@ -22,6 +22,8 @@ fn scheme_named(word: &[u8]) -> Option<SchemeKind>
         Some(SchemeKind::Ibr)
     } else if word == b"wfe".as_slice() {
         Some(SchemeKind::Wfe)
+    } else if word == b"hp".as_slice() {
+        Some(SchemeKind::Hp)
     } else {
         None
     }
@@ -109,6 +111,7 @@ fn header(line: &mut Words<'_>) -> Option<(u32, Config)>
     exactly(line.first()?, b"record")?;
     let version = version(line)?;
     let config = config(line, pairs_of(version))?;
+    since(scheme_version(config.scheme), version)?;
     Some((version, config))
 }
 
@@ -122,7 +125,7 @@ fn header_in(bytes: &[u8]) -> Option<(u32, Config)>
 
 /// The version and the setting of the first line of a record: of the line without its line feed.
 /// Some exactly where the line is that of a version up to the last one that is read, with each
-/// number of the setting in its range, and as many pairs as the version gives.
+/// number of the setting in its range, a scheme of that version, and as many pairs as it gives.
 pub fn read_header(bytes: &[u8]) -> Option<(u32, Config)>
     ensures read { IfSome result (λ header. IsHeader bytes.now header.0 header.1) }
     ensures known { (version : ℕ) (config : AnyConfig) → IsHeader bytes.now version config → result ≡ Some (version, config) }

@@ -7,4 +7,4 @@ mod header;
 pub use header::{exactly, read_header};
 
 /// The last version whose records are read; the first is 1.
-pub const LAST_VERSION: u32 = 4;
+pub const LAST_VERSION: u32 = 5;

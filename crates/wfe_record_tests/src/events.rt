@@ -350,6 +350,21 @@ fn other_events_are_read(rt: HostRuntime) {
 }
 
 #[test]
+fn hazards_are_read_from_the_fifth_version_on(rt: HostRuntime) {
+    let guard = Guard::Index { seat: 3, index: 4 };
+    let slot = Some(8);
+    let events = [
+        ("3 hazard i3.4 8", Event::Hazard { guard, slot }),
+        ("3 hazard i3.4 none", Event::Hazard { guard, slot: None }),
+        ("3 saw i3.4 8", Event::Saw { guard, slot }),
+        ("3 saw i3.4 none", Event::Saw { guard, slot: None }),
+    ];
+    for (text, event) in events {
+        expect_since(&rt, 5, text, event);
+    }
+}
+
+#[test]
 fn other_texts_are_refused(rt: HostRuntime) {
     let texts = [
         "",
@@ -393,6 +408,17 @@ fn other_texts_are_refused(rt: HostRuntime) {
         "3 reserve h3 1",
         "3 reserve h3 none none",
         "3 reserve h3 1 none",
+        "3 hazard 8",
+        "3 hazard none",
+        "3 hazard i3.4",
+        "3 hazard i3.4 1 2",
+        "3 hazard i3.4 None",
+        "3 hazard i3.4 08",
+        "3 hazards i3.4 8",
+        "3 saw i3.4",
+        "3 saw i3 8",
+        "3 saw i3.4 none none",
+        "3 saw i3.4 8 ",
         "3 link b 0",
         "3 link heads 0",
         "3 link i0 0",
@@ -438,6 +464,12 @@ fn numbers_out_of_range_are_refused(rt: HostRuntime) {
         "3 read h4 none",
         "3 read v4 none",
         "3 read v3 4294967296 1",
+        "3 hazard i4.0 1",
+        "3 hazard i3.5 none",
+        "3 hazard i3.4 9",
+        "3 saw i3.5 1",
+        "3 saw i3.4 9",
+        "3 saw i3.4 4294967296",
         "3 begin get 18446744073709551616",
         "3 begin copy 2 5",
         "3 begin look 5 7",

@@ -66,6 +66,12 @@ fn headers_are_read(rt: HostRuntime) {
         ..SMALL
     };
     expect(&rt, "record 4 wfe 1 3 2 1 1 1 1 1", 4, helped);
+    expect(&rt, "record 5 wfe 1 3 2 1 1 1 1 1", 5, helped);
+    let pointed = Config {
+        scheme: SchemeKind::Hp,
+        ..SMALL
+    };
+    expect(&rt, "record 5 hp 1 3 2 1 1 1 1 1", 5, pointed);
 }
 
 #[test]
@@ -76,11 +82,16 @@ fn other_texts_are_refused(rt: HostRuntime) {
         "record 1",
         "record 9 he",
         "record 0 he 1 3 2 1 1 1 1 1",
-        "record 5 he 1 3 2 1 1 1 1 1",
+        "record 6 he 1 3 2 1 1 1 1 1",
         "record 01 he 1 3 2 1 1 1 1 1",
         "record 4294967297 he 1 3 2 1 1 1 1 1",
         "records 1 he 1 3 2 1 1 1 1 1",
         "record 1 hp 1 3 2 1 1 1 1 1",
+        "record 2 hp 1 3 2 1 1 1 1 1",
+        "record 3 hp 1 3 2 1 1 1 1 1",
+        "record 4 hp 1 3 2 1 1 1 1 1",
+        "record 5 HP 1 3 2 1 1 1 1 1",
+        "record 5 1 3 2 1 1 1 1 1",
         "record 1 he 1 3 2 1 1 1 1",
         "record 1 he 1 3 2 1 1 1 1 1 6",
         "record 1 he 1 3 2 1 1 1 1 1 ",

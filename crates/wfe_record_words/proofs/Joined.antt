@@ -118,12 +118,18 @@ has-since : (from version : ℕ) (u : Unit {0}) (fits : Bool) → nat_le from ve
 has-since from version u true e h = grind (arith, nat_tests)
 has-since from version u false e h = absurd (cc)
 
+-- what is found only in later versions
+pub since_known : {B : Type 0} (from version : ℕ) (read : Read B) (ws : List (List ℕ)) (y : B × List (List ℕ)) → since from version read ws ≡ Some y → (from ≤ version) × (read ws ≡ Some y)
+since_known from version read ws y h =
+    let (u, e, h1) = given-some (has from version) (λ u. read ws) y h in
+    (has-since from version u (nat_le from version) refl e, h1)
+
 -- a row that later versions have
 pub row_since : {B : Type 0} (from version : ℕ) (name : List ℕ) (read : Read B) (text : B → List (List ℕ)) (Is : B → Type 0) → (from ≤ version → Row name read text Is) → Row name (since from version read) text Is
 row_since from version name read text Is row = record {
   sound = λ ws y rest h.
-      let (u, e, h1) = given-some (has from version) (λ u. read ws) (y, rest) h in
-      (row (has-since from version u (nat_le from version) refl e)).sound ws y rest h1;
+      let (l, h1) = since_known from version read ws (y, rest) h in
+      (row l).sound ws y rest h1;
 }
 
 pub since_found : {B : Type 0} (from version : ℕ) (read : Read B) (ws : List (List ℕ)) → from ≤ version → since from version read ws ≡ read ws

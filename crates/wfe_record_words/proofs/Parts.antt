@@ -18,8 +18,8 @@ use Rattle.wfe_trace.specs.Record.{guard_word, root_word, span_words, value_word
 use Rattle.wfe_trace.specs.Words.{is_digit, value_of, is_shortest, digits_in, number_in}
 use Rattle.wfe_trace.proofs.Decimals.{number_in-decimal, lacks, lacks-decimal}
 use Rattle.wfe_trace.proofs.Numerals.{value_from}
-use Rattle.wfe_record_words.specs.Within.{IsShort, Small, IsSeat, IsIndex, IsSlot, IsBucket, IsGuard, IsSpan, IsRoot}
-use Rattle.wfe_record_words.specs.Reader.{given, any_number, number_below, long, two, done, below, short, seat, index, slot, bucket, value_in, value, span_from, span, cut, index_guard, guard_in, guard, numbered_root, root_in, root}
+use Rattle.wfe_record_words.specs.Within.{IsShort, Small, IsSeat, IsIndex, IsSlot, IsBucket, IsGuard, IsShown, IsSpan, IsRoot}
+use Rattle.wfe_record_words.specs.Reader.{given, any_number, number_below, long, two, done, below, short, seat, index, slot, bucket, value_in, value, shown_in, shown, span_from, span, cut, index_guard, guard_in, guard, numbered_root, root_in, root}
 use Rattle.wfe_record_words.proofs.Cuts.{cut_parts, cut-apart}
 use Rattle.wfe_record_words.proofs.Joined.{Reads, given-some, word_reads, reads_as, then_sound}
 
@@ -144,6 +144,28 @@ value-text (Some n) = refl
 
 pub value_reads : Reads value value_words ValueFits
 value_reads = reads_as (word_reads value_in value_word ValueFits value-word value-read) value_words ValueFits value-text (λ v f. f) (λ v f. f)
+
+shown-word : (config : Config) (w : List ℕ) (v : Option ℕ) → shown_in config w ≡ Some v → (w ≡ value_word v) × IsShown config v
+unfolding shown_in
+shown-word config w v h =
+    let P : Option ℕ → Type 0 = λ v. (w ≡ value_word v) × IsShown config v in
+    chosen P (bytes_eq w (codes "none")) (Some None) (given (number_below (config.slots + 1) w) (λ n. Some (Some n)))
+    (λ t x f. same_some P None x f ((bytes_eq-Decides w (codes "none")).0 t, tt))
+    (λ x f.
+    let (n, e, f1) = given-some (number_below (config.slots + 1) w) (λ n. Some (Some n)) x f in
+    let (text, less) = below-word (config.slots + 1) w n e in
+    same_some P (Some n) x f1 (text, omega arith)) v h
+
+shown-read : (config : Config) → Small config → (v : Option ℕ) → IsShown config v → shown_in config (value_word v) ≡ Some v
+unfolding shown_in
+shown-read config small None is = refl
+shown-read config small (Some n) is =
+    let s = small.slots in
+    let fits : n < 2 ^ 64 = omega arith in
+    rw (not_none n fits, below-read (config.slots + 1) n (omega arith) (omega arith)) refl
+
+pub shown_reads : (config : Config) → Small config → Reads (shown config) value_words (IsShown config)
+shown_reads config small = reads_as (word_reads (shown_in config) value_word (IsShown config) (shown-word config) (shown-read config small)) value_words (IsShown config) value-text (λ v f. f) (λ v f. f)
 
 interval-sound : (ws : List (List ℕ)) (q : Option Interval × List (List ℕ)) → two short short (λ lo hi. Some (record { lo = lo; hi = hi })) ws ≡ Some q → (ws ≡ span_words q.0 ++ q.1) × IsSpan q.0
 interval-sound ws q h =

@@ -11,7 +11,7 @@ use Rattle.wfe_trace.specs.Fits.{NumberFits, ValueFits}
 use Rattle.wfe_trace.specs.Record.{guard_word, root_word, span_words, value_words}
 use Rattle.wfe_trace.proofs.Decimals.{lacks, lacks-decimal}
 use Rattle.wfe_trace.proofs.EventWords.{Plain}
-use Rattle.wfe_record_words.specs.Within.{Small, IsShort, IsSeat, IsIndex, IsSlot, IsBucket, IsGuard, IsRoot, IsSpan}
+use Rattle.wfe_record_words.specs.Within.{Small, IsShort, IsSeat, IsIndex, IsSlot, IsBucket, IsGuard, IsRoot, IsShown, IsSpan}
 
 pub long_plain : (n : ℕ) → NumberFits n → lacks 32 (decimal n) ≡ true
 long_plain n fits = lacks-decimal 32 n (omega arith) fits
@@ -42,6 +42,9 @@ root-plain config small root is = search (rules, bucket_plain config small, slot
 
 pub span-plain : (span : Option Interval) → IsSpan span → Plain (span_words span)
 span-plain span is = search (rules, short_plain)
+
+pub shown-plain : (config : Config) → Small config → (slot : Option ℕ) → IsShown config slot → Plain (value_words slot)
+shown-plain config small slot is = search (rules, slot_plain config small)
 
 pub value-plain : (value : Option ℕ) → ValueFits value → Plain (value_words value)
 value-plain value is = search (rules, long_plain)

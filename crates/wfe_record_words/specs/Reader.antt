@@ -116,6 +116,13 @@ value_in w = if bytes_eq w (codes "none") then Some None else given (number_in w
 abbrev pub value : Read (Option ℕ)
 value = word value_in
 
+-- a row, or `none`
+unfoldable pub shown_in : Config → List ℕ → Option (Option ℕ)
+shown_in config w = if bytes_eq w (codes "none") then Some None else given (number_below (config.slots + 1) w) (λ slot. Some (Some slot))
+
+abbrev pub shown : Config → Read (Option ℕ)
+shown config = word (shown_in config)
+
 -- an interval whose first number is this word
 abbrev pub span_from : List ℕ → Read (Option Interval)
 span_from w = do

@@ -44,6 +44,11 @@ abbrev pub IsSpan : Option Interval → Type 0
 IsSpan None = Unit {0}
 IsSpan (Some span) = IsShort span.lo × IsShort span.hi
 
+-- a row, or none
+abbrev pub IsShown : Config → Option ℕ → Type 0
+IsShown config None = Unit {0}
+IsShown config (Some slot) = IsSlot config slot
+
 abbrev pub IsRoot : Config → Root → Type 0
 IsRoot config (roots.Bucket bucket) = IsBucket config bucket
 IsRoot config roots.Head = Unit {0}

@@ -1,7 +1,7 @@
 // The words that are left of a line, and what single words say.
 ghost use Rattle.std.specs.Prelude.{◌≡◌, ◌≢◌, ◌<◌, ◌≤◌, ℕ, option_map, length, slice_index};
 ghost use Rattle.wfe_trace.specs.Words.{words};
-ghost use Rattle.wfe_record_words.specs.Reader.{first as first_of, is_over as over, long as long_of, number_below as below_in, below as below_of, short as short_of, seat as seat_of, index as index_of, slot as slot_of, bucket as bucket_of, value as value_of, value_in as value_by, span as span_of, span_from as span_after, cut as cut_at, has as has_since, guard_in as guard_by, index_guard as index_guard_by, guard as guard_of, numbered_root as numbered_root_by, root_in as root_by, root as root_of};
+ghost use Rattle.wfe_record_words.specs.Reader.{first as first_of, is_over as over, long as long_of, number_below as below_in, below as below_of, short as short_of, seat as seat_of, index as index_of, slot as slot_of, bucket as bucket_of, value as value_of, value_in as value_by, shown as shown_of, shown_in as shown_by, span as span_of, span_from as span_after, cut as cut_at, has as has_since, guard_in as guard_by, index_guard as index_guard_by, guard as guard_of, numbered_root as numbered_root_by, root_in as root_by, root as root_of};
 
 use std::marker::Model;
 use wfe_defs::{Guard, Interval, Root};
@@ -133,6 +133,17 @@ fn value_in(word: &[u8]) -> Option<Option<u64>>
     }
 }
 
+#[tactic(auto, unfolding(crate::specs::Reader::shown_in))]
+fn shown_in(word: &[u8], config: &Config) -> Option<Option<u32>>
+    ensures { result ≡ shown_by config.now word.now }
+{
+    if word == b"none".as_slice() {
+        Some(None)
+    } else {
+        Some(Some(number_below(word, config.slots as u64 + 1)?))
+    }
+}
+
 impl<'a> Words<'a> {
     /// All words of a line.
     pub fn of(bytes: &'a [u8]) -> Words<'a>
@@ -217,6 +228,13 @@ impl<'a> Words<'a> {
         ensures { option_map (λ value. (value, self.new)) result ≡ value_of self.old }
     {
         value_in(self.first()?)
+    }
+
+    /// A row that a guard publishes, or `none`.
+    pub fn shown(&mut self, config: &Config) -> Option<Option<u32>>
+        ensures { option_map (λ slot. (slot, self.new)) result ≡ shown_of config.now self.old }
+    {
+        shown_in(self.first()?, config)
     }
 
     fn span_from(&mut self, word: &[u8]) -> Option<Option<Interval>>

@@ -29,6 +29,10 @@ abbrev pub SpanSized : Option Interval → Type 0
 SpanSized None = Unit {0}
 SpanSized (Some span) = ShortFits span.lo × ShortFits span.hi
 
+abbrev pub RowSized : Option ℕ → Type 0
+RowSized None = Unit {0}
+RowSized (Some slot) = ShortFits slot
+
 abbrev pub RootSized : Root → Type 0
 RootSized (roots.Bucket bucket) = ShortFits bucket
 RootSized roots.Head = Unit {0}
@@ -89,6 +93,8 @@ EventSized (events.End steps answer) = NumberFits steps × AnswerSized answer
 EventSized (events.Era era) = ShortFits era
 EventSized (events.Reserve guard span) = GuardSized guard × SpanSized span
 EventSized (events.Read guard span) = GuardSized guard × SpanSized span
+EventSized (events.Hazard guard slot) = GuardSized guard × RowSized slot
+EventSized (events.Saw guard slot) = GuardSized guard × RowSized slot
 EventSized (events.Give slot birth) = ShortFits slot × ShortFits birth
 EventSized (events.Unused slot) = ShortFits slot
 EventSized (events.Link root slot) = RootSized root × ShortFits slot

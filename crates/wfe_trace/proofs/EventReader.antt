@@ -143,9 +143,9 @@ answer_from (w ∷ ws) =
     within answers.Clock clock_from (w ∷ ws)
 
 -- a guard, and what it published
-abbrev pub guarded : (Guard → Option Interval → Event) → Read Event
-guarded f [] = None
-guarded f (w ∷ ws) = given (guard_in w) (λ guard. within (f guard) span_from ws)
+abbrev pub guarded : {A : Type 0} → Read A → (Guard → A → Event) → Read Event
+guarded read f [] = None
+guarded read f (w ∷ ws) = given (guard_in w) (λ guard. within (f guard) read ws)
 
 abbrev pub rooted : (Root → ℕ → Event) → Read Event
 rooted f [] = None
@@ -157,8 +157,10 @@ event_from (w ∷ ws) =
     if bytes_eq w (codes "begin") then within events.Begin call_from ws else
     if bytes_eq w (codes "end") then number (λ steps. within (λ answer. events.End steps answer) answer_from) ws else
     if bytes_eq w (codes "era") then one events.Era ws else
-    if bytes_eq w (codes "reserve") then guarded events.Reserve ws else
-    if bytes_eq w (codes "read") then guarded events.Read ws else
+    if bytes_eq w (codes "reserve") then guarded span_from events.Reserve ws else
+    if bytes_eq w (codes "read") then guarded span_from events.Read ws else
+    if bytes_eq w (codes "hazard") then guarded value_from events.Hazard ws else
+    if bytes_eq w (codes "saw") then guarded value_from events.Saw ws else
     if bytes_eq w (codes "give") then two events.Give ws else
     if bytes_eq w (codes "unused") then one events.Unused ws else
     if bytes_eq w (codes "link") then rooted events.Link ws else

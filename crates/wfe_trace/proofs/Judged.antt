@@ -1,5 +1,5 @@
 -- What holds of a trace's line that is not bad.
-use Rattle.std.proofs.Common.{ℕ, ◌≡◌, ◌<◌, ◌≤◌, ◌&&◌, if◌then◌else◌, nat_lt, nat_le, Bool, true, false, List, length, Option, Some, None, Result, Ok, Err, refl, sym, subst, arith}
+use Rattle.std.proofs.Common.{ℕ, ◌≡◌, ◌<◌, ◌≤◌, ◌&&◌, if◌then◌else◌, nat_lt, nat_le, Bool, true, false, List, length, Option, Some, None, Result, Ok, Err, refl, sym, ap, subst, arith, ◌∙◌}
 use Rattle.std.specs.Prelude.{codes, IfOk}
 use Rattle.std.specs.Result.{result_unwrap_or}
 use Rattle.std.specs.Str.{bytes_eq}
@@ -7,6 +7,7 @@ use Rattle.std.proofs.lemmas.Bool.Decides.{nat_tests}
 use Rattle.wfe_words.specs.declared.config.Config.{Config}
 use Rattle.wfe_words.specs.declared.config.Field.{Field}
 use Rattle.wfe_words.specs.declared.config.Field.TheVariants as fields
+use Rattle.wfe_words.specs.declared.config.SchemeKind.{SchemeKind}
 use Rattle.wfe_words.specs.Config.{allows, bad_field, number_of}
 use Rattle.wfe_defs.specs.declared.command.Command.{Command}
 use Rattle.wfe_defs.specs.declared.call.Call.{Call}
@@ -25,8 +26,8 @@ use Rattle.wfe_trace.specs.declared.verb.Verb.{Verb}
 use Rattle.wfe_trace.specs.declared.verb.Verb.TheVariants as verbs
 use Rattle.wfe_trace.specs.Body.{verb_in, in_form, numbers_in, is_for, is_placed, seat_of, fits_indexes, fits_seats, call_within, call_of, command_of, judged_line, places_in, command_at, command_in, IsCommandWithin}
 use Rattle.wfe_trace.specs.Good.{is_body, IsRead}
-use Rattle.wfe_trace.specs.Reading.{Reading, judged_at, judged, stage_after, version_after, config_after, gives_pairs, IsVersioned}
-use Rattle.wfe_trace.specs.Setting.{version_line, pairs_in, word_after, field_name, scheme_line, number_line, with_number}
+use Rattle.wfe_trace.specs.Reading.{Reading, judged_at, judged, stage_after, version_after, config_after, gives_pairs, unread_config, IsVersioned}
+use Rattle.wfe_trace.specs.Setting.{version_line, pairs_in, word_after, field_name, scheme_line, scheme_version, scheme_known, number_line, with_number}
 use Rattle.wfe_trace.specs.Words.{words, number_in, need, or_number, ◌>>=◌}
 use Rattle.wfe_trace.proofs.Settings.{bad_field-with_number, versioned-with_number, versioned_first, allows-pairs_in, after-gives_pairs}
 
@@ -145,20 +146,34 @@ versioned-number : (version : ℕ) (config : Config) (field : Field) (bytes : Li
 versioned-number version config field bytes other v = versioned-with_number version config field _ other v
 
 -- the first line gives a version, and the pairs of that version
-bad_field-first : (config : Config) (bytes : List ℕ) (version : ℕ) → version_line bytes ≡ Ok version → bad_field config ≡ None → bad_field (config_after stages.First config bytes) ≡ None
-bad_field-first config bytes version h good = bad_field-with_number config fields.Pairs (pairs_in (result_unwrap_or (version_line bytes) 1)) good (allows-pairs_in (result_unwrap_or (version_line bytes) 1))
+bad_field-first : (config : Config) (bytes : List ℕ) → bad_field (config_after stages.First config bytes) ≡ None
+bad_field-first config bytes = bad_field-with_number unread_config fields.Pairs (pairs_in (result_unwrap_or (version_line bytes) 1)) refl (allows-pairs_in (result_unwrap_or (version_line bytes) 1))
 
 versioned-first : (config : Config) (old : ℕ) (bytes : List ℕ) (version : ℕ) → version_line bytes ≡ Ok version → IsVersioned (version_after stages.First old bytes) (config_after stages.First config bytes)
 versioned-first config old bytes version h =
-    subst (λ k. IsVersioned (result_unwrap_or k old) (with_number config fields.Pairs (pairs_in (result_unwrap_or k 1)))) (sym h) (versioned_first bytes config version h)
+    subst (λ k. IsVersioned (result_unwrap_or k old) (with_number unread_config fields.Pairs (pairs_in (result_unwrap_or k 1)))) (sym h) (versioned_first bytes version h)
+
+-- the second line gives a scheme that the version has
+known-scheme : (version : ℕ) (ws : List (List ℕ)) (scheme : SchemeKind) → scheme_known version ws ≡ Ok scheme → (scheme_line ws ≡ Ok scheme) × (scheme_version scheme ≤ version)
+known-scheme version ws scheme h =
+    let (named, is, h1) = both_good (scheme_line ws) _ scheme h in
+    let (u, fit, h2) = both_good (need (nat_le (scheme_version named) version) reasons.Config) _ scheme h1 in
+    let same : named ≡ scheme = cc in
+    let most : nat_le (scheme_version named) version ≡ true = needed _ reasons.Config u fit in
+    (is ∙ ap Ok same, subst (λ s. scheme_version s ≤ version) same (grind (arith, nat_tests)))
+
+versioned-scheme : (version : ℕ) (config : Config) (bytes : List ℕ) (scheme : SchemeKind) → scheme_known version (words bytes) ≡ Ok scheme → IsVersioned version config → IsVersioned version (config_after stages.Scheme config bytes)
+versioned-scheme version config bytes scheme h v =
+    let (named, most) = known-scheme version (words bytes) scheme h in
+    (v.0, v.1, v.2, subst (λ k. scheme_version (result_unwrap_or k config.scheme) ≤ version) (sym named) most)
 
 read-at : (stage : Stage) (r : Reading) (bytes : List ℕ) (item : Item) → judged_at stage r bytes ≡ Ok item → IsRead r stage bytes item
 read-at stages.First r bytes item h =
     let (version, named, h1) = both_good (version_line bytes) _ item h in
-    same_item r stages.First bytes items.Setting item _ refl h1 (record { placed = (refl, refl); within = bad_field-first r.config bytes version named; versioned = λ other v. versioned-first r.config r.version bytes version named; next = refl })
+    same_item r stages.First bytes items.Setting item _ refl h1 (record { placed = (refl, refl); within = λ good. bad_field-first r.config bytes; versioned = λ other v. versioned-first r.config r.version bytes version named; next = refl })
 read-at stages.Scheme r bytes item h =
-    let (scheme, _, h1) = both_good (scheme_line (words bytes)) _ item h in
-    same_item r stages.Scheme bytes items.Setting item _ refl h1 (record { placed = (refl, refl); within = λ good. good; versioned = λ other v. v; next = refl })
+    let (scheme, known, h1) = both_good (scheme_known r.version (words bytes)) _ item h in
+    same_item r stages.Scheme bytes items.Setting item _ refl h1 (record { placed = (refl, refl); within = λ good. good; versioned = λ other. versioned-scheme r.version r.config bytes scheme known; next = refl })
 read-at (stages.Number field) r bytes item h =
     let (number, numbered, h1) = both_good (number_line field (words bytes)) _ item h in
     same_item r (stages.Number field) bytes items.Setting item _ refl h1 (record { placed = number-field field; within = bad_field-number r.config field bytes number numbered; versioned = versioned-number r.version r.config field bytes; next = after-gives_pairs (stages.Number field) })

@@ -19,7 +19,7 @@ use Rattle.wfe_trace.specs.declared.verb.Verb.TheVariants as verbs
 use Rattle.wfe_trace.specs.Body.{verb_in, count_of, count_in, in_form, numbers_in, is_for, is_placed, names_seat, seat_of, fits_indexes, call_within, call_of, command_of, judged_line, places_in, command_at, command_in}
 use Rattle.wfe_trace.specs.Good.{is_of_line}
 use Rattle.wfe_trace.specs.Reading.{Reading, judged_at, judged}
-use Rattle.wfe_trace.specs.Setting.{version_line, word_after, field_name, scheme_in, scheme_line, number_line}
+use Rattle.wfe_trace.specs.Setting.{version_line, word_after, field_name, scheme_in, scheme_line, scheme_version, scheme_known, number_line}
 use Rattle.wfe_trace.specs.Words.{words, number_in, need, or_number, ◌>>=◌}
 
 -- good, or bad for a reason of a line
@@ -43,7 +43,7 @@ number None = refl
 number (Some n) = refl
 
 version-line : (bytes : List ℕ) → is_line_result (version_line bytes) ≡ true
-version-line bytes = choice (bytes_eq bytes (codes "wfe 1")) _ _ refl (choice (bytes_eq bytes (codes "wfe 2")) _ _ refl (choice (bytes_eq bytes (codes "wfe 3")) _ _ refl (choice (bytes_eq bytes (codes "wfe 4")) _ _ refl refl)))
+version-line bytes = choice (bytes_eq bytes (codes "wfe 1")) _ _ refl (choice (bytes_eq bytes (codes "wfe 2")) _ _ refl (choice (bytes_eq bytes (codes "wfe 3")) _ _ refl (choice (bytes_eq bytes (codes "wfe 4")) _ _ refl (choice (bytes_eq bytes (codes "wfe 5")) _ _ refl refl))))
 
 word-after : (name : List ℕ) (ws : List (List ℕ)) → is_line_result (word_after name ws) ≡ true
 word-after name [] = refl
@@ -52,10 +52,13 @@ word-after name (first ∷ word ∷ []) = choice (bytes_eq first name) (Ok word)
 word-after name (first ∷ word ∷ more ∷ ws) = refl
 
 scheme-in : (w : List ℕ) → is_line_result (scheme_in w) ≡ true
-scheme-in w = choice (bytes_eq w (codes "he")) _ _ refl (choice (bytes_eq w (codes "ibr")) _ _ refl (choice (bytes_eq w (codes "wfe")) _ _ refl refl))
+scheme-in w = choice (bytes_eq w (codes "he")) _ _ refl (choice (bytes_eq w (codes "ibr")) _ _ refl (choice (bytes_eq w (codes "wfe")) _ _ refl (choice (bytes_eq w (codes "hp")) _ _ refl refl)))
 
 scheme-line : (ws : List (List ℕ)) → is_line_result (scheme_line ws) ≡ true
 scheme-line ws = both (word_after (codes "scheme") ws) _ (word-after (codes "scheme") ws) scheme-in
+
+scheme-known : (version : ℕ) (ws : List (List ℕ)) → is_line_result (scheme_known version ws) ≡ true
+scheme-known version ws = both (scheme_line ws) _ (scheme-line ws) (λ scheme. both (need (nat_le (scheme_version scheme) version) reasons.Config) _ (needed _ reasons.Config refl) (λ u. refl))
 
 number-line : (field : Field) (ws : List (List ℕ)) → is_line_result (number_line field ws) ≡ true
 number-line field ws =
@@ -106,7 +109,7 @@ command-in mode version config ws = command-at mode version config (places_in ws
 
 judged-at : (stage : Stage) (r : Reading) (bytes : List ℕ) → is_line_result (judged_at stage r bytes) ≡ true
 judged-at stages.First r bytes = both (version_line bytes) _ (version-line bytes) (λ version. refl)
-judged-at stages.Scheme r bytes = both (scheme_line (words bytes)) _ (scheme-line (words bytes)) (λ scheme. refl)
+judged-at stages.Scheme r bytes = both (scheme_known r.version (words bytes)) _ (scheme-known r.version (words bytes)) (λ scheme. refl)
 judged-at (stages.Number field) r bytes = both (number_line field (words bytes)) _ (number-line field (words bytes)) (λ n. refl)
 judged-at stages.Begin r bytes = both (need (bytes_eq bytes (codes "begin")) reasons.Config) _ (needed _ reasons.Config refl) (λ u. refl)
 judged-at stages.Body r bytes = both (command_in r.mode r.version r.config (words bytes)) _ (command-in r.mode r.version r.config (words bytes)) (λ c. refl)

@@ -10,7 +10,7 @@ use Rattle.wfe_trace.specs.declared.item.Stage.{Stage}
 use Rattle.wfe_trace.specs.declared.item.Stage.TheVariants as stages
 use Rattle.wfe_trace.specs.declared.reason.Reason.{Reason}
 use Rattle.wfe_trace.specs.declared.reason.Reason.TheVariants as reasons
-use Rattle.wfe_trace.specs.Reading.{stage_after, gives_pairs, IsVersioned}
+use Rattle.wfe_trace.specs.Reading.{stage_after, gives_pairs, unread_config, IsVersioned}
 use Rattle.wfe_trace.specs.Setting.{version_line, pairs_in, with_number}
 
 -- another number in its range leaves each number in its range
@@ -37,21 +37,22 @@ versioned-with_number version config fields.LastEra n other v = v
 versioned-with_number version config fields.LastVersion n other v = v
 versioned-with_number version config fields.Pairs n other v = absurd (cc)
 
-choice : (test : Bool) (n version : ℕ) (later : Result ℕ Reason) → 1 ≤ n → n ≤ 4 → (later ≡ Ok version → (1 ≤ version) × (version ≤ 4)) → (if test then Ok n else later) ≡ Ok version → (1 ≤ version) × (version ≤ 4)
+choice : (test : Bool) (n version : ℕ) (later : Result ℕ Reason) → 1 ≤ n → n ≤ 5 → (later ≡ Ok version → (1 ≤ version) × (version ≤ 5)) → (if test then Ok n else later) ≡ Ok version → (1 ≤ version) × (version ≤ 5)
 choice true n version later least most others h = let same : n ≡ version = cc in (omega (arith, same, least), omega (arith, same, most))
 choice false n version later least most others h = others h
 
--- the first line names a version from 1 to 4
-pub version_within : (bytes : List ℕ) (version : ℕ) → version_line bytes ≡ Ok version → (1 ≤ version) × (version ≤ 4)
+-- the first line names a version from 1 to 5
+pub version_within : (bytes : List ℕ) (version : ℕ) → version_line bytes ≡ Ok version → (1 ≤ version) × (version ≤ 5)
 version_within bytes version h =
     choice (bytes_eq bytes (codes "wfe 1")) 1 version _ (omega arith) (omega arith)
     (choice (bytes_eq bytes (codes "wfe 2")) 2 version _ (omega arith) (omega arith)
     (choice (bytes_eq bytes (codes "wfe 3")) 3 version _ (omega arith) (omega arith)
-    (choice (bytes_eq bytes (codes "wfe 4")) 4 version (Err reasons.First) (omega arith) (omega arith) (λ g. absurd (cc))))) h
+    (choice (bytes_eq bytes (codes "wfe 4")) 4 version _ (omega arith) (omega arith)
+    (choice (bytes_eq bytes (codes "wfe 5")) 5 version (Err reasons.First) (omega arith) (omega arith) (λ g. absurd (cc)))))) h
 
--- so the setting has its pairs
-pub versioned_first : (bytes : List ℕ) (config : Config) (version : ℕ) → version_line bytes ≡ Ok version → IsVersioned version (with_number config fields.Pairs (pairs_in version))
-versioned_first bytes config version h = let within = version_within bytes version h in (within.0, within.1, refl)
+-- so the setting that begins has its pairs, and a scheme that each version has
+pub versioned_first : (bytes : List ℕ) (version : ℕ) → version_line bytes ≡ Ok version → IsVersioned version (with_number unread_config fields.Pairs (pairs_in version))
+versioned_first bytes version h = let within = version_within bytes version h in (within.0, within.1, refl, within.0)
 
 pub allows-pairs_in : (version : ℕ) → allows fields.Pairs (pairs_in version) ≡ true
 allows-pairs_in version = grind arith

@@ -23,7 +23,7 @@ use Rattle.wfe_trace.specs.declared.verb.Verb.TheVariants as verbs
 use Rattle.wfe_trace.specs.Body.{call_verb_in, first_version, known_in, verb_in, count_of, count_in, in_form, numbers_in, is_for, is_placed, seat_of, fits_indexes, call_within, call_of, command_of, judged_line, places_in, command_at, command_in}
 use Rattle.wfe_trace.specs.Good.{is_for_workers, version_of}
 use Rattle.wfe_trace.specs.Reading.{Reading, judged, judged_at}
-use Rattle.wfe_trace.specs.Setting.{number_line, scheme_line, version_line}
+use Rattle.wfe_trace.specs.Setting.{number_line, scheme_known, version_line}
 use Rattle.wfe_trace.specs.Words.{need, words}
 use Rattle.wfe_trace.proofs.Judged.{both_good}
 
@@ -165,7 +165,7 @@ begins-workers version config ws seat call h = workers-at version config (places
 -- so does a trace for workers
 at-stage : (stage : Stage) (r : Reading) (bytes : List ℕ) (seat : ℕ) (call : Call) → r.mode ≡ modes.Run → judged_at stage r bytes ≡ Ok (items.Command (commands.Call seat call)) → is_for_workers call ≡ true
 at-stage stages.First r bytes seat call m h = let (version, _, h1) = both_good (version_line bytes) _ _ h in absurd (cc)
-at-stage stages.Scheme r bytes seat call m h = let (scheme, _, h1) = both_good (scheme_line (words bytes)) _ _ h in absurd (cc)
+at-stage stages.Scheme r bytes seat call m h = let (scheme, _, h1) = both_good (scheme_known r.version (words bytes)) _ _ h in absurd (cc)
 at-stage (stages.Number field) r bytes seat call m h = let (number, _, h1) = both_good (number_line field (words bytes)) _ _ h in absurd (cc)
 at-stage stages.Begin r bytes seat call m h = let (u, _, h1) = both_good (need (bytes_eq bytes (codes "begin")) reasons.Config) _ _ h in absurd (cc)
 at-stage stages.Body r bytes seat call m h =

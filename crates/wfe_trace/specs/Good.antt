@@ -26,7 +26,7 @@ Placed r stage items.Setting = (is_body stage ≡ false) × (is_body (stage_afte
 Placed r stage (items.Ready version config) = (is_body stage ≡ false) × (is_body (stage_after stage) ≡ true) × (config ≡ r.config)
 Placed r stage (items.Command c) = (is_body stage ≡ true) × (is_body (stage_after stage) ≡ true) × IsCommandWithin r.config c
 
--- a line that is not bad stands where its item says, leaves the setting's numbers in their ranges, and leaves it the pairs of its version
+-- a line that is not bad stands where its item says, leaves the setting's numbers in their ranges, and leaves it the pairs of its version, with a scheme of that version
 pub record IsRead (r : Reading) (stage : Stage) (bytes : List ℕ) (item : Item) : Type 0 where
   pub placed : Placed r stage item
   pub within : bad_field r.config ≡ None → bad_field (config_after stage r.config bytes) ≡ None

@@ -15,7 +15,7 @@ use Rattle.wfe_trace.specs.declared.item.Stage.TheVariants as stages
 use Rattle.wfe_trace.specs.declared.reason.Reason.{Reason}
 use Rattle.wfe_trace.specs.declared.reason.Reason.TheVariants as reasons
 use Rattle.wfe_trace.specs.Body.{command_in, IsCommandWithin}
-use Rattle.wfe_trace.specs.Setting.{version_line, pairs_in, scheme_line, number_line, with_number}
+use Rattle.wfe_trace.specs.Setting.{version_line, pairs_in, scheme_version, scheme_line, scheme_known, number_line, with_number}
 use Rattle.wfe_trace.specs.Words.{words, need, ◌>>=◌}
 
 -- a trace of which some lines were read: the mode, the version, how many lines were read, the line that comes next, and the setting as far as it was read
@@ -40,7 +40,7 @@ judged_at stages.First r bytes = do
   version ← version_line bytes
   Ok items.Setting
 judged_at stages.Scheme r bytes = do
-  scheme ← scheme_line (words bytes)
+  scheme ← scheme_known r.version (words bytes)
   Ok items.Setting
 judged_at (stages.Number field) r bytes = do
   number ← number_line field (words bytes)
@@ -89,9 +89,9 @@ abbrev pub version_after : Stage → ℕ → List ℕ → ℕ
 version_after stages.First version bytes = result_unwrap_or (version_line bytes) version
 version_after _ version bytes = version
 
--- the setting with what a line gives it: the first line gives the pairs of its version
+-- the setting with what a line gives it: the first line begins it, with the pairs of its version
 abbrev pub config_after : Stage → Config → List ℕ → Config
-config_after stages.First config bytes = with_number config fields.Pairs (pairs_in (result_unwrap_or (version_line bytes) 1))
+config_after stages.First config bytes = with_number unread_config fields.Pairs (pairs_in (result_unwrap_or (version_line bytes) 1))
 config_after stages.Scheme config bytes = record config { scheme = result_unwrap_or (scheme_line (words bytes)) config.scheme }
 config_after (stages.Number field) config bytes = with_number config field (result_unwrap_or (number_line field (words bytes)) (number_of config field))
 config_after _ config bytes = config
@@ -109,11 +109,11 @@ abbrev pub gives_pairs : Stage → Bool
 gives_pairs (stages.Number fields.Pairs) = true
 gives_pairs _ = false
 
--- the version is one that is read, and the setting has its pairs
+-- the version is one that is read, and the setting has its pairs and a scheme that it has
 abbrev pub IsVersioned : (version : ℕ) → Config → Type 0
-IsVersioned version config = (1 ≤ version) × (version ≤ 4) × (config.pairs ≡ pairs_in version)
+IsVersioned version config = (1 ≤ version) × (version ≤ 5) × (config.pairs ≡ pairs_in version) × (scheme_version config.scheme ≤ version)
 
--- so the setting that is whole has the pairs of its version
+-- so the setting that is whole has the pairs of its version, and a scheme that the version has
 abbrev pub IsItemVersioned : Item → Type 0
 IsItemVersioned items.Setting = Unit {0}
 IsItemVersioned (items.Ready version config) = IsVersioned version config

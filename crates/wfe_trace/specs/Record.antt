@@ -120,6 +120,8 @@ event_words (events.End steps answer) = codes "end" ∷ decimal steps ∷ answer
 event_words (events.Era era) = codes "era" ∷ decimal era ∷ []
 event_words (events.Reserve guard span) = codes "reserve" ∷ guard_word guard ∷ span_words span
 event_words (events.Read guard span) = codes "read" ∷ guard_word guard ∷ span_words span
+event_words (events.Hazard guard slot) = codes "hazard" ∷ guard_word guard ∷ value_words slot
+event_words (events.Saw guard slot) = codes "saw" ∷ guard_word guard ∷ value_words slot
 event_words (events.Give slot birth) = codes "give" ∷ decimal slot ∷ decimal birth ∷ []
 event_words (events.Unused slot) = codes "unused" ∷ decimal slot ∷ []
 event_words (events.Link root slot) = codes "link" ∷ root_word root ∷ decimal slot ∷ []
@@ -181,6 +183,7 @@ abbrev pub scheme_word : SchemeKind → List ℕ
 scheme_word schemes.He = codes "he"
 scheme_word schemes.Ibr = codes "ibr"
 scheme_word schemes.Wfe = codes "wfe"
+scheme_word schemes.Hp = codes "hp"
 
 -- a setting; the pairs in a row follow from the version
 abbrev pub setting_words : Config → List (List ℕ)

@@ -17,7 +17,8 @@ version_line bytes =
     if bytes_eq bytes (codes "wfe 1") then Ok 1 else
     if bytes_eq bytes (codes "wfe 2") then Ok 2 else
     if bytes_eq bytes (codes "wfe 3") then Ok 3 else
-    if bytes_eq bytes (codes "wfe 4") then Ok 4 else Err reasons.First
+    if bytes_eq bytes (codes "wfe 4") then Ok 4 else
+    if bytes_eq bytes (codes "wfe 5") then Ok 5 else Err reasons.First
 
 -- for how many pairs a row has room, in traces of the version
 abbrev pub pairs_in : ℕ → ℕ
@@ -33,13 +34,28 @@ abbrev pub scheme_in : List ℕ → Result SchemeKind Reason
 scheme_in w =
     if bytes_eq w (codes "he") then Ok schemes.He else
     if bytes_eq w (codes "ibr") then Ok schemes.Ibr else
-    if bytes_eq w (codes "wfe") then Ok schemes.Wfe else Err reasons.Config
+    if bytes_eq w (codes "wfe") then Ok schemes.Wfe else
+    if bytes_eq w (codes "hp") then Ok schemes.Hp else Err reasons.Config
+
+-- the first version whose traces have the scheme
+abbrev pub scheme_version : SchemeKind → ℕ
+scheme_version schemes.He = 1
+scheme_version schemes.Ibr = 1
+scheme_version schemes.Wfe = 1
+scheme_version schemes.Hp = 5
 
 -- the scheme that the second line names
 abbrev pub scheme_line : List (List ℕ) → Result SchemeKind Reason
 scheme_line ws = do
   word ← word_after (codes "scheme") ws
   scheme_in word
+
+-- the same, where traces of the version have the scheme
+abbrev pub scheme_known : (version : ℕ) → List (List ℕ) → Result SchemeKind Reason
+scheme_known version ws = do
+  scheme ← scheme_line ws
+  known ← need (nat_le (scheme_version scheme) version) reasons.Config
+  Ok scheme
 
 -- a field's name
 abbrev pub field_name : Field → List ℕ

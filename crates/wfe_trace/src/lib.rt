@@ -1,4 +1,4 @@
-//! Reads the lines of a trace of the versions 1 to 4, and prints the lines of a record. No call here
+//! Reads the lines of a trace of the versions 1 to 5, and prints the lines of a record. No call here
 //! takes memory.
 #![tactic(auto)]
 
@@ -23,5 +23,6 @@ pub use print::{
 };
 pub use read::{TraceState, read_line};
 pub use reason::{BadLine, Reason, RecordReason, Status};
+pub use setting::scheme_version;
 pub use wfe_words::{Config, Layout, SchemeKind};
 pub use words::number_of;

@@ -114,6 +114,17 @@ fn print_value(line: &mut Line, value: Option<u64>)
     }
 }
 
+fn print_slot(line: &mut Line, slot: Option<u32>)
+    requires { length line.old ≤ 800 }
+    ensures text { line.new ≡ line.old ++ spaced (value_words slot) }
+    ensures room { length line.new ≤ length line.old + 50 }
+{
+    match slot {
+        None => word(line, b"none"),
+        Some(slot) => number(line, slot as u64),
+    }
+}
+
 fn print_root(line: &mut Line, root: Root)
     requires { length line.old ≤ 800 }
     ensures text { line.new ≡ line.old ++ (32 ∷ root_word root) }
@@ -247,6 +258,8 @@ fn event_name(event: Event) -> &'static [u8]
         Event::Era { .. } => b"era",
         Event::Reserve { .. } => b"reserve",
         Event::Read { .. } => b"read",
+        Event::Hazard { .. } => b"hazard",
+        Event::Saw { .. } => b"saw",
         Event::Give { .. } => b"give",
         Event::Unused { .. } => b"unused",
         Event::Link { .. } => b"link",
@@ -338,6 +351,10 @@ fn print_rest(line: &mut Line, event: Event)
             print_guard(line, guard);
             print_span(line, span);
         }
+        Event::Hazard { guard, slot } | Event::Saw { guard, slot } => {
+            print_guard(line, guard);
+            print_slot(line, slot);
+        }
         Event::Give { slot, birth } => numbers(line, &[slot as u64, birth as u64]),
         Event::Unused { slot } => number(line, slot as u64),
         Event::Link { root, slot } => {
@@ -426,6 +443,7 @@ fn scheme_name(scheme: SchemeKind) -> &'static [u8]
         SchemeKind::He => b"he",
         SchemeKind::Ibr => b"ibr",
         SchemeKind::Wfe => b"wfe",
+        SchemeKind::Hp => b"hp",
     }
 }
 

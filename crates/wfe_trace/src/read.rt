@@ -1,7 +1,7 @@
 // A trace as it is read, line by line.
 ghost use Rattle.std.specs.Prelude.{◌≡◌, MatchResult, OnOk, OnErr, IfOk, IfErr, IsTrue, Ok, Err};
 ghost use Rattle.wfe_trace.specs.Good.{is_of_line};
-ghost use Rattle.wfe_trace.specs.Reading.{IsItemWithin, IsItemVersioned, Reading, reading_start, judged, judged_at, reading_after, version_after, config_after, line_after, stage_after as later_stage, after_field as later_field};
+ghost use Rattle.wfe_trace.specs.Reading.{IsItemWithin, IsItemVersioned, Reading, reading_start, unread_config as unread, judged, judged_at, reading_after, version_after, config_after, line_after, stage_after as later_stage, after_field as later_field};
 
 use crate::body::read_body;
 use crate::item::Stage;
@@ -31,6 +31,24 @@ impl Model for TraceState {
     ghost view = { λ s. record { mode = s.mode; version = s.version; line = s.line; stage = s.stage; config = s.config } };
 
     ghost invariant = { λ s. (bad_field s.config ≡ None) × IsVersioned s.version s.config × (gives_pairs s.stage ≡ false) };
+}
+
+// The numbers of a setting before they are read: the least of each range.
+fn unread_config() -> Config
+    ensures { result ≡ unread }
+{
+    Config {
+        scheme: SchemeKind::He,
+        seats: 1,
+        indexes: 3,
+        slots: 2,
+        buckets: 1,
+        tries: 1,
+        every: 1,
+        last_era: 1,
+        last_version: 1,
+        pairs: 6,
+    }
 }
 
 fn after_field(field: Field) -> Stage
@@ -72,18 +90,7 @@ impl TraceState {
             version: 1,
             line: 0,
             stage: Stage::First,
-            config: Config {
-                scheme: SchemeKind::He,
-                seats: 1,
-                indexes: 3,
-                slots: 2,
-                buckets: 1,
-                tries: 1,
-                every: 1,
-                last_era: 1,
-                last_version: 1,
-                pairs: 6,
-            },
+            config: unread_config(),
         }
     }
 
@@ -109,9 +116,9 @@ impl TraceState {
             Stage::First => {
                 let version = read_version(bytes)?;
                 self.version = version;
-                self.config = with_number(self.config, Field::Pairs, pairs_of(version));
+                self.config = with_number(unread_config(), Field::Pairs, pairs_of(version));
             }
-            Stage::Scheme => self.config.scheme = read_scheme(bytes)?,
+            Stage::Scheme => self.config.scheme = read_scheme(self.version, bytes)?,
             Stage::Number { field } => {
                 let number = read_number(field, bytes)?;
                 self.config = with_number(self.config, field, number);

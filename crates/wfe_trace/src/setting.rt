@@ -1,14 +1,14 @@
 // The lines of a trace before its body: its version, and its setting.
-ghost use Rattle.std.specs.Prelude.{◌≡◌, ◌∷◌, MatchResult, IfOk, Ok, Err, IsTrue};
+ghost use Rattle.std.specs.Prelude.{◌≡◌, ◌≤◌, ◌∷◌, MatchResult, IfOk, Ok, Err, IsTrue};
 ghost use Rattle.wfe_words.specs.Config.{allows as in_range};
-ghost use Rattle.wfe_trace.specs.Setting.{version_line, pairs_in, word_after as after, scheme_in, scheme_line, field_name as name_of_field, number_line, with_number as changed};
+ghost use Rattle.wfe_trace.specs.Setting.{version_line, pairs_in, word_after as after, scheme_in, scheme_line, scheme_known, scheme_version as version_of_scheme, field_name as name_of_field, number_line, with_number as changed};
 ghost use Rattle.wfe_trace.specs.Words.{words};
 
 use crate::Reason;
 use crate::words::{Words, need, number_of, or_number, words_of};
 use wfe_words::{Config, Field, SchemeKind};
 
-/// The version that the first line names, 1 to 4.
+/// The version that the first line names, 1 to 5.
 pub fn read_version(bytes: &[u8]) -> Result<u32, Reason>
     ensures { result ≡ version_line bytes.now }
 {
@@ -20,6 +20,8 @@ pub fn read_version(bytes: &[u8]) -> Result<u32, Reason>
         Ok(3)
     } else if bytes == b"wfe 4".as_slice() {
         Ok(4)
+    } else if bytes == b"wfe 5".as_slice() {
+        Ok(5)
     } else {
         Err(Reason::First)
     }
@@ -52,16 +54,38 @@ fn scheme_of(word: &[u8]) -> Result<SchemeKind, Reason>
         Ok(SchemeKind::Ibr)
     } else if word == b"wfe".as_slice() {
         Ok(SchemeKind::Wfe)
+    } else if word == b"hp".as_slice() {
+        Ok(SchemeKind::Hp)
     } else {
         Err(Reason::Config)
     }
 }
 
-/// The scheme that the second line names.
-pub fn read_scheme(bytes: &[u8]) -> Result<SchemeKind, Reason>
+fn named_scheme(bytes: &[u8]) -> Result<SchemeKind, Reason>
     ensures { result ≡ scheme_line (words bytes.now) }
 {
     scheme_of(word_after(b"scheme", bytes)?)
+}
+
+/// The first version whose traces have the scheme.
+pub fn scheme_version(scheme: SchemeKind) -> u32
+    ensures { result ≡ version_of_scheme scheme }
+{
+    match scheme {
+        SchemeKind::He | SchemeKind::Ibr | SchemeKind::Wfe => 1,
+        SchemeKind::Hp => 5,
+    }
+}
+
+/// The scheme that the second line names, in a trace of the version.
+pub fn read_scheme(version: u32, bytes: &[u8]) -> Result<SchemeKind, Reason>
+    ensures line { result ≡ scheme_known version (words bytes.now) }
+    ensures named { IfOk result (λ scheme. scheme_line (words bytes.now) ≡ Ok scheme) }
+    ensures known { IfOk result (λ scheme. version_of_scheme scheme ≤ version) }
+{
+    let scheme = named_scheme(bytes)?;
+    need(scheme_version(scheme) <= version, Reason::Config)?;
+    Ok(scheme)
 }
 
 fn field_name(field: Field) -> &'static [u8]

@@ -1,12 +1,11 @@
-// What the versions 2 and 3 add to the lines of a trace and to the texts of a record.
+// What the later versions add to the lines of a trace and to the texts of a record.
 use crate::lines::{expect, expect_command, expect_event};
 use std::process::Abort;
-use wfe_defs::{Answer, Call, Command, Event};
+use wfe_defs::{Answer, Call, Command, Event, Guard};
 use wfe_trace::{Item, Line, Mode, Reason, TraceState, print_header, read_line};
 use wfe_words::{Config, SchemeKind};
 
-const SETTING: [&str; 9] = [
-    "scheme he",
+const NUMBERS: [&str; 8] = [
     "seats 2",
     "indexes 5",
     "slots 8",
@@ -30,14 +29,20 @@ const CONFIG: Config = Config {
     pairs: 6,
 };
 
-// Reads each line of a setting but the last, in a trace with this first line.
-fn in_setting(rt: &impl Abort, mode: Mode, first: &str) -> TraceState {
+// Reads each line of a setting but the last, in a trace with these first two lines.
+fn with_scheme(rt: &impl Abort, mode: Mode, first: &str, scheme: &str) -> TraceState {
     let mut state = TraceState::new(mode);
-    expect(rt, &mut state, first, None);
-    for text in SETTING {
+    for text in [first, scheme] {
+        expect(rt, &mut state, text, None);
+    }
+    for text in NUMBERS {
         expect(rt, &mut state, text, None);
     }
     state
+}
+
+fn in_setting(rt: &impl Abort, mode: Mode, first: &str) -> TraceState {
+    with_scheme(rt, mode, first, "scheme he")
 }
 
 fn in_body(rt: &impl Abort, mode: Mode, first: &str) -> TraceState {
@@ -47,11 +52,11 @@ fn in_body(rt: &impl Abort, mode: Mode, first: &str) -> TraceState {
 }
 
 #[test]
-fn the_first_line_names_one_of_four_versions(rt: HostRuntime) {
+fn the_first_line_names_one_of_five_versions(rt: HostRuntime) {
     let others = [
-        "wfe 0", "wfe 5", "wfe 12", "wfe 02", "wfe  2", "wfe 2 ", "WFE 2", "wfe", "2",
+        "wfe 0", "wfe 6", "wfe 12", "wfe 02", "wfe  2", "wfe 2 ", "WFE 2", "wfe", "2",
     ];
-    for first in ["wfe 1", "wfe 2", "wfe 3", "wfe 4"] {
+    for first in ["wfe 1", "wfe 2", "wfe 3", "wfe 4", "wfe 5"] {
         let mut state = TraceState::new(Mode::Replay);
         for text in others {
             expect(&rt, &mut state, text, Some(Reason::First));
@@ -68,6 +73,7 @@ fn the_setting_has_the_pairs_of_its_version(rt: HostRuntime) {
         ("wfe 2", 2, 6),
         ("wfe 3", 3, 14),
         ("wfe 4", 4, 14),
+        ("wfe 5", 5, 14),
     ] {
         for mode in [Mode::Replay, Mode::Run] {
             let mut state = in_setting(&rt, mode, first);
@@ -75,6 +81,68 @@ fn the_setting_has_the_pairs_of_its_version(rt: HostRuntime) {
             let ready = Item::Ready { version, config };
             assert_eq!(rt; read_line(&mut state, b"begin"), Ok(ready), "{first}");
         }
+    }
+}
+
+#[test]
+fn the_fifth_version_has_hazard_pointers(rt: HostRuntime) {
+    let schemes = [
+        ("scheme he", SchemeKind::He),
+        ("scheme ibr", SchemeKind::Ibr),
+        ("scheme wfe", SchemeKind::Wfe),
+        ("scheme hp", SchemeKind::Hp),
+    ];
+    for (text, scheme) in schemes {
+        for mode in [Mode::Replay, Mode::Run] {
+            let mut state = with_scheme(&rt, mode, "wfe 5", text);
+            let config = Config {
+                scheme,
+                pairs: 14,
+                ..CONFIG
+            };
+            let ready = Item::Ready { version: 5, config };
+            assert_eq!(rt; read_line(&mut state, b"begin"), Ok(ready), "{text}");
+        }
+    }
+}
+
+#[test]
+fn lower_versions_have_no_hazard_pointers(rt: HostRuntime) {
+    for first in ["wfe 1", "wfe 2", "wfe 3", "wfe 4"] {
+        let mut state = TraceState::new(Mode::Replay);
+        expect(&rt, &mut state, first, None);
+        for text in ["scheme hp", "scheme hp ", "scheme  hp", "scheme HP"] {
+            expect(&rt, &mut state, text, Some(Reason::Config));
+        }
+        expect(&rt, &mut state, "scheme he", None);
+    }
+    let mut state = TraceState::new(Mode::Replay);
+    expect(&rt, &mut state, "wfe 5", None);
+    for text in ["scheme hp ", "scheme  hp", "scheme HP", "scheme h", "hp"] {
+        expect(&rt, &mut state, text, Some(Reason::Config));
+    }
+    expect(&rt, &mut state, "scheme hp", None);
+}
+
+#[test]
+fn the_fifth_version_has_the_lines_of_the_fourth(rt: HostRuntime) {
+    let mut state = in_body(&rt, Mode::Replay, "wfe 5");
+    let lines = [
+        ("0 copy 2 3", None),
+        ("0 put_if 7 70 1", None),
+        ("0 leave", None),
+        ("0 adopt 1", None),
+        ("0 adopt 2", Some(Reason::Seat)),
+        ("0 hazard 2", Some(Reason::Form)),
+        ("0 step 1", None),
+        ("end", None),
+    ];
+    for (text, want) in lines {
+        expect(&rt, &mut state, text, want);
+    }
+    let mut state = in_body(&rt, Mode::Run, "wfe 5");
+    for text in ["0 leave", "0 adopt 1"] {
+        expect(&rt, &mut state, text, Some(Reason::RunLine));
     }
 }
 
@@ -253,6 +321,19 @@ fn a_header_tells_the_version_and_no_pairs(rt: HostRuntime) {
         line.bytes(),
         b"record 3 he 2 4 8 1 2 1 100 100\n".as_slice()
     );
+    print_header(
+        5,
+        &Config {
+            scheme: SchemeKind::Hp,
+            pairs: 14,
+            ..config
+        },
+        &mut line,
+    );
+    assert_eq!(rt;
+        line.bytes(),
+        b"record 5 hp 2 4 8 1 2 1 100 100\n".as_slice()
+    );
 }
 
 #[test]
@@ -311,4 +392,19 @@ fn a_copy_has_its_text(rt: HostRuntime) {
         slot: 0,
     };
     expect_event(&rt, copied, "3 copied 2 3 0\n");
+}
+
+#[test]
+fn hazards_have_their_texts(rt: HostRuntime) {
+    let guard = Guard::Index { seat: 0, index: 2 };
+    let slot = Some(65_536);
+    let events = [
+        (Event::Hazard { guard, slot }, "3 hazard i0.2 65536\n"),
+        (Event::Hazard { guard, slot: None }, "3 hazard i0.2 none\n"),
+        (Event::Saw { guard, slot }, "3 saw i0.2 65536\n"),
+        (Event::Saw { guard, slot: None }, "3 saw i0.2 none\n"),
+    ];
+    for (event, want) in events {
+        expect_event(&rt, event, want);
+    }
 }

@@ -3,7 +3,7 @@ ghost use Rattle.std.specs.Prelude.{◌≡◌, if◌then◌else◌, Err, Ok};
 ghost use Rattle.wfe_words.specs.Config.{allows as is_allowed, number_of};
 
 /// The reclamation schemes: Hazard Eras (Ramalhete and Correia 2017), 2GE intervals (Wen and others
-/// 2018) and Wait-Free Eras (Nikolaev and Ravindran 2020).
+/// 2018), Wait-Free Eras (Nikolaev and Ravindran 2020) and hazard pointers (Michael 2004).
 #[derive(Clone, Copy, Debug, PartialEq, Eq)]
 pub enum SchemeKind {
     /// Hazard Eras: each index of a seat publishes one era.
@@ -12,6 +12,8 @@ pub enum SchemeKind {
     Ibr,
     /// Wait-Free Eras: as Hazard Eras, and movers of the clock help those that fail to protect.
     Wfe,
+    /// Hazard pointers (Michael 2004): each index of a seat publishes the row that it protects.
+    Hp,
 }
 
 /// The setting of a table.
