@@ -4,7 +4,7 @@
 use Rattle.std.proofs.Common.{ℕ, ◌≡◌, ◌+◌, ◌-◌, Bool, true, false, List, [], ◌∷◌, ◌++◌, Option, Some, None, refl, ap, ◌∙◌}
 use Rattle.std.specs.Prelude.{◌==◌, ◌&&◌, ◌||◌, not, if◌then◌else◌, drop}
 use Rattle.wfe_core.specs.words.declared.config.SchemeKind.{SchemeKind}
-use Rattle.wfe_core.specs.words.declared.config.SchemeKind.TheVariants.{He, Ibr, Wfe}
+use Rattle.wfe_core.specs.words.declared.config.SchemeKind.TheVariants.{He, Hp, Ibr, Wfe}
 use Rattle.wfe_core.specs.words.Packed.{read_reservation, reservation_word}
 use Rattle.wfe_core.specs.defs.declared.event.Event.{Event}
 use Rattle.wfe_core.specs.defs.declared.event.Event.TheVariants as events
@@ -16,21 +16,22 @@ use Rattle.wfe_core.specs.defs.declared.lifetime.Interval.{Interval}
 use Rattle.wfe_core.specs.declared.post.Post.{Post}
 use Rattle.wfe_core.specs.Allocate as allocates
 use Rattle.wfe_core.specs.Desks.{Desk}
-use Rattle.wfe_core.specs.Guards.{one_era, from_to}
+use Rattle.wfe_core.specs.Guards.{linked_row, one_era, from_to}
 use Rattle.wfe_core.specs.Locals.{told_by}
 use Rattle.wfe_core.specs.Machine as machine
 use Rattle.wfe_core.specs.Memory.{bump}
 use Rattle.wfe_core.specs.MoveClock as movers
-use Rattle.wfe_core.specs.Posts.{stands, cleared, cleared_from, reserves_helper, reserves_index, reserves_span, lower, upper}
+use Rattle.wfe_core.specs.Posts.{stands, cleared, cleared_from, publishes_index, reserves_helper, reserves_span, lower, upper}
 use Rattle.wfe_core.specs.Protect as protects
 use Rattle.wfe_core.specs.Rounds.{scheme_of, clear_told, let_index}
-use Rattle.wfe_core.specs.words.Schemes.{has_one_interval}
+use Rattle.wfe_core.specs.words.Schemes.{has_one_interval, publishes_rows}
 use Rattle.wfe_core.specs.SlowPath.{asking, own_request}
 use Rattle.wfe_core.specs.Steps as steps
 use Rattle.wfe_core.specs.WriteRow.{last_written}
-use Rattle.wfe_core.specs.Phases.{Aim, Alone, Follows, BeginAt, ProtectAt, AllocateAt, RetireAt, MoveAt, Walk, Base, Turn}
+use Rattle.wfe_core.specs.Phases.{Aim, Alone, Follows, BeginAt, HazardAt, ProtectAt, AllocateAt, RetireAt, MoveAt, Walk, Base, Turn}
 use Rattle.wfe_core.specs.Phases.BeginAt.{LoadLower, PublishSpan}
-use Rattle.wfe_core.specs.Phases.ProtectAt.{LoadClock, PublishEra, CheckClock, PublishHelper, CheckOwnClock, AnswerOwn, TakeAnswer, WithdrawHelper, CheckUpper, RaiseUpper}
+use Rattle.wfe_core.specs.Phases.ProtectAt.{LoadClock, PublishEra, CheckClock, PublishHelper, CheckOwnClock, AnswerOwn, TakeAnswer, WithdrawHelper, CheckUpper, RaiseUpper, ByHazard}
+use Rattle.wfe_core.specs.Phases.HazardAt.{FirstLink, PublishLink, CheckLink}
 use Rattle.wfe_core.specs.Phases.AllocateAt.{ClaimSlot}
 use Rattle.wfe_core.specs.Phases.RetireAt.{StoreRetired}
 use Rattle.wfe_core.specs.Phases.MoveAt.{LoadEra, LoadRequest, ShowEra, LoadAsked, CheckEra, AnswerAsked, LoadReserved, HandOver, HideEra, HideLate, ExchangeClock}
@@ -54,6 +55,18 @@ span_is (Some span) (Some other) h =
     let lo : span.lo ≡ other.lo = number_is span.lo other.lo (first_of (span.lo == other.lo) (span.hi == other.hi) h) in
     let hi : span.hi ≡ other.hi = number_is span.hi other.hi (rest_of (span.lo == other.lo) (span.hi == other.hi) h) in
     ap (λ (n : ℕ). Some (record { lo = n; hi = span.hi })) lo ∙ ap (λ (n : ℕ). Some (record { lo = other.lo; hi = n })) hi
+
+abbrev pub same_row : Option ℕ → Option ℕ → Bool
+same_row None None = true
+same_row None (Some other) = false
+same_row (Some row) None = false
+same_row (Some row) (Some other) = row == other
+
+pub row_is : (row other : Option ℕ) → same_row row other ≡ true → row ≡ other
+row_is None None h = refl
+row_is None (Some other) h = absurd (cc)
+row_is (Some row) None h = absurd (cc)
+row_is (Some row) (Some other) h = ap (λ (n : ℕ). Some n) (number_is row other h)
 
 -- the steps that store the helper word, an index word and the interval word of their seat
 abbrev pub at_helper : ProtectAt → Bool
@@ -79,8 +92,40 @@ at_index at = false
 
 abbrev pub base_index : Base → (index : ℕ) → Bool
 base_index (Protect aim own root made at) index = at_index at && index == own
-base_index (Clear own) index = index == own
+base_index (Clear false own) index = index == own
 base_index base index = false
+
+-- the steps that publish a row in an index word of their seat, or withdraw it, and what it publishes then
+abbrev pub hazard_stores : HazardAt → Bool
+hazard_stores FirstLink = false
+hazard_stores (PublishLink link) = true
+hazard_stores (CheckLink link) = false
+
+abbrev pub at_hazards : ProtectAt → Bool
+at_hazards (ByHazard at) = hazard_stores at
+at_hazards at = false
+
+abbrev pub base_hazards : Base → (index : ℕ) → Bool
+base_hazards (Protect aim own root made at) index = at_hazards at && index == own
+base_hazards (Clear true own) index = index == own
+base_hazards base index = false
+
+abbrev pub hazard_shows : HazardAt → Option ℕ
+hazard_shows FirstLink = None
+hazard_shows (PublishLink link) = linked_row link
+hazard_shows (CheckLink link) = None
+
+abbrev pub at_row : ProtectAt → Option ℕ
+at_row (ByHazard at) = hazard_shows at
+at_row at = None
+
+abbrev pub base_row : Base → Option ℕ
+base_row (Protect aim own root made at) = at_row at
+base_row base = None
+
+abbrev pub may_hazard : Base → Post → Guard → Option ℕ → Bool
+may_hazard base post (Index seat index) row = base_hazards base index && (seat == post.seat && same_row row (base_row base))
+may_hazard base post guard row = false
 
 -- a hand-over stores the index word of the seat that asked, where it found it as it was
 abbrev pub move_hands : MoveAt → (found seat index : ℕ) → Bool
@@ -169,10 +214,16 @@ retires (Retire at) slot birth retire = retire_stores at slot birth retire
 retires base slot birth retire = false
 
 -- the steps that find what their protection is for; it tells the number of its step
+abbrev pub hazard_finds : HazardAt → Bool
+hazard_finds FirstLink = true
+hazard_finds (PublishLink link) = false
+hazard_finds (CheckLink link) = true
+
 abbrev pub at_finds : ProtectAt → Bool
 at_finds (CheckClock era tries link) = true
 at_finds (TakeAnswer link era) = true
 at_finds (CheckUpper link) = true
+at_finds (ByHazard at) = hazard_finds at
 at_finds at = false
 
 abbrev pub finds_none : Base → (index n : ℕ) → Bool
@@ -185,7 +236,7 @@ finds_row base index n = finds_none base index n
 
 -- the steps after which what stood at an index stands no more
 abbrev pub clears : Base → (index : ℕ) → Bool
-clears (Clear own) index = index == own
+clears (Clear rows own) index = index == own
 clears (Release own) index = index == own
 clears base index = false
 
@@ -197,6 +248,7 @@ takes base = false
 abbrev pub may_tell : Base → Post → (found : ℕ) → Event → Bool
 may_tell base post found (events.Era era) = ticks base found era
 may_tell base post found (events.Reserve guard span) = may_publish base post found guard span
+may_tell base post found (events.Hazard guard row) = may_hazard base post guard row
 may_tell base post found (events.Give slot birth) = gives base found slot birth
 may_tell base post found (events.Unused slot) = gives_up base slot
 may_tell base post found (events.Retire slot birth retire) = retires base slot birth retire
@@ -215,11 +267,12 @@ is_find (events.Held index slot n) = true
 is_find (events.Null index n) = true
 is_find event = false
 
--- the four shapes
+-- the five shapes
 pub data Shape (base : Base) (post : Post) (found : ℕ) (told : List Event) : Type 0 where
   Silent : told ≡ [] → Shape base post found told
   Single : (event : Event) → told ≡ event ∷ [] → Tells base post found event → Shape base post found told
   Clears : (index slot : ℕ) (guard : Guard) → told ≡ events.Clear index slot ∷ events.Reserve guard None ∷ [] → Tells base post found (events.Clear index slot) → Tells base post found (events.Reserve guard None) → Shape base post found told
+  Drops : (index slot : ℕ) (guard : Guard) → told ≡ events.Clear index slot ∷ events.Hazard guard None ∷ [] → Tells base post found (events.Clear index slot) → Tells base post found (events.Hazard guard None) → Shape base post found told
   Takes : (guard : Guard) (span : Option Interval) (event : Event) → told ≡ events.Reserve guard span ∷ event ∷ [] → takes base ≡ true → is_find event ≡ true → Tells base post found (events.Reserve guard span) → Tells base post found event
       → Shape base post found told
 
@@ -239,6 +292,13 @@ own_span seat span = both (seat == seat) (same_span span span) (same_number seat
 
 own_index : (seat index : ℕ) (span : Option Interval) (b : Bool) → ((if index == index then seat == seat else b) && same_span span span) ≡ true
 own_index seat index span b = let e : (index == index) ≡ true = same_number index in rw e (own_span seat span)
+
+own_row : (index seat : ℕ) (row : Option ℕ) → (index == index && (seat == seat && same_row row row)) ≡ true
+own_row index seat row = both (index == index) (seat == seat && same_row row row) (same_number index) (both (seat == seat) (same_row row row) (same_number seat) (row_self row))
+  where
+    row_self : (row : Option ℕ) → same_row row row ≡ true
+    row_self None = refl
+    row_self (Some row) = same_number row
 
 -- what is told where a protection ends its search, and where an index is cleared, one case each
 pub held_any : (P : List Event → Type 0) (index : ℕ) (root : Root) (link n : ℕ) → P [] → P (events.Null index n ∷ []) → ((slot : ℕ) → P (events.Held index slot n ∷ [])) → P (protects.told_held index root link n)
@@ -266,6 +326,7 @@ pub clear_any : (P : List Event → Type 0) (scheme : SchemeKind) (post : Post) 
 clear_any P He post index a b = a
 clear_any P Ibr post index a b = cleared_any P index (stands post index) a b
 clear_any P Wfe post index a b = a
+clear_any P Hp post index a b = a
 
 held_shape : (base : Base) (post : Post) (found index : ℕ) (root : Root) (link n : ℕ) → finds_none base index n ≡ true → finds_row base index n ≡ true → Shape base post found (protects.told_held index root link n)
 held_shape base post found index root link n a b = held_any (Shape base post found) index root link n (Silent refl) (Single (events.Null index n) refl a) (λ slot. Single (events.Held index slot n) refl b)
@@ -289,6 +350,17 @@ concluded_shape base post found aim index root n link era next told h = rw (conc
 abbrev Shaped : Base → Post → ℕ → Type 0
 Shaped base post found = Shape base post found (machine.after base post found).told
 
+hazard_shape : (aim : Aim) (index : ℕ) (root : Root) (made : ℕ) (at : HazardAt) (post : Post) (found : ℕ) → Shaped (Protect aim index root made (ByHazard at)) post found
+hazard_shape aim index root made FirstLink post found =
+    let base : Base = Protect aim index root made (ByHazard FirstLink) in
+    shape_if base post found (found == 0) _ _
+    (concluded_shape base post found aim index root (bump made) found 0 (protects.held_post post index root found) (protects.told_held index root found (bump made)) (held_shape base post found index root found (bump made) (own_two index (bump made)) (own_two index (bump made)))) (Silent refl)
+hazard_shape aim index root made (PublishLink link) post found = Single (events.Hazard (Index post.seat index) (linked_row link)) refl (own_row index post.seat (linked_row link))
+hazard_shape aim index root made (CheckLink link) post found =
+    let base : Base = Protect aim index root made (ByHazard (CheckLink link)) in
+    shape_if base post found (found == link || found == 0) _ _
+    (concluded_shape base post found aim index root (bump made) found 0 (protects.held_post post index root found) (protects.told_held index root found (bump made)) (held_shape base post found index root found (bump made) (own_two index (bump made)) (own_two index (bump made)))) (Silent refl)
+
 protect_shape : (aim : Aim) (index : ℕ) (root : Root) (made : ℕ) (at : ProtectAt) (post : Post) (found : ℕ) → Shaped (Protect aim index root made at) post found
 protect_shape aim index root made (PublishEra era tries) post found = Single (events.Reserve (Index post.seat index) (one_era era)) refl (own_index post.seat index (one_era era) false)
 protect_shape aim index root made (CheckClock era tries link) post found =
@@ -308,6 +380,7 @@ protect_shape aim index root made (CheckUpper link) post found =
     shape_if base post found (found == upper post.span) _ _
     (concluded_shape base post found aim index root (bump made) link found (protects.held_post post index root link) (protects.told_held index root link (bump made)) (held_shape base post found index root link (bump made) (own_two index (bump made)) (own_two index (bump made)))) (Silent refl)
 protect_shape aim index root made (RaiseUpper era) post found = Single (events.Reserve (Whole post.seat) (from_to (lower post.span) era)) refl (own_span post.seat (from_to (lower post.span) era))
+protect_shape aim index root made (ByHazard at) post found = hazard_shape aim index root made at post found
 protect_shape aim index root made at post found = Silent refl
 
 hand_shape : (era seat tag index : ℕ) (root : Root) (link old : ℕ) (post : Post) (found : ℕ) (same : Bool) → (found == reservation_word (record { era = old; tag = tag })) ≡ same
@@ -347,11 +420,16 @@ cleared_shape : (base : Base) (post : Post) (found index : ℕ) (guard : Guard) 
 cleared_shape base post found index guard None c p = Single (events.Reserve guard None) refl p
 cleared_shape base post found index guard (Some slot) c p = Clears index slot guard refl c p
 
+dropped_shape : (base : Base) (post : Post) (found index : ℕ) (guard : Guard) (o : Option ℕ) → clears base index ≡ true → Tells base post found (events.Hazard guard None) → Shape base post found (cleared index o ++ events.Hazard guard None ∷ [])
+dropped_shape base post found index guard None c p = Single (events.Hazard guard None) refl p
+dropped_shape base post found index guard (Some slot) c p = Drops index slot guard refl c p
+
 pub shape_of : (base : Base) (post : Post) (found : ℕ) → Shaped base post found
 shape_of (Begin (PublishSpan era)) post found = Single (events.Reserve (Whole post.seat) (from_to era era)) refl (own_span post.seat (from_to era era))
 shape_of (Protect aim index root made at) post found = protect_shape aim index root made at post found
 shape_of (Reload parent index slot era made) post found = shape_if _ post found (found == parent + 1) _ _ (Single (events.Held index slot (bump made)) refl (own_two index (bump made))) (Silent refl)
-shape_of (Clear index) post found = cleared_shape (Clear index) post found index (Index post.seat index) (stands post index) (same_number index) (own_index post.seat index None false)
+shape_of (Clear true index) post found = dropped_shape (Clear true index) post found index (Index post.seat index) (stands post index) (same_number index) (own_row index post.seat None)
+shape_of (Clear false index) post found = cleared_shape (Clear false index) post found index (Index post.seat index) (stands post index) (same_number index) (own_index post.seat index None false)
 shape_of Finish post found = Single (events.Reserve (Whole post.seat) None) refl (own_span post.seat None)
 shape_of (Release index) post found = cleared_shape (Release index) post found index (Whole post.seat) (stands post index) (same_number index) (own_span post.seat None)
 shape_of (Allocate (ClaimSlot birth walk)) post found = claim_shape birth walk post found (allocates.is_claimed found walk.slot) refl
@@ -367,6 +445,8 @@ shape_tells base post found told (Silent e) = rw e refl
 shape_tells base post found told (Single event e a) = rw e (and_true (may_tell base post found event) a)
 shape_tells base post found told (Clears index slot guard e a b) =
     rw e (both (may_tell base post found (events.Clear index slot)) (may_tell base post found (events.Reserve guard None) && true) a (and_true (may_tell base post found (events.Reserve guard None)) b))
+shape_tells base post found told (Drops index slot guard e a b) =
+    rw e (both (may_tell base post found (events.Clear index slot)) (may_tell base post found (events.Hazard guard None) && true) a (and_true (may_tell base post found (events.Hazard guard None)) b))
 shape_tells base post found told (Takes guard span event e t f a b) =
     rw e (both (may_tell base post found (events.Reserve guard span)) (may_tell base post found event && true) a (and_true (may_tell base post found event) b))
 
@@ -391,7 +471,7 @@ move_stores at = move_helper at
 abbrev pub publishes : Base → Bool
 publishes (Begin at) = begin_whole at
 publishes (Protect aim index root made at) = at_stores at
-publishes (Clear index) = true
+publishes (Clear rows index) = true
 publishes Finish = true
 publishes (Release index) = true
 publishes (Move at) = move_stores at
@@ -437,6 +517,32 @@ one_unreserved base post found event p t = refl
 pub no_reserve : (base : Base) (post : Post) (found : ℕ) → publishes base ≡ false → all_of (λ event. not (is_reserve event)) (machine.after base post found).told ≡ true
 no_reserve base post found p = base_all (λ event. not (is_reserve event)) base post found (λ event. one_unreserved base post found event p)
 
+abbrev pub is_hazard : Event → Bool
+is_hazard (events.Hazard guard row) = true
+is_hazard event = false
+
+-- a step that neither publishes nor withdraws a row tells of none
+abbrev pub hazards : Base → Bool
+hazards (Protect aim own root made at) = at_hazards at
+hazards (Clear rows own) = rows
+hazards base = false
+
+hazard_bare : (base : Base) (index : ℕ) → hazards base ≡ false → base_hazards base index ≡ false
+hazard_bare (Protect aim own root made at) index p = rw p refl
+hazard_bare (Clear true own) index p = absurd (cc)
+hazard_bare (Clear false own) index p = refl
+hazard_bare base index p = refl
+
+one_unhazarded : (base : Base) (post : Post) (found : ℕ) (event : Event) → hazards base ≡ false → Tells base post found event → not (is_hazard event) ≡ true
+one_unhazarded base post found (events.Hazard (Index seat index) row) p t =
+    absurd (false_not_true (base_hazards base index) (hazard_bare base index p) (first_of (base_hazards base index) (seat == post.seat && same_row row (base_row base)) t))
+one_unhazarded base post found (events.Hazard (Helper seat) row) p t = absurd (cc)
+one_unhazarded base post found (events.Hazard (Whole seat) row) p t = absurd (cc)
+one_unhazarded base post found event p t = refl
+
+pub no_hazard : (base : Base) (post : Post) (found : ℕ) → hazards base ≡ false → all_of (λ event. not (is_hazard event)) (machine.after base post found).told ≡ true
+no_hazard base post found p = base_all (λ event. not (is_hazard event)) base post found (λ event. one_unhazarded base post found event p)
+
 -- a step that finds nothing tells no number of steps
 abbrev pub finds : Base → Bool
 finds (Protect aim index root made at) = at_finds at
@@ -456,16 +562,29 @@ no_find base post found f = base_all (λ event. not (is_find event)) base post f
 -- a step that stores no index word tells of none
 abbrev pub is_index : Event → Bool
 is_index (events.Reserve (Index seat index) span) = true
+is_index (events.Hazard guard row) = true
 is_index event = false
 
 abbrev pub stores_index : Base → Bool
-stores_index (Protect aim index root made at) = at_index at
-stores_index (Clear index) = true
+stores_index (Protect aim index root made at) = at_hazards at || at_index at
+stores_index (Clear rows index) = true
 stores_index (Move (HandOver era seat tag index root link old)) = true
 stores_index base = false
 
+left_false : (a b : Bool) → (a || b) ≡ false → a ≡ false
+left_false true b h = h
+left_false false b h = refl
+
+right_false : (a b : Bool) → (a || b) ≡ false → b ≡ false
+right_false true b h = absurd (cc)
+right_false false b h = h
+
 one_unindexed : (base : Base) (post : Post) (found : ℕ) (event : Event) → stores_index base ≡ false → Tells base post found event → not (is_index event) ≡ true
-one_unindexed (Protect aim own root made at) post found (events.Reserve (Index seat index) span) f t = let q : false ≡ true = rw f at t in absurd (cc)
+one_unindexed (Protect aim own root made at) post found (events.Hazard (Index seat index) row) f t = absurd (false_not_true (at_hazards at) (left_false (at_hazards at) (at_index at) f) (first_of (at_hazards at) (index == own) (first_of (at_hazards at && index == own) (seat == post.seat && same_row row (at_row at)) t)))
+one_unindexed base post found (events.Hazard (Helper seat) row) f t = absurd (cc)
+one_unindexed base post found (events.Hazard (Whole seat) row) f t = absurd (cc)
+one_unindexed base post found (events.Hazard (Index seat index) row) f t = absurd (cc)
+one_unindexed (Protect aim own root made at) post found (events.Reserve (Index seat index) span) f t = let e : at_index at ≡ false = right_false (at_hazards at) (at_index at) f in let q : false ≡ true = rw e at t in absurd (cc)
 one_unindexed (Move (LoadEra helps)) post found (events.Reserve (Index seat index) span) f t = absurd (cc)
 one_unindexed (Move at) post found (events.Reserve (Index seat index) span) f t = absurd (cc)
 one_unindexed base post found (events.Reserve (Index seat index) span) f t = absurd (cc)
@@ -494,32 +613,36 @@ pub cleared_from_all : (ok : Event → Bool) (index : ℕ) (rows : List (Option 
 cleared_from_all ok index [] c = refl
 cleared_from_all ok index (row ∷ rows) c = of_along ok (cleared index row) (cleared_from (index + 1) rows) (cleared_all ok index row c) (cleared_from_all ok (index + 1) rows c)
 
-pub keep_all : (ok : Event → Bool) → ((index slot : ℕ) → ok (events.Clear index slot) ≡ true) → ((from index slot : ℕ) → ok (events.Copied from index slot) ≡ true) → ((seat index era : ℕ) → ok (events.Reserve (Index seat index) (one_era era)) ≡ true) → ((seat : ℕ) → ok (events.Reserve (Whole seat) None) ≡ true)
+pub keep_all : (ok : Event → Bool) → ((index slot : ℕ) → ok (events.Clear index slot) ≡ true) → ((from index slot : ℕ) → ok (events.Copied from index slot) ≡ true) → ((seat index era : ℕ) → ok (events.Reserve (Index seat index) (one_era era)) ≡ true) → ((seat : ℕ) → ok (events.Reserve (Whole seat) None) ≡ true) → ((seat index link : ℕ) → ok (events.Hazard (Index seat index) (linked_row link)) ≡ true)
     → (at : KeepAt) (post : Post) → all_of ok (keep_told at post) ≡ true
-keep_all ok c p r w (Loosens let_go) post = cleared_all ok (let_index let_go) (stands post (let_index let_go)) c
-keep_all ok c p r w (LoadHeld from index) post = by (has_one_interval (scheme_of post))
+keep_all ok c p r w h (Loosens let_go) post = cleared_all ok (let_index let_go) (stands post (let_index let_go)) c
+keep_all ok c p r w h (LoadHeld from index) post = by (has_one_interval (scheme_of post))
   where
     by : (one : Bool) → all_of ok (if one then copied_told from index post [] (stands post from) else []) ≡ true
     by true = copied_all ok from index post [] (stands post from) (cleared_all ok index (stands post index) c) refl (p from index)
     by false = refl
-keep_all ok c p r w (StoreHeld from index era) post =
-    copied_all ok from index post (reserves_index post index era) (stands post from) (cleared_all ok index (stands post index) c) (and_true (ok (events.Reserve (Index post.seat index) (one_era era))) (r post.seat index era)) (p from index)
-keep_all ok c p r w (Looks index key at) post = refl
-keep_all ok c p r w (Misses index) post = refl
-keep_all ok c p r w HideSpan post =
+keep_all ok c p r w h (StoreHeld from index number) post =
+    copied_all ok from index post (publishes_index (publishes_rows (scheme_of post)) post index number) (stands post from) (cleared_all ok index (stands post index) c) (by (publishes_rows (scheme_of post))) (p from index)
+  where
+    by : (rows : Bool) → all_of ok (publishes_index rows post index number) ≡ true
+    by false = and_true (ok (events.Reserve (Index post.seat index) (one_era number))) (r post.seat index number)
+    by true = and_true (ok (events.Hazard (Index post.seat index) (linked_row number))) (h post.seat index number)
+keep_all ok c p r w h (Looks index key at) post = refl
+keep_all ok c p r w h (Misses index) post = refl
+keep_all ok c p r w h HideSpan post =
     of_along ok (cleared_from 2 (drop 2 post.standing)) (reserves_span post None) (cleared_from_all ok 2 (drop 2 post.standing) c) (and_true (ok (events.Reserve (Whole post.seat) None)) (w post.seat))
-keep_all ok c p r w MarkLeft post = refl
-keep_all ok c p r w (TakeList place) post = refl
-keep_all ok c p r w (MarkTaken place count) post = refl
+keep_all ok c p r w h MarkLeft post = refl
+keep_all ok c p r w h (TakeList place) post = refl
+keep_all ok c p r w h (MarkTaken place count) post = refl
 
 -- so of any work
-pub work_all : (ok : Event → Bool) → ((index slot : ℕ) → ok (events.Clear index slot) ≡ true) → ((from index slot : ℕ) → ok (events.Copied from index slot) ≡ true) → ((seat index era : ℕ) → ok (events.Reserve (Index seat index) (one_era era)) ≡ true) → ((seat : ℕ) → ok (events.Reserve (Whole seat) None) ≡ true)
+pub work_all : (ok : Event → Bool) → ((index slot : ℕ) → ok (events.Clear index slot) ≡ true) → ((from index slot : ℕ) → ok (events.Copied from index slot) ≡ true) → ((seat index era : ℕ) → ok (events.Reserve (Index seat index) (one_era era)) ≡ true) → ((seat : ℕ) → ok (events.Reserve (Whole seat) None) ≡ true) → ((seat index link : ℕ) → ok (events.Hazard (Index seat index) (linked_row link)) ≡ true)
     → (work : Work) (post : Post) → all_of ok (work_told work post) ≡ true
-work_all ok c p r w (Keeping at) post = keep_all ok c p r w at post
-work_all ok c p r w (Getting key at) post = refl
-work_all ok c p r w (Changing kept at) post = refl
-work_all ok c p r w (Enqueuing kept at) post = refl
-work_all ok c p r w (Dequeuing at) post = refl
+work_all ok c p r w h (Keeping at) post = keep_all ok c p r w h at post
+work_all ok c p r w h (Getting key at) post = refl
+work_all ok c p r w h (Changing kept at) post = refl
+work_all ok c p r w h (Enqueuing kept at) post = refl
+work_all ok c p r w h (Dequeuing at) post = refl
 
 -- a test that all passes which comes after a machine
 pub record Passes (ok : Event → Bool) : Type 0 where

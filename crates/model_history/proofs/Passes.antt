@@ -22,15 +22,16 @@ use Rattle.wfe_core.specs.Desks.{Desk, with_life}
 use Rattle.wfe_core.specs.Dequeue as dequeues
 use Rattle.wfe_core.specs.Enqueue as enqueues
 use Rattle.wfe_core.specs.Get as gets
-use Rattle.wfe_core.specs.Guards.{guards, guard_at, eras_in, published}
+use Rattle.wfe_core.specs.defs.declared.event.Guard.{Guard}
+use Rattle.wfe_core.specs.Guards.{guards, guard_at, published}
 use Rattle.wfe_core.specs.Keep as keeps
 use Rattle.wfe_core.specs.Locals.{told_by, told_end}
 use Rattle.wfe_core.specs.Machine as machine
-use Rattle.wfe_core.specs.Posts.{cleared, cleared_from, reserves_index, reserves_span, stands, with_row, withdrawn, withdrawn_all}
+use Rattle.wfe_core.specs.Posts.{cleared, cleared_from, publishes_index, reserves_span, stands, with_row, withdrawn, withdrawn_all}
 use Rattle.wfe_core.specs.Scan as scan
 use Rattle.wfe_core.specs.Steps as steps
 use Rattle.wfe_core.specs.Rounds.{scheme_of, bucket_of, index_of, taken_of, finish_base, clear_base, clear_post, clear_told, given_up, closed, finishing_by, finishing, clearing_by, clearing, clearing_next_by, clearing_next, let_index}
-use Rattle.wfe_core.specs.words.Schemes.{has_one_interval}
+use Rattle.wfe_core.specs.words.Schemes.{has_one_interval, publishes_rows}
 use Rattle.wfe_core.specs.Phases.{Base, Ending, Outcome, Goes, Ends}
 use Rattle.wfe_core.specs.Phases.Ending.{Done, Protected, Followed, Allocated, Retired, Clocked}
 use Rattle.wfe_core.specs.Calls.{Task, Gets, Changes, Holds, Enqueues, Dequeues, Next, Again, MakeRoom, Answering, Retiring, AfterScan, Answered, Repeated, Counted, ChangeKept, EnqueueKept, GetAt, FindVersion, FindCount, FindKey, FindValue, ChangeAt, LoadVersion, LoadCount, LoadKey, LoadValue, ExchangeRoot, EnqueueAt, LoadNumber, LoadNext, PassTail, ExchangeNext, ExchangeTail, DequeueAt, SwingTail, ExchangeHead, Work, Getting, Changing, Enqueuing, Dequeuing, Keeping, KeepAt, Loosens, LoadHeld, StoreHeld, Looks, Misses, HideSpan, MarkLeft, TakeList, MarkTaken, LetGo, Released, Rehold, Dropped, Parting, ScanAt, ReadGuard, GiveBack, Why, Opens, FollowsHead, Fills, ClearsNext, Clears, Finishes, GivesUp, Retires, Tidies, Advances, Releases, Phase, Idle, Runs, Scans, Works, CallTurn, CallOutcome, GoesOn, Answers}
@@ -77,7 +78,7 @@ Left P t = P t.post t.told
 
 -- what a step of a scan tells
 abbrev pub scan_told : ScanAt → Post → ℕ → List Event
-scan_told (ReadGuard number) post found = events.Read (guard_at post.layout.config number) (eras_in (guard_at post.layout.config number) found) ∷ []
+scan_told (ReadGuard number) post found = scan.reads_guard (publishes_rows post.layout.config.scheme) (guard_at post.layout.config number) found ∷ []
 scan_told (GiveBack place slot) post found = events.Back slot ∷ []
 
 -- what a step of a call on what is kept leaves, and what it tells before what it tells of lists
@@ -103,7 +104,7 @@ keep_post (MarkTaken place count) post = post
 abbrev pub keep_told : KeepAt → Post → List Event
 keep_told (Loosens let_go) post = cleared (let_index let_go) (stands post (let_index let_go))
 keep_told (LoadHeld from index) post = if has_one_interval (scheme_of post) then copied_told from index post [] (stands post from) else []
-keep_told (StoreHeld from index era) post = copied_told from index post (reserves_index post index era) (stands post from)
+keep_told (StoreHeld from index era) post = copied_told from index post (publishes_index (publishes_rows (scheme_of post)) post index era) (stands post from)
 keep_told (Looks index key at) post = []
 keep_told (Misses index) post = []
 keep_told HideSpan post = cleared_from 2 (drop 2 post.standing) ++ reserves_span post None
@@ -311,7 +312,7 @@ taking_goes P0 P A c place post desk false found h = c.weak post [] h
 keep_goes : (P0 P : Post → List Event → Type 0) (A : ℕ → ℕ → Type 0) (c : Closing P0 P A) (at : KeepAt) (post : Post) (desk : Desk) (found : ℕ) → P0 (keep_post at post) (keep_told at post) → Left P (keeps.keep_turn at post desk found)
 keep_goes P0 P A c (Loosens let_go) post desk found h = released_goes P0 P A c let_go (withdrawn post (let_index let_go)) desk (cleared (let_index let_go) (stands post (let_index let_go))) h
 keep_goes P0 P A c (LoadHeld from index) post desk found h = load_held_goes P0 P A c from index post desk found (has_one_interval (scheme_of post)) h
-keep_goes P0 P A c (StoreHeld from index era) post desk found h = copied_goes P0 P A c from index post desk (reserves_index post index era) (stands post from) h
+keep_goes P0 P A c (StoreHeld from index era) post desk found h = copied_goes P0 P A c from index post desk (publishes_index (publishes_rows (scheme_of post)) post index era) (stands post from) h
 keep_goes P0 P A c (Looks index key at) post desk found h = look_goes P0 P A c index key at post desk found h
 keep_goes P0 P A c (Misses index) post desk found h = c.weak post [] h
 keep_goes P0 P A c HideSpan post desk found h = c.weak (withdrawn_all post) (cleared_from 2 (drop 2 post.standing) ++ reserves_span post None) h
@@ -342,8 +343,9 @@ guard_goes P0 P A c later number post desk told false h = giving_back_goes P0 P 
 
 scan_goes : (P0 P : Post → List Event → Type 0) (A : ℕ → ℕ → Type 0) (c : Closing P0 P A) (later : AfterScan) (at : ScanAt) (post : Post) (desk : Desk) (found : ℕ) → P0 post (scan_told at post found) → Left P (scan.scan_turn later at post desk found)
 scan_goes P0 P A c later (ReadGuard number) post desk found h =
-    let seen : Seen = (guard_at post.layout.config number, published (guard_at post.layout.config number) found) in
-    guard_goes P0 P A c later number post (scan.with_read desk number seen) (events.Read seen.0 (eras_in seen.0 found) ∷ []) (nat_lt (number + 1) (guards post.layout.config)) h
+    let guard : Guard = guard_at post.layout.config number in
+    let rows : Bool = publishes_rows post.layout.config.scheme in
+    guard_goes P0 P A c later number post (scan.with_read desk number (guard, published rows guard found)) (scan.reads_guard rows guard found ∷ []) (nat_lt (number + 1) (guards post.layout.config)) h
 scan_goes P0 P A c later (GiveBack place slot) post desk found h = giving_back_goes P0 P A c later post (scan.with_back desk place) (events.Back slot ∷ []) (scan.unmet_from (scan.with_back desk place) place) h
 
 -- what comes after a machine

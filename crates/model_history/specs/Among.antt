@@ -110,6 +110,8 @@ event_code (events.Taken number value) = 18 ∷ number ∷ value ∷ []
 event_code (events.Copied from index slot) = 19 ∷ from ∷ index ∷ slot ∷ []
 event_code (events.Left count) = 20 ∷ count ∷ []
 event_code (events.Adopted place count) = 21 ∷ place ∷ count ∷ []
+event_code (events.Hazard guard slot) = 22 ∷ guard_code guard ++ value_code slot
+event_code (events.Saw guard slot) = 23 ∷ guard_code guard ++ value_code slot
 
 abbrev same_numbers : List ℕ → List ℕ → Bool
 same_numbers [] [] = true

@@ -11,7 +11,8 @@ use Rattle.wfe_defs.specs.declared.event.Event.{Event}
 use Rattle.wfe_defs.specs.declared.event.Guard.{Guard}
 use Rattle.wfe_defs.specs.declared.lifetime.Interval.{Interval}
 use Rattle.wfe_defs.specs.Shown.{shown}
-use Rattle.wfe_core.specs.Guards.{guards, guard_at, eras_in}
+use Rattle.wfe_core.specs.Guards.{guards, guard_at, published}
+use Rattle.wfe_words.specs.Schemes.{publishes_rows}
 use Rattle.wfe_core.specs.declared.ends.AllocateEnd.{AllocateEnd}
 use Rattle.wfe_core.specs.declared.ends.AllocateEnd.TheVariants as allocate_ends
 use Rattle.wfe_core.specs.declared.ends.FollowEnd.{FollowEnd}
@@ -231,13 +232,13 @@ read_same : (later : AfterScan) (number : ℕ) (post : Post) (desk : Desk) (told
 read_same later number post desk told true = same post
 read_same later number post desk told false = giving_same later post desk told _
 
-read_guard_same : (later : AfterScan) (number : ℕ) (post : Post) (desk : Desk) (guard : Guard) (span : Option Interval) → SamePlace post (scan.read_guard later number post desk guard span).post
-read_guard_same later number post desk guard span =
-    read_same later number post (scan.with_read desk number (guard, shown span)) (events.Read guard span ∷ []) (nat_lt (number + 1) (guards post.layout.config))
+read_guard_same : (later : AfterScan) (number : ℕ) (post : Post) (desk : Desk) (rows : Bool) (guard : Guard) (word : ℕ) → SamePlace post (scan.read_guard later number post desk rows guard word).post
+read_guard_same later number post desk rows guard word =
+    read_same later number post (scan.with_read desk number (guard, published rows guard word)) (scan.reads_guard rows guard word ∷ []) (nat_lt (number + 1) (guards post.layout.config))
 
 scan_same : (later : AfterScan) (at : ScanAt) (post : Post) (desk : Desk) (found : ℕ) → SamePlace post (scan_turn later at post desk found).post
 scan_same later (ReadGuard number) post desk found =
-    read_guard_same later number post desk (guard_at post.layout.config number) (eras_in (guard_at post.layout.config number) found)
+    read_guard_same later number post desk (publishes_rows post.layout.config.scheme) (guard_at post.layout.config number) found
 scan_same later (GiveBack place slot) post desk found =
     giving_same later post (scan.with_back desk place) (events.Back slot ∷ []) (scan.unmet_from (scan.with_back desk place) place)
 

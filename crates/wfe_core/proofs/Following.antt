@@ -1,6 +1,6 @@
 -- A step of a follow is a step of its protection, and what follows.
 use Rattle.std.proofs.Common.{ℕ, ◌≡◌, Bool, true, false, List, [], refl}
-use Rattle.std.specs.Prelude.{◌==◌, ◌-◌, if◌then◌else◌}
+use Rattle.std.specs.Prelude.{◌==◌, ◌||◌, ◌-◌, if◌then◌else◌}
 use Rattle.wfe_defs.specs.declared.event.Event.{Event}
 use Rattle.wfe_defs.specs.declared.event.Root.{Root}
 use Rattle.wfe_core.specs.declared.ends.ProtectEnd.TheVariants as protect_ends
@@ -12,7 +12,8 @@ use Rattle.wfe_core.specs.Machine.{protect_turn}
 use Rattle.wfe_core.specs.Phases.{Alone, Follows, ProtectAt, Turn, goes, ends}
 use Rattle.wfe_core.specs.Phases.Base.{Protect, Reload}
 use Rattle.wfe_core.specs.Phases.Ending.{Protected, Followed}
-use Rattle.wfe_core.specs.Phases.ProtectAt.{LoadClock, PublishEra, LoadLink, CheckClock, PublishRequest, LoadOwnClock, PublishHelper, LoadOwnLink, CheckOwnClock, AnswerOwn, LoadAnswer, TakeAnswer, WithdrawRequest, WithdrawHelper, LoadWithin, CheckUpper, RaiseUpper}
+use Rattle.wfe_core.specs.Phases.ProtectAt.{LoadClock, PublishEra, LoadLink, CheckClock, PublishRequest, LoadOwnClock, PublishHelper, LoadOwnLink, CheckOwnClock, AnswerOwn, LoadAnswer, TakeAnswer, WithdrawRequest, WithdrawHelper, LoadWithin, CheckUpper, RaiseUpper, ByHazard}
+use Rattle.wfe_core.specs.Phases.HazardAt.{FirstLink, PublishLink, CheckLink}
 use Rattle.wfe_core.specs.Posts.{upper, reserves_helper}
 use Rattle.wfe_core.specs.Protect.{concluded, held_post, told_held}
 use Rattle.wfe_core.specs.SlowPath.{own_request}
@@ -50,3 +51,8 @@ protect_follows index root n LoadWithin post found = refl
 protect_follows index root n (CheckUpper link) post found =
     if_follows (found == upper post.span) index root n _ _ (concluded Alone index root n link found (held_post post index root link) (told_held index root link n)) (goes post [] (Protect Alone index root n (RaiseUpper found))) (concluded_follows index root n link found (held_post post index root link) (told_held index root link n)) refl
 protect_follows index root n (RaiseUpper era) post found = refl
+protect_follows index root n (ByHazard FirstLink) post found =
+    if_follows (found == 0) index root n _ _ (concluded Alone index root n found 0 (held_post post index root found) (told_held index root found n)) (goes post [] (Protect Alone index root n (ByHazard (PublishLink found)))) (concluded_follows index root n found 0 (held_post post index root found) (told_held index root found n)) refl
+protect_follows index root n (ByHazard (PublishLink link)) post found = refl
+protect_follows index root n (ByHazard (CheckLink link)) post found =
+    if_follows (found == link || found == 0) index root n _ _ (concluded Alone index root n found 0 (held_post post index root found) (told_held index root found n)) (goes post [] (Protect Alone index root n (ByHazard (PublishLink found)))) (concluded_follows index root n found 0 (held_post post index root found) (told_held index root found n)) refl

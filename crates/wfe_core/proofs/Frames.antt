@@ -1,6 +1,6 @@
 -- No step changes a seat's number or its table.
 use Rattle.std.proofs.Common.{ℕ, Bool, true, false, List, refl, ◌∙◌}
-use Rattle.std.specs.Prelude.{◌==◌, if◌then◌else◌, Option, Some, None}
+use Rattle.std.specs.Prelude.{◌==◌, ◌||◌, if◌then◌else◌, Option, Some, None}
 use Rattle.wfe_defs.specs.declared.event.Event.{Event}
 use Rattle.wfe_defs.specs.declared.event.Root.{Root}
 use Rattle.wfe_defs.specs.declared.event.Root.TheVariants as roots
@@ -9,7 +9,8 @@ use Rattle.wfe_core.specs.Frames.{SamePlace}
 use Rattle.wfe_core.specs.Posts.{with_tag}
 use Rattle.wfe_core.specs.Phases.{Aim, Alone, Follows, Walk, Base, Turn}
 use Rattle.wfe_core.specs.Phases.BeginAt.{LoadLower, PublishSpan}
-use Rattle.wfe_core.specs.Phases.ProtectAt.{LoadClock, PublishEra, LoadLink, CheckClock, PublishRequest, LoadOwnClock, PublishHelper, LoadOwnLink, CheckOwnClock, AnswerOwn, LoadAnswer, TakeAnswer, WithdrawRequest, WithdrawHelper, LoadWithin, CheckUpper, RaiseUpper}
+use Rattle.wfe_core.specs.Phases.ProtectAt.{LoadClock, PublishEra, LoadLink, CheckClock, PublishRequest, LoadOwnClock, PublishHelper, LoadOwnLink, CheckOwnClock, AnswerOwn, LoadAnswer, TakeAnswer, WithdrawRequest, WithdrawHelper, LoadWithin, CheckUpper, RaiseUpper, ByHazard}
+use Rattle.wfe_core.specs.Phases.HazardAt.{FirstLink, PublishLink, CheckLink}
 use Rattle.wfe_core.specs.Phases.AllocateAt.{LoadBirth, ClaimSlot, StoreLife}
 use Rattle.wfe_core.specs.Phases.RetireAt.{LoadLife, LoadRetire, StoreRetired}
 use Rattle.wfe_core.specs.Phases.MoveAt.{LoadEra, LoadRequest, ShowEra, LoadAsked, CheckEra, AnswerAsked, LoadReserved, HandOver, HideEra, HideLate, ExchangeClock}
@@ -82,8 +83,13 @@ after_same (Protect aim index root steps LoadWithin) post found = same post
 after_same (Protect aim index root steps (CheckUpper link)) post found =
     same_if _ post _ _ (protected_same aim index root _ link found post _) (same post)
 after_same (Protect aim index root steps (RaiseUpper era)) post found = record { layout = refl; seat = refl }
+after_same (Protect aim index root steps (ByHazard FirstLink)) post found =
+    same_if (found == 0) post _ _ (protected_same aim index root _ found 0 post _) (same post)
+after_same (Protect aim index root steps (ByHazard (PublishLink link))) post found = same post
+after_same (Protect aim index root steps (ByHazard (CheckLink link))) post found =
+    same_if (found == link || found == 0) post _ _ (protected_same aim index root _ found 0 post _) (same post)
 after_same (Reload parent index slot era steps) post found = same_if _ post _ _ (record { layout = refl; seat = refl }) (same post)
-after_same (Clear index) post found = record { layout = refl; seat = refl }
+after_same (Clear rows index) post found = record { layout = refl; seat = refl }
 after_same Finish post found = record { layout = refl; seat = refl }
 after_same (Release index) post found = record { layout = refl; seat = refl }
 after_same (Allocate LoadBirth) post found = same post

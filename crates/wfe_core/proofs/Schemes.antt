@@ -1,6 +1,6 @@
 -- What holds of a scheme's machines, by whether the scheme has one interval.
 use Rattle.std.proofs.Common.{ℕ, ◌≡◌, Bool, true, false, List, [], Option, Some, None, refl}
-use Rattle.wfe_words.specs.Schemes.{has_one_interval}
+use Rattle.wfe_words.specs.Schemes.{has_one_interval, publishes_rows}
 use Rattle.wfe_words.specs.declared.config.SchemeKind.{SchemeKind}
 use Rattle.wfe_defs.specs.declared.event.Event.{Event}
 use Rattle.wfe_defs.specs.declared.event.Guard.{Guard}
@@ -23,8 +23,8 @@ each_begin scheme post P f t = by (has_one_interval scheme)
 pub each_finish : (scheme : SchemeKind) (post : Post) (P : Option Base → Type 0) → P None → P (finish_span (kept_row post)) → P (finish_base scheme post)
 each_finish scheme post P f t = if_by (has_one_interval scheme) (finish_span (kept_row post)) None P (λ e. t) (λ e. f)
 
-pub each_clear : (scheme : SchemeKind) (index : ℕ) (P : Option Base → Type 0) → P (Some (Clear index)) → P None → P (clear_base scheme index)
-each_clear scheme index P f t = if_by (has_one_interval scheme) None (Some (Clear index)) P (λ e. t) (λ e. f)
+pub each_clear : (scheme : SchemeKind) (index : ℕ) (P : Option Base → Type 0) → P (Some (Clear (publishes_rows scheme) index)) → P None → P (clear_base scheme index)
+each_clear scheme index P f t = if_by (has_one_interval scheme) None (Some (Clear (publishes_rows scheme) index)) P (λ e. t) (λ e. f)
 
 pub each_clear_post : (scheme : SchemeKind) (post : Post) (index : ℕ) (P : Post → Type 0) → P post → P (withdrawn post index) → P (clear_post scheme post index)
 each_clear_post scheme post index P f t = if_by (has_one_interval scheme) (withdrawn post index) post P (λ e. t) (λ e. f)
@@ -32,8 +32,8 @@ each_clear_post scheme post index P f t = if_by (has_one_interval scheme) (withd
 pub each_clear_told : (scheme : SchemeKind) (post : Post) (index : ℕ) (P : List Event → Type 0) → P [] → P (cleared index (stands post index)) → P (clear_told scheme post index)
 each_clear_told scheme post index P f t = if_by (has_one_interval scheme) (cleared index (stands post index)) [] P (λ e. t) (λ e. f)
 
-pub each_release : (scheme : SchemeKind) (post : Post) (index : ℕ) (P : Option Base → Type 0) → P (Some (Clear index)) → P (release_span index (kept_row (withdrawn post index))) → P (release_base scheme post index)
-each_release scheme post index P f t = if_by (has_one_interval scheme) (release_span index (kept_row (withdrawn post index))) (Some (Clear index)) P (λ e. t) (λ e. f)
+pub each_release : (scheme : SchemeKind) (post : Post) (index : ℕ) (P : Option Base → Type 0) → P (Some (Clear (publishes_rows scheme) index)) → P (release_span index (kept_row (withdrawn post index))) → P (release_base scheme post index)
+each_release scheme post index P f t = if_by (has_one_interval scheme) (release_span index (kept_row (withdrawn post index))) (Some (Clear (publishes_rows scheme) index)) P (λ e. t) (λ e. f)
 
 pub each_guard : (scheme : SchemeKind) (seat index : ℕ) (P : Guard → Type 0) → P (Index seat index) → P (Whole seat) → P (own_guard scheme seat index)
 each_guard scheme seat index P f t = if_by (has_one_interval scheme) (Whole seat) (Index seat index) P (λ e. t) (λ e. f)

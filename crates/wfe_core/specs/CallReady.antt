@@ -1,6 +1,7 @@
 -- What holds where a call makes its next step, and what that step may find. A history gives all of it at each step.
 use Rattle.std.specs.Prelude.{ℕ, ◌≡◌, ◌≤◌, ◌<◌, ◌+◌, ◌*◌, ◌==◌, false, List, [], length, map, slice_get, Option, Some, None}
 use Rattle.std.specs.List.{list_any}
+use Rattle.wfe_words.specs.Schemes.{publishes_rows}
 use Rattle.wfe_defs.specs.declared.lifetime.Lifetime.{Lifetime}
 use Rattle.wfe_core.specs.declared.post.Post.{Post}
 use Rattle.wfe_core.specs.Desks.{Desk}
@@ -8,8 +9,8 @@ use Rattle.wfe_core.specs.Guards.{guards}
 use Rattle.wfe_core.specs.Phases.{RetireAt, Base}
 use Rattle.wfe_core.specs.Phases.RetireAt.{LoadLife, LoadRetire, StoreRetired}
 use Rattle.wfe_core.specs.Phases.Base.{Retire}
-use Rattle.wfe_core.specs.Ready.{IndexFits, SlotFits, LinkFits, IsReady, Plausible}
-use Rattle.wfe_core.specs.Rounds.{let_index}
+use Rattle.wfe_core.specs.Ready.{ShownFits, IndexFits, SlotFits, LinkFits, IsReady, Plausible}
+use Rattle.wfe_core.specs.Rounds.{let_index, scheme_of}
 use Rattle.wfe_core.specs.Scan.{read_before}
 use Rattle.wfe_core.specs.Calls.{ChangeKept, EnqueueKept, Task, Gets, Changes, Holds, Enqueues, Dequeues, AfterScan, Answered, Repeated, Counted, Why, Opens, FollowsHead, Fills, ClearsNext, Clears, Finishes, GivesUp, Retires, Tidies, Advances, Releases, ScanAt, ReadGuard, GiveBack, GetAt, FindVersion, FindCount, FindKey, FindValue, ChangeAt, LoadVersion, LoadCount, LoadKey, LoadValue, ExchangeRoot, EnqueueAt, LoadNumber, LoadNext, PassTail, ExchangeNext, ExchangeTail, DequeueAt, LoadTail, SwingTail, TakeNumber, TakeValue, ExchangeHead, Work, Getting, Changing, Enqueuing, Dequeuing, Keeping, KeepAt, Loosens, LoadHeld, StoreHeld, Looks, Misses, HideSpan, MarkLeft, TakeList, MarkTaken, Phase, Idle, Runs, Scans, Works}
 
@@ -131,7 +132,7 @@ CopyFits post from index = (2 ≤ from) × (from < index) × IndexFits post inde
 abbrev pub keep_ready : KeepAt → Post → Type 0
 keep_ready (Loosens let_go) post = IndexFits post (let_index let_go)
 keep_ready (LoadHeld from index) post = CopyFits post from index
-keep_ready (StoreHeld from index era) post = CopyFits post from index
+keep_ready (StoreHeld from index era) post = (CopyFits post from index) × ShownFits (publishes_rows (scheme_of post)) post era
 keep_ready (Looks index key at) post = get_ready at post
 keep_ready (Misses index) post = IndexFits post index
 keep_ready HideSpan post = Unit {0}
@@ -167,6 +168,10 @@ IsCallReady (Runs why base) post desk = (IsReady base post) × why_ready why bas
 IsCallReady (Scans later at) post desk = (LaterFits post later) × scan_ready at post desk
 IsCallReady (Works work) post desk = work_ready work post
 
+abbrev pub scan_plausible : ScanAt → Post → ℕ → Type 0
+scan_plausible (ReadGuard number) post found = ShownFits (publishes_rows (scheme_of post)) post found
+scan_plausible (GiveBack place slot) post found = Unit {0}
+
 abbrev pub get_plausible : GetAt → Post → ℕ → Type 0
 get_plausible (FindVersion slot) post found = VersionFits post found
 get_plausible (FindCount slot version) post found = CountFits post found
@@ -196,7 +201,7 @@ dequeue_plausible (ExchangeHead head next number value) post found = Unit {0}
 
 abbrev pub keep_plausible : KeepAt → Post → ℕ → Type 0
 keep_plausible (Loosens let_go) post found = Unit {0}
-keep_plausible (LoadHeld from index) post found = Unit {0}
+keep_plausible (LoadHeld from index) post found = ShownFits (publishes_rows (scheme_of post)) post found
 keep_plausible (StoreHeld from index era) post found = Unit {0}
 keep_plausible (Looks index key at) post found = get_plausible at post found
 keep_plausible (Misses index) post found = Unit {0}
@@ -216,5 +221,5 @@ work_plausible (Keeping at) post found = keep_plausible at post found
 abbrev pub IsCallPlausible : Phase → Post → ℕ → Type 0
 IsCallPlausible Idle post found = Unit {0}
 IsCallPlausible (Runs why base) post found = Plausible base post found
-IsCallPlausible (Scans later at) post found = Unit {0}
+IsCallPlausible (Scans later at) post found = scan_plausible at post found
 IsCallPlausible (Works work) post found = work_plausible work post found

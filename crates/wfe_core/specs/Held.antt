@@ -4,7 +4,7 @@ use Rattle.std.specs.List.{IsDistinct, list_any}
 use Rattle.wfe_defs.specs.declared.event.Guard.{Guard}
 use Rattle.wfe_defs.specs.declared.lifetime.Interval.{Interval}
 use Rattle.wfe_defs.specs.declared.lifetime.Lifetime.{Lifetime}
-use Rattle.wfe_defs.specs.Shown.{seen_all}
+use Rattle.wfe_defs.specs.Shown.{Seen}
 use Rattle.wfe_core.specs.CallReady.{slots_of}
 use Rattle.wfe_core.specs.Desks.{Report, Notes}
 
@@ -21,7 +21,7 @@ pub record ListFits (lives : List Lifetime) (slots capacity : ℕ) : Type 0 wher
 
 -- a scan's report, with room for so many guards
 pub record ReportHeld : Type 0 where
-  pub read : List (Guard × Option Interval)
+  pub read : List Seen
   pub kept : ℕ
   pub back : ℕ
   pub room : ℕ
@@ -38,7 +38,7 @@ pub record NotesHeld : Type 0 where
 
 -- the report and the notes without their room
 abbrev pub report_of : ReportHeld → Report
-report_of held = record { read = seen_all held.read; kept = held.kept; back = held.back }
+report_of held = record { read = held.read; kept = held.kept; back = held.back }
 
 abbrev pub notes_of : NotesHeld → Notes
 notes_of held =

@@ -4,7 +4,7 @@ use Rattle.std.specs.Prelude.{ℕ, ◌==◌, ◌+◌, Bool, true, false, if◌th
 use Rattle.wfe_words.specs.Packed.{read_reservation}
 use Rattle.wfe_words.specs.Place.{Place}
 use Rattle.wfe_words.specs.Place.Place.{Index, Interval, PlaceOf}
-use Rattle.wfe_words.specs.Schemes.{has_one_interval}
+use Rattle.wfe_words.specs.Schemes.{has_one_interval, publishes_rows}
 use Rattle.wfe_defs.specs.declared.call.Answer.{Answer}
 use Rattle.wfe_defs.specs.declared.call.Answer.TheVariants as answers
 use Rattle.wfe_defs.specs.declared.event.Event.{Event}
@@ -18,7 +18,7 @@ use Rattle.wfe_core.specs.Get.{get_move}
 use Rattle.wfe_core.specs.Guards.{guard_place, own_guard}
 use Rattle.wfe_core.specs.Memory.{Move, Cas, Load, Store}
 use Rattle.wfe_core.specs.Phases.Base.{Clear}
-use Rattle.wfe_core.specs.Posts.{cleared, cleared_from, index_word, reserves_index, reserves_span, stands, standing_from, with_row, withdrawn, withdrawn_all}
+use Rattle.wfe_core.specs.Posts.{cleared, cleared_from, publishes_index, reserves_span, shown_word, stands, standing_from, with_row, withdrawn, withdrawn_all}
 use Rattle.wfe_core.specs.Rounds.{let_index, round, scheme_of}
 
 -- the word of the guard of an index of the seat
@@ -28,7 +28,7 @@ own_place post index = guard_place (own_guard (scheme_of post) post.seat index)
 abbrev pub keep_move : KeepAt → Post → Move
 keep_move (Loosens let_go) post = Load (Interval post.seat)
 keep_move (LoadHeld from index) post = Load (own_place post from)
-keep_move (StoreHeld from index era) post = Store (Index post.seat index) (index_word post index era)
+keep_move (StoreHeld from index era) post = Store (Index post.seat index) (shown_word (publishes_rows (scheme_of post)) post index era)
 keep_move (Looks index key at) post = get_move at
 keep_move (Misses index) post = Load (own_place post index)
 keep_move HideSpan post = Store (Interval post.seat) 0
@@ -38,9 +38,9 @@ keep_move (MarkTaken place count) post = Store (PlaceOf place) 3
 
 -- a seat that leaves: what stands is let go, one index after the other, and under 2GE with the interval; then its place is
 -- marked
-abbrev pub parting_index : Option ℕ → Phase
-parting_index None = Works (Keeping MarkLeft)
-parting_index (Some index) = Runs (Releases (Parting index)) (Clear index)
+abbrev pub parting_index : (rows : Bool) → Option ℕ → Phase
+parting_index rows None = Works (Keeping MarkLeft)
+parting_index rows (Some index) = Runs (Releases (Parting index)) (Clear rows index)
 
 abbrev pub parting_span : Option Span → Phase
 parting_span None = Works (Keeping MarkLeft)
@@ -48,7 +48,7 @@ parting_span (Some span) = Works (Keeping HideSpan)
 
 -- from this index on
 abbrev pub parting_from : ℕ → Post → Phase
-parting_from index post = parting_index (standing_from index (drop index post.standing))
+parting_from index post = parting_index (publishes_rows (scheme_of post)) (standing_from index (drop index post.standing))
 
 abbrev pub parting : Post → Phase
 parting post = if has_one_interval (scheme_of post) then parting_span post.span else parting_from 2 post
@@ -70,10 +70,15 @@ copied from index post desk reserved (Some slot) =
     (answers.Copied slot)
 copied from index post desk reserved None = calls.answers post desk [] answers.Nothing
 
--- under 2GE the interval keeps both; else the era is published at the other index too
+-- what an index word publishes: an era, or where rows are published a link
+abbrev pub held_number : (rows : Bool) → ℕ → ℕ
+held_number false found = (read_reservation found).era
+held_number true found = found
+
+-- under 2GE the interval keeps both; else what the index publishes is published at the other index too
 abbrev pub load_held : (from index : ℕ) → Post → Desk → ℕ → (one : Bool) → CallTurn
 load_held from index post desk found true = copied from index post desk [] (stands post from)
-load_held from index post desk found false = goes_on post desk [] (Works (Keeping (StoreHeld from index (read_reservation found).era)))
+load_held from index post desk found false = goes_on post desk [] (Works (Keeping (StoreHeld from index (held_number (publishes_rows (scheme_of post)) found))))
 
 -- the pair of this number, if there is one
 abbrev pub looking : (index key slot version count : ℕ) → Post → Desk → (more : Bool) → ℕ → CallTurn
@@ -105,7 +110,7 @@ taking place post desk false found = calls.answers post desk [] (not_taken found
 abbrev pub keep_turn : KeepAt → Post → Desk → ℕ → CallTurn
 keep_turn (Loosens let_go) post desk found = released let_go (withdrawn post (let_index let_go)) desk (cleared (let_index let_go) (stands post (let_index let_go)))
 keep_turn (LoadHeld from index) post desk found = load_held from index post desk found (has_one_interval (scheme_of post))
-keep_turn (StoreHeld from index era) post desk found = copied from index post desk (reserves_index post index era) (stands post from)
+keep_turn (StoreHeld from index era) post desk found = copied from index post desk (publishes_index (publishes_rows (scheme_of post)) post index era) (stands post from)
 keep_turn (Looks index key at) post desk found = look_turn index key at post desk found
 keep_turn (Misses index) post desk found = calls.answers post desk [] answers.Nothing
 keep_turn HideSpan post desk found = goes_on (withdrawn_all post) desk (cleared_from 2 (drop 2 post.standing) ++ reserves_span post None) (Works (Keeping MarkLeft))

@@ -15,6 +15,7 @@ pub mod Follow
 pub mod Frames
 pub mod Get
 pub mod Guards
+pub mod Hazards
 pub mod Held
 pub mod Keep
 pub mod Links

@@ -1,5 +1,6 @@
 -- A seat's local state, and what a step and the start of a call make of it.
-use Rattle.std.specs.Prelude.{ℕ, ◌==◌, ◌+◌, ◌&&◌, nat_le, nat_lt, Bool, true, false, if◌then◌else◌, List, [], ◌∷◌, ◌++◌}
+use Rattle.std.specs.Prelude.{ℕ, ◌==◌, ◌+◌, ◌&&◌, ◌||◌, Option, None, Some, nat_le, nat_lt, Bool, true, false, if◌then◌else◌, List, [], ◌∷◌, ◌++◌}
+use Rattle.wfe_words.specs.Schemes.{publishes_rows}
 use Rattle.wfe_words.specs.declared.config.Config.{Config}
 use Rattle.wfe_words.specs.declared.layout.Layout.{Layout}
 use Rattle.wfe_defs.specs.declared.call.Answer.{Answer}
@@ -7,12 +8,15 @@ use Rattle.wfe_defs.specs.declared.call.Call.{Call}
 use Rattle.wfe_defs.specs.declared.call.Call.TheVariants as names
 use Rattle.wfe_defs.specs.declared.event.Event.{Event}
 use Rattle.wfe_defs.specs.declared.event.Event.TheVariants as events
+use Rattle.wfe_defs.specs.declared.event.Guard.{Guard}
+use Rattle.wfe_defs.specs.declared.event.Guard.TheVariants.{Index}
 use Rattle.wfe_core.specs.declared.op.Op.{Op}
 use Rattle.wfe_core.specs.declared.post.Post.{Post}
 use Rattle.wfe_core.specs.Desks.{Desk, Notes, new_desk, no_notes, noting}
 use Rattle.wfe_core.specs.Memory.{Move}
 use Rattle.wfe_core.specs.Posts.{new_post, counted}
 use Rattle.wfe_core.specs.Calls.{Phase, Idle, Runs, Scans, Works, CallTurn, CallOutcome, GoesOn, Answers}
+use Rattle.wfe_core.specs.Rounds.{scheme_of}
 use Rattle.wfe_core.specs.Steps.{call_op, phase_move, phase_turn, first_phase}
 
 -- a call that has ended
@@ -66,15 +70,31 @@ told_by t = t.told ++ told_end t.post t.outcome
 abbrev pub told : Local → ℕ → List Event
 told l found = told_by (turn l found)
 
--- a round has found its root once index 0 is held or null
-abbrev pub round_told : ℕ → Event → ℕ
-round_told rounds (events.Held index slot steps) = if index == 0 then rounds + 1 else rounds
-round_told rounds (events.Null index steps) = if index == 0 then rounds + 1 else rounds
-round_told rounds event = rounds
+-- the indexes at which a round finds its root; where rows are published a hold finds it too
+abbrev pub counts_at : (rows : Bool) → ℕ → Bool
+counts_at false index = index == 0
+counts_at true index = index == 0 || index == 2
 
-abbrev pub rounds_told : ℕ → List Event → ℕ
-rounds_told rounds [] = rounds
-rounds_told rounds (event ∷ told) = rounds_told (round_told rounds event) told
+-- it has found its root once that is held or null; where rows are published once its row is published, so that each attempt of a
+-- protection counts, or null
+abbrev pub held_told : (rows : Bool) → (rounds index : ℕ) → ℕ
+held_told false rounds index = if index == 0 then rounds + 1 else rounds
+held_told true rounds index = rounds
+
+abbrev pub row_told : (rows : Bool) → ℕ → Guard → Option ℕ → ℕ
+row_told rows rounds guard None = rounds
+row_told true rounds (Index seat index) (Some slot) = if counts_at true index then rounds + 1 else rounds
+row_told rows rounds guard (Some slot) = rounds
+
+abbrev pub found_by : (rows : Bool) → ℕ → Event → ℕ
+found_by rows rounds (events.Held index slot steps) = held_told rows rounds index
+found_by rows rounds (events.Null index steps) = if counts_at rows index then rounds + 1 else rounds
+found_by rows rounds (events.Hazard guard slot) = row_told rows rounds guard slot
+found_by rows rounds event = rounds
+
+abbrev pub rounds_told : (rows : Bool) → ℕ → List Event → ℕ
+rounds_told rows rounds [] = rounds
+rounds_told rows rounds (event ∷ told) = rounds_told rows (found_by rows rounds event) told
 
 -- the seat stands at the next phase, or its call has ended
 abbrev pub settled_by : Local → Post → Desk → ℕ → CallOutcome → Local
@@ -91,7 +111,7 @@ settled_by l post desk rounds (Answers answer) =
     }
 
 abbrev pub settled : Local → CallTurn → Local
-settled l t = settled_by l t.post (noting t.desk (told_by t)) (rounds_told l.rounds (told_by t)) t.outcome
+settled l t = settled_by l t.post (noting t.desk (told_by t)) (rounds_told (publishes_rows (scheme_of t.post)) l.rounds (told_by t)) t.outcome
 
 -- the seat after a step that found this
 abbrev pub after : Local → ℕ → Local

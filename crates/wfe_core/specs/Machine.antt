@@ -1,5 +1,5 @@
 -- The machines that calls are made of: what each phase asks for, and what it does with the answer.
-use Rattle.std.specs.Prelude.{ℕ, ◌==◌, ◌+◌}
+use Rattle.std.specs.Prelude.{ℕ, ◌==◌, ◌+◌, true}
 use Rattle.wfe_words.specs.Place.{claim_word, claim_mask, claim_others, Place as places}
 use Rattle.wfe_words.specs.Packed.{answered_word, life_word, reservation_word}
 use Rattle.wfe_defs.specs.declared.event.Root.{Root}
@@ -8,10 +8,11 @@ use Rattle.wfe_core.specs.declared.post.Post.{Post}
 use Rattle.wfe_core.specs.Memory.{Load, Store, Cas, Or, And, numbered, bump}
 use Rattle.wfe_core.specs.Memory as memory
 use Rattle.wfe_core.specs.Links.{link_place}
-use Rattle.wfe_core.specs.Posts.{tag_of, index_word, helper_word, lower}
-use Rattle.wfe_core.specs.Phases.{Aim, BeginAt, ProtectAt, AllocateAt, RetireAt, MoveAt, Base, Turn}
+use Rattle.wfe_core.specs.Posts.{tag_of, index_word, shown_word, helper_word, lower}
+use Rattle.wfe_core.specs.Phases.{Aim, BeginAt, HazardAt, ProtectAt, AllocateAt, RetireAt, MoveAt, Base, Turn}
 use Rattle.wfe_core.specs.Phases.BeginAt.{LoadLower, PublishSpan}
-use Rattle.wfe_core.specs.Phases.ProtectAt.{LoadClock, PublishEra, LoadLink, CheckClock, PublishRequest, LoadOwnClock, PublishHelper, LoadOwnLink, CheckOwnClock, AnswerOwn, LoadAnswer, TakeAnswer, WithdrawRequest, WithdrawHelper, LoadWithin, CheckUpper, RaiseUpper}
+use Rattle.wfe_core.specs.Phases.ProtectAt.{LoadClock, PublishEra, LoadLink, CheckClock, PublishRequest, LoadOwnClock, PublishHelper, LoadOwnLink, CheckOwnClock, AnswerOwn, LoadAnswer, TakeAnswer, WithdrawRequest, WithdrawHelper, LoadWithin, CheckUpper, RaiseUpper, ByHazard}
+use Rattle.wfe_core.specs.Phases.HazardAt.{FirstLink, PublishLink, CheckLink}
 use Rattle.wfe_core.specs.Phases.AllocateAt.{LoadBirth, ClaimSlot, StoreLife}
 use Rattle.wfe_core.specs.Phases.RetireAt.{LoadLife, LoadRetire, StoreRetired}
 use Rattle.wfe_core.specs.Phases.MoveAt.{LoadEra, LoadRequest, ShowEra, LoadAsked, CheckEra, AnswerAsked, LoadReserved, HandOver, HideEra, HideLate, ExchangeClock}
@@ -20,6 +21,7 @@ use Rattle.wfe_core.specs.Protect.{after_load_clock, after_publish_era, after_lo
 use Rattle.wfe_core.specs.SlowPath.{asking, own_request, after_publish_request, after_load_own_clock, after_publish_helper, after_load_own_link, after_check_own_clock, after_answer_own, after_load_answer, after_take_answer, after_withdraw_request, after_withdraw_helper}
 use Rattle.wfe_core.specs.Spans.{eras_word, after_load_lower, after_publish_span, after_load_within, after_check_upper, after_raise_upper, after_finish, after_release}
 use Rattle.wfe_core.specs.Follow.{after_reload}
+use Rattle.wfe_core.specs.Hazards.{after_first_link, after_publish_link, after_check_link}
 use Rattle.wfe_core.specs.Clear.{after_clear}
 use Rattle.wfe_core.specs.Allocate.{after_load_birth, after_claim_slot, after_store_life, after_give_up}
 use Rattle.wfe_core.specs.WriteRow.{row_word, after_write}
@@ -29,6 +31,11 @@ use Rattle.wfe_core.specs.MoveClock.{after_load_era, after_load_request, after_s
 abbrev pub begin_move : BeginAt → Post → memory.Move
 begin_move LoadLower post = Load places.Clock
 begin_move (PublishSpan era) post = Store (places.Interval post.seat) (eras_word era era)
+
+abbrev pub hazard_move : ℕ → Root → HazardAt → Post → memory.Move
+hazard_move index root FirstLink post = Load (link_place root)
+hazard_move index root (PublishLink link) post = Store (places.Index post.seat index) (shown_word true post index link)
+hazard_move index root (CheckLink link) post = Load (link_place root)
 
 abbrev pub protect_move : ℕ → Root → ProtectAt → Post → memory.Move
 protect_move index root (LoadClock tries) post = Load places.Clock
@@ -49,6 +56,7 @@ protect_move index root (WithdrawHelper link era) post = Store (places.Helper po
 protect_move index root LoadWithin post = Load (link_place root)
 protect_move index root (CheckUpper link) post = Load places.Clock
 protect_move index root (RaiseUpper era) post = Store (places.Interval post.seat) (eras_word (lower post.span) era)
+protect_move index root (ByHazard at) post = hazard_move index root at post
 
 abbrev pub allocate_move : AllocateAt → memory.Move
 allocate_move LoadBirth = Load places.Clock
@@ -87,7 +95,7 @@ abbrev pub base_move : Base → Post → memory.Move
 base_move (Begin at) post = begin_move at post
 base_move (Protect aim index root steps at) post = protect_move index root at post
 base_move (Reload parent index slot era steps) post = Load places.Head
-base_move (Clear index) post = Store (places.Index post.seat index) (index_word post index 0)
+base_move (Clear rows index) post = Store (places.Index post.seat index) (shown_word rows post index 0)
 base_move Finish post = Store (places.Interval post.seat) 0
 base_move (Release index) post = Store (places.Interval post.seat) 0
 base_move (Allocate at) post = allocate_move at
@@ -103,6 +111,11 @@ op_of base post = numbered post.layout (base_move base post)
 abbrev pub begin_turn : BeginAt → Post → ℕ → Turn
 begin_turn LoadLower post found = after_load_lower post found
 begin_turn (PublishSpan era) post found = after_publish_span era post
+
+abbrev pub hazard_turn : Aim → ℕ → Root → ℕ → HazardAt → Post → ℕ → Turn
+hazard_turn aim index root n FirstLink post found = after_first_link aim index root n post found
+hazard_turn aim index root n (PublishLink link) post found = after_publish_link aim index root n link post
+hazard_turn aim index root n (CheckLink link) post found = after_check_link aim index root n link post found
 
 -- one step of a protection, its n-th
 abbrev pub protect_turn : Aim → ℕ → Root → ℕ → ProtectAt → Post → ℕ → Turn
@@ -123,6 +136,7 @@ protect_turn aim index root n (WithdrawHelper link era) post found = after_withd
 protect_turn aim index root n LoadWithin post found = after_load_within aim index root n post found
 protect_turn aim index root n (CheckUpper link) post found = after_check_upper aim index root n link post found
 protect_turn aim index root n (RaiseUpper era) post found = after_raise_upper aim index root n era post
+protect_turn aim index root n (ByHazard at) post found = hazard_turn aim index root n at post found
 
 abbrev pub allocate_turn : AllocateAt → Post → ℕ → Turn
 allocate_turn LoadBirth post found = after_load_birth post found
@@ -153,7 +167,7 @@ abbrev pub after : Base → Post → ℕ → Turn
 after (Begin at) post found = begin_turn at post found
 after (Protect aim index root steps at) post found = protect_turn aim index root (bump steps) at post found
 after (Reload parent index slot era steps) post found = after_reload parent index slot (bump steps) post found
-after (Clear index) post found = after_clear index post
+after (Clear rows index) post found = after_clear rows index post
 after Finish post found = after_finish post
 after (Release index) post found = after_release index post
 after (Allocate at) post found = allocate_turn at post found

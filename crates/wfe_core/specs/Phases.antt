@@ -25,6 +25,12 @@ pub data Tries : Type 0 where
   Endless : Tries
   Failed : (count : ℕ) → Tries
 
+-- hazard pointers: the link is loaded, published, and loaded again until it is the one that was published
+pub data HazardAt : Type 0 where
+  FirstLink : HazardAt
+  PublishLink : (link : ℕ) → HazardAt
+  CheckLink : (link : ℕ) → HazardAt
+
 -- a protection. `first` is the first clock value after the request was published, `last` says whether this is the second
 -- own turn
 pub data ProtectAt : Type 0 where
@@ -48,6 +54,8 @@ pub data ProtectAt : Type 0 where
   LoadWithin : ProtectAt
   CheckUpper : (link : ℕ) → ProtectAt
   RaiseUpper : (era : ℕ) → ProtectAt
+  -- hazard pointers
+  ByHazard : HazardAt → ProtectAt
 
 -- a walk for a free row: where it began, the slot to try, how many slots come after it, and what the walk was shown
 -- taken in the claim word where it began and in that of the slot to try
@@ -87,12 +95,13 @@ pub data RowOf : Type 0 where
   MapRow : (version : ℕ) → List Pair → RowOf
   QueueRow : (number value : ℕ) → RowOf
 
--- all machines that a call is made of. `steps` counts the steps that the protection has made
+-- all machines that a call is made of. `steps` counts the steps that the protection has made; `rows` says that index words publish
+-- rows
 pub data Base : Type 0 where
   Begin : BeginAt → Base
   Protect : Aim → (index : ℕ) → Root → (steps : ℕ) → ProtectAt → Base
   Reload : (parent index slot era steps : ℕ) → Base
-  Clear : (index : ℕ) → Base
+  Clear : (rows : Bool) → (index : ℕ) → Base
   Finish : Base
   Release : (index : ℕ) → Base
   Allocate : AllocateAt → Base

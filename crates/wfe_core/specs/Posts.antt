@@ -1,5 +1,5 @@
 -- What a post says, and how steps change it.
-use Rattle.std.specs.Prelude.{ℕ, ◌+◌, List, [], ◌∷◌, ◌++◌, slice_index, slice_index_or, slice_set, Option, Some, None}
+use Rattle.std.specs.Prelude.{ℕ, ◌+◌, Bool, false, true, List, [], ◌∷◌, ◌++◌, slice_index, slice_index_or, slice_set, Option, Some, None}
 use Rattle.wfe_words.specs.Packed.{reservation_word}
 use Rattle.wfe_words.specs.declared.layout.Layout.{Layout}
 use Rattle.wfe_defs.specs.declared.event.Event.{Event}
@@ -7,7 +7,7 @@ use Rattle.wfe_defs.specs.declared.event.Event.TheVariants as events
 use Rattle.wfe_defs.specs.declared.event.Guard.TheVariants as guards
 use Rattle.wfe_defs.specs.declared.lifetime.Interval.{Interval}
 use Rattle.wfe_core.specs.declared.post.Post.{Post}
-use Rattle.wfe_core.specs.Guards.{one_era}
+use Rattle.wfe_core.specs.Guards.{linked_row, one_era}
 use Rattle.wfe_core.specs.Memory.{bump}
 
 -- a seat between calls that has made none
@@ -73,9 +73,23 @@ index_word post index era = reservation_word (record { era = era; tag = tag_of p
 abbrev pub helper_word : ℕ → ℕ
 helper_word era = reservation_word (record { era = era; tag = 0 })
 
+-- the word with which an index publishes a number: an era under its tag, or where rows are published a link as it is
+abbrev pub shown_word : (rows : Bool) → Post → ℕ → ℕ → ℕ
+shown_word false post index era = index_word post index era
+shown_word true post index link = link
+
 -- an index word, a helper word or the interval word of the seat publishes something else
 abbrev pub reserves_index : Post → ℕ → ℕ → List Event
 reserves_index post index era = events.Reserve (guards.Index post.seat index) (one_era era) ∷ []
+
+-- an index word publishes another row
+abbrev pub hazards_index : Post → ℕ → ℕ → List Event
+hazards_index post index link = events.Hazard (guards.Index post.seat index) (linked_row link) ∷ []
+
+-- an index word publishes another era, or another row
+abbrev pub publishes_index : (rows : Bool) → Post → ℕ → ℕ → List Event
+publishes_index false post index era = reserves_index post index era
+publishes_index true post index link = hazards_index post index link
 
 abbrev pub reserves_helper : Post → ℕ → List Event
 reserves_helper post era = events.Reserve (guards.Helper post.seat) (one_era era) ∷ []

@@ -1,6 +1,6 @@
 -- What holds where a machine makes its next step, what that step may find, and what its end may be. A history gives all
 -- of it at each step.
-use Rattle.std.specs.Prelude.{ℕ, ◌≡◌, ◌≤◌, ◌<◌, ◌+◌, ◌^◌, true, length, Option, Some, None}
+use Rattle.std.specs.Prelude.{ℕ, ◌≡◌, ◌≤◌, ◌<◌, ◌+◌, ◌^◌, Bool, false, true, length, Option, Some, None}
 use Rattle.wfe_words.specs.Place.{has}
 use Rattle.wfe_words.specs.Packed.{read_request}
 use Rattle.wfe_words.specs.declared.layout.Layout.{Layout}
@@ -15,9 +15,10 @@ use Rattle.wfe_core.specs.declared.ends.ProtectEnd.{ProtectEnd}
 use Rattle.wfe_core.specs.declared.ends.ProtectEnd.TheVariants as protect_ends
 use Rattle.wfe_core.specs.declared.post.Post.{Post}
 use Rattle.wfe_core.specs.Links.{link_place, link_number, root_at}
-use Rattle.wfe_core.specs.Phases.{Tries, Endless, Failed, BeginAt, ProtectAt, Walk, AllocateAt, RetireAt, MoveAt, RowOf, MapRow, QueueRow, Base, Ending}
+use Rattle.wfe_core.specs.Phases.{Tries, Endless, Failed, BeginAt, HazardAt, ProtectAt, Walk, AllocateAt, RetireAt, MoveAt, RowOf, MapRow, QueueRow, Base, Ending}
 use Rattle.wfe_core.specs.Phases.BeginAt.{LoadLower, PublishSpan}
-use Rattle.wfe_core.specs.Phases.ProtectAt.{LoadClock, PublishEra, LoadLink, CheckClock, PublishRequest, LoadOwnClock, PublishHelper, LoadOwnLink, CheckOwnClock, AnswerOwn, LoadAnswer, TakeAnswer, WithdrawRequest, WithdrawHelper, LoadWithin, CheckUpper, RaiseUpper}
+use Rattle.wfe_core.specs.Phases.ProtectAt.{LoadClock, PublishEra, LoadLink, CheckClock, PublishRequest, LoadOwnClock, PublishHelper, LoadOwnLink, CheckOwnClock, AnswerOwn, LoadAnswer, TakeAnswer, WithdrawRequest, WithdrawHelper, LoadWithin, CheckUpper, RaiseUpper, ByHazard}
+use Rattle.wfe_core.specs.Phases.HazardAt.{FirstLink, PublishLink, CheckLink}
 use Rattle.wfe_core.specs.Phases.AllocateAt.{LoadBirth, ClaimSlot, StoreLife}
 use Rattle.wfe_core.specs.Phases.RetireAt.{LoadLife, LoadRetire, StoreRetired}
 use Rattle.wfe_core.specs.Phases.MoveAt.{LoadEra, LoadRequest, ShowEra, LoadAsked, CheckEra, AnswerAsked, LoadReserved, HandOver, HideEra, HideLate, ExchangeClock}
@@ -33,6 +34,11 @@ SlotFits post slot = slot ≤ post.layout.config.slots
 -- a link: null, or a row's number plus one
 abbrev pub LinkFits : Post → ℕ → Type 0
 LinkFits post link = link ≤ post.layout.config.slots + 1
+
+-- where index words publish rows, a link
+abbrev pub ShownFits : (rows : Bool) → Post → ℕ → Type 0
+ShownFits false post word = Unit {0}
+ShownFits true post word = LinkFits post word
 
 -- an index of the seat
 abbrev pub IndexFits : Post → ℕ → Type 0
@@ -60,6 +66,11 @@ abbrev pub begin_ready : BeginAt → Post → Type 0
 begin_ready LoadLower post = Unit {0}
 begin_ready (PublishSpan era) post = 1 ≤ era
 
+abbrev pub hazard_ready : HazardAt → Post → Type 0
+hazard_ready FirstLink post = Unit {0}
+hazard_ready (PublishLink link) post = LinkFits post link
+hazard_ready (CheckLink link) post = LinkFits post link
+
 abbrev pub protect_ready : ProtectAt → ℕ → Post → Type 0
 protect_ready (LoadClock tries) index post = FailedFits tries post.layout.config.tries
 protect_ready (PublishEra era tries) index post = FailedFits tries post.layout.config.tries
@@ -78,6 +89,7 @@ protect_ready (WithdrawHelper link era) index post = LinkFits post link
 protect_ready LoadWithin index post = Unit {0}
 protect_ready (CheckUpper link) index post = LinkFits post link
 protect_ready (RaiseUpper era) index post = (1 ≤ lower post.span) × (lower post.span ≤ era)
+protect_ready (ByHazard at) index post = hazard_ready at post
 
 -- the walk stands at a row, and no more than the others come after it
 pub record WalkFits (post : Post) (walk : Walk) : Type 0 where
@@ -124,7 +136,7 @@ abbrev pub IsReady : Base → Post → Type 0
 IsReady (Begin at) post = begin_ready at post
 IsReady (Protect aim index root steps at) post = (IndexFits post index) × (RootFits post.layout root) × protect_ready at index post
 IsReady (Reload parent index slot era steps) post = (IndexFits post index) × (SlotFits post slot) × (SlotFits post parent)
-IsReady (Clear index) post = IndexFits post index
+IsReady (Clear rows index) post = IndexFits post index
 IsReady Finish post = Unit {0}
 IsReady (Release index) post = IndexFits post index
 IsReady (Allocate at) post = allocate_ready at post
@@ -145,6 +157,11 @@ abbrev pub begin_plausible : BeginAt → ℕ → Type 0
 begin_plausible LoadLower found = EraFits found
 begin_plausible (PublishSpan era) found = Unit {0}
 
+abbrev pub hazard_plausible : HazardAt → Post → ℕ → Type 0
+hazard_plausible FirstLink post found = LinkFits post found
+hazard_plausible (PublishLink link) post found = Unit {0}
+hazard_plausible (CheckLink link) post found = LinkFits post found
+
 abbrev pub protect_plausible : ProtectAt → Post → ℕ → Type 0
 protect_plausible (LoadClock tries) post found = EraFits found
 protect_plausible (PublishEra era tries) post found = Unit {0}
@@ -163,6 +180,7 @@ protect_plausible (WithdrawHelper link era) post found = Unit {0}
 protect_plausible LoadWithin post found = LinkFits post found
 protect_plausible (CheckUpper link) post found = EraFits found
 protect_plausible (RaiseUpper era) post found = Unit {0}
+protect_plausible (ByHazard at) post found = hazard_plausible at post found
 
 abbrev pub allocate_plausible : AllocateAt → ℕ → Type 0
 allocate_plausible LoadBirth found = EraFits found
@@ -192,7 +210,7 @@ abbrev pub Plausible : Base → Post → ℕ → Type 0
 Plausible (Begin at) post found = begin_plausible at found
 Plausible (Protect aim index root steps at) post found = protect_plausible at post found
 Plausible (Reload parent index slot era steps) post found = Unit {0}
-Plausible (Clear index) post found = Unit {0}
+Plausible (Clear rows index) post found = Unit {0}
 Plausible Finish post found = Unit {0}
 Plausible (Release index) post found = Unit {0}
 Plausible (Allocate at) post found = allocate_plausible at found

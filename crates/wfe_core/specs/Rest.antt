@@ -2,14 +2,16 @@
 -- number, each try but those of Wait-Free Eras a greater era, and a call walks and scans at most twice.
 use Rattle.std.specs.Prelude.{ℕ, ◌+◌, ◌-◌, ◌*◌, Bool, true, false, List, length, Option, Some, None}
 use Rattle.wfe_words.specs.Place.Place.{Clock}
+use Rattle.wfe_words.specs.Schemes.{publishes_rows}
 use Rattle.wfe_words.specs.declared.config.Config.{Config}
 use Rattle.wfe_defs.specs.declared.lifetime.Interval.{Interval}
 use Rattle.wfe_defs.specs.declared.lifetime.Lifetime.{Lifetime}
 use Rattle.wfe_defs.specs.Bounds.{clock_most, over_most}
 use Rattle.wfe_core.specs.Guards.{guards}
-use Rattle.wfe_core.specs.Phases.{Aim, Alone, Follows, Tries, Endless, Failed, BeginAt, ProtectAt, AllocateAt, RetireAt, MoveAt, Base}
+use Rattle.wfe_core.specs.Phases.{Aim, Alone, Follows, Tries, Endless, Failed, BeginAt, HazardAt, ProtectAt, AllocateAt, RetireAt, MoveAt, Base}
 use Rattle.wfe_core.specs.Phases.BeginAt.{LoadLower, PublishSpan}
-use Rattle.wfe_core.specs.Phases.ProtectAt.{LoadClock, PublishEra, LoadLink, CheckClock, PublishRequest, LoadOwnClock, PublishHelper, LoadOwnLink, CheckOwnClock, AnswerOwn, LoadAnswer, TakeAnswer, WithdrawRequest, WithdrawHelper, LoadWithin, CheckUpper, RaiseUpper}
+use Rattle.wfe_core.specs.Phases.ProtectAt.{LoadClock, PublishEra, LoadLink, CheckClock, PublishRequest, LoadOwnClock, PublishHelper, LoadOwnLink, CheckOwnClock, AnswerOwn, LoadAnswer, TakeAnswer, WithdrawRequest, WithdrawHelper, LoadWithin, CheckUpper, RaiseUpper, ByHazard}
+use Rattle.wfe_core.specs.Phases.HazardAt.{FirstLink, PublishLink, CheckLink}
 use Rattle.wfe_core.specs.Phases.AllocateAt.{LoadBirth, ClaimSlot, StoreLife}
 use Rattle.wfe_core.specs.Phases.RetireAt.{LoadLife, LoadRetire, StoreRetired}
 use Rattle.wfe_core.specs.Phases.MoveAt.{LoadEra, LoadRequest, ShowEra, LoadAsked, CheckEra, AnswerAsked, LoadReserved, HandOver, HideEra, HideLate, ExchangeClock}
@@ -47,6 +49,12 @@ abbrev pub tries_left : Config → Tries → ℕ → ℕ
 tries_left config Endless here = here
 tries_left config (Failed count) here = here + 10 + 3 * (config.tries - count)
 
+-- an attempt that fails is a lost round
+abbrev pub hazard_left : HazardAt → ℕ
+hazard_left FirstLink = 3
+hazard_left (PublishLink link) = 2
+hazard_left (CheckLink link) = 1
+
 abbrev pub protect_left : Config → ProtectAt → ℕ
 protect_left config (LoadClock Endless) = 4
 protect_left config (LoadClock (Failed count)) = protect_most config
@@ -69,6 +77,7 @@ protect_left config (WithdrawHelper link era) = 1
 protect_left config LoadWithin = 2
 protect_left config (CheckUpper link) = 1
 protect_left config (RaiseUpper era) = 3
+protect_left config (ByHazard at) = hazard_left at
 
 abbrev pub allocate_left : AllocateAt → Config → ℕ
 allocate_left LoadBirth config = walk_most config
@@ -106,7 +115,7 @@ abbrev pub base_left : Config → Base → ℕ
 base_left config (Begin at) = begin_left at + protect_most config
 base_left config (Protect aim index root steps at) = protect_left config at + aim_left aim
 base_left config (Reload parent index slot era steps) = 1
-base_left config (Clear index) = 1
+base_left config (Clear rows index) = 1
 base_left config Finish = 1
 base_left config (Release index) = 1
 base_left config (Allocate at) = allocate_left at config
@@ -136,12 +145,17 @@ open_left config task = 2 + protect_most config + round_left config task
 abbrev pub round_worth : Config → ℕ
 round_worth config = 2 * protect_most config + 4 * config.pairs + 20
 
+-- a get loses none; but where rows are published each attempt of its protection is one, and each that fails sees a change of its bucket
+abbrev pub gets_most : Config → (rows : Bool) → ℕ
+gets_most config false = 1
+gets_most config true = config.last_version + 1
+
 -- how many rounds a task may lose, at most: each sees a change of its bucket; a row queued, or the tail or the head moved;
 -- or comes after the one walk that failed
 abbrev pub rounds_most : Config → Task → ℕ
-rounds_most config (Gets key) = 1
+rounds_most config (Gets key) = gets_most config (publishes_rows config.scheme)
 rounds_most config (Changes kept) = config.last_version + 1
-rounds_most config (Holds key) = 1
+rounds_most config (Holds key) = gets_most config (publishes_rows config.scheme)
 rounds_most config (Enqueues kept) = 2 * config.last_version + 1
 rounds_most config Dequeues = 2 * config.last_version + 1
 
@@ -186,10 +200,11 @@ task_left config lives task lost = rounds_left config task lost + walks_left con
 
 -- steps of a call after the present machine, scan or own step, with the machine's own steps given
 
--- the task's root has been told: a request's answer was taken, and its words are withdrawn
+-- the task's root has been told: a request's answer was taken, and its words are withdrawn; or its row is published
 abbrev pub is_told : Base → Bool
 is_told (Protect aim index root steps (WithdrawRequest link era)) = true
 is_told (Protect aim index root steps (WithdrawHelper link era)) = true
+is_told (Protect aim index root steps (ByHazard (CheckLink link))) = true
 is_told base = false
 
 -- the rounds lost before the present one, of those whose root was found

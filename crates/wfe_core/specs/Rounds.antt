@@ -1,9 +1,9 @@
 -- How a round of a call begins and ends under each scheme.
 use Rattle.std.specs.Prelude.{ℕ, ◌%◌, Bool, true, false, List, [], ◌++◌, Option, Some, None, if◌then◌else◌, drop, ◌∷◌}
 pub use Rattle.wfe_words.specs.Schemes.{helps}
-use Rattle.wfe_words.specs.Schemes.{has_one_interval}
+use Rattle.wfe_words.specs.Schemes.{has_one_interval, moves, publishes_rows}
 use Rattle.wfe_words.specs.declared.config.SchemeKind.{SchemeKind}
-use Rattle.wfe_words.specs.declared.config.SchemeKind.TheVariants.{He, Ibr, Wfe}
+use Rattle.wfe_words.specs.declared.config.SchemeKind.TheVariants.{He, Hp, Ibr, Wfe}
 use Rattle.wfe_defs.specs.declared.call.Answer.{Answer}
 use Rattle.wfe_defs.specs.declared.call.Answer.TheVariants as answers
 use Rattle.wfe_defs.specs.declared.call.ClockMove.{ClockMove}
@@ -17,12 +17,13 @@ use Rattle.wfe_core.specs.declared.post.Post.{Post}
 use Rattle.wfe_core.specs.Desks.{Desk}
 use Rattle.wfe_core.specs.Posts.{stands, withdrawn, cleared}
 use Rattle.wfe_core.specs.Phases.{Alone, Endless, Failed, Base, ProtectAt}
-use Rattle.wfe_core.specs.Phases.ProtectAt.{LoadClock, LoadWithin}
+use Rattle.wfe_core.specs.Phases.ProtectAt.{LoadClock, LoadWithin, ByHazard}
+use Rattle.wfe_core.specs.Phases.HazardAt.{FirstLink}
 use Rattle.wfe_core.specs.Phases.BeginAt.{LoadLower}
 use Rattle.wfe_core.specs.Phases.RetireAt.{LoadLife}
 use Rattle.wfe_core.specs.Phases.MoveAt.{LoadEra}
 use Rattle.wfe_core.specs.Phases.Base.{Begin, Protect, Clear, Finish, Release, GiveUp, Retire, Move}
-use Rattle.wfe_core.specs.Calls.{AfterScan, Task, Gets, Changes, Holds, Enqueues, Dequeues, Next, Again, MakeRoom, Answering, Retiring, Repeated, Phase, Runs, CallTurn, goes_on, Opens, ClearsNext, Clears, Finishes, GivesUp, Retires, Tidies, Releases, LetGo, Released, Rehold, Dropped, Parting, Works, Keeping, Loosens}
+use Rattle.wfe_core.specs.Calls.{AfterScan, Task, Gets, Changes, Holds, Enqueues, Dequeues, Next, Again, MakeRoom, Answering, Retiring, Repeated, Phase, Runs, Scans, ReadGuard, CallTurn, goes_on, Opens, ClearsNext, Clears, Finishes, GivesUp, Retires, Tidies, Releases, LetGo, Released, Rehold, Dropped, Parting, Works, Keeping, Loosens}
 use Rattle.wfe_core.specs.Calls as calls
 
 -- the scheme of a post's table
@@ -80,13 +81,14 @@ abbrev pub protect_at : SchemeKind → ProtectAt
 protect_at He = LoadClock Endless
 protect_at Ibr = LoadWithin
 protect_at Wfe = LoadClock (Failed 0)
+protect_at Hp = ByHazard FirstLink
 
 abbrev pub protect_base : SchemeKind → ℕ → Root → Base
 protect_base scheme index root = Protect Alone index root 0 (protect_at scheme)
 
 -- an index is cleared by a step where it publishes by itself
 abbrev pub clear_base : SchemeKind → ℕ → Option Base
-clear_base scheme index = if has_one_interval scheme then None else Some (Clear index)
+clear_base scheme index = if has_one_interval scheme then None else Some (Clear (publishes_rows scheme) index)
 
 -- what clearing leaves and tells where it takes no step
 abbrev pub clear_post : SchemeKind → Post → ℕ → Post
@@ -119,7 +121,7 @@ release_span index None = Some (Release index)
 release_span index (Some slot) = None
 
 abbrev pub release_base : SchemeKind → Post → ℕ → Option Base
-release_base scheme post index = if has_one_interval scheme then release_span index (kept_row (withdrawn post index)) else Some (Clear index)
+release_base scheme post index = if has_one_interval scheme then release_span index (kept_row (withdrawn post index)) else Some (Clear (publishes_rows scheme) index)
 
 -- the index of what is let go
 abbrev pub let_index : LetGo → ℕ
@@ -139,9 +141,13 @@ letting let_go post = letting_by let_go (release_base (scheme_of post) post (let
 abbrev pub move_base : SchemeKind → Base
 move_base scheme = Move (LoadEra (helps scheme))
 
--- the first phase of a call that is to move the clock and then to scan
+-- the first phase of a call that is to move the clock, where retirements do, and then to scan
+abbrev pub tidy_by : (moving : Bool) → AfterScan → Post → Phase
+tidy_by true later post = Runs (Tidies later) (move_base (scheme_of post))
+tidy_by false later post = Scans later (ReadGuard 0)
+
 abbrev pub first_tidy : AfterScan → Post → Phase
-first_tidy later post = Runs (Tidies later) (move_base (scheme_of post))
+first_tidy later post = tidy_by (moves (scheme_of post)) later post
 
 -- the protection of a task's root
 abbrev pub opening : Task → Post → Phase

@@ -1,16 +1,16 @@
 -- A scan reads each guard once, and then gives back the rows of the list whose lives meet nothing that it read.
 use Rattle.std.specs.Prelude.{ℕ, zero, suc, ◌+◌, Bool, true, false, nat_lt, List, [], ◌∷◌, ◌++◌, length, drop, Option, Some, None}
 use Rattle.std.specs.List.{remove}
+use Rattle.wfe_words.specs.Schemes.{publishes_rows}
 use Rattle.wfe_defs.specs.declared.call.Answer.TheVariants as answers
 use Rattle.wfe_defs.specs.declared.event.Event.{Event}
 use Rattle.wfe_defs.specs.declared.event.Event.TheVariants as events
 use Rattle.wfe_defs.specs.declared.event.Guard.{Guard}
-use Rattle.wfe_defs.specs.declared.lifetime.Interval.{Interval}
 use Rattle.wfe_defs.specs.declared.lifetime.Lifetime.{Lifetime}
-use Rattle.wfe_defs.specs.Shown.{Seen, keeps_any, shown}
+use Rattle.wfe_defs.specs.Shown.{Seen, keeps_any}
 use Rattle.wfe_core.specs.declared.post.Post.{Post}
 use Rattle.wfe_core.specs.Desks.{Desk, Report}
-use Rattle.wfe_core.specs.Guards.{guards, guard_at, guard_place, eras_in}
+use Rattle.wfe_core.specs.Guards.{guards, guard_at, guard_place, eras_in, linked_row, published}
 use Rattle.wfe_core.specs.Memory.{Move, Load}
 use Rattle.wfe_core.specs.Machine.{free_move}
 use Rattle.wfe_core.specs.Calls.{AfterScan, Answered, Repeated, Counted, ScanAt, ReadGuard, GiveBack, Scans, CallTurn, goes_on}
@@ -67,14 +67,19 @@ abbrev pub reading : AfterScan → ℕ → Post → Desk → List Event → (mor
 reading later number post desk told true = goes_on post desk told (Scans later (ReadGuard (number + 1)))
 reading later number post desk told false = giving_back later post desk told (unmet_from desk 0)
 
-abbrev pub read_guard : AfterScan → ℕ → Post → Desk → Guard → Option Interval → CallTurn
-read_guard later number post desk guard span =
+-- what is told of a guard with this word
+abbrev pub reads_guard : (rows : Bool) → Guard → ℕ → Event
+reads_guard false guard word = events.Read guard (eras_in guard word)
+reads_guard true guard word = events.Saw guard (linked_row word)
+
+abbrev pub read_guard : AfterScan → ℕ → Post → Desk → (rows : Bool) → Guard → ℕ → CallTurn
+read_guard later number post desk rows guard word =
     reading
     later
     number
     post
-    (with_read desk number (guard, shown span))
-    (events.Read guard span ∷ [])
+    (with_read desk number (guard, published rows guard word))
+    (reads_guard rows guard word ∷ [])
     (nat_lt (number + 1) (guards post.layout.config))
 
 -- a row went back: it leaves the list
@@ -93,7 +98,8 @@ scan_turn later (ReadGuard number) post desk found =
     number
     post
     desk
+    (publishes_rows post.layout.config.scheme)
     (guard_at post.layout.config number)
-    (eras_in (guard_at post.layout.config number) found)
+    found
 scan_turn later (GiveBack place slot) post desk found =
     giving_back later post (with_back desk place) (events.Back slot ∷ []) (unmet_from (with_back desk place) place)

@@ -2,7 +2,6 @@
 // memory.
 ghost use Rattle.std.specs.Prelude.{◌≡◌, ◌<◌, ◌≤◌, ◌+◌, ◌*◌, [], ◌∷◌, ◌++◌, ◌^◌, length, slice_get, Some, true, IfOk};
 ghost use Rattle.std.specs.List.{remove};
-ghost use Rattle.wfe_defs.specs.Shown.{shown};
 ghost use Rattle.wfe_core.specs.CallReady.{NotListed};
 ghost use Rattle.wfe_core.specs.Desks.{noted, noted_all, noting, no_report, no_notes, new_desk};
 ghost use Rattle.wfe_core.specs.DeskHeld.{HasRoom, desk_of, told_answer};
@@ -12,7 +11,7 @@ ghost use Rattle.wfe_core.specs.Scan.{read_before};
 use crate::{Post, Told};
 use std::alloc::Global;
 use std::marker::Model;
-use wfe_defs::{Answer, Event, Guard, Interval, Lifetime, NoMemory};
+use wfe_defs::{Answer, Event, Guard, Lifetime, NoMemory, Shown};
 use wfe_words::Layout;
 
 /// The rows that a seat has retired and not given back, in order of their retirement.
@@ -88,7 +87,7 @@ impl RetireList {
 #[derive(Drop)]
 pub struct ScanReport {
     /// Each guard with what it published, in the order of the reads.
-    pub read: Vec<(Guard, Option<Interval>)>,
+    pub read: Vec<(Guard, Shown)>,
     /// How many rows stay in the list.
     pub kept: u32,
     /// How many rows went back.
@@ -122,9 +121,9 @@ impl ScanReport {
 
     /// Notes a guard that was read; the first read of a scan leaves nothing of the scan before it. It
     /// takes no memory.
-    pub fn note(&mut self, number: u32, guard: Guard, span: Option<Interval>)
+    pub fn note(&mut self, number: u32, guard: Guard, shown: Shown)
         requires { length (read_before (report_of self.old) number) < self.old.room }
-        ensures report { report_of self.new ≡ record { read = read_before (report_of self.old) number ++ (guard, shown span) ∷ []; kept = 0; back = 0 } }
+        ensures report { report_of self.new ≡ record { read = read_before (report_of self.old) number ++ (guard, shown) ∷ []; kept = 0; back = 0 } }
         ensures room { self.old.room ≤ self.new.room }
     {
         if number == 0 {
@@ -132,7 +131,7 @@ impl ScanReport {
         }
         self.kept = 0;
         self.back = 0;
-        let noted = self.read.push((guard, span)).is_ok();
+        let noted = self.read.push((guard, shown)).is_ok();
         prove!(noted);
     }
 }

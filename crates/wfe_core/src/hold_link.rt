@@ -1,13 +1,13 @@
 // What protections publish and tell, under every scheme.
 ghost use Rattle.std.specs.Prelude.{◌≡◌, ◌<◌, ◌≤◌, ◌+◌, ◌++◌, length};
-ghost use Rattle.wfe_core.specs.Guards.{one_era as era_span};
-ghost use Rattle.wfe_core.specs.Posts.{index_word as own_index_word};
+ghost use Rattle.wfe_core.specs.Guards.{linked_row as row_of_link, one_era as era_span};
+ghost use Rattle.wfe_core.specs.Posts.{index_word as own_index_word, publishes_index, shown_word as own_shown_word};
 ghost use Rattle.wfe_core.specs.Protect.{held_post, told_held, protect_end as end_of};
 ghost use Rattle.wfe_core.specs.Ready.{LinkFits, SlotFits, IndexFits, protect_within};
 ghost use Rattle.wfe_core.specs.Valid.{IsValid};
 
 use crate::{Post, ProtectEnd, Told};
-use wfe_defs::{Event, Interval, Root};
+use wfe_defs::{Event, Guard, Interval, Root};
 use wfe_words::{Reservation, reservation_word};
 
 /// The interval of one era; era 0 publishes nothing.
@@ -32,6 +32,57 @@ pub fn index_word(post: &Post, index: u32, era: u32) -> u64
         era,
         tag: post.tags[index as usize],
     })
+}
+
+/// The row that a link leads to; a null link leads to none.
+#[inline(always)]
+pub fn linked_row(link: u32) -> Option<u32>
+    ensures { result ≡ row_of_link link }
+{
+    if link == 0 {
+        return None;
+    }
+    Some(link - 1)
+}
+
+/// The word with which one of the seat's indexes publishes a number: an era under the index's tag, or
+/// where rows are published a link as it is (Michael 2004).
+#[inline(always)]
+pub fn shown_word(rows: bool, post: &Post, index: u32, number: u32) -> u64
+    requires valid { IsValid post.now }
+    requires index { IndexFits post.now index }
+    ensures { result ≡ own_shown_word rows post.now index number }
+{
+    if rows {
+        number as u64
+    } else {
+        index_word(post, index, number)
+    }
+}
+
+/// Tells that one of the seat's indexes publishes a number: an era, or where rows are published the row
+/// of a link.
+#[inline(always)]
+pub fn publish_index(rows: bool, post: &Post, told: &mut Told, index: u32, number: u32)
+    requires room { length told.old < 8 }
+    ensures told { told.new ≡ told.old ++ publishes_index rows post.now index number }
+    ensures few { length told.new ≤ length told.old + 1 }
+{
+    let guard = Guard::Index {
+        seat: post.seat,
+        index,
+    };
+    if rows {
+        told.push(Event::Hazard {
+            guard,
+            slot: linked_row(number),
+        });
+    } else {
+        told.push(Event::Reserve {
+            guard,
+            span: one_era(number),
+        });
+    }
 }
 
 /// How a protection ends that found this link under this era.

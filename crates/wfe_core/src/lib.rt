@@ -16,7 +16,9 @@ mod told;
 pub use call::CallMachine;
 pub use desk::{Desk, Notes, RetireList, ScanReport};
 pub use ends::{AllocateEnd, FollowEnd, ProtectEnd};
-pub use hold_link::{hold, index_word, one_era, protect_end};
+pub use hold_link::{
+    hold, index_word, linked_row, one_era, protect_end, publish_index, shown_word,
+};
 pub use laws::seats_stay_in_place;
 pub use links::{link_word_number, root_at};
 pub use machine::Machine;
@@ -24,7 +26,7 @@ pub use op::Op;
 pub use post::Post;
 pub use told::Told;
 pub use wfe_defs::{
-    Answer, Call, Change, ClockMove, Event, Guard, Interval, Lifetime, NoMemory, Root, meets,
+    Answer, Call, Change, ClockMove, Event, Guard, Interval, Lifetime, NoMemory, Root, Shown, meets,
 };
 pub use wfe_words::{
     Config, Layout, Life, Link, Request, Reservation, SchemeKind, Span, life_word, link_word,
