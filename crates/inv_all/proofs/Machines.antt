@@ -13,6 +13,10 @@ use Rattle.inv_ends.specs.model.Enqueue as enqueues
 use Rattle.inv_ends.specs.model.Locals.{told_by, told_end}
 use Rattle.inv_ends.specs.model.Machine as machine
 use Rattle.inv_ends.specs.model.Rounds.{scheme_of, clear_told, bucket_of}
+use Rattle.inv_ends.specs.model.Scan as scan
+use Rattle.inv_ends.specs.model.Guards.{guard_at}
+use Rattle.inv_ends.specs.model.words.Schemes.{publishes_rows}
+use Rattle.inv_ends.specs.model.defs.declared.event.Guard.{Guard}
 use Rattle.inv_ends.specs.model.Steps as steps
 use Rattle.inv_ends.specs.model.Phases.{Base}
 use Rattle.inv_ends.specs.model.Calls.{ScanAt, ReadGuard, GiveBack, Phase, Idle, Runs, Scans, Works, CallOutcome, GoesOn, Answers}
@@ -29,6 +33,8 @@ abbrev pub is_machine : Event → Bool
 is_machine (events.Era era) = true
 is_machine (events.Reserve guard span) = true
 is_machine (events.Read guard span) = true
+is_machine (events.Hazard guard slot) = true
+is_machine (events.Saw guard slot) = true
 is_machine (events.Give slot birth) = true
 is_machine (events.Unused slot) = true
 is_machine (events.Retire slot birth retire) = true
@@ -59,8 +65,12 @@ base_machine base post found = base_all is_machine base post found (tells_machin
 pub clear_machine : (scheme : SchemeKind) (post : Post) (index : ℕ) → all_of is_machine (clear_told scheme post index) ≡ true
 clear_machine scheme post index = clear_all is_machine scheme post index (λ index slot. refl)
 
+read_machine : (rows : Bool) (guard : Guard) (word : ℕ) → all_of is_machine (scan.reads_guard rows guard word ∷ []) ≡ true
+read_machine false guard word = refl
+read_machine true guard word = refl
+
 pub scan_machine : (at : ScanAt) (post : Post) (found : ℕ) → all_of is_machine (scan_told at post found) ≡ true
-scan_machine (ReadGuard number) post found = refl
+scan_machine (ReadGuard number) post found = read_machine (publishes_rows post.layout.config.scheme) (guard_at post.layout.config number) found
 scan_machine (GiveBack place slot) post found = refl
 
 -- no step tells a beginning
@@ -83,7 +93,7 @@ first_within : (phase : Phase) (post : Post) (found : ℕ) → First Within phas
 first_within Idle post found = refl
 first_within (Runs why base) post found = base_all is_within base post found (λ event h. machine_within event (tells_machine base post found event h))
 first_within (Scans later at) post found = of_weaker is_machine is_within (scan_told at post found) machine_within (scan_machine at post found)
-first_within (Works work) post found = work_all is_within (λ index slot. refl) (λ from index slot. refl) (λ seat index era. refl) (λ seat. refl) work post
+first_within (Works work) post found = work_all is_within (λ index slot. refl) (λ from index slot. refl) (λ seat index era. refl) (λ seat. refl) (λ seat index link. refl) work post
 
 pub told_within : (phase : Phase) (post : Post) (desk : Desk) (found : ℕ) → all_of is_within (told_by (steps.phase_turn phase post desk found)) ≡ true
 told_within phase post desk found = step_all is_within (record { quiet = quiet_within; clears = λ index slot. refl }) phase post desk found (first_within phase post found)
@@ -176,7 +186,7 @@ first_still : (phase : Phase) (post : Post) (found : ℕ) → First Still phase 
 first_still Idle post found = refl
 first_still (Runs why base) post found = base_all is_still base post found (λ event h. machine_still event (tells_machine base post found event h))
 first_still (Scans later at) post found = of_weaker is_machine is_still (scan_told at post found) machine_still (scan_machine at post found)
-first_still (Works work) post found = work_all is_still (λ index slot. refl) (λ from index slot. refl) (λ seat index era. refl) (λ seat. refl) work post
+first_still (Works work) post found = work_all is_still (λ index slot. refl) (λ from index slot. refl) (λ seat index era. refl) (λ seat. refl) (λ seat index link. refl) work post
 
 pub told_loud : (phase : Phase) (post : Post) (desk : Desk) (found : ℕ) → one_loud (told_by (steps.phase_turn phase post desk found)) ≡ true
 told_loud phase post desk found = step_closes Still OneLoud Any loud_closing phase post desk found (phase_any phase post found) (first_still phase post found)

@@ -14,8 +14,9 @@ use Rattle.inv_ends.specs.requests.Views.{View as Asked}
 use Rattle.inv_steps_left.specs.rows.Hands.{row_move}
 use Rattle.inv_steps_left.specs.rows.Queue.{Line}
 use Rattle.inv_steps_left.specs.rows.Rows.{View}
-use Rattle.inv_ends.specs.covers.Covers.{eras_shown, takes_or_frees}
-use Rattle.inv_ends.specs.model.Guards.{one_era, own_guard}
+use Rattle.inv_ends.specs.covers.Covers.{number_shown, shown, takes_or_frees}
+use Rattle.inv_ends.specs.model.Guards.{own_guard}
+use Rattle.inv_ends.specs.model.words.Schemes.{publishes_rows}
 use Rattle.inv_ends.specs.covers.Held.{Holds}
 use Rattle.inv_contents.specs.Told.{AllRight, LookRight}
 use Rattle.inv_contents.specs.Gives.{AllQueueRight}
@@ -63,10 +64,11 @@ pub record StandsSafe (w : World) (i k j s : ℕ) (v : View) : Type 0 where
 abbrev pub InvStays : Type 0
 InvStays = (w : World) (i k j s : ℕ) (a : Inv w) → stands (w.seat k).post j ≡ Some s → StandsSafe w i k j s a.rows
 
--- between the two steps of a copy the index word that is copied publishes the era that was found, and a row still stands there
-pub record CopyUnderway (w : World) (k from era : ℕ) : Type 0 where
-  pub publishes : eras_shown w (Index k from) ≡ one_era era
+-- between the two steps of a copy the index word that is copied publishes the era, or the link, that was found, and a row still stands
+-- there
+pub record CopyUnderway (w : World) (k from number : ℕ) : Type 0 where
+  pub publishes : shown w (Index k from) ≡ number_shown (publishes_rows w.layout.config.scheme) number
   pub stands : is_some (stands (w.seat k).post from) ≡ true
 
 abbrev pub InvCopies : Type 0
-InvCopies = (w : World) (k from index era : ℕ) → Inv w → (w.seat k).phase ≡ Works (Keeping (StoreHeld from index era)) → CopyUnderway w k from era
+InvCopies = (w : World) (k from index number : ℕ) → Inv w → (w.seat k).phase ≡ Works (Keeping (StoreHeld from index number)) → CopyUnderway w k from number

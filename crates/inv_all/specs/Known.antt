@@ -7,6 +7,7 @@ use Rattle.inv_ends.specs.shapes.Noted.{Noted}
 use Rattle.inv_ends.specs.model.words.Schemes.{helps}
 use Rattle.inv_ends.specs.shapes.Seats.{Seats}
 use Rattle.inv_ends.specs.shapes.Slots.{Slots}
+use Rattle.inv_ends.specs.requests.Hazards.{Hazards}
 use Rattle.inv_ends.specs.requests.Paces.{Paces}
 use Rattle.inv_ends.specs.requests.Parents.{Parents}
 use Rattle.inv_ends.specs.requests.Standing.{Requests}
@@ -42,6 +43,8 @@ pub record Known (w : World) (v : View) (l : Line) (z : Asked) : Type 0 where
   pub paces : Paces w
   -- a row whose next link is followed stands
   pub parents : Parents w
+  -- where rows are published, an index word has the link that is to be loaded again, or copied
+  pub hazards : Hazards w
   -- requests, helping, hand-over and tags
   pub requests : Requests w z
   -- rows and the queue

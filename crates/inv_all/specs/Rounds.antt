@@ -9,6 +9,7 @@ use Rattle.inv_contents.specs.rows.Queue.{Line}
 use Rattle.inv_contents.specs.rows.Chain.{Both, first_line, line_after}
 use Rattle.inv_links.specs.requests.Views.{View as Asking}
 use Rattle.inv_links.specs.requests.Views.Deal.{Quiet}
+use Rattle.inv_links.specs.shapes.Slots.{Slots}
 use Rattle.inv_links.specs.requests.NextDeals.{next_deals}
 use Rattle.inv_links.specs.requests.Standing.{Requests}
 use Rattle.inv_links.specs.Origins.{Origins, OriginsNeeds}
@@ -23,13 +24,14 @@ pub record Rounds (w : World) (l : Line) (z : Asking) : Type 0 where
   pub links : Origins (good_link w l) w z
 
 -- what a step needs of the other parts: the shape of seats, eras and requests; the rows, the queue and what it holds; that
--- buckets have few versions; and that only tasks which lose few rounds have lost some
+-- buckets have few versions; that only tasks which lose few rounds have lost some; and that links are in range
 pub record RoundsNeeds (w : World) (i : ℕ) (v : View) (l : Line) (z : Asking) : Type 0 where
   pub origins : OriginsNeeds w i z
   pub both : Both w v l
   pub items : Items w v l
   pub bounded : Bounded w
   pub losses : Losses w
+  pub slots : Slots w
 
 abbrev pub RoundsStart : Type 0
 RoundsStart = (layout : Layout) (z : Asking) → is_valid layout ≡ true → ((k : ℕ) → z.deal k ≡ Quiet) → Rounds (start layout) (first_line layout) z

@@ -1,19 +1,25 @@
 -- Why a call loses few rounds: a round is lost only where its bucket was changed, or where the queue's tail or head was moved
--- or a row was queued, since its root was loaded; or where a walk has failed. So the rounds lost are no more than those.
+-- or a row was queued, since its root was loaded; or where a walk has failed. So the rounds lost are no more than those. Where rows are
+-- published each attempt of a protection is a round, which is lost where the reload finds another link.
 use Rattle.std.specs.Prelude.{ℕ, ◌≡◌, ◌≤◌, ◌+◌, ◌-◌, ◌%◌, ◌==◌, ◌&&◌, ◌||◌, not, Bool, true, false, if◌then◌else◌, nat_le, length}
 use Rattle.inv_contents.specs.words.Place.Place.{Bucket, Head, Tail, Row}
 use Rattle.inv_contents.specs.defs.declared.event.Root.{Root}
 use Rattle.inv_contents.specs.defs.declared.event.Root.TheVariants as roots
-use Rattle.inv_contents.specs.model.Phases.{Base}
+use Rattle.inv_contents.specs.model.Phases.{Base, HazardAt, ProtectAt}
+use Rattle.inv_contents.specs.model.Phases.Base.{Protect}
+use Rattle.inv_contents.specs.model.Phases.HazardAt.{FirstLink, PublishLink, CheckLink}
+use Rattle.inv_contents.specs.model.Phases.ProtectAt.{ByHazard}
+use Rattle.inv_contents.specs.words.Schemes.{publishes_rows}
 use Rattle.inv_contents.specs.model.Rest.{is_told, lost_by}
 use Rattle.inv_contents.specs.model.Rounds.{key_of}
 use Rattle.inv_contents.specs.model.Calls.{ChangeKept, EnqueueKept, Task, Gets, Changes, Holds, Enqueues, Dequeues, Next, Again, MakeRoom, Answering, Retiring, AfterScan, Answered, Repeated, Counted, Why, Opens, FollowsHead, Fills, ClearsNext, Clears, Finishes, GivesUp, Retires, Tidies, Advances, Releases, EnqueueAt, LoadNumber, LoadNext, PassTail, ExchangeNext, ExchangeTail, DequeueAt, LoadTail, SwingTail, TakeNumber, TakeValue, ExchangeHead, Work, Getting, Changing, Enqueuing, Dequeuing, Keeping, Phase, Idle, Runs, Scans, Works}
 use Rattle.inv_contents.specs.model.World.{World}
 use Rattle.inv_contents.specs.rows.Queue.{Line}
 
--- the roots and next links, how often each bucket was changed, and what grows with each row queued or tail moved, and with
--- each row taken or tail moved
+-- whether rows are published, the roots and next links, how often each bucket was changed, and what grows with each row queued or
+-- tail moved, and with each row taken or tail moved
 pub record Tally : Type 0 where
+  pub rows : Bool
   pub buckets : ℕ
   pub root : ℕ → ℕ
   pub tail : ℕ
@@ -26,6 +32,7 @@ pub record Tally : Type 0 where
 abbrev pub tally : World → Line → Tally
 tally w l =
     record {
+      rows = publishes_rows w.layout.config.scheme;
       buckets = w.layout.config.buckets;
       root = λ b. w.mem (Bucket b);
       tail = w.mem Tail;
@@ -47,11 +54,19 @@ changes_so_far t kept = t.count (key_of kept.change % t.buckets) + once kept.wal
 abbrev pub passes_so_far : Tally → EnqueueKept → ℕ
 passes_so_far t kept = t.passes + once kept.walked
 
+-- how often what a task works on has changed, with the walk that failed
+abbrev pub task_most : Tally → Task → ℕ
+task_most t (Gets key) = t.count (key % t.buckets)
+task_most t (Changes kept) = changes_so_far t kept
+task_most t (Holds key) = t.count (key % t.buckets)
+task_most t (Enqueues kept) = passes_so_far t kept
+task_most t Dequeues = t.takes
+
 -- so many rounds of a task were lost
 abbrev pub task_paced : Tally → Task → ℕ → Type 0
-task_paced t (Gets key) lost = Unit {0}
+task_paced t (Gets key) lost = lost ≤ task_most t (Gets key)
 task_paced t (Changes kept) lost = lost ≤ changes_so_far t kept
-task_paced t (Holds key) lost = Unit {0}
+task_paced t (Holds key) lost = lost ≤ task_most t (Holds key)
 task_paced t (Enqueues kept) lost = lost ≤ passes_so_far t kept
 task_paced t Dequeues lost = lost ≤ t.takes
 
@@ -59,6 +74,32 @@ task_paced t Dequeues lost = lost ≤ t.takes
 pub record Since (same : Bool) (lost most : ℕ) : Type 0 where
   pub lost_few : lost ≤ most
   pub moved : (same || nat_le (lost + 1) most) ≡ true
+
+-- the root of a task leads to this
+abbrev pub root_test : Tally → Task → ℕ → Bool
+root_test t (Gets key) x = t.root (key % t.buckets) == x
+root_test t (Changes kept) x = t.root (key_of kept.change % t.buckets) == x
+root_test t (Holds key) x = t.root (key % t.buckets) == x
+root_test t (Enqueues kept) x = t.tail == x
+root_test t Dequeues x = t.head == x
+
+-- where rows are published: the link that a protection has loaded, and publishes
+abbrev pub published_since : Tally → Task → ℕ → ℕ → Type 0
+published_since t task x lost = Since (root_test t task x) lost (task_most t task)
+
+abbrev pub hazard_paced : Tally → Task → HazardAt → ℕ → Type 0
+hazard_paced t task FirstLink lost = task_paced t task lost
+hazard_paced t task (PublishLink link) lost = published_since t task link lost
+hazard_paced t task (CheckLink link) lost = published_since t task link lost
+
+abbrev pub at_paced : Tally → Task → ProtectAt → ℕ → Type 0
+at_paced t task (ByHazard at) lost = hazard_paced t task at lost
+at_paced t task at lost = task_paced t task lost
+
+-- of a machine by which a round opens
+abbrev pub open_paced : Tally → Task → Base → ℕ → Type 0
+open_paced t task (Protect aim index root steps at) lost = at_paced t task at lost
+open_paced t task base lost = task_paced t task lost
 
 abbrev pub root_since : Tally → ChangeKept → ℕ → Type 0
 root_since t kept lost = Since (t.root (key_of kept.change % t.buckets) == kept.link) lost (changes_so_far t kept)
@@ -96,7 +137,7 @@ later_paced t (Repeated task) lost = task_paced t task lost
 later_paced t Counted lost = Unit {0}
 
 abbrev pub why_paced : Tally → ℕ → Base → Why → Type 0
-why_paced t rounds base (Opens task) = task_paced t task (lost_by rounds (is_told base))
+why_paced t rounds base (Opens task) = open_paced t task base (lost_by rounds (is_told base))
 why_paced t rounds base (FollowsHead head tail) = head_since t head (rounds - 1) × lag_since t head (tail == head + 1) (rounds - 1)
 why_paced t rounds base (Fills task) = fills_paced t task (rounds - 1)
 why_paced t rounds base (ClearsNext next) = next_paced t Dequeues next rounds

@@ -56,8 +56,8 @@ pub fn inv_stays()
     ensures { InvStays }
 {}
 
-/// Between the two steps of a copy the index word that is copied publishes the era that was found, and
-/// what stands at that index still stands.
+/// Between the two steps of a copy the index word that is copied publishes the era, or the link, that was
+/// found, and what stands at that index still stands.
 pub fn inv_copies()
     ensures { InvCopies }
 {}
@@ -124,7 +124,9 @@ pub fn rounds_begin()
 /// Each step keeps it: a put or a remove has lost no more rounds than its bucket was changed, an
 /// enqueue no more than rows were queued and the tail was moved, a dequeue no more than rows were taken
 /// and the tail was moved, each with one more for a walk that failed; and where a call goes on with a
-/// root whose word is another by now, one round more may be lost.
+/// root whose word is another by now, one round more may be lost. Where rows are published this is so of
+/// a get and a hold too, each attempt of a protection is a round, and one that loads another link than
+/// it has published is lost.
 pub fn rounds_kept()
     ensures { RoundsKept }
 {}

@@ -108,7 +108,7 @@ abbrev pub FillKnows : Ground → ChangeKept → Base → Type 0
 FillKnows g kept (Begin at) = Decided g kept
 FillKnows g kept (Protect aim index root steps at) = Decided g kept
 FillKnows g kept (Reload parent index slot era steps) = Decided g kept
-FillKnows g kept (Clear index) = Decided g kept
+FillKnows g kept (Clear rows index) = Decided g kept
 FillKnows g kept Finish = Decided g kept
 FillKnows g kept (Release index) = Decided g kept
 FillKnows g kept (Allocate at) = Decided g kept
@@ -126,7 +126,7 @@ abbrev pub ItemKnows : Ground → EnqueueKept → Base → Type 0
 ItemKnows g kept (Begin at) = Unit {0}
 ItemKnows g kept (Protect aim index root steps at) = Unit {0}
 ItemKnows g kept (Reload parent index slot era steps) = Unit {0}
-ItemKnows g kept (Clear index) = Unit {0}
+ItemKnows g kept (Clear rows index) = Unit {0}
 ItemKnows g kept Finish = Unit {0}
 ItemKnows g kept (Release index) = Unit {0}
 ItemKnows g kept (Allocate at) = Unit {0}
@@ -219,7 +219,7 @@ abbrev pub base_owns : Base → ℕ → Bool
 base_owns (Begin at) s = false
 base_owns (Protect aim index root steps at) s = false
 base_owns (Reload parent index slot era steps) s = false
-base_owns (Clear index) s = false
+base_owns (Clear rows index) s = false
 base_owns Finish s = false
 base_owns (Release index) s = false
 base_owns (Allocate at) s = false

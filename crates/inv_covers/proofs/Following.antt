@@ -1,6 +1,6 @@
 -- The row whose next link is followed stands at index 0, under Hazard Eras and 2GE.
 use Rattle.std.proofs.Common.{ℕ, ◌+◌, ◌-◌, ◌≡◌, sym, subst, true, false, refl, Bool, Option, Some, None, List, [], ◌∷◌, ◌<◌, length, ◌∙◌, ap, drop}
-use Rattle.std.specs.Prelude.{◌==◌, if◌then◌else◌, nat_lt}
+use Rattle.std.specs.Prelude.{◌==◌, ◌||◌, if◌then◌else◌, nat_lt}
 use Rattle.inv_shapes.specs.words.declared.config.SchemeKind.{SchemeKind}
 use Rattle.inv_shapes.specs.words.declared.layout.Layout.{Layout}
 use Rattle.inv_shapes.specs.defs.declared.event.Event.{Event}
@@ -9,11 +9,12 @@ use Rattle.inv_shapes.specs.defs.declared.event.Root.{Root}
 use Rattle.inv_shapes.specs.defs.declared.event.Root.TheVariants as roots
 use Rattle.inv_shapes.specs.model.declared.post.Post.{Post}
 use Rattle.inv_shapes.specs.model.Desks.{Desk, noting}
-use Rattle.inv_shapes.specs.model.Guards.{guards, guard_at, eras_in, published}
+use Rattle.inv_shapes.specs.model.Guards.{guards, guard_at, published}
 use Rattle.inv_shapes.specs.model.Posts.{stands, withdrawn, upper, with_row, counted, standing_from}
 use Rattle.inv_shapes.specs.model.Phases.BeginAt.{LoadLower, PublishSpan}
 use Rattle.inv_shapes.specs.model.Phases.{BeginAt, Aim, Alone, Follows, Base, ProtectAt, Ending, Outcome, Goes, Ends, Turn, goes, ends}
-use Rattle.inv_shapes.specs.model.Phases.ProtectAt.{LoadClock, PublishEra, LoadLink, CheckClock, LoadWithin, CheckUpper, RaiseUpper}
+use Rattle.inv_shapes.specs.model.Phases.ProtectAt.{LoadClock, PublishEra, LoadLink, CheckClock, LoadWithin, CheckUpper, RaiseUpper, ByHazard}
+use Rattle.inv_shapes.specs.model.Phases.HazardAt.{FirstLink, PublishLink, CheckLink}
 use Rattle.inv_shapes.specs.model.Phases.Base.{Begin, Protect, Reload, Clear, Finish, Release, Allocate, Write, GiveUp, Retire, Move}
 use Rattle.inv_shapes.specs.model.Phases.Ending.{Protected, Followed}
 use Rattle.inv_shapes.specs.model.Protect.{protect_end, held_post, told_held, failed_once, concluded, protected}
@@ -21,11 +22,11 @@ use Rattle.inv_shapes.specs.model.Memory.{bump}
 use Rattle.inv_shapes.specs.model.declared.ends.FollowEnd.TheVariants as follow_ends
 use Rattle.inv_shapes.specs.model.Machine.{after, protect_turn}
 use Rattle.inv_shapes.specs.model.Rounds.{scheme_of, index_of, kept_row, release_span, let_index, letting_by, letting}
-use Rattle.inv_shapes.specs.model.Scan.{Entry, scanned, giving_back, reading, unmet_from, with_kept, with_read, with_back, scan_turn}
+use Rattle.inv_shapes.specs.model.Scan.{Entry, scanned, giving_back, reading, unmet_from, with_kept, with_read, with_back, reads_guard, scan_turn}
 use Rattle.inv_shapes.specs.model.Steps.{resumed, phase_turn, holding, copying, looking_at, first_phase}
 use Rattle.inv_shapes.specs.model.Calls.{Task, Gets, Changes, Holds, Enqueues, Dequeues, AfterScan, Answered, Repeated, Counted, ScanAt, ReadGuard, GiveBack, Why, Opens, FollowsHead, Fills, ClearsNext, Clears, Finishes, GivesUp, Retires, Tidies, Advances, Releases, LetGo, Released, Rehold, Dropped, Phase, Idle, Runs, Scans, Works, CallTurn, CallOutcome, GoesOn, Answers}
 use Rattle.inv_shapes.specs.Seats.{task_root, root_by, protect_fits, Run}
-use Rattle.inv_shapes.specs.words.Schemes.{helps, has_one_interval}
+use Rattle.inv_shapes.specs.words.Schemes.{helps, has_one_interval, publishes_rows}
 use Rattle.inv_shapes.specs.model.declared.ends.ProtectEnd.TheVariants as protect_ends
 use Rattle.inv_shapes.specs.model.Locals.{Local, turn, settled, settled_by, told_by, rounds_told, begun, begun_post}
 use Rattle.inv_shapes.specs.model.Locals as locals
@@ -58,7 +59,7 @@ reading_tends later n post desk told false = back_tends later post desk told (un
 
 scan_tends : (later : AfterScan) (at : ScanAt) (post : Post) (desk : Desk) (found : ℕ) → Tended (scan_turn later at post desk found)
 scan_tends later (ReadGuard n) post desk found =
-    reading_tends later n post (with_read desk n (guard_at post.layout.config n, published (guard_at post.layout.config n) found)) (events.Read (guard_at post.layout.config n) (eras_in (guard_at post.layout.config n) found) ∷ []) (nat_lt (n + 1) (guards post.layout.config))
+    reading_tends later n post (with_read desk n (guard_at post.layout.config n, published (publishes_rows post.layout.config.scheme) (guard_at post.layout.config n) found)) (reads_guard (publishes_rows post.layout.config.scheme) (guard_at post.layout.config n) found ∷ []) (nat_lt (n + 1) (guards post.layout.config))
 scan_tends later (GiveBack place slot) post desk found = back_tends later post (with_back desk place) (events.Back slot ∷ []) (unmet_from (with_back desk place) place)
 
 -- what a machine's step leaves
@@ -112,6 +113,9 @@ opens_gives buckets task scheme most index root n (CheckClock era tries link) po
 opens_gives buckets task scheme most index root n LoadWithin post found w f b a = λ row h. absurd (cc)
 opens_gives buckets task scheme most index root n (CheckUpper link) post found w f b a = concluded_gives buckets task index root n link found post (Protect Alone index root n (RaiseUpper found)) (found == upper post.span) b a
 opens_gives buckets task scheme most index root n (RaiseUpper era) post found w f b a = λ row h. absurd (cc)
+opens_gives buckets task scheme most index root n (ByHazard FirstLink) post found w f b a = concluded_gives buckets task index root n found 0 post (Protect Alone index root n (ByHazard (PublishLink found))) (found == 0) b a
+opens_gives buckets task scheme most index root n (ByHazard (PublishLink link)) post found w f b a = λ row h. absurd (cc)
+opens_gives buckets task scheme most index root n (ByHazard (CheckLink link)) post found w f b a = concluded_gives buckets task index root n found 0 post (Protect Alone index root n (ByHazard (PublishLink found))) (found == link || found == 0) b a
 opens_gives buckets task scheme most index root n at post found w f b a = absurd (cc)
 
 -- a follow goes on, and the head stands
@@ -132,6 +136,9 @@ follow_gives head tail scheme most index n (CheckClock era tries link) post foun
 follow_gives head tail scheme most index n LoadWithin post found w f h = h
 follow_gives head tail scheme most index n (CheckUpper link) post found w f h = next_gives head tail index n link found post (Protect Follows index (roots.Next head) n (RaiseUpper found)) (found == upper post.span) h
 follow_gives head tail scheme most index n (RaiseUpper era) post found w f h = h
+follow_gives head tail scheme most index n (ByHazard FirstLink) post found w f h = next_gives head tail index n found 0 post (Protect Follows index (roots.Next head) n (ByHazard (PublishLink found))) (found == 0) h
+follow_gives head tail scheme most index n (ByHazard (PublishLink link)) post found w f h = h
+follow_gives head tail scheme most index n (ByHazard (CheckLink link)) post found w f h = next_gives head tail index n found 0 post (Protect Follows index (roots.Next head) n (ByHazard (PublishLink found))) (found == link || found == 0) h
 follow_gives head tail scheme most index n at post found w f h = absurd (cc)
 
 ends_gives : (head tail : ℕ) (one two : Turn) (same : Bool) → Gives (FollowsHead head tail) one.post one.outcome → Gives (FollowsHead head tail) two.post two.outcome → Gives (FollowsHead head tail) (if same then one else two).post (if same then one else two).outcome
@@ -146,7 +153,7 @@ run_gives : (layout : Layout) (why : Why) (base : Base) (last post : Post) (foun
 run_gives layout (Opens task) (Begin at) last post found w r l h = begin_gives task at post found
 run_gives layout (Opens task) (Protect aim index root steps at) last post found w r l h = subst (λ (a : Aim). Gives (Opens task) (protect_turn a index root (bump steps) at post found).post (protect_turn a index root (bump steps) at post found).outcome) (sym r.shape.aimed) (opens_gives layout.config.buckets task layout.config.scheme layout.config.tries index root (bump steps) at post found w r.fits l (record { at = r.shape.at; of = r.shape.of }))
 run_gives layout (Opens task) (Reload parent index slot era steps) last post found w r l h = absurd (no_truth r.suited)
-run_gives layout (Opens task) (Clear index) last post found w r l h = absurd (no_truth r.suited)
+run_gives layout (Opens task) (Clear rows index) last post found w r l h = absurd (no_truth r.suited)
 run_gives layout (Opens task) Finish last post found w r l h = absurd (no_truth r.suited)
 run_gives layout (Opens task) (Release index) last post found w r l h = absurd (no_truth r.suited)
 run_gives layout (Opens task) (Allocate at) last post found w r l h = absurd (no_truth r.suited)
@@ -157,7 +164,7 @@ run_gives layout (Opens task) (Move at) last post found w r l h = absurd (no_tru
 run_gives layout (FollowsHead head tail) (Begin at) last post found w r l h = absurd (no_truth r.suited)
 run_gives layout (FollowsHead head tail) (Protect aim index root steps at) last post found w r l h = subst (λ (a : Aim). Gives (FollowsHead head tail) (protect_turn a index root (bump steps) at post found).post (protect_turn a index root (bump steps) at post found).outcome) (sym r.shape.aimed) (subst (λ (x : Root). Gives (FollowsHead head tail) (protect_turn Follows index x (bump steps) at post found).post (protect_turn Follows index x (bump steps) at post found).outcome) (sym r.shape.of) (follow_gives head tail layout.config.scheme layout.config.tries index (bump steps) at post found w r.fits h))
 run_gives layout (FollowsHead head tail) (Reload parent index slot era steps) last post found w r l h = ends_gives head tail (ends (with_row post index slot) (events.Held index slot (bump steps) ∷ []) (Followed (follow_ends.Followed slot))) (ends post [] (Followed (follow_ends.RootMoved found))) (found == parent + 1) tt tt
-run_gives layout (FollowsHead head tail) (Clear index) last post found w r l h = absurd (no_truth r.suited)
+run_gives layout (FollowsHead head tail) (Clear rows index) last post found w r l h = absurd (no_truth r.suited)
 run_gives layout (FollowsHead head tail) Finish last post found w r l h = absurd (no_truth r.suited)
 run_gives layout (FollowsHead head tail) (Release index) last post found w r l h = absurd (no_truth r.suited)
 run_gives layout (FollowsHead head tail) (Allocate at) last post found w r l h = absurd (no_truth r.suited)
@@ -191,7 +198,7 @@ settled_by_tends l post desk rounds (GoesOn phase) h = h
 settled_by_tends l post desk rounds (Answers answer) h = h
 
 settled_tends : (l : Local) (t : CallTurn) → Tended t → ParentIn (settled l t)
-settled_tends l t h = settled_by_tends l t.post (noting t.desk (told_by t)) (rounds_told l.rounds (told_by t)) t.outcome h
+settled_tends l t h = settled_by_tends l t.post (noting t.desk (told_by t)) (rounds_told (publishes_rows (scheme_of t.post)) l.rounds (told_by t)) t.outcome h
 
 parent_pick : (old new : Local) (same : Bool) → ParentIn old → ParentIn new → ParentIn (if same then new else old)
 parent_pick old new true a b = b
@@ -235,7 +242,7 @@ leaving_tends : (post : Post) → Parent (parting post) post
 leaving_tends post =
     if_by (has_one_interval (scheme_of post)) (parting_span post.span) (parting_from 2 post) (λ (phase : Phase). Parent phase post)
     (λ e. parting_span_tends post.span post)
-    (λ e. parting_tends (standing_from 2 (drop 2 post.standing)) post)
+    (λ e. parting_tends (publishes_rows (scheme_of post)) (standing_from 2 (drop 2 post.standing)) post)
 
 first_tends : (call : Call) (post : Post) → Parent (first_phase call post) post
 first_tends (names.Get key) post = round_tends (Gets key) post

@@ -19,21 +19,20 @@ use Rattle.inv_shapes.specs.model.declared.post.Post.{Post}
 use Rattle.inv_shapes.specs.model.Desks.{Desk, with_life}
 use Rattle.inv_shapes.specs.model.Phases.{Ending, Base}
 use Rattle.inv_shapes.specs.model.Phases.Ending.{Done, Protected, Followed, Allocated, Retired, Clocked}
-use Rattle.inv_shapes.specs.model.Rounds.{bucket_of, scheme_of, index_of, taken_of, begin_base, clear_base, clear_post, clear_told, finish_base, kept_row, release_span, let_index, letting_by, letting, round_by, round, given_up, closed, finishing_by, finishing, clearing_by, clearing, clearing_next_by, clearing_next, begin_span, finish_span, protect_base, opening, root_of}
+use Rattle.inv_shapes.specs.model.Rounds.{bucket_of, scheme_of, index_of, taken_of, begin_base, clear_base, clear_post, clear_told, finish_base, kept_row, release_span, let_index, letting_by, letting, round_by, round, given_up, closed, finishing_by, finishing, clearing_by, clearing, clearing_next_by, clearing_next, begin_span, finish_span, protect_base, opening, root_of, tidy_by}
 use Rattle.inv_shapes.specs.model.Get as gets
 use Rattle.inv_shapes.specs.model.Change as alters
 use Rattle.inv_shapes.specs.model.Enqueue as enqueues
 use Rattle.inv_shapes.specs.model.Dequeue as dequeues
 use Rattle.inv_shapes.specs.model.Keep as keeps
 use Rattle.inv_shapes.specs.model.Steps as steps
-use Rattle.inv_shapes.specs.model.Calls.{Task, Gets, Changes, Holds, Enqueues, Dequeues, Again, Answering, Retiring, AfterScan, Why, Phase, ChangeKept, EnqueueKept, GetAt, FindVersion, FindCount, FindKey, FindValue, ChangeAt, LoadVersion, LoadCount, LoadKey, LoadValue, ExchangeRoot, EnqueueAt, LoadNumber, LoadNext, PassTail, ExchangeNext, ExchangeTail, DequeueAt, LoadTail, SwingTail, TakeNumber, TakeValue, ExchangeHead, Work, Getting, Changing, Enqueuing, Dequeuing, Opens, FollowsHead, Fills, ClearsNext, Clears, Finishes, GivesUp, Retires, Tidies, Advances, Releases, LetGo, Released, Rehold, Dropped, Parting, Loosens, LoadHeld, StoreHeld, Looks, Misses, HideSpan, MarkLeft, TakeList, MarkTaken, Keeping, Next, MakeRoom, Runs, Works, CallTurn}
+use Rattle.inv_shapes.specs.model.Calls.{Task, Gets, Changes, Holds, Enqueues, Dequeues, Again, Answering, Retiring, AfterScan, Why, Phase, ChangeKept, EnqueueKept, GetAt, FindVersion, FindCount, FindKey, FindValue, ChangeAt, LoadVersion, LoadCount, LoadKey, LoadValue, ExchangeRoot, EnqueueAt, LoadNumber, LoadNext, PassTail, ExchangeNext, ExchangeTail, DequeueAt, LoadTail, SwingTail, TakeNumber, TakeValue, ExchangeHead, Work, Getting, Changing, Enqueuing, Dequeuing, Opens, FollowsHead, Fills, ClearsNext, Clears, Finishes, GivesUp, Retires, Tidies, Advances, Releases, LetGo, Released, Rehold, Dropped, Parting, Loosens, LoadHeld, StoreHeld, Looks, Misses, HideSpan, MarkLeft, TakeList, MarkTaken, Keeping, Next, MakeRoom, Runs, Works, CallTurn, Answered, Repeated, goes_on}
 use Rattle.inv_shapes.specs.words.declared.config.SchemeKind.{SchemeKind}
-use Rattle.inv_shapes.specs.words.declared.config.SchemeKind.TheVariants.{He, Ibr, Wfe}
+use Rattle.inv_shapes.specs.words.declared.config.SchemeKind.TheVariants.{He, Hp, Ibr, Wfe}
 use Rattle.inv_shapes.specs.defs.declared.lifetime.Interval.{Interval}
-use Rattle.inv_shapes.specs.model.Posts.{stands, withdrawn, cleared, reserves_index, standing_from}
+use Rattle.inv_shapes.specs.model.Posts.{stands, withdrawn, cleared, standing_from, publishes_index}
 use Rattle.inv_shapes.specs.Frame.{phase_left}
-use Rattle.inv_shapes.specs.words.Packed.{read_reservation}
-use Rattle.inv_shapes.specs.words.Schemes.{has_one_interval}
+use Rattle.inv_shapes.specs.words.Schemes.{has_one_interval, publishes_rows, moves}
 use Rattle.inv_shapes.specs.defs.declared.event.Root.{Root}
 use Rattle.inv_covers.proofs.Stands.{withdrawn_shrinks, bare_none}
 use Rattle.inv_covers.specs.Covers.{is_fresh}
@@ -43,6 +42,7 @@ use Rattle.inv_shapes.proofs.model.Facts.{if_by}
 
 opening_at : (task : Task) (post : Post) (index : ℕ) (root : Root) (scheme : SchemeKind) → Begins (Phase.Runs (Opens task) (protect_base scheme index root))
 opening_at task post index root He = record { fresh = refl; starts = refl }
+opening_at task post index root Hp = record { fresh = refl; starts = refl }
 opening_at task post index root Ibr = record { fresh = refl; starts = refl }
 opening_at task post index root Wfe = record { fresh = refl; starts = refl }
 
@@ -51,6 +51,7 @@ opening_fresh task post = opening_at task post (index_of task) (root_of task pos
 
 follow_fresh : (head tail : ℕ) (scheme : SchemeKind) → Begins (Phase.Runs (FollowsHead head tail) (dequeues.follow_base scheme head))
 follow_fresh head tail He = record { fresh = refl; starts = refl }
+follow_fresh head tail Hp = record { fresh = refl; starts = refl }
 follow_fresh head tail Ibr = record { fresh = refl; starts = refl }
 follow_fresh head tail Wfe = record { fresh = refl; starts = refl }
 
@@ -65,13 +66,18 @@ round_by_fresh task post scheme = each_begin scheme post (λ (base : Option Base
 pub round_fresh : (task : Task) (post : Post) → Begins (round task post)
 round_fresh task post = round_by_fresh task post (scheme_of post)
 
+-- a list is tidied
+tidy_fresh : (later : AfterScan) (moving : Bool) (post : Post) (desk : Desk) (told : List Event) → Leaves post (goes_on post desk told (tidy_by moving later post))
+tidy_fresh later true post desk told = record { fresh = refl; starts = refl; shrinks = λ j s h. h }
+tidy_fresh later false post desk told = record { fresh = refl; starts = refl; shrinks = λ j s h. h }
+
 given_up_fresh : (answer : Answer) (post : Post) (desk : Desk) (told : List Event) (x : Option ℕ) → Leaves post (given_up answer post desk told x)
 given_up_fresh answer post desk told None = record { fresh = refl; starts = refl; shrinks = λ j s h. h }
 given_up_fresh answer post desk told (Some slot) = record { fresh = refl; starts = refl; shrinks = λ j s h. h }
 
 closed_fresh : (task : Task) (next : Next) (post : Post) (desk : Desk) (told : List Event) → Leaves post (closed task next post desk told)
 closed_fresh task Again post desk told = record { fresh = (round_fresh task post).fresh; starts = (round_fresh task post).starts; shrinks = λ j s h. h }
-closed_fresh task MakeRoom post desk told = record { fresh = refl; starts = refl; shrinks = λ j s h. h }
+closed_fresh task MakeRoom post desk told = tidy_fresh (Repeated task) (moves (scheme_of post)) post desk told
 closed_fresh task (Answering answer) post desk told = given_up_fresh answer post desk told (taken_of task)
 closed_fresh task (Retiring slot answer) post desk told = record { fresh = refl; starts = refl; shrinks = λ j s h. h }
 
@@ -206,9 +212,9 @@ dequeue_fresh (TakeValue head next number) post desk found = record { fresh = re
 dequeue_fresh (ExchangeHead head next number value) post desk found = taken_fresh head next number value post desk (found == head + 1)
 
 -- a seat leaves
-parting_begins : (x : Option ℕ) → Begins (keeps.parting_index x)
-parting_begins None = record { fresh = refl; starts = refl }
-parting_begins (Some index) = record { fresh = refl; starts = refl }
+parting_begins : (rows : Bool) (x : Option ℕ) → Begins (keeps.parting_index rows x)
+parting_begins rows None = record { fresh = refl; starts = refl }
+parting_begins rows (Some index) = record { fresh = refl; starts = refl }
 
 parting_span_begins : (x : Option Interval) → Begins (keeps.parting_span x)
 parting_span_begins None = record { fresh = refl; starts = refl }
@@ -218,7 +224,7 @@ leaving_begins : (post : Post) → Begins (keeps.parting post)
 leaving_begins post =
     if_by (has_one_interval (scheme_of post)) (keeps.parting_span post.span) (keeps.parting_from 2 post) Begins
     (λ e. parting_span_begins post.span)
-    (λ e. parting_begins (standing_from 2 (drop 2 post.standing)))
+    (λ e. parting_begins (publishes_rows (scheme_of post)) (standing_from 2 (drop 2 post.standing)))
 
 taking_fresh : (place : ℕ) (post : Post) (desk : Desk) (left : Bool) (found : ℕ) → Leaves post (keeps.taking place post desk left found)
 taking_fresh place post desk true found = record { fresh = refl; starts = refl; shrinks = λ j s h. h }
@@ -228,7 +234,7 @@ released_fresh : (let_go : LetGo) (post : Post) (desk : Desk) (told : List Event
 released_fresh Released post desk told = record { fresh = refl; starts = refl; shrinks = λ j s h. h }
 released_fresh (Rehold key) post desk told = record { fresh = (round_fresh (Holds key) post).fresh; starts = (round_fresh (Holds key) post).starts; shrinks = λ j s h. h }
 released_fresh (Dropped index) post desk told = record { fresh = refl; starts = refl; shrinks = λ j s h. h }
-released_fresh (Parting index) post desk told = let b = parting_begins (standing_from (index + 1) (drop (index + 1) post.standing)) in record { fresh = b.fresh; starts = b.starts; shrinks = λ j s h. h }
+released_fresh (Parting index) post desk told = let b = parting_begins (publishes_rows (scheme_of post)) (standing_from (index + 1) (drop (index + 1) post.standing)) in record { fresh = b.fresh; starts = b.starts; shrinks = λ j s h. h }
 
 loosened_fresh : (let_go : LetGo) (post : Post) (desk : Desk) → Leaves post (keeps.released let_go (withdrawn post (let_index let_go)) desk (cleared (let_index let_go) (stands post (let_index let_go))))
 loosened_fresh let_go post desk =
@@ -280,7 +286,7 @@ copied_begins from index post desk reserved (Some slot) = record { fresh = refl;
 -- it goes on where each index publishes by itself
 pub data Loaded (post : Post) (from index found : ℕ) (next : Phase) : Type 0 where
   Ended : Begins next → Loaded post from index found next
-  Stored : has_one_interval (scheme_of post) ≡ false → next ≡ Works (Keeping (StoreHeld from index (read_reservation found).era)) → Loaded post from index found next
+  Stored : has_one_interval (scheme_of post) ≡ false → next ≡ Works (Keeping (StoreHeld from index (keeps.held_number (publishes_rows (scheme_of post)) found))) → Loaded post from index found next
 
 loaded_by : (from index : ℕ) (post : Post) (desk : Desk) (found : ℕ) (one : Bool) → has_one_interval (scheme_of post) ≡ one → Loaded post from index found (phase_left (keeps.load_held from index post desk found one).outcome)
 loaded_by from index post desk found true e = Ended (copied_begins from index post desk [] (stands post from))
@@ -295,12 +301,12 @@ loaded_fresh post from index found next (Stored i e) = rw e refl
 
 loaded_start : (post : Post) (from index found : ℕ) (next : Phase) (why : Why) (base : Base) → Loaded post from index found next → next ≡ Runs why base → starts_base base ≡ true
 loaded_start post from index found next why base (Ended b) q = begins_start next why base b q
-loaded_start post from index found next why base (Stored i e) q = absurd (let z : Works (Keeping (StoreHeld from index (read_reservation found).era)) ≡ Runs why base = sym e ∙ q in cc)
+loaded_start post from index found next why base (Stored i e) q = absurd (let z : Works (Keeping (StoreHeld from index (keeps.held_number (publishes_rows (scheme_of post)) found))) ≡ Runs why base = sym e ∙ q in cc)
 
 -- no step of a call's own leaves a scan that has read something
 pub works_fresh : (work : Work) (post : Post) (desk : Desk) (found : ℕ) → is_fresh (phase_left (steps.work_turn work post desk found).outcome) ≡ true
 works_fresh (Keeping (LoadHeld from index)) post desk found = loaded_fresh post from index found _ (loaded from index post desk found)
-works_fresh (Keeping (StoreHeld from index era)) post desk found = (copied_begins from index post desk (reserves_index post index era) (stands post from)).fresh
+works_fresh (Keeping (StoreHeld from index era)) post desk found = (copied_begins from index post desk (publishes_index (publishes_rows (scheme_of post)) post index era) (stands post from)).fresh
 works_fresh (Keeping (Loosens let_go)) post desk found = (work_fresh (Keeping (Loosens let_go)) post desk found refl).fresh
 works_fresh (Keeping (Looks index key at)) post desk found = (work_fresh (Keeping (Looks index key at)) post desk found refl).fresh
 works_fresh (Keeping (Misses index)) post desk found = refl
@@ -316,7 +322,7 @@ works_fresh (Dequeuing at) post desk found = (work_fresh (Dequeuing at) post des
 -- nor a machine within a try
 pub works_start : (work : Work) (post : Post) (desk : Desk) (found : ℕ) (why : Why) (base : Base) → phase_left (steps.work_turn work post desk found).outcome ≡ Runs why base → starts_base base ≡ true
 works_start (Keeping (LoadHeld from index)) post desk found why base e = loaded_start post from index found _ why base (loaded from index post desk found) e
-works_start (Keeping (StoreHeld from index era)) post desk found why base e = begins_start _ why base (copied_begins from index post desk (reserves_index post index era) (stands post from)) e
+works_start (Keeping (StoreHeld from index era)) post desk found why base e = begins_start _ why base (copied_begins from index post desk (publishes_index (publishes_rows (scheme_of post)) post index era) (stands post from)) e
 works_start (Keeping (Loosens let_go)) post desk found why base e = leaves_start post _ why base (work_fresh (Keeping (Loosens let_go)) post desk found refl) e
 works_start (Keeping (Looks index key at)) post desk found why base e = leaves_start post _ why base (work_fresh (Keeping (Looks index key at)) post desk found refl) e
 works_start (Keeping (Misses index)) post desk found why base e = absurd (cc)
@@ -385,7 +391,7 @@ followed_by_fresh head tail (Retired life) post desk told = closed_fresh Dequeue
 followed_by_fresh head tail (Clocked clock) post desk told = closed_fresh Dequeues Again post desk told
 
 tidying_fresh : (answer : Answer) (post : Post) (desk : Desk) (told : List Event) (due : Bool) → Leaves post (steps.tidying answer post desk told due)
-tidying_fresh answer post desk told true = record { fresh = refl; starts = refl; shrinks = λ j s h. h }
+tidying_fresh answer post desk told true = tidy_fresh (Answered answer) (moves (scheme_of post)) post desk told
 tidying_fresh answer post desk told false = record { fresh = refl; starts = refl; shrinks = λ j s h. h }
 
 retired_by_fresh : (answer : Answer) (ending : Ending) (post : Post) (desk : Desk) (told : List Event) → Leaves post (steps.retired_by answer ending post desk told)

@@ -6,7 +6,7 @@ use Rattle.std.proofs.Math.Nat.{mul-le-mul_right}
 use Rattle.std.specs.Prelude.{nat_lt}
 use Rattle.inv_shapes.specs.words.declared.config.Config.{Config}
 use Rattle.inv_shapes.specs.words.declared.config.SchemeKind.{SchemeKind}
-use Rattle.inv_shapes.specs.words.declared.config.SchemeKind.TheVariants.{He, Ibr, Wfe}
+use Rattle.inv_shapes.specs.words.declared.config.SchemeKind.TheVariants.{He, Hp, Ibr, Wfe}
 use Rattle.inv_shapes.specs.defs.declared.event.Guard.{Guard}
 use Rattle.inv_shapes.specs.defs.declared.event.Guard.TheVariants.{Helper, Index}
 use Rattle.inv_shapes.specs.defs.declared.lifetime.Lifetime.{Lifetime}
@@ -39,6 +39,7 @@ late_index config n =
 
 own_fits_by : (scheme : SchemeKind) (config : Config) (k j : ℕ) → k < config.seats → j < config.indexes → Fits scheme config (own_guard scheme k j)
 own_fits_by He config k j h l = record { below = pair_below config.seats config.indexes k j h l; is = index_is config k j l }
+own_fits_by Hp config k j h l = record { below = pair_below config.seats config.indexes k j h l; is = index_is config k j l }
 own_fits_by Ibr config k j h l = record { below = h; is = refl }
 own_fits_by Wfe config k j h l = record {
   below = let b = pair_below config.seats config.indexes k j h l in omega (arith, b);
@@ -51,6 +52,7 @@ guards_fit config k j h l = let f = own_fits_by config.scheme config k j h l in 
 helper_fits_by : (scheme : SchemeKind) (config : Config) (k : ℕ) → helps scheme ≡ true → k < config.seats → Fits scheme config (Helper k)
 helper_fits_by He config k w h = absurd (cc)
 helper_fits_by Ibr config k w h = absurd (cc)
+helper_fits_by Hp config k w h = absurd (cc)
 helper_fits_by Wfe config k w h = record { below = omega (arith, h); is = (let e : nat_lt k config.seats ≡ true = grind (arith, nat_tests) in rw e refl) }
 
 pub helpers_fit : HelpersFit
@@ -63,11 +65,13 @@ met_later all one two phase report life l h = grind (arith, nat_tests)
 first_by : (scheme : SchemeKind) (config : Config) (m k j : ℕ) → helps scheme ≡ true → m < config.seats → number_by scheme config (Helper m) ≤ number_by scheme config (Index k j)
 first_by He config m k j w h = absurd (cc)
 first_by Ibr config m k j w h = absurd (cc)
+first_by Hp config m k j w h = absurd (cc)
 first_by Wfe config m k j w h = omega (arith, h)
 
 rises_by : (scheme : SchemeKind) (config : Config) (k i j : ℕ) → i ≤ j → number_by scheme config (Index k i) ≤ number_by scheme config (Index k j)
 rises_by He config k i j h = omega (arith, h)
 rises_by Ibr config k i j h = omega (arith, h)
+rises_by Hp config k i j h = omega (arith, h)
 rises_by Wfe config k i j h = omega (arith, h)
 
 -- a scan reads a seat's indexes upwards

@@ -1,7 +1,7 @@
 -- What guards hold stays held over each step, under Hazard Eras and 2GE.
 use Rattle.std.proofs.Common.{ℕ, ◌≤◌, ◌+◌, ◌≡◌, ◌∙◌, sym, subst, ap, true, false, arith, refl, Bool, Option, Some, None, ◌⊎◌, inl, inr, List, [], ◌<◌}
 use Rattle.std.proofs.lemmas.Bool.Decides.{nat_tests}
-use Rattle.std.specs.Prelude.{◌==◌, is_some, length}
+use Rattle.std.specs.Prelude.{◌==◌, if◌then◌else◌, ◌-◌, is_some, length}
 use Rattle.inv_shapes.specs.words.Place.{Place}
 use Rattle.inv_shapes.specs.words.Place.Place.{Clock, Head, Index as IndexOf, Interval as IntervalOf}
 use Rattle.inv_shapes.specs.words.declared.layout.Layout.{Layout}
@@ -12,19 +12,20 @@ use Rattle.inv_shapes.specs.defs.declared.event.Guard.TheVariants.{Index, Whole}
 use Rattle.inv_shapes.specs.defs.declared.event.Root.{Root}
 use Rattle.inv_shapes.specs.defs.declared.event.Root.TheVariants as roots
 use Rattle.inv_shapes.specs.defs.declared.lifetime.Interval.{Interval}
-use Rattle.inv_shapes.specs.defs.Shown.{Shown}
-use Rattle.inv_shapes.specs.defs.Shown.Shown.{Eras}
+use Rattle.inv_shapes.specs.defs.declared.shown.Shown.{Shown}
+use Rattle.inv_shapes.specs.defs.declared.shown.Shown.TheVariants.{Nothing, Eras, Row}
 use Rattle.inv_shapes.specs.defs.Shown as values
 use Rattle.inv_shapes.specs.model.declared.post.Post.{Post}
 use Rattle.inv_shapes.specs.model.Desks.{Desk, noting}
-use Rattle.inv_shapes.specs.model.Guards.{guard_place, from_to, own_guard}
+use Rattle.inv_shapes.specs.model.Guards.{guard_place, from_to, linked_row, own_guard}
 use Rattle.inv_shapes.specs.model.Links.{link_place, parent_of}
 use Rattle.inv_shapes.specs.model.Memory.{found, place_in, written, bump}
 use Rattle.inv_shapes.specs.model.Memory as memory
-use Rattle.inv_shapes.specs.model.Posts.{index_word, stands, upper, lower, counted, reserves_index}
-use Rattle.inv_shapes.specs.model.Phases.{Aim, Alone, Follows, Tries, ProtectAt, Base, Outcome, Goes, Ends, Turn}
+use Rattle.inv_shapes.specs.model.Posts.{index_word, shown_word, stands, upper, lower, counted, publishes_index}
+use Rattle.inv_shapes.specs.model.Phases.{Aim, Alone, Follows, Tries, HazardAt, ProtectAt, Base, Outcome, Goes, Ends, Turn}
 use Rattle.inv_shapes.specs.model.Phases.BeginAt.{LoadLower, PublishSpan}
-use Rattle.inv_shapes.specs.model.Phases.ProtectAt.{LoadClock, PublishEra, LoadLink, CheckClock, PublishRequest, LoadOwnClock, PublishHelper, LoadOwnLink, CheckOwnClock, AnswerOwn, LoadAnswer, TakeAnswer, WithdrawRequest, WithdrawHelper, LoadWithin, CheckUpper, RaiseUpper}
+use Rattle.inv_shapes.specs.model.Phases.ProtectAt.{LoadClock, PublishEra, LoadLink, CheckClock, PublishRequest, LoadOwnClock, PublishHelper, LoadOwnLink, CheckOwnClock, AnswerOwn, LoadAnswer, TakeAnswer, WithdrawRequest, WithdrawHelper, LoadWithin, CheckUpper, RaiseUpper, ByHazard}
+use Rattle.inv_shapes.specs.model.Phases.HazardAt.{FirstLink, PublishLink, CheckLink}
 use Rattle.inv_shapes.specs.model.Phases.Base.{Begin, Protect, Reload, Clear, Finish, Release, Allocate, Write, GiveUp, Retire, Move}
 use Rattle.inv_shapes.specs.model.Machine.{protect_move, base_move}
 use Rattle.inv_shapes.specs.model.Machine as machine
@@ -40,25 +41,25 @@ use Rattle.inv_rows.specs.Rows.Status.{Free, Claimed, Born, Linked, InQueue, Cut
 use Rattle.inv_rows.specs.Hands.{row_move}
 use Rattle.inv_rows.specs.Agree.{Agree, rows_after}
 use Rattle.inv_shapes.specs.Frame.{phase_left}
-use Rattle.inv_shapes.specs.words.Schemes.{has_one_interval, helps}
+use Rattle.inv_shapes.specs.words.Schemes.{has_one_interval, helps, publishes_rows}
 use Rattle.inv_shapes.specs.Seats.{base_fits}
 use Rattle.inv_shapes.proofs.Frame.{seat_stays, seat_steps}
-use Rattle.inv_covers.specs.Covers.{retired_at, life_of, life_in, eras_shown, shown, Covers, Widens}
+use Rattle.inv_covers.specs.Covers.{retired_at, life_of, eras_shown, shown, Covers, Widens}
 use Rattle.inv_covers.specs.Tries.{is_start, starts_base}
-use Rattle.inv_covers.specs.Held.{under, tries_protect, tries_base, index_base, Holds, Held, Followed, follows_row, rests_base, BaseNeeds, RootsNeeds, LoadsCover, HeldNeeds, HeldKept}
+use Rattle.inv_covers.specs.Held.{reaches, under, tries_protect, tries_base, index_base, Holds, Held, Followed, follows_row, rests_base, BaseNeeds, RootsNeeds, LoadsCover, HeldNeeds, HeldKept}
 use Rattle.inv_rows.specs.Queue.{in_queue}
 use Rattle.inv_covers.proofs.Copying.{copy_covers, same_guard}
 use Rattle.inv_covers.proofs.Fresh.{work_fresh, works_start, resume_fresh}
 use Rattle.inv_covers.proofs.Kept.{covers_kept, before_at}
 use Rattle.inv_covers.proofs.Scans.{scan_shrinks, scan_starts}
 use Rattle.inv_covers.proofs.Stands.{withdrawn_apart, with_row_apart, with_row_is, bare_none}
-use Rattle.inv_covers.proofs.Stood.{Was, base_stood}
+use Rattle.inv_covers.proofs.Stood.{Was, loads_again, again_base, base_stood}
 use Rattle.inv_covers.proofs.Tried.{out_tries, out_index, loads_link, protect_tries, other_tries, is_protect, tried_quiet, loaded_quiet, protect_clock, start_untried, queued_back, tries_back}
-use Rattle.inv_covers.proofs.Words.{keeps, shown_kept, widens_same, stores_guard, base_other, base_quiet, scan_quiet, work_span, work_stores, work_quiet}
+use Rattle.inv_covers.proofs.Words.{keeps, eras_are_shown, rows_are_shown, shown_kept, widens_same, stores_guard, base_other, base_quiet, scan_quiet, work_span, work_stores, work_quiet}
 use Rattle.inv_rows.proofs.Queued.{queue_is}
 use Rattle.inv_shapes.proofs.model.Facts.{no_truth}
 use Rattle.inv_shapes.proofs.model.Schemes.{each_guard, index_guard, interval_guard}
-use Rattle.inv_shapes.proofs.words.Schemes.{eras_not_interval}
+use Rattle.inv_shapes.proofs.words.Schemes.{eras_not_interval, eras_not_rows, interval_not_rows, rows_not_interval}
 use Rattle.inv_shapes.proofs.Tries.{try_eras}
 pub use Rattle.inv_shapes.proofs.Frame.{finds_at, settled_phase}
 pub use Rattle.inv_covers.proofs.Words.{move_is, keeps_at}
@@ -74,10 +75,15 @@ is_live (Cut by) = false
 is_live (Sealed by retire) = false
 is_live (Listed by retire) = false
 
-live_kept : (slot birth lo hi : ℕ) (status : Status) → is_live status ≡ true → birth ≤ hi → values.keeps (life_of slot birth (retired_at status)) (Eras (record { lo = lo; hi = hi })) ≡ true
-live_kept slot birth lo hi (Linked bucket) h b = grind (arith, nat_tests)
-live_kept slot birth lo hi InQueue h b = grind (arith, nat_tests)
-live_kept slot birth lo hi status h b = absurd (cc)
+live_meets : (slot birth lo hi : ℕ) (status : Status) → is_live status ≡ true → birth ≤ hi → values.keeps (life_of slot birth (retired_at status)) (Eras (record { lo = lo; hi = hi })) ≡ true
+live_meets slot birth lo hi (Linked bucket) h b = grind (arith, nat_tests)
+live_meets slot birth lo hi InQueue h b = grind (arith, nat_tests)
+live_meets slot birth lo hi status h b = absurd (cc)
+
+live_kept : (clock slot birth : ℕ) (status : Status) (value : Shown) → is_live status ≡ true → birth ≤ clock → reaches clock slot value ≡ true → values.keeps (life_of slot birth (retired_at status)) value ≡ true
+live_kept clock slot birth status Nothing h b r = absurd (cc)
+live_kept clock slot birth status (Eras span) h b r = live_meets slot birth span.lo span.hi status h (grind (arith, nat_tests))
+live_kept clock slot birth status (Row row) h b r = r
 
 live_past : (status : Status) → is_live status ≡ true → is_settled status ≡ true
 live_past (Linked bucket) h = refl
@@ -94,16 +100,30 @@ root_live w v (roots.Next parent) s n l u = let e : v.status s ≡ InQueue = n.n
 not_listed : (status : Status) (k r : ℕ) → is_live status ≡ true → status ≡ Listed k r → false ≡ true
 not_listed status k r h e = absurd (cc)
 
--- a guard that publishes an interval up to the clock covers the row of a link that is loaded
-pub live_covers : (w : World) (v : View) (guard : Guard) (lo hi s : ℕ) → RootsNeeds w v → eras_shown w guard ≡ from_to lo hi → w.mem Clock ≤ hi → is_live (v.status s) ≡ true → Covers w v guard s
-live_covers w v guard lo hi s n e c l = record {
+-- a guard that publishes an interval up to the clock, or the row, covers the row of a link that is loaded
+pub live_covers : (w : World) (v : View) (guard : Guard) (s : ℕ) → RootsNeeds w v → reaches (w.mem Clock) s (shown w guard) ≡ true → is_live (v.status s) ≡ true → Covers w v guard s
+live_covers w v guard s n r l = record {
   settled = live_past (v.status s) l;
-  kept = subst (λ (x : Option Interval). values.keeps (life_in v s) (values.shown x) ≡ true) (sym e) (live_kept s (v.birth s) lo hi (v.status s) l (let b = n.births s (live_past (v.status s) l) in omega (arith, b, c)));
+  kept = live_kept (w.mem Clock) s (v.birth s) (v.status s) (shown w guard) l (n.births s (live_past (v.status s) l)) r;
   scans = λ k r h. absurd (no_truth (not_listed (v.status s) k r l h));
 }
 
 pub loads_cover : LoadsCover
-loads_cover w v guard root lo hi slot n e c l u = live_covers w v guard lo hi slot n e c (root_live w v root slot n l u)
+loads_cover w v guard root slot n r l u = live_covers w v guard slot n r (root_live w v root slot n l u)
+
+-- an interval up to the clock, and the row of a link
+eras_reach : (clock slot lo hi : ℕ) → clock ≤ hi → reaches clock slot (values.shown (from_to lo hi)) ≡ true
+eras_reach clock slot lo hi c = grind (arith, nat_tests)
+
+pub eras_reaches : (w : World) (guard : Guard) (lo hi slot : ℕ) → publishes_rows w.layout.config.scheme ≡ false → eras_shown w guard ≡ from_to lo hi → w.mem Clock ≤ hi → reaches (w.mem Clock) slot (shown w guard) ≡ true
+eras_reaches w guard lo hi slot f e c = ap (reaches (w.mem Clock) slot) (eras_are_shown w guard f ∙ ap values.shown e) ∙ eras_reach (w.mem Clock) slot lo hi c
+
+link_reach : (clock slot link : ℕ) (null : Bool) → (link == 0) ≡ null → link ≡ slot + 1 → reaches clock slot (values.shown_row (if null then None else Some (link - 1))) ≡ true
+link_reach clock slot link true e h = absurd (grind (arith, nat_tests))
+link_reach clock slot link false e h = grind (arith, nat_tests)
+
+pub link_reaches : (w : World) (guard : Guard) (link slot : ℕ) → publishes_rows w.layout.config.scheme ≡ true → w.mem (guard_place guard) ≡ link → link ≡ slot + 1 → reaches (w.mem Clock) slot (shown w guard) ≡ true
+link_reaches w guard link slot f m h = ap (reaches (w.mem Clock) slot) (rows_are_shown w guard f ∙ ap (λ (x : ℕ). values.shown_row (linked_row x)) m) ∙ link_reach (w.mem Clock) slot link (link == 0) refl h
 
 -- what is held stays held
 pub holds_kept : (w : World) (i : ℕ) (v : View) (guard : Guard) (s : ℕ) → HeldNeeds w i v → Widens (shown w guard) (shown (step w i) guard) → Holds w v guard s → Holds (step w i) (rows_after w i v) guard s
@@ -115,10 +135,10 @@ settled_post l post desk rounds (GoesOn phase) = refl
 settled_post l post desk rounds (Answers answer) = refl
 
 pub stepped_post : (w : World) (i : ℕ) → ((step w i).seat i).post ≡ (turn (offered w i) (finds w i)).post
-stepped_post w i = let l : Local = offered w i in let t : CallTurn = turn l (finds w i) in ap (λ (x : Local). x.post) (seat_steps w i) ∙ settled_post l t.post (noting t.desk (told_by t)) (rounds_told l.rounds (told_by t)) t.outcome
+stepped_post w i = let l : Local = offered w i in let t : CallTurn = turn l (finds w i) in ap (λ (x : Local). x.post) (seat_steps w i) ∙ settled_post l t.post (noting t.desk (told_by t)) (rounds_told (publishes_rows (scheme_of t.post)) l.rounds (told_by t)) t.outcome
 
 pub stepped_phase : (w : World) (i : ℕ) → ((step w i).seat i).phase ≡ phase_left (turn (offered w i) (finds w i)).outcome
-stepped_phase w i = let l : Local = offered w i in let t : CallTurn = turn l (finds w i) in ap (λ (x : Local). x.phase) (seat_steps w i) ∙ settled_phase l t.post (noting t.desk (told_by t)) (rounds_told l.rounds (told_by t)) t.outcome
+stepped_phase w i = let l : Local = offered w i in let t : CallTurn = turn l (finds w i) in ap (λ (x : Local). x.phase) (seat_steps w i) ∙ settled_phase l t.post (noting t.desk (told_by t)) (rounds_told (publishes_rows (scheme_of t.post)) l.rounds (told_by t)) t.outcome
 
 -- where a row stood that stands after a step of a call's own: where it stands, at an index whose word stays; or at the index
 -- from which a copy comes
@@ -161,7 +181,7 @@ load_held_from from index post desk found j s false e k h = inl h
 
 pub work_from : (work : Work) (post : Post) (desk : Desk) (found j s : ℕ) → WorkHas work post → stands (work_turn work post desk found).post j ≡ Some s → WorkFrom work post j s
 work_from (Keeping (LoadHeld from index)) post desk found j s k h = load_held_from from index post desk found j s (has_one_interval (scheme_of post)) refl k h
-work_from (Keeping (StoreHeld from index era)) post desk found j s k h = copied_from from index post desk (reserves_index post index era) (stands post from) j s (j == index) refl k.room refl k.stood h
+work_from (Keeping (StoreHeld from index era)) post desk found j s k h = copied_from from index post desk (publishes_index (publishes_rows (scheme_of post)) post index era) (stands post from) j s (j == index) refl k.room refl k.stood h
 work_from (Keeping (Loosens let_go)) post desk found j s k h = (work_fresh (Keeping (Loosens let_go)) post desk found refl).shrinks j s h
 work_from (Keeping (Looks index key at)) post desk found j s k h = (work_fresh (Keeping (Looks index key at)) post desk found refl).shrinks j s h
 work_from (Keeping (Misses index)) post desk found j s k h = h
@@ -208,6 +228,11 @@ index_keeps scheme i j seat index value e = each_guard scheme i j (λ (g : Guard
 none_widens : (x : Option Interval) (y : Shown) → x ≡ None → Widens (values.shown x) y
 none_widens x y e life h = absurd (let k = rw e at h in cc)
 
+-- where no rows are published the eras are what is published
+eras_widens : (w : World) (i : ℕ) (guard : Guard) → publishes_rows w.layout.config.scheme ≡ false → Widens (values.shown (eras_shown w guard)) (values.shown (eras_shown (step w i) guard)) → Widens (shown w guard) (shown (step w i) guard)
+eras_widens w i guard f h =
+    subst (λ (x : Shown). Widens x (shown (step w i) guard)) (sym (eras_are_shown w guard f)) (subst (λ (y : Shown). Widens (values.shown (eras_shown w guard)) y) (sym (eras_are_shown (step w i) guard f)) h)
+
 raise_widens : (x : Option Interval) (era : ℕ) → upper x ≤ era → Widens (values.shown x) (Eras (record { lo = lower x; hi = era }))
 raise_widens None era h life k = absurd (cc)
 raise_widens (Some span) era h life k = grind (arith, nat_tests)
@@ -215,17 +240,30 @@ raise_widens (Some span) era h life k = grind (arith, nat_tests)
 nothing_stands : (post : Post) (j s : ℕ) → stands post j ≡ None → stands post j ≡ Some s → false ≡ true
 nothing_stands post j s a b = absurd (cc)
 
--- nothing stands where the own guard is taken from
-rest_widens : (w : World) (i : ℕ) (v : View) (base : Base) (j s : ℕ) (old new : Shown) → rests_base base j ≡ true → BaseNeeds w i base → tries_base (w.mem Clock) v.status (w.seat i).post base s ≡ false → Was (w.mem Clock) v.status (w.seat i).post base j s → Widens old new
-rest_widens w i v base j s old new r b t (inl x) = absurd (no_truth (nothing_stands (w.seat i).post j s (b.rests j r) x))
-rest_widens w i v base j s old new r b t (inr x) = absurd (let y = x.1 in cc)
+neither : (a b : Bool) → a ≡ false → b ≡ false → (a ≡ true) ⊎ (b ≡ true) → ⊥
+neither a b x y (inl z) = absurd (cc)
+neither a b x y (inr z) = absurd (cc)
 
-era_widens : (w : World) (i : ℕ) (v : View) (why : Why) (aim : Aim) (index : ℕ) (root : Root) (steps era : ℕ) (tries : Tries) (j s : ℕ) (own : Bool) → (j == index) ≡ own → (w.seat i).phase ≡ Runs why (Protect aim index root steps (PublishEra era tries)) → BaseNeeds w i (Protect aim index root steps (PublishEra era tries)) → Was (w.mem Clock) v.status (w.seat i).post (Protect aim index root steps (PublishEra era tries)) j s
+-- nothing stands where the own guard is taken from
+rest_widens : (w : World) (i : ℕ) (v : View) (base : Base) (j s : ℕ) (old new : Shown) → rests_base base j ≡ true → BaseNeeds w i base → tries_base (w.mem Clock) v.status (w.seat i).post base s ≡ false → again_base v.status w.mem base s ≡ false → Was (w.mem Clock) v.status w.mem (w.seat i).post base j s → Widens old new
+rest_widens w i v base j s old new r b t u (inl x) = absurd (no_truth (nothing_stands (w.seat i).post j s (b.rests j r) x))
+rest_widens w i v base j s old new r b t u (inr x) = absurd (neither (tries_base (w.mem Clock) v.status (w.seat i).post base s) (again_base v.status w.mem base s) t u x.1)
+
+era_widens : (w : World) (i : ℕ) (v : View) (why : Why) (aim : Aim) (index : ℕ) (root : Root) (steps era : ℕ) (tries : Tries) (j s : ℕ) (own : Bool) → (j == index) ≡ own → (w.seat i).phase ≡ Runs why (Protect aim index root steps (PublishEra era tries)) → BaseNeeds w i (Protect aim index root steps (PublishEra era tries)) → Was (w.mem Clock) v.status w.mem (w.seat i).post (Protect aim index root steps (PublishEra era tries)) j s
     → Widens (shown w (own_guard w.layout.config.scheme i j)) (shown (step w i) (own_guard w.layout.config.scheme i j))
 era_widens w i v why aim index root steps era tries j s true o e b h =
-    rest_widens w i v (Protect aim index root steps (PublishEra era tries)) j s (shown w (own_guard w.layout.config.scheme i j)) (shown (step w i) (own_guard w.layout.config.scheme i j)) o b refl h
+    rest_widens w i v (Protect aim index root steps (PublishEra era tries)) j s (shown w (own_guard w.layout.config.scheme i j)) (shown (step w i) (own_guard w.layout.config.scheme i j)) o b refl refl h
 era_widens w i v why aim index root steps era tries j s false o e b h =
     kept_widens w i (own_guard w.layout.config.scheme i j) (keeps_at w i (Runs why (Protect aim index root steps (PublishEra era tries))) (guard_place (own_guard w.layout.config.scheme i j)) e (index_keeps w.layout.config.scheme i j (w.seat i).post.seat index (index_word (w.seat i).post index era) o))
+
+-- so does a link
+link_widens : (w : World) (i : ℕ) (v : View) (why : Why) (aim : Aim) (index : ℕ) (root : Root) (steps link : ℕ) (j s : ℕ) (own : Bool) → (j == index) ≡ own → (w.seat i).phase ≡ Runs why (Protect aim index root steps (ByHazard (PublishLink link))) → BaseNeeds w i (Protect aim index root steps (ByHazard (PublishLink link)))
+    → Was (w.mem Clock) v.status w.mem (w.seat i).post (Protect aim index root steps (ByHazard (PublishLink link))) j s
+    → Widens (shown w (own_guard w.layout.config.scheme i j)) (shown (step w i) (own_guard w.layout.config.scheme i j))
+link_widens w i v why aim index root steps link j s true o e b h =
+    rest_widens w i v (Protect aim index root steps (ByHazard (PublishLink link))) j s (shown w (own_guard w.layout.config.scheme i j)) (shown (step w i) (own_guard w.layout.config.scheme i j)) o b refl refl h
+link_widens w i v why aim index root steps link j s false o e b h =
+    kept_widens w i (own_guard w.layout.config.scheme i j) (keeps_at w i (Runs why (Protect aim index root steps (ByHazard (PublishLink link)))) (guard_place (own_guard w.layout.config.scheme i j)) e (index_keeps w.layout.config.scheme i j (w.seat i).post.seat index link o))
 
 quiet_widens : (w : World) (i : ℕ) (why : Why) (base : Base) (j : ℕ) → helps w.layout.config.scheme ≡ false → (w.seat i).phase ≡ Runs why base → base_fits w.layout.config base ≡ true → stores_guard base ≡ false → Widens (shown w (own_guard w.layout.config.scheme i j)) (shown (step w i) (own_guard w.layout.config.scheme i j))
 quiet_widens w i why base j f e b q =
@@ -243,15 +281,16 @@ span_raised w i v why aim index root steps era e f n u =
     let old : eras_shown w (Whole i) ≡ (w.seat i).post.span = n.spans f in
     let new : eras_shown (step w i) (Whole i) ≡ from_to (lower (w.seat i).post.span) era = n.spans_next f ∙ ap (λ (p : Post). p.span) (turned_post w i (Runs why (Protect aim index root steps (RaiseUpper era))) e) in
     let k : Widens (values.shown (w.seat i).post.span) (Eras (record { lo = lower (w.seat i).post.span; hi = era })) = raise_widens (w.seat i).post.span era u in
-    subst (λ (x : Option Interval). Widens (values.shown x) (shown (step w i) (Whole i))) (sym old) (subst (λ (y : Option Interval). Widens (values.shown (w.seat i).post.span) (values.shown y)) (sym new) k)
+    eras_widens w i (Whole i) (interval_not_rows w.layout.config.scheme f)
+    (subst (λ (x : Option Interval). Widens (values.shown x) (values.shown (eras_shown (step w i) (Whole i)))) (sym old) (subst (λ (y : Option Interval). Widens (values.shown (w.seat i).post.span) (values.shown y)) (sym new) k))
 
 -- the own guard of an index at which a row stands after a machine's step
-own_widens : (w : World) (i : ℕ) (v : View) (why : Why) (base : Base) (j s : ℕ) → helps w.layout.config.scheme ≡ false → HeldNeeds w i v → (w.seat i).phase ≡ Runs why base → stands (machine.after base (counted (w.seat i).post) (finds w i)).post j ≡ Some s → Was (w.mem Clock) v.status (w.seat i).post base j s
+own_widens : (w : World) (i : ℕ) (v : View) (why : Why) (base : Base) (j s : ℕ) → helps w.layout.config.scheme ≡ false → HeldNeeds w i v → (w.seat i).phase ≡ Runs why base → stands (machine.after base (counted (w.seat i).post) (finds w i)).post j ≡ Some s → Was (w.mem Clock) v.status w.mem (w.seat i).post base j s
     → Widens (shown w (own_guard w.layout.config.scheme i j)) (shown (step w i) (own_guard w.layout.config.scheme i j))
 own_widens w i v why (Begin LoadLower) j s f n e h y = quiet_widens w i why (Begin LoadLower) j f e (n.base why (Begin LoadLower) e).fits refl
 own_widens w i v why (Begin (PublishSpan era)) j s f n e h y =
     let b = n.base why (Begin (PublishSpan era)) e in
-    whole_widens w i j b.fits (none_widens (eras_shown w (Whole i)) (shown (step w i) (Whole i)) (n.spans b.fits ∙ b.grows))
+    whole_widens w i j b.fits (eras_widens w i (Whole i) (interval_not_rows w.layout.config.scheme b.fits) (none_widens (eras_shown w (Whole i)) (values.shown (eras_shown (step w i) (Whole i))) (n.spans b.fits ∙ b.grows)))
 own_widens w i v why (Protect aim index root steps (PublishEra era tries)) j s f n e h y =
     era_widens w i v why aim index root steps era tries j s (j == index) refl e (n.base why (Protect aim index root steps (PublishEra era tries)) e) y
 own_widens w i v why (Protect aim index root steps (RaiseUpper era)) j s f n e h y =
@@ -259,6 +298,10 @@ own_widens w i v why (Protect aim index root steps (RaiseUpper era)) j s f n e h
     whole_widens w i j b.fits (span_raised w i v why aim index root steps era e b.fits n b.grows)
 own_widens w i v why (Protect aim index root steps (TakeAnswer link era)) j s f n e h y =
     let b = (n.base why (Protect aim index root steps (TakeAnswer link era)) e).fits in absurd (cc)
+own_widens w i v why (Protect aim index root steps (ByHazard FirstLink)) j s f n e h y = quiet_widens w i why (Protect aim index root steps (ByHazard FirstLink)) j f e (n.base why (Protect aim index root steps (ByHazard FirstLink)) e).fits refl
+own_widens w i v why (Protect aim index root steps (ByHazard (PublishLink link))) j s f n e h y =
+    link_widens w i v why aim index root steps link j s (j == index) refl e (n.base why (Protect aim index root steps (ByHazard (PublishLink link))) e) y
+own_widens w i v why (Protect aim index root steps (ByHazard (CheckLink link))) j s f n e h y = quiet_widens w i why (Protect aim index root steps (ByHazard (CheckLink link))) j f e (n.base why (Protect aim index root steps (ByHazard (CheckLink link))) e).fits refl
 own_widens w i v why (Protect aim index root steps (LoadClock tries)) j s f n e h y = quiet_widens w i why (Protect aim index root steps (LoadClock tries)) j f e (n.base why (Protect aim index root steps (LoadClock tries)) e).fits refl
 own_widens w i v why (Protect aim index root steps (LoadLink era tries)) j s f n e h y = quiet_widens w i why (Protect aim index root steps (LoadLink era tries)) j f e (n.base why (Protect aim index root steps (LoadLink era tries)) e).fits refl
 own_widens w i v why (Protect aim index root steps (CheckClock era tries link)) j s f n e h y = quiet_widens w i why (Protect aim index root steps (CheckClock era tries link)) j f e (n.base why (Protect aim index root steps (CheckClock era tries link)) e).fits refl
@@ -273,13 +316,13 @@ own_widens w i v why (Protect aim index root steps (WithdrawRequest link era)) j
 own_widens w i v why (Protect aim index root steps (WithdrawHelper link era)) j s f n e h y = quiet_widens w i why (Protect aim index root steps (WithdrawHelper link era)) j f e (n.base why (Protect aim index root steps (WithdrawHelper link era)) e).fits refl
 own_widens w i v why (Protect aim index root steps LoadWithin) j s f n e h y = quiet_widens w i why (Protect aim index root steps LoadWithin) j f e (n.base why (Protect aim index root steps LoadWithin) e).fits refl
 own_widens w i v why (Protect aim index root steps (CheckUpper link)) j s f n e h y = quiet_widens w i why (Protect aim index root steps (CheckUpper link)) j f e (n.base why (Protect aim index root steps (CheckUpper link)) e).fits refl
-own_widens w i v why (Clear index) j s f n e h y =
-    kept_widens w i (own_guard w.layout.config.scheme i j) (keeps_at w i (Runs why (Clear index)) (guard_place (own_guard w.layout.config.scheme i j)) e (index_keeps w.layout.config.scheme i j (w.seat i).post.seat index (index_word (w.seat i).post index 0) (withdrawn_apart (counted (w.seat i).post) index j s h)))
+own_widens w i v why (Clear rows index) j s f n e h y =
+    kept_widens w i (own_guard w.layout.config.scheme i j) (keeps_at w i (Runs why (Clear rows index)) (guard_place (own_guard w.layout.config.scheme i j)) e (index_keeps w.layout.config.scheme i j (w.seat i).post.seat index (shown_word rows (w.seat i).post index 0) (withdrawn_apart (counted (w.seat i).post) index j s h)))
 own_widens w i v why Finish j s f n e h y =
-    rest_widens w i v Finish j s (shown w (own_guard w.layout.config.scheme i j)) (shown (step w i) (own_guard w.layout.config.scheme i j)) refl (n.base why Finish e) refl y
+    rest_widens w i v Finish j s (shown w (own_guard w.layout.config.scheme i j)) (shown (step w i) (own_guard w.layout.config.scheme i j)) refl (n.base why Finish e) refl refl y
 own_widens w i v why (Release index) j s f n e h y =
     let o : (j == index) ≡ false = withdrawn_apart (counted (w.seat i).post) index j s h in
-    rest_widens w i v (Release index) j s (shown w (own_guard w.layout.config.scheme i j)) (shown (step w i) (own_guard w.layout.config.scheme i j)) (rw o refl) (n.base why (Release index) e) refl y
+    rest_widens w i v (Release index) j s (shown w (own_guard w.layout.config.scheme i j)) (shown (step w i) (own_guard w.layout.config.scheme i j)) (rw o refl) (n.base why (Release index) e) refl refl y
 own_widens w i v why (Reload parent index slot era steps) j s f n e h y = quiet_widens w i why (Reload parent index slot era steps) j f e (n.base why (Reload parent index slot era steps) e).fits refl
 own_widens w i v why (Allocate at) j s f n e h y = quiet_widens w i why (Allocate at) j f e (n.base why (Allocate at) e).fits refl
 own_widens w i v why (Write slot row place) j s f n e h y = quiet_widens w i why (Write slot row place) j f e (n.base why (Write slot row place) e).fits refl
@@ -294,14 +337,39 @@ tries_counted clock status post (Protect aim index root steps (LoadClock tries))
 tries_counted clock status post (Protect aim index root steps at) s = refl
 tries_counted clock status post base s = refl
 
-was_counted : (clock : ℕ) (status : ℕ → Status) (post : Post) (base : Base) (j s : ℕ) → Was clock status (counted post) base j s → Was clock status post base j s
-was_counted clock status post base j s (inl x) = inl x
-was_counted clock status post base j s (inr x) = inr (x.0, sym (tries_counted clock status post base s) ∙ x.1)
+tried_counted : (clock : ℕ) (status : ℕ → Status) (mem : Place → ℕ) (post : Post) (base : Base) (s : ℕ) → (tries_base clock status (counted post) base s ≡ true) ⊎ (again_base status mem base s ≡ true) → (tries_base clock status post base s ≡ true) ⊎ (again_base status mem base s ≡ true)
+tried_counted clock status mem post base s (inl x) = inl (sym (tries_counted clock status post base s) ∙ x)
+tried_counted clock status mem post base s (inr x) = inr x
 
--- a row that stood, or that the try had loaded, was held
-was_held : (w : World) (i : ℕ) (v : View) (why : Why) (base : Base) (j s : ℕ) → Held w v → (w.seat i).phase ≡ Runs why base → Was (w.mem Clock) v.status (w.seat i).post base j s → Holds w v (own_guard w.layout.config.scheme i j) s
-was_held w i v why base j s h e (inl x) = h.stood i j s x
-was_held w i v why base j s h e (inr x) = rw x.0 (h.tried i why base s e x.1)
+was_counted : (clock : ℕ) (status : ℕ → Status) (mem : Place → ℕ) (post : Post) (base : Base) (j s : ℕ) → Was clock status mem (counted post) base j s → Was clock status mem post base j s
+was_counted clock status mem post base j s (inl x) = inl x
+was_counted clock status mem post base j s (inr x) = inr (x.0, tried_counted clock status mem post base s x.1)
+
+-- a link that is loaded again leads to a row that the index word publishes
+again_covers : (w : World) (i : ℕ) (v : View) (aim : Aim) (index : ℕ) (root : Root) (steps : ℕ) (at : HazardAt) (s : ℕ) → HeldNeeds w i v → BaseNeeds w i (Protect aim index root steps (ByHazard at)) → loads_again v.status w.mem root at s ≡ true
+    → Covers w v (own_guard w.layout.config.scheme i index) s
+again_covers w i v aim index root steps FirstLink s n b h = absurd (cc)
+again_covers w i v aim index root steps (PublishLink link) s n b h = absurd (cc)
+again_covers w i v aim index root steps (CheckLink link) s n b h =
+    let l : w.mem (link_place root) ≡ s + 1 = grind (arith, nat_tests) in
+    let u : under v.status root ≡ true = grind (arith, nat_tests) in
+    let c : link ≡ s + 1 = grind (arith, nat_tests) in
+    let g = index_guard w.layout.config.scheme i index (rows_not_interval w.layout.config.scheme b.fits) in
+    rw g (live_covers w v (Index i index) s n.roots (link_reaches w (Index i index) link s b.fits (b.links aim index root steps link refl) c) (root_live w v root s n.roots l u))
+
+again_holds : (w : World) (i : ℕ) (v : View) (base : Base) (s : ℕ) → HeldNeeds w i v → BaseNeeds w i base → again_base v.status w.mem base s ≡ true → Holds w v (own_guard w.layout.config.scheme i (index_base base)) s
+again_holds w i v (Protect aim index root steps (ByHazard at)) s n b h = record { fits = b.guard; covers = again_covers w i v aim index root steps at s n b h }
+again_holds w i v (Protect aim index root steps at) s n b h = absurd (cc)
+again_holds w i v base s n b h = absurd (cc)
+
+-- a row that stood, or that the try had loaded, was held; one whose link is loaded again is so
+was_held : (w : World) (i : ℕ) (v : View) (why : Why) (base : Base) (j s : ℕ) → HeldNeeds w i v → Held w v → (w.seat i).phase ≡ Runs why base → Was (w.mem Clock) v.status w.mem (w.seat i).post base j s → Holds w v (own_guard w.layout.config.scheme i j) s
+was_held w i v why base j s n h e (inl x) = h.stood i j s x
+was_held w i v why base j s n h e (inr x) = rw x.0 (by_try x.1)
+  where
+    by_try : (tries_base (w.mem Clock) v.status (w.seat i).post base s ≡ true) ⊎ (again_base v.status w.mem base s ≡ true) → Holds w v (own_guard w.layout.config.scheme i (index_base base)) s
+    by_try (inl y) = h.tried i why base s e y
+    by_try (inr y) = again_holds w i v base s n (n.base why base e) y
 
 -- the head's row is in the queue
 pub head_queued : (w : World) (v : View) (p : ℕ) → Agree w v → w.mem Head ≡ p + 1 → in_queue (v.status p) ≡ true
@@ -363,7 +431,7 @@ own_from w i v (Runs why base) j s f n h e y =
     let x = finds_at w i (Runs why base) e in
     let z : stands (machine.after base (counted (w.seat i).post) (found (base_move base (w.seat i).post) (w.mem (place_in (base_move base (w.seat i).post))))).post j ≡ Some s = subst (λ (k : ℕ). stands (machine.after base (counted (w.seat i).post) k).post j ≡ Some s) x y in
     let q = base_stood v.status w.layout.config w.mem base (counted (w.seat i).post) (w.seat i).post j s f b.fits b.index (λ p. head_queued w v p n.covers.rows) z in
-    holds_kept w i v (own_guard w.layout.config.scheme i j) s n (own_widens w i v why base j s f n e y (was_counted (w.mem Clock) v.status (w.seat i).post base j s q)) (was_held w i v why base j s h e (was_counted (w.mem Clock) v.status (w.seat i).post base j s q))
+    holds_kept w i v (own_guard w.layout.config.scheme i j) s n (own_widens w i v why base j s f n e y (was_counted (w.mem Clock) v.status w.mem (w.seat i).post base j s q)) (was_held w i v why base j s n h e (was_counted (w.mem Clock) v.status w.mem (w.seat i).post base j s q))
 own_from w i v (Scans later at) j s f n h e y =
     holds_kept w i v (own_guard w.layout.config.scheme i j) s n (kept_widens w i (own_guard w.layout.config.scheme i j) (keeps_at w i (Scans later at) (guard_place (own_guard w.layout.config.scheme i j)) e (scan_quiet w.layout.config.scheme i j at (w.seat i).post))) (h.stood i j s y)
 own_from w i v (Works work) j s f n h e y = work_holds w i v work j s n h e y
@@ -393,9 +461,9 @@ resumed_comes clock status next why desk post told (Ends ending) other base s e 
     absurd (no_truth (out_start clock status next (phase_left (resumed why desk post told (Ends ending)).outcome) other base s (resume_fresh why ending post desk told).starts e h))
 
 -- the interval reaches up to the clock
-whole_covers : (w : World) (i : ℕ) (v : View) (s : ℕ) → HeldNeeds w i v → (x : Option Interval) → eras_shown w (Whole i) ≡ x → 1 ≤ w.mem Clock → w.mem Clock ≡ upper x → is_live (v.status s) ≡ true → Covers w v (Whole i) s
-whole_covers w i v s n None e o c l = absurd (omega (arith, o, c))
-whole_covers w i v s n (Some span) e o c l = live_covers w v (Whole i) span.lo span.hi s n.roots e (omega (arith, c)) l
+whole_covers : (w : World) (i : ℕ) (v : View) (s : ℕ) → HeldNeeds w i v → publishes_rows w.layout.config.scheme ≡ false → (x : Option Interval) → eras_shown w (Whole i) ≡ x → 1 ≤ w.mem Clock → w.mem Clock ≡ upper x → is_live (v.status s) ≡ true → Covers w v (Whole i) s
+whole_covers w i v s n f None e o c l = absurd (omega (arith, o, c))
+whole_covers w i v s n f (Some span) e o c l = live_covers w v (Whole i) s n.roots (eras_reaches w (Whole i) span.lo span.hi s f e (omega (arith, c))) l
 
 -- the link that a try loads is covered by the own guard
 loaded_covers : (w : World) (i : ℕ) (v : View) (why : Why) (aim : Aim) (index : ℕ) (root : Root) (steps : ℕ) (at : ProtectAt) (s : ℕ) → HeldNeeds w i v → (w.seat i).phase ≡ Runs why (Protect aim index root steps at) → helps w.layout.config.scheme ≡ false → loads_link (w.mem Clock) v.status w.mem (w.seat i).post root at s ≡ true
@@ -405,15 +473,16 @@ loaded_covers w i v why aim index root steps (LoadLink era tries) s n e f h =
     let l : w.mem (link_place root) ≡ s + 1 = grind (arith, nat_tests) in
     let u : under v.status root ≡ true = grind (arith, nat_tests) in
     let c : w.mem Clock ≤ era = grind (arith, nat_tests) in
-    let g = index_guard w.layout.config.scheme i index (eras_not_interval w.layout.config.scheme (try_eras w.layout.config.scheme w.layout.config.tries tries b.fits)) in
-    rw g (live_covers w v (Index i index) era era s n.roots (b.published aim index root steps era tries refl) c (root_live w v root s n.roots l u))
+    let t = try_eras w.layout.config.scheme w.layout.config.tries tries b.fits in
+    let g = index_guard w.layout.config.scheme i index (eras_not_interval w.layout.config.scheme t) in
+    rw g (live_covers w v (Index i index) s n.roots (eras_reaches w (Index i index) era era s (eras_not_rows w.layout.config.scheme t) (b.published aim index root steps era tries refl) c) (root_live w v root s n.roots l u))
 loaded_covers w i v why aim index root steps LoadWithin s n e f h =
     let b = n.base why (Protect aim index root steps LoadWithin) e in
     let l : w.mem (link_place root) ≡ s + 1 = grind (arith, nat_tests) in
     let u : under v.status root ≡ true = grind (arith, nat_tests) in
     let c : w.mem Clock ≡ upper (w.seat i).post.span = grind (arith, nat_tests) in
     let g = interval_guard w.layout.config.scheme i index b.fits in
-    rw g (whole_covers w i v s n (w.seat i).post.span (n.spans b.fits) n.some c (root_live w v root s n.roots l u))
+    rw g (whole_covers w i v s n (interval_not_rows w.layout.config.scheme b.fits) (w.seat i).post.span (n.spans b.fits) n.some c (root_live w v root s n.roots l u))
 loaded_covers w i v why aim index root steps (LoadClock tries) s n e f h = absurd (cc)
 loaded_covers w i v why aim index root steps (PublishEra era tries) s n e f h = absurd (cc)
 loaded_covers w i v why aim index root steps (CheckClock era tries link) s n e f h = absurd (cc)
@@ -429,6 +498,7 @@ loaded_covers w i v why aim index root steps (WithdrawRequest link era) s n e f 
 loaded_covers w i v why aim index root steps (WithdrawHelper link era) s n e f h = absurd (cc)
 loaded_covers w i v why aim index root steps (CheckUpper link) s n e f h = absurd (cc)
 loaded_covers w i v why aim index root steps (RaiseUpper era) s n e f h = absurd (cc)
+loaded_covers w i v why aim index root steps (ByHazard at) s n e f h = again_covers w i v aim index root steps at s n (n.base why (Protect aim index root steps (ByHazard at)) e) h
 
 -- a try of the seat that steps
 tried_holds : (w : World) (i : ℕ) (v : View) (why : Why) (aim : Aim) (index : ℕ) (root : Root) (steps : ℕ) (at : ProtectAt) (s : ℕ) → HeldNeeds w i v → Held w v → (w.seat i).phase ≡ Runs why (Protect aim index root steps at) → helps w.layout.config.scheme ≡ false → (tries_protect (w.mem Clock) v.status (w.seat i).post root at s ≡ true) ⊎ (loads_link (w.mem Clock) v.status w.mem (w.seat i).post root at s ≡ true)
@@ -463,6 +533,7 @@ counted_tries clock status mem post root (WithdrawHelper link era) s h = h
 counted_tries clock status mem post root LoadWithin s h = h
 counted_tries clock status mem post root (CheckUpper link) s h = h
 counted_tries clock status mem post root (RaiseUpper era) s h = h
+counted_tries clock status mem post root (ByHazard at) s h = h
 
 -- what comes of a machine's step
 pub turn_out : (w : World) (i : ℕ) (reason : Why) (one : Base) (why : Why) (base : Base) (clock : ℕ) (status : ℕ → Status) (s : ℕ)
@@ -514,8 +585,8 @@ run_comes w i v reason (Begin at) why base s n h f e o t =
     absurd (no_truth (other_comes ((step w i).mem Clock) (rows_after w i v).status ((step w i).seat i).post (counted (w.seat i).post) (Begin at) base (finds w i) s refl (turn_out w i reason (Begin at) why base ((step w i).mem Clock) (rows_after w i v).status s o t)))
 run_comes w i v reason (Reload parent index slot era steps) why base s n h f e o t =
     absurd (no_truth (other_comes ((step w i).mem Clock) (rows_after w i v).status ((step w i).seat i).post (counted (w.seat i).post) (Reload parent index slot era steps) base (finds w i) s refl (turn_out w i reason (Reload parent index slot era steps) why base ((step w i).mem Clock) (rows_after w i v).status s o t)))
-run_comes w i v reason (Clear index) why base s n h f e o t =
-    absurd (no_truth (other_comes ((step w i).mem Clock) (rows_after w i v).status ((step w i).seat i).post (counted (w.seat i).post) (Clear index) base (finds w i) s refl (turn_out w i reason (Clear index) why base ((step w i).mem Clock) (rows_after w i v).status s o t)))
+run_comes w i v reason (Clear rows index) why base s n h f e o t =
+    absurd (no_truth (other_comes ((step w i).mem Clock) (rows_after w i v).status ((step w i).seat i).post (counted (w.seat i).post) (Clear rows index) base (finds w i) s refl (turn_out w i reason (Clear rows index) why base ((step w i).mem Clock) (rows_after w i v).status s o t)))
 run_comes w i v reason Finish why base s n h f e o t =
     absurd (no_truth (other_comes ((step w i).mem Clock) (rows_after w i v).status ((step w i).seat i).post (counted (w.seat i).post) Finish base (finds w i) s refl (turn_out w i reason Finish why base ((step w i).mem Clock) (rows_after w i v).status s o t)))
 run_comes w i v reason (Release index) why base s n h f e o t =

@@ -8,7 +8,8 @@ use Rattle.inv_shapes.specs.words.Place.Place.{Clock, Bucket, Head, Claim, Row}
 use Rattle.inv_shapes.specs.words.declared.config.Config.{Config}
 use Rattle.inv_shapes.specs.defs.declared.event.Guard.{Guard}
 use Rattle.inv_shapes.specs.defs.declared.lifetime.Lifetime.{Lifetime}
-use Rattle.inv_shapes.specs.defs.Shown.{Shown, Seen, keeps, keeps_any}
+use Rattle.inv_shapes.specs.defs.declared.shown.Shown.{Shown}
+use Rattle.inv_shapes.specs.defs.Shown.{Seen, keeps, keeps_any}
 use Rattle.inv_shapes.specs.model.declared.post.Post.{Post}
 use Rattle.inv_shapes.specs.model.Desks.{Desk, Report, noting}
 use Rattle.inv_shapes.specs.model.Guards.{guards, guard_at, guard_place, published}
@@ -41,6 +42,8 @@ use Rattle.inv_covers.proofs.Rows.{past_kept, life_kept, birth_kept, listed_othe
 use Rattle.inv_covers.proofs.Scans.{fresh_met, fresh_unmet, scan_met, scan_unmet_kept}
 use Rattle.inv_shapes.proofs.model.Facts.{no_truth}
 use Rattle.inv_shapes.specs.model.Keep.{keep_move}
+use Rattle.inv_shapes.specs.words.Schemes.{publishes_rows}
+use Rattle.inv_shapes.specs.model.Rounds.{scheme_of}
 
 -- an entry that goes back: its life meets nothing that was read
 record Goes_back (read : List Seen) (list : List Lifetime) (slot : ℕ) : Type 0 where
@@ -122,7 +125,7 @@ base_returns : (base : Base) (x slot : ℕ) → base_row base x ≡ Returns slot
 base_returns (Begin at) x slot e = absurd (cc)
 base_returns (Protect aim index root steps at) x slot e = absurd (cc)
 base_returns (Reload parent index s era steps) x slot e = absurd (cc)
-base_returns (Clear index) x slot e = absurd (cc)
+base_returns (Clear rows index) x slot e = absurd (cc)
 base_returns Finish x slot e = absurd (cc)
 base_returns (Release index) x slot e = absurd (cc)
 base_returns (Allocate LoadBirth) x slot e = absurd (cc)
@@ -255,7 +258,7 @@ seals_late shows mem Idle post h = tt
 seals_late shows mem (Runs why (Begin at)) post h = tt
 seals_late shows mem (Runs why (Protect aim index root steps at)) post h = tt
 seals_late shows mem (Runs why (Reload parent index slot era steps)) post h = tt
-seals_late shows mem (Runs why (Clear index)) post h = tt
+seals_late shows mem (Runs why (Clear rows index)) post h = tt
 seals_late shows mem (Runs why Finish) post h = tt
 seals_late shows mem (Runs why (Release index)) post h = tt
 seals_late shows mem (Runs why (Allocate LoadBirth)) post h = tt
@@ -297,14 +300,14 @@ run_fresh why desk t = resumed_fresh why desk t.post t.told t.outcome
 -- what a scan knows of the life of a row that is on its list, and of the guard that it reads
 record Knows (phase : Phase) (post : Post) (report : Report) (mem : Place → ℕ) (guard : Guard) (life : Lifetime) : Type 0 where
   met : has_met (guards post.layout.config) phase report (number_of post.layout.config guard) life ≡ true
-  meets : keeps life (published guard (mem (guard_place guard))) ≡ true
+  meets : keeps life (published (publishes_rows post.layout.config.scheme) guard (mem (guard_place guard))) ≡ true
 
-read_meets : (mem : Place → ℕ) (config : Config) (guard : Guard) (n : ℕ) (life : Lifetime) → GuardFits config guard → number_of config guard ≡ n → keeps life (published guard (mem (guard_place guard))) ≡ true → keeps life (published (guard_at config n) (mem (guard_place (guard_at config n)))) ≡ true
+read_meets : (mem : Place → ℕ) (config : Config) (guard : Guard) (n : ℕ) (life : Lifetime) → GuardFits config guard → number_of config guard ≡ n → keeps life (published (publishes_rows config.scheme) guard (mem (guard_place guard))) ≡ true → keeps life (published (publishes_rows config.scheme) (guard_at config n) (mem (guard_place (guard_at config n)))) ≡ true
 read_meets mem config guard n life f e h =
-    subst (λ (g : Guard). keeps life (published g (mem (guard_place g))) ≡ true) (sym f.is ∙ ap (guard_at config) e) h
+    subst (λ (g : Guard). keeps life (published (publishes_rows config.scheme) g (mem (guard_place g))) ≡ true) (sym f.is ∙ ap (guard_at config) e) h
 
-read_meets_at : (mem : Place → ℕ) (config : Config) (guard : Guard) (n m : ℕ) (life : Lifetime) → GuardFits config guard → n ≡ m → number_of config guard ≡ m → keeps life (published guard (mem (guard_place guard))) ≡ true → keeps life (published (guard_at config m) (mem (guard_place (guard_at config n)))) ≡ true
-read_meets_at mem config guard n m life f s e h = subst (λ (k : ℕ). keeps life (published (guard_at config m) (mem (guard_place (guard_at config k)))) ≡ true) (sym s) (read_meets mem config guard m life f e h)
+read_meets_at : (mem : Place → ℕ) (config : Config) (guard : Guard) (n m : ℕ) (life : Lifetime) → GuardFits config guard → n ≡ m → number_of config guard ≡ m → keeps life (published (publishes_rows config.scheme) guard (mem (guard_place guard))) ≡ true → keeps life (published (publishes_rows config.scheme) (guard_at config m) (mem (guard_place (guard_at config n)))) ≡ true
+read_meets_at mem config guard n m life f s e h = subst (λ (k : ℕ). keeps life (published (publishes_rows config.scheme) (guard_at config m) (mem (guard_place (guard_at config k)))) ≡ true) (sym s) (read_meets mem config guard m life f e h)
 
 -- a step of the seat whose list has the row
 turn_met : (phase : Phase) (post : Post) (desk : Desk) (mem : Place → ℕ) (guard : Guard) (life : Lifetime) → GuardFits post.layout.config guard → ((later : AfterScan) (at : ScanAt) → phase ≡ Scans later at → Knows phase post desk.report mem guard life)
@@ -331,7 +334,7 @@ settled_by_met all l post desk told rounds number life (GoesOn phase) h = h
 settled_by_met all l post desk told rounds number life (Answers answer) h = h
 
 settled_met : (all : ℕ) (l : Local) (t : CallTurn) (number : ℕ) (life : Lifetime) → has_met all (phase_left t.outcome) t.desk.report number life ≡ true → has_met all (settled l t).phase (settled l t).desk.report number life ≡ true
-settled_met all l t number life h = settled_by_met all l t.post t.desk (told_by t) (rounds_told l.rounds (told_by t)) number life t.outcome h
+settled_met all l t number life h = settled_by_met all l t.post t.desk (told_by t) (rounds_told (publishes_rows (scheme_of t.post)) l.rounds (told_by t)) number life t.outcome h
 
 -- a row that is on the list after a step of the scan was on it before
 listed_scan : (i k r : ℕ) (v : View) (at : ScanAt) (s : ℕ) → (made i v (scan_row at)).status s ≡ Listed k r → v.status s ≡ Listed k r
@@ -350,7 +353,7 @@ met_own w i v guard s r n f c h =
     let g : GuardFits l.post.layout.config guard = subst (λ (layout : Layout). GuardFits layout.config guard) (sym e) f in
     let m = turn_met l.phase l.post l.desk w.mem guard life g (λ later at q. let st : v.status s ≡ Listed i r = listed_phase i i r v l.phase l.post (finds w i) s later at q h in record {
       met = subst (λ (layout : Layout). has_met (guards layout.config) l.phase l.desk.report (number_of layout.config guard) life ≡ true) (sym e) (c.scans i r st);
-      meets = rw st at c.kept;
+      meets = subst (λ (layout : Layout). keeps life (published (publishes_rows layout.config.scheme) guard (w.mem (guard_place guard))) ≡ true) (sym e) (rw st at c.kept);
     }) in
     let b = settled_met (guards l.post.layout.config) l (turn l (finds w i)) (number_of l.post.layout.config guard) life m in
     rw (seat_steps w i) (subst (λ (layout : Layout). has_met (guards layout.config) (after l (finds w i)).phase (after l (finds w i)).desk.report (number_of layout.config guard) life ≡ true) e b)
@@ -399,7 +402,7 @@ settled_by_unmet l post desk rounds (GoesOn phase) h = h
 settled_by_unmet l post desk rounds (Answers answer) h = h
 
 settled_unmet : (l : Local) (t : CallTurn) → is_unmet (phase_left t.outcome) t.desk ≡ true → is_unmet (settled l t).phase (settled l t).desk ≡ true
-settled_unmet l t h = settled_by_unmet l t.post (noting t.desk (told_by t)) (rounds_told l.rounds (told_by t)) t.outcome (noted_unmet (phase_left t.outcome) t.desk (told_by t) h)
+settled_unmet l t h = settled_by_unmet l t.post (noting t.desk (told_by t)) (rounds_told (publishes_rows (scheme_of t.post)) l.rounds (told_by t)) t.outcome (noted_unmet (phase_left t.outcome) t.desk (told_by t) h)
 
 abbrev UnmetOf : Local → Type 0
 UnmetOf l = is_unmet l.phase l.desk ≡ true

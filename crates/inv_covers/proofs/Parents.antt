@@ -17,16 +17,16 @@ use Rattle.inv_shapes.specs.model.declared.post.Post.{Post}
 use Rattle.inv_shapes.specs.model.Desks.{Desk, with_life}
 use Rattle.inv_shapes.specs.model.Phases.{Ending, Base}
 use Rattle.inv_shapes.specs.model.Phases.Ending.{Done, Protected, Followed, Allocated, Retired, Clocked}
-use Rattle.inv_shapes.specs.model.Rounds.{bucket_of, scheme_of, index_of, taken_of, begin_base, clear_base, clear_post, clear_told, finish_base, let_index, round_by, round, given_up, closed, finishing_by, finishing, clearing_by, clearing, clearing_next_by, clearing_next}
+use Rattle.inv_shapes.specs.model.Rounds.{bucket_of, scheme_of, index_of, taken_of, begin_base, clear_base, clear_post, clear_told, finish_base, let_index, round_by, round, given_up, closed, finishing_by, finishing, clearing_by, clearing, clearing_next_by, clearing_next, tidy_by}
 use Rattle.inv_shapes.specs.model.Get as gets
 use Rattle.inv_shapes.specs.model.Change as alters
 use Rattle.inv_shapes.specs.model.Enqueue as enqueues
 use Rattle.inv_shapes.specs.model.Dequeue as dequeues
 use Rattle.inv_shapes.specs.model.Keep as keeps
 use Rattle.inv_shapes.specs.model.Steps as steps
-use Rattle.inv_shapes.specs.model.Calls.{Task, Gets, Changes, Holds, Enqueues, Dequeues, Again, Answering, Retiring, AfterScan, Why, ChangeKept, EnqueueKept, GetAt, FindVersion, FindCount, FindKey, FindValue, ChangeAt, LoadVersion, LoadCount, LoadKey, LoadValue, ExchangeRoot, EnqueueAt, LoadNumber, LoadNext, PassTail, ExchangeNext, ExchangeTail, DequeueAt, LoadTail, SwingTail, TakeNumber, TakeValue, ExchangeHead, Work, Getting, Changing, Enqueuing, Dequeuing, Opens, FollowsHead, Fills, ClearsNext, Clears, Finishes, GivesUp, Retires, Tidies, Advances, Releases, LetGo, Released, Rehold, Dropped, Parting, KeepAt, Loosens, LoadHeld, StoreHeld, Looks, Misses, HideSpan, MarkLeft, TakeList, MarkTaken, Keeping, Next, MakeRoom, CallTurn, Works}
-use Rattle.inv_shapes.specs.model.Posts.{stands, withdrawn, cleared, reserves_index, standing_from}
-use Rattle.inv_shapes.specs.words.Schemes.{has_one_interval}
+use Rattle.inv_shapes.specs.model.Calls.{Task, Gets, Changes, Holds, Enqueues, Dequeues, Again, Answering, Retiring, AfterScan, Why, ChangeKept, EnqueueKept, GetAt, FindVersion, FindCount, FindKey, FindValue, ChangeAt, LoadVersion, LoadCount, LoadKey, LoadValue, ExchangeRoot, EnqueueAt, LoadNumber, LoadNext, PassTail, ExchangeNext, ExchangeTail, DequeueAt, LoadTail, SwingTail, TakeNumber, TakeValue, ExchangeHead, Work, Getting, Changing, Enqueuing, Dequeuing, Opens, FollowsHead, Fills, ClearsNext, Clears, Finishes, GivesUp, Retires, Tidies, Advances, Releases, LetGo, Released, Rehold, Dropped, Parting, KeepAt, Loosens, LoadHeld, StoreHeld, Looks, Misses, HideSpan, MarkLeft, TakeList, MarkTaken, Keeping, Next, MakeRoom, CallTurn, Works, Answered, Repeated}
+use Rattle.inv_shapes.specs.model.Posts.{stands, withdrawn, cleared, standing_from, publishes_index}
+use Rattle.inv_shapes.specs.words.Schemes.{has_one_interval, publishes_rows, moves}
 use Rattle.inv_shapes.specs.Frame.{phase_left}
 use Rattle.inv_shapes.specs.model.declared.ends.ProtectEnd.{ProtectEnd}
 use Rattle.inv_covers.specs.Parents.{Parent}
@@ -76,9 +76,14 @@ given_up_tends : (answer : Answer) (post : Post) (desk : Desk) (told : List Even
 given_up_tends answer post desk told None row h = absurd (cc)
 given_up_tends answer post desk told (Some slot) row h = absurd (cc)
 
+-- a list is tidied
+tidy_tends : (later : AfterScan) (moving : Bool) (post : Post) → Parent (tidy_by moving later post) post
+tidy_tends later true post = λ row h. absurd (cc)
+tidy_tends later false post = λ row h. absurd (cc)
+
 closed_tends : (task : Task) (next : Next) (post : Post) (desk : Desk) (told : List Event) → Tended (closed task next post desk told)
 closed_tends task Again post desk told = round_tends task post
-closed_tends task MakeRoom post desk told = λ row h. absurd (cc)
+closed_tends task MakeRoom post desk told = tidy_tends (Repeated task) (moves (scheme_of post)) post
 closed_tends task (Answering answer) post desk told = given_up_tends answer post desk told (taken_of task)
 closed_tends task (Retiring slot answer) post desk told = λ row h. absurd (cc)
 
@@ -185,9 +190,9 @@ dequeue_tends (TakeValue head next number) post desk found p = λ row h. absurd 
 dequeue_tends (ExchangeHead head next number value) post desk found p = taken_tends head next number value post desk (found == head + 1)
 
 -- a seat leaves
-pub parting_tends : (x : Option ℕ) (post : Post) → Parent (keeps.parting_index x) post
-parting_tends None post = λ row h. absurd (cc)
-parting_tends (Some index) post = λ row h. absurd (cc)
+pub parting_tends : (rows : Bool) (x : Option ℕ) (post : Post) → Parent (keeps.parting_index rows x) post
+parting_tends rows None post = λ row h. absurd (cc)
+parting_tends rows (Some index) post = λ row h. absurd (cc)
 
 taking_tends : (place : ℕ) (post : Post) (desk : Desk) (left : Bool) (found : ℕ) → Tended (keeps.taking place post desk left found)
 taking_tends place post desk true found = λ row h. absurd (cc)
@@ -197,7 +202,7 @@ released_tends : (let_go : LetGo) (post : Post) (desk : Desk) (told : List Event
 released_tends Released post desk told = λ row h. absurd (cc)
 released_tends (Rehold key) post desk told = round_tends (Holds key) post
 released_tends (Dropped index) post desk told = λ row h. absurd (cc)
-released_tends (Parting index) post desk told = parting_tends (standing_from (index + 1) (drop (index + 1) post.standing)) post
+released_tends (Parting index) post desk told = parting_tends (publishes_rows (scheme_of post)) (standing_from (index + 1) (drop (index + 1) post.standing)) post
 
 copied_tends : (from index : ℕ) (post : Post) (desk : Desk) (reserved : List Event) (x : Option ℕ) → Tended (keeps.copied from index post desk reserved x)
 copied_tends from index post desk reserved None = λ row h. absurd (cc)
@@ -224,7 +229,7 @@ look_tends index key (FindValue slot version pair) post desk found = λ row h. a
 keep_tends : (at : KeepAt) (post : Post) (desk : Desk) (found : ℕ) → Tended (keeps.keep_turn at post desk found)
 keep_tends (Loosens let_go) post desk found = released_tends let_go (withdrawn post (let_index let_go)) desk (cleared (let_index let_go) (stands post (let_index let_go)))
 keep_tends (LoadHeld from index) post desk found = load_held_tends from index post desk found (has_one_interval (scheme_of post))
-keep_tends (StoreHeld from index era) post desk found = copied_tends from index post desk (reserves_index post index era) (stands post from)
+keep_tends (StoreHeld from index era) post desk found = copied_tends from index post desk (publishes_index (publishes_rows (scheme_of post)) post index era) (stands post from)
 keep_tends (Looks index key at) post desk found = look_tends index key at post desk found
 keep_tends (Misses index) post desk found = λ row h. absurd (cc)
 keep_tends HideSpan post desk found = λ row h. absurd (cc)
@@ -295,7 +300,7 @@ followed_by_tends head tail (Retired life) post desk told = closed_tends Dequeue
 followed_by_tends head tail (Clocked clock) post desk told = closed_tends Dequeues Again post desk told
 
 tidying_tends : (answer : Answer) (post : Post) (desk : Desk) (told : List Event) (due : Bool) → Tended (steps.tidying answer post desk told due)
-tidying_tends answer post desk told true = λ row h. absurd (cc)
+tidying_tends answer post desk told true = tidy_tends (Answered answer) (moves (scheme_of post)) post
 tidying_tends answer post desk told false = λ row h. absurd (cc)
 
 retired_by_tends : (answer : Answer) (ending : Ending) (post : Post) (desk : Desk) (told : List Event) → Tended (steps.retired_by answer ending post desk told)

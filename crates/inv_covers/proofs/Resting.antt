@@ -1,5 +1,5 @@
 -- Where nothing stands, of whole Worlds.
-use Rattle.std.proofs.Common.{ℕ, zero, suc, ◌≡◌, ◌≢◌, ◌∙◌, sym, subst, true, false, arith, refl, Bool, Option, Some, None}
+use Rattle.std.proofs.Common.{ℕ, zero, suc, ◌≡◌, ◌≢◌, ◌∙◌, sym, subst, true, false, arith, refl, Bool, Option, Some, None, ap}
 use Rattle.std.proofs.lemmas.Bool.Decides.{nat_tests}
 use Rattle.std.specs.Prelude.{◌==◌, if◌then◌else◌, nat_lt}
 use Rattle.inv_shapes.specs.words.declared.layout.Layout.{Layout}
@@ -10,7 +10,8 @@ use Rattle.inv_shapes.specs.model.Desks.{Desk, noting}
 use Rattle.inv_shapes.specs.model.Posts.{new_post, stands, withdrawn, counted}
 use Rattle.inv_shapes.specs.model.Phases.{Aim, ProtectAt, Base}
 use Rattle.inv_shapes.specs.defs.declared.event.Root.{Root}
-use Rattle.inv_shapes.specs.model.Phases.ProtectAt.{PublishEra, TakeAnswer}
+use Rattle.inv_shapes.specs.model.Phases.ProtectAt.{PublishEra, TakeAnswer, ByHazard}
+use Rattle.inv_shapes.specs.model.Phases.HazardAt.{PublishLink}
 use Rattle.inv_shapes.specs.model.Phases.Base.{Protect, Finish, Release}
 use Rattle.inv_shapes.specs.model.Rounds.{scheme_of, index_of, kept_row, release_span, let_index, letting_by, letting}
 use Rattle.inv_shapes.specs.model.Steps.{holding, copying, looking_at, first_phase}
@@ -29,12 +30,15 @@ use Rattle.inv_shapes.proofs.model.Standing.{none_kept, stands-withdrawn_other}
 use Rattle.inv_shapes.specs.model.Keep.{parting, parting_from, parting_span}
 use Rattle.inv_covers.proofs.Rests.{parting_vacant, spare_let}
 use Rattle.inv_shapes.specs.defs.declared.lifetime.Interval.{Interval}
-use Rattle.inv_shapes.specs.words.Schemes.{has_one_interval}
+use Rattle.inv_shapes.specs.words.Schemes.{has_one_interval, publishes_rows}
 use Rattle.inv_covers.specs.Covers.{Covers, eras_shown, life_in}
 use Rattle.inv_rows.specs.Rows.{View}
 use Rattle.inv_shapes.specs.defs.declared.event.Guard.{Guard}
 use Rattle.inv_shapes.specs.defs.declared.event.Guard.TheVariants.{Whole}
 use Rattle.inv_shapes.specs.defs.Shown as values
+use Rattle.inv_shapes.specs.defs.declared.shown.Shown.{Shown}
+use Rattle.inv_covers.proofs.Words.{eras_are_shown}
+use Rattle.inv_shapes.proofs.words.Schemes.{interval_not_rows}
 
 abbrev VacantIn : Local → Type 0
 VacantIn l = Vacant (vacant l.phase) l.post
@@ -44,7 +48,7 @@ settled_by_vacant l post desk rounds (GoesOn phase) h = h
 settled_by_vacant l post desk rounds (Answers answer) h = h
 
 settled_vacant : (l : Local) (t : CallTurn) → Vacant (vacant (phase_left t.outcome)) t.post → VacantIn (settled l t)
-settled_vacant l t h = settled_by_vacant l t.post (noting t.desk (told_by t)) (rounds_told l.rounds (told_by t)) t.outcome h
+settled_vacant l t h = settled_by_vacant l t.post (noting t.desk (told_by t)) (rounds_told (publishes_rows (scheme_of t.post)) l.rounds (told_by t)) t.outcome h
 
 vacant_pick : (old new : Local) (same : Bool) → VacantIn old → VacantIn new → VacantIn (if same then new else old)
 vacant_pick old new true a b = b
@@ -149,6 +153,8 @@ protect_rests layout (Opens task) aim index root steps (PublishEra era tries) po
 protect_rests layout (FollowsHead head tail) aim index root steps (PublishEra era tries) post j r e = let q = r.shape.at in grind (arith, nat_tests)
 protect_rests layout (Opens task) aim index root steps (TakeAnswer link era) post j r e = let q = r.shape.at in bare_own task j (subst (λ (n : ℕ). (j == n) ≡ true) q e)
 protect_rests layout (FollowsHead head tail) aim index root steps (TakeAnswer link era) post j r e = let q = r.shape.at in grind (arith, nat_tests)
+protect_rests layout (Opens task) aim index root steps (ByHazard (PublishLink link)) post j r e = let q = r.shape.at in bare_own task j (subst (λ (n : ℕ). (j == n) ≡ true) q e)
+protect_rests layout (FollowsHead head tail) aim index root steps (ByHazard (PublishLink link)) post j r e = let q = r.shape.at in grind (arith, nat_tests)
 protect_rests layout (Fills task) aim index root steps at post j r e = absurd (no_truth r.suited)
 protect_rests layout (ClearsNext next) aim index root steps at post j r e = absurd (no_truth r.suited)
 protect_rests layout (Clears task next) aim index root steps at post j r e = absurd (no_truth r.suited)
@@ -211,9 +217,9 @@ rests_give w i why base j n r e h =
     base_rests w.layout why base (w.seat i).post j (n.shape why base e) v h
 
 -- what stands under 2GE is covered by the seat's interval
-not_covered : (w : World) (v : View) (k s : ℕ) → Covers w v (Whole k) s → eras_shown w (Whole k) ≡ None → ⊥
-not_covered w v k s c e =
-    let h : values.keeps (life_in v s) (values.shown None) ≡ true = subst (λ (x : Option Interval). values.keeps (life_in v s) (values.shown x) ≡ true) e c.kept in absurd (cc)
+not_covered : (w : World) (v : View) (k s : ℕ) → publishes_rows w.layout.config.scheme ≡ false → Covers w v (Whole k) s → eras_shown w (Whole k) ≡ None → ⊥
+not_covered w v k s f c e =
+    let h : values.keeps (life_in v s) (values.shown None) ≡ true = subst (λ (x : Shown). values.keeps (life_in v s) x ≡ true) (eras_are_shown w (Whole k) f ∙ ap values.shown e) c.kept in absurd (cc)
 
 pub spans_rest : SpansRest
 spans_rest w v k l shows held i none j = by_stands (stands (w.seat k).post j) refl where
@@ -225,4 +231,4 @@ spans_rest w v k l shows held i none j = by_stands (stands (w.seat k).post j) re
   by_stands (Some s) e =
       let h = (held f).stood k j s e in
       let c : Covers w v (Whole k) s = subst (λ (g : Guard). Covers w v g s) (interval_guard w.layout.config.scheme k j f) h.covers in
-      absurd (not_covered w v k s c (shows f ∙ none))
+      absurd (not_covered w v k s (interval_not_rows w.layout.config.scheme f) c (shows f ∙ none))

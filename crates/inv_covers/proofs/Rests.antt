@@ -17,26 +17,26 @@ use Rattle.inv_shapes.specs.model.declared.post.Post.{Post}
 use Rattle.inv_shapes.specs.model.Desks.{Desk, with_life}
 use Rattle.inv_shapes.specs.model.Phases.{Ending, Base}
 use Rattle.inv_shapes.specs.model.Phases.Ending.{Done, Protected, Followed, Allocated, Retired, Clocked}
-use Rattle.inv_shapes.specs.model.Rounds.{bucket_of, scheme_of, index_of, root_of, taken_of, begin_span, begin_base, clear_post, clear_told, finish_base, kept_row, let_index, round_by, round, given_up, closed, finishing_by, finishing, clearing_by, clearing, clearing_next_by, clearing_next, finish_span, protect_base, opening}
+use Rattle.inv_shapes.specs.model.Rounds.{bucket_of, scheme_of, index_of, root_of, taken_of, begin_span, begin_base, clear_post, clear_told, finish_base, kept_row, let_index, round_by, round, given_up, closed, finishing_by, finishing, clearing_by, clearing, clearing_next_by, clearing_next, finish_span, protect_base, opening, tidy_by}
 use Rattle.inv_shapes.specs.model.Get as gets
 use Rattle.inv_shapes.specs.model.Change as alters
 use Rattle.inv_shapes.specs.model.Enqueue as enqueues
 use Rattle.inv_shapes.specs.model.Dequeue as dequeues
 use Rattle.inv_shapes.specs.model.Keep as keeps
 use Rattle.inv_shapes.specs.model.Steps as steps
-use Rattle.inv_shapes.specs.model.Calls.{Task, Gets, Changes, Holds, Enqueues, Dequeues, Again, Answering, Retiring, AfterScan, Why, Phase, ChangeKept, EnqueueKept, GetAt, FindVersion, FindCount, FindKey, FindValue, ChangeAt, LoadVersion, LoadCount, LoadKey, LoadValue, ExchangeRoot, EnqueueAt, LoadNumber, LoadNext, PassTail, ExchangeNext, ExchangeTail, DequeueAt, LoadTail, SwingTail, TakeNumber, TakeValue, ExchangeHead, Work, Getting, Changing, Enqueuing, Dequeuing, Opens, FollowsHead, Fills, ClearsNext, Clears, Finishes, GivesUp, Retires, Tidies, Advances, Releases, LetGo, Released, Rehold, Dropped, Parting, KeepAt, Loosens, LoadHeld, StoreHeld, Looks, Misses, HideSpan, MarkLeft, TakeList, MarkTaken, Keeping, Next, MakeRoom, CallTurn}
+use Rattle.inv_shapes.specs.model.Calls.{Task, Gets, Changes, Holds, Enqueues, Dequeues, Again, Answering, Retiring, AfterScan, Why, Phase, ChangeKept, EnqueueKept, GetAt, FindVersion, FindCount, FindKey, FindValue, ChangeAt, LoadVersion, LoadCount, LoadKey, LoadValue, ExchangeRoot, EnqueueAt, LoadNumber, LoadNext, PassTail, ExchangeNext, ExchangeTail, DequeueAt, LoadTail, SwingTail, TakeNumber, TakeValue, ExchangeHead, Work, Getting, Changing, Enqueuing, Dequeuing, Opens, FollowsHead, Fills, ClearsNext, Clears, Finishes, GivesUp, Retires, Tidies, Advances, Releases, LetGo, Released, Rehold, Dropped, Parting, KeepAt, Loosens, LoadHeld, StoreHeld, Looks, Misses, HideSpan, MarkLeft, TakeList, MarkTaken, Keeping, Next, MakeRoom, CallTurn, Answered, Repeated}
 use Rattle.inv_shapes.specs.Slots.{CopyIn, KeepIn}
 use Rattle.inv_shapes.specs.words.declared.config.Config.{Config}
 use Rattle.inv_shapes.specs.words.declared.config.SchemeKind.{SchemeKind}
-use Rattle.inv_shapes.specs.words.declared.config.SchemeKind.TheVariants.{He, Ibr, Wfe}
-use Rattle.inv_shapes.specs.model.Posts.{stands, withdrawn, with_row, cleared, reserves_index, standing_from}
+use Rattle.inv_shapes.specs.words.declared.config.SchemeKind.TheVariants.{He, Hp, Ibr, Wfe}
+use Rattle.inv_shapes.specs.model.Posts.{stands, withdrawn, with_row, cleared, standing_from, publishes_index}
 use Rattle.inv_shapes.specs.defs.declared.event.Root.{Root}
 use Rattle.inv_shapes.specs.defs.declared.lifetime.Interval.{Interval}
 use Rattle.inv_shapes.specs.Frame.{phase_left}
 use Rattle.inv_covers.specs.Rests.{spare, bare, beside, within, deep, vacant_later, vacant_dequeue, vacant_work, vacant, vacant_filled, vacant_opened, vacant_followed, vacant_released, vacant_after, Vacant, vacant_let, vacant_keep}
 use Rattle.inv_shapes.proofs.model.Standing.{stands-withdrawn_same, stands-withdrawn_other, stands-with_row_other}
 use Rattle.inv_shapes.proofs.model.Schemes.{each_begin, each_finish}
-use Rattle.inv_shapes.specs.words.Schemes.{has_one_interval}
+use Rattle.inv_shapes.specs.words.Schemes.{has_one_interval, publishes_rows, moves}
 use Rattle.inv_shapes.specs.model.Phases.Base.{Clear}
 use Rattle.inv_covers.proofs.Stands.{bare_stands}
 use Rattle.inv_shapes.proofs.Leaving.{next_stands, none_stand}
@@ -54,6 +54,7 @@ spare_bare Dequeues j h = h
 
 opening_at : (task : Task) (post : Post) (index : ℕ) (root : Root) (scheme : SchemeKind) → Vacant (bare task) post → Vacant (vacant (Phase.Runs (Opens task) (protect_base scheme index root))) post
 opening_at task post index root He h = h
+opening_at task post index root Hp h = h
 opening_at task post index root Ibr h = h
 opening_at task post index root Wfe h = h
 
@@ -77,9 +78,14 @@ given_up_vacant : (answer : Answer) (post : Post) (desk : Desk) (told : List Eve
 given_up_vacant answer post desk told None h = h
 given_up_vacant answer post desk told (Some slot) h = h
 
+-- a list is tidied
+tidy_vacant : (later : AfterScan) (moving : Bool) (post : Post) → Vacant (vacant_later later) post → Vacant (vacant (tidy_by moving later post)) post
+tidy_vacant later true post h = h
+tidy_vacant later false post h = h
+
 closed_vacant : (task : Task) (next : Next) (post : Post) (desk : Desk) (told : List Event) → Vacant (bare task) post → Turned (closed task next post desk told)
 closed_vacant task Again post desk told h = round_vacant task post h
-closed_vacant task MakeRoom post desk told h = h
+closed_vacant task MakeRoom post desk told h = tidy_vacant (Repeated task) (moves (scheme_of post)) post h
 closed_vacant task (Answering answer) post desk told h = given_up_vacant answer post desk told (taken_of task) (λ j e. h j (spare_bare task j e))
 closed_vacant task (Retiring slot answer) post desk told h = λ j e. h j (spare_bare task j e)
 
@@ -112,7 +118,7 @@ bare_beside task j n h = grind (arith, nat_tests)
 cleared_vacant : (task : Task) (next : Next) (post : Post) (desk : Desk) (told : List Event) → Vacant (beside task) post → Turned (finishing task next (withdrawn post (index_of task)) desk told)
 cleared_vacant task next post desk told h = finishing_vacant task next (withdrawn post (index_of task)) desk told (withdrawn_vacant (beside task) (bare task) post (index_of task) (λ j n k. bare_beside task j n k) h)
 
-clearing_by_vacant : (task : Task) (next : Next) (post : Post) (desk : Desk) (told : List Event) (interval : Bool) → has_one_interval (scheme_of post) ≡ interval → Vacant (beside task) post → Turned (clearing_by task next post desk told (if interval then None else Some (Clear (index_of task))))
+clearing_by_vacant : (task : Task) (next : Next) (post : Post) (desk : Desk) (told : List Event) (interval : Bool) → has_one_interval (scheme_of post) ≡ interval → Vacant (beside task) post → Turned (clearing_by task next post desk told (if interval then None else Some (Clear (publishes_rows (scheme_of post)) (index_of task))))
 clearing_by_vacant task next post desk told false e h = h
 clearing_by_vacant task next post desk told true e h =
     let q : clear_post (scheme_of post) post (index_of task) ≡ withdrawn post (index_of task) = ap (λ (b : Bool). if b then withdrawn post (index_of task) else post) e in
@@ -121,7 +127,7 @@ clearing_by_vacant task next post desk told true e h =
 pub clearing_vacant : (task : Task) (next : Next) (post : Post) (desk : Desk) (told : List Event) → Vacant (beside task) post → Turned (clearing task next post desk told)
 clearing_vacant task next post desk told h = clearing_by_vacant task next post desk told (has_one_interval (scheme_of post)) refl h
 
-clearing_next_by_vacant : (next : Next) (post : Post) (desk : Desk) (told : List Event) (interval : Bool) → has_one_interval (scheme_of post) ≡ interval → Vacant deep post → Turned (clearing_next_by next post desk told (if interval then None else Some (Clear 1)))
+clearing_next_by_vacant : (next : Next) (post : Post) (desk : Desk) (told : List Event) (interval : Bool) → has_one_interval (scheme_of post) ≡ interval → Vacant deep post → Turned (clearing_next_by next post desk told (if interval then None else Some (Clear (publishes_rows (scheme_of post)) 1)))
 clearing_next_by_vacant next post desk told false e h = h
 clearing_next_by_vacant next post desk told true e h =
     let q : clear_post (scheme_of post) post 1 ≡ withdrawn post 1 = ap (λ (b : Bool). if b then withdrawn post 1 else post) e in
@@ -209,18 +215,18 @@ dequeue_vacant (TakeValue head next number) post desk found h = λ j e. h j (gri
 dequeue_vacant (ExchangeHead head next number value) post desk found h = taken_vacant head next number value post desk (found == head + 1) (λ j e. h j (grind (arith, nat_tests)))
 
 -- a seat leaves: nothing stands below the next index at which something does
-parting_at : (index : ℕ) (post : Post) (x : Option ℕ) → standing_from index (drop index post.standing) ≡ x → Vacant (λ j. spare j || nat_lt j index) post → Vacant (vacant (keeps.parting_index x)) post
-parting_at index post None e h j k = by_low (nat_lt j index) refl where
+parting_at : (index : ℕ) (post : Post) (rows : Bool) (x : Option ℕ) → standing_from index (drop index post.standing) ≡ x → Vacant (λ j. spare j || nat_lt j index) post → Vacant (vacant (keeps.parting_index rows x)) post
+parting_at index post rows None e h j k = by_low (nat_lt j index) refl where
   by_low : (low : Bool) → nat_lt j index ≡ low → stands post j ≡ None
   by_low true l = h j (grind (arith, nat_tests))
   by_low false l = none_stand post index e j (grind (arith, nat_tests))
-parting_at index post (Some next) e h j k = by_low (spare j || nat_lt j index) refl where
+parting_at index post rows (Some next) e h j k = by_low (spare j || nat_lt j index) refl where
   by_low : (low : Bool) → (spare j || nat_lt j index) ≡ low → stands post j ≡ None
   by_low true l = h j l
   by_low false l = (next_stands post index next e).none j (grind (arith, nat_tests)) (grind (arith, nat_tests))
 
 pub parting_vacant : (index : ℕ) (post : Post) → Vacant (λ j. spare j || nat_lt j index) post → Vacant (vacant (keeps.parting_from index post)) post
-parting_vacant index post h = parting_at index post (standing_from index (drop index post.standing)) refl h
+parting_vacant index post h = parting_at index post (publishes_rows (scheme_of post)) (standing_from index (drop index post.standing)) refl h
 
 -- what is vacant between calls is so where something is let go
 pub spare_let : (let_go : LetGo) (j : ℕ) → spare j ≡ true → vacant_let let_go j ≡ true
@@ -278,7 +284,7 @@ copy_high config from index c = omega (arith, c.kept, c.rises)
 keep_vacant : (config : Config) (at : KeepAt) (post : Post) (desk : Desk) (found : ℕ) → KeepIn config at → Vacant (vacant_keep at) post → Turned (keeps.keep_turn at post desk found)
 keep_vacant config (Loosens let_go) post desk found k h = released_vacant let_go (withdrawn post (let_index let_go)) desk (cleared (let_index let_go) (stands post (let_index let_go))) (let_vacant let_go post h)
 keep_vacant config (LoadHeld from index) post desk found k h = load_held_vacant from index post desk found (has_one_interval (scheme_of post)) (copy_high config from index k) h
-keep_vacant config (StoreHeld from index era) post desk found k h = copied_vacant from index post desk (reserves_index post index era) (stands post from) (copy_high config from index k) h
+keep_vacant config (StoreHeld from index era) post desk found k h = copied_vacant from index post desk (publishes_index (publishes_rows (scheme_of post)) post index era) (stands post from) (copy_high config from index k) h
 keep_vacant config (Looks index key at) post desk found k h = look_vacant index key at post desk found h
 keep_vacant config (Misses index) post desk found k h = h
 keep_vacant config HideSpan post desk found k h = λ j e. bare_stands post j
@@ -349,7 +355,7 @@ followed_by_vacant head tail (Retired life) post desk told h = closed_vacant Deq
 followed_by_vacant head tail (Clocked clock) post desk told h = closed_vacant Dequeues Again post desk told (λ j e. h j (grind (arith, nat_tests)))
 
 tidying_vacant : (answer : Answer) (post : Post) (desk : Desk) (told : List Event) (due : Bool) → Vacant spare post → Turned (steps.tidying answer post desk told due)
-tidying_vacant answer post desk told true h = λ j e. h j (grind (arith, nat_tests))
+tidying_vacant answer post desk told true h = tidy_vacant (Answered answer) (moves (scheme_of post)) post h
 tidying_vacant answer post desk told false h = λ j e. h j (grind (arith, nat_tests))
 
 retired_by_vacant : (answer : Answer) (ending : Ending) (post : Post) (desk : Desk) (told : List Event) → Vacant spare post → Turned (steps.retired_by answer ending post desk told)

@@ -8,13 +8,14 @@ use Rattle.inv_shapes.specs.defs.declared.lifetime.Lifetime.{Lifetime}
 use Rattle.inv_shapes.specs.defs.Shown.{Seen, keeps, keeps_any}
 use Rattle.inv_shapes.specs.model.declared.post.Post.{Post}
 use Rattle.inv_shapes.specs.model.Desks.{Desk, Report}
-use Rattle.inv_shapes.specs.model.Guards.{guards, guard_at, eras_in, published}
-use Rattle.inv_shapes.specs.model.Scan.{read_before, Entry, first_unmet, unmet_from, scanned, giving_back, reading, with_kept, with_read, with_back, scan_turn}
+use Rattle.inv_shapes.specs.model.Guards.{guards, guard_at, published}
+use Rattle.inv_shapes.specs.model.Scan.{read_before, Entry, first_unmet, unmet_from, scanned, giving_back, reading, with_kept, with_read, with_back, reads_guard, scan_turn}
 use Rattle.inv_shapes.specs.model.Calls.{AfterScan, Answered, Repeated, Counted, ScanAt, ReadGuard, GiveBack, Phase, Idle, Runs, Scans, Works}
 use Rattle.inv_shapes.specs.Frame.{phase_left}
 use Rattle.inv_covers.specs.Covers.{has_met, unmet_at, is_unmet, is_fresh}
 use Rattle.inv_covers.specs.Tries.{is_start, Shrinks}
 use Rattle.inv_covers.proofs.Fresh.{round_fresh}
+use Rattle.inv_shapes.specs.words.Schemes.{publishes_rows}
 
 fresh_number : (number : ℕ) (later : AfterScan) → is_fresh (Scans later (ReadGuard number)) ≡ true → number ≡ 0
 fresh_number zero later h = refl
@@ -59,7 +60,7 @@ read_met : (report : Report) (n number : ℕ) (life : Lifetime) (seen : Seen) �
 read_met report n number life seen h e k = let m = meets_more life (read_before report n) seen in rw m (grind (arith, nat_tests, h, e))
 
 -- what a scan has met it has met after its step; at a guard that it reads it meets the life if the guard does
-pub scan_met : (later : AfterScan) (at : ScanAt) (post : Post) (desk : Desk) (found number : ℕ) (life : Lifetime) → ((n : ℕ) → at ≡ ReadGuard n → number ≡ n → keeps life (published (guard_at post.layout.config n) found) ≡ true) → has_met (guards post.layout.config) (Scans later at) desk.report number life ≡ true
+pub scan_met : (later : AfterScan) (at : ScanAt) (post : Post) (desk : Desk) (found number : ℕ) (life : Lifetime) → ((n : ℕ) → at ≡ ReadGuard n → number ≡ n → keeps life (published (publishes_rows post.layout.config.scheme) (guard_at post.layout.config n) found) ≡ true) → has_met (guards post.layout.config) (Scans later at) desk.report number life ≡ true
     → has_met (guards post.layout.config) (phase_left (scan_turn later at post desk found).outcome) (scan_turn later at post desk found).desk.report number life ≡ true
 scan_met later (ReadGuard n) post desk found number life e h =
     reading_met
@@ -67,12 +68,12 @@ scan_met later (ReadGuard n) post desk found number life e h =
     later
     n
     post
-    (with_read desk n (guard_at post.layout.config n, published (guard_at post.layout.config n) found))
-    (events.Read (guard_at post.layout.config n) (eras_in (guard_at post.layout.config n) found) ∷ [])
+    (with_read desk n (guard_at post.layout.config n, published (publishes_rows post.layout.config.scheme) (guard_at post.layout.config n) found))
+    (reads_guard (publishes_rows post.layout.config.scheme) (guard_at post.layout.config n) found ∷ [])
     (nat_lt (n + 1) (guards post.layout.config))
     number
     life
-    (read_met desk.report n number life (guard_at post.layout.config n, published (guard_at post.layout.config n) found) (λ k. grind (arith, nat_tests)) (e n refl))
+    (read_met desk.report n number life (guard_at post.layout.config n, published (publishes_rows post.layout.config.scheme) (guard_at post.layout.config n) found) (λ k. grind (arith, nat_tests)) (e n refl))
     (λ k. grind (arith, nat_tests))
 scan_met later (GiveBack place slot) post desk found number life e h =
     back_met
@@ -131,7 +132,7 @@ reading_unmet later n post desk told false = back_unmet later post desk told (un
 -- what a scan gives back next meets nothing that it read
 pub scan_unmet_kept : (later : AfterScan) (at : ScanAt) (post : Post) (desk : Desk) (found : ℕ) → is_unmet (phase_left (scan_turn later at post desk found).outcome) (scan_turn later at post desk found).desk ≡ true
 scan_unmet_kept later (ReadGuard n) post desk found =
-    reading_unmet later n post (with_read desk n (guard_at post.layout.config n, published (guard_at post.layout.config n) found)) (events.Read (guard_at post.layout.config n) (eras_in (guard_at post.layout.config n) found) ∷ []) (nat_lt (n + 1) (guards post.layout.config))
+    reading_unmet later n post (with_read desk n (guard_at post.layout.config n, published (publishes_rows post.layout.config.scheme) (guard_at post.layout.config n) found)) (reads_guard (publishes_rows post.layout.config.scheme) (guard_at post.layout.config n) found ∷ []) (nat_lt (n + 1) (guards post.layout.config))
 scan_unmet_kept later (GiveBack place slot) post desk found =
     back_unmet later post (with_back desk place) (events.Back slot ∷ []) (unmet_from (with_back desk place) place) (unmet_found (with_back desk place) place)
 
@@ -151,7 +152,7 @@ reading_starts later n post desk told false = back_starts later post desk told (
 
 pub scan_starts : (later : AfterScan) (at : ScanAt) (post : Post) (desk : Desk) (found : ℕ) → is_start (phase_left (scan_turn later at post desk found).outcome) ≡ true
 scan_starts later (ReadGuard n) post desk found =
-    reading_starts later n post (with_read desk n (guard_at post.layout.config n, published (guard_at post.layout.config n) found)) (events.Read (guard_at post.layout.config n) (eras_in (guard_at post.layout.config n) found) ∷ []) (nat_lt (n + 1) (guards post.layout.config))
+    reading_starts later n post (with_read desk n (guard_at post.layout.config n, published (publishes_rows post.layout.config.scheme) (guard_at post.layout.config n) found)) (reads_guard (publishes_rows post.layout.config.scheme) (guard_at post.layout.config n) found ∷ []) (nat_lt (n + 1) (guards post.layout.config))
 scan_starts later (GiveBack place slot) post desk found = back_starts later post (with_back desk place) (events.Back slot ∷ []) (unmet_from (with_back desk place) place)
 
 scanned_shrinks : (later : AfterScan) (post : Post) (desk : Desk) (told : List Event) → Shrinks post (scanned later post desk told).post
@@ -169,5 +170,5 @@ reading_shrinks later n post desk told false j s h = back_shrinks later post des
 
 pub scan_shrinks : (later : AfterScan) (at : ScanAt) (post : Post) (desk : Desk) (found : ℕ) → Shrinks post (scan_turn later at post desk found).post
 scan_shrinks later (ReadGuard n) post desk found j s h =
-    reading_shrinks later n post (with_read desk n (guard_at post.layout.config n, published (guard_at post.layout.config n) found)) (events.Read (guard_at post.layout.config n) (eras_in (guard_at post.layout.config n) found) ∷ []) (nat_lt (n + 1) (guards post.layout.config)) j s h
+    reading_shrinks later n post (with_read desk n (guard_at post.layout.config n, published (publishes_rows post.layout.config.scheme) (guard_at post.layout.config n) found)) (reads_guard (publishes_rows post.layout.config.scheme) (guard_at post.layout.config n) found ∷ []) (nat_lt (n + 1) (guards post.layout.config)) j s h
 scan_shrinks later (GiveBack place slot) post desk found j s h = back_shrinks later post (with_back desk place) (events.Back slot ∷ []) (unmet_from (with_back desk place) place) j s h

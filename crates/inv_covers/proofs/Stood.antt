@@ -1,7 +1,7 @@
 -- What stands after a step of a machine stood before, or was loaded by the try that the step concludes.
 use Rattle.std.proofs.Common.{ℕ, ◌<◌, ◌+◌, ◌-◌, ◌≡◌, subst, true, false, arith, refl, Bool, Option, Some, None, ◌&&◌, ◌⊎◌, inl, inr, length, List, [], ◌∷◌}
 use Rattle.std.proofs.lemmas.Bool.Decides.{nat_tests}
-use Rattle.std.specs.Prelude.{◌==◌, if◌then◌else◌}
+use Rattle.std.specs.Prelude.{◌==◌, ◌||◌, if◌then◌else◌}
 use Rattle.inv_shapes.specs.words.Place.{Place}
 use Rattle.inv_shapes.specs.words.Place.Place.{Clock, Head}
 use Rattle.inv_shapes.specs.words.declared.config.Config.{Config}
@@ -12,9 +12,10 @@ use Rattle.inv_shapes.specs.model.declared.post.Post.{Post}
 use Rattle.inv_shapes.specs.model.Memory.{found, place_in, bump}
 use Rattle.inv_shapes.specs.model.Posts.{stands, upper, with_row}
 use Rattle.inv_shapes.specs.model.Allocate.{walking, walk_past, is_claimed, after_claim_slot}
-use Rattle.inv_shapes.specs.model.Phases.{Aim, Walk, Tries, BeginAt, ProtectAt, AllocateAt, RetireAt, MoveAt, Base, RowOf, goes, ends}
+use Rattle.inv_shapes.specs.model.Phases.{Aim, Walk, Tries, BeginAt, ProtectAt, AllocateAt, RetireAt, MoveAt, Base, RowOf, goes, ends, HazardAt}
 use Rattle.inv_shapes.specs.model.Phases.BeginAt.{LoadLower, PublishSpan}
-use Rattle.inv_shapes.specs.model.Phases.ProtectAt.{LoadClock, PublishEra, LoadLink, CheckClock, PublishRequest, LoadOwnClock, PublishHelper, LoadOwnLink, CheckOwnClock, AnswerOwn, LoadAnswer, TakeAnswer, WithdrawRequest, WithdrawHelper, LoadWithin, CheckUpper, RaiseUpper}
+use Rattle.inv_shapes.specs.model.Phases.ProtectAt.{LoadClock, PublishEra, LoadLink, CheckClock, PublishRequest, LoadOwnClock, PublishHelper, LoadOwnLink, CheckOwnClock, AnswerOwn, LoadAnswer, TakeAnswer, WithdrawRequest, WithdrawHelper, LoadWithin, CheckUpper, RaiseUpper, ByHazard}
+use Rattle.inv_shapes.specs.model.Phases.HazardAt.{FirstLink, PublishLink, CheckLink}
 use Rattle.inv_shapes.specs.model.Phases.AllocateAt.{LoadBirth, ClaimSlot, StoreLife}
 use Rattle.inv_shapes.specs.model.Phases.RetireAt.{LoadLife, LoadRetire, StoreRetired}
 use Rattle.inv_shapes.specs.model.Phases.MoveAt.{LoadEra, LoadRequest, ShowEra, LoadAsked, CheckEra, AnswerAsked, LoadReserved, HandOver, HideEra, HideLate, ExchangeClock}
@@ -35,11 +36,25 @@ use Rattle.inv_shapes.specs.Seats.{protect_fits, base_fits}
 use Rattle.inv_covers.specs.Held.{leads, under, tries_protect, tries_base, index_base}
 use Rattle.inv_rows.specs.Queue.{in_queue}
 use Rattle.inv_covers.proofs.Stands.{withdrawn_shrinks, with_row_apart, with_row_is}
+use Rattle.inv_shapes.specs.model.Links.{link_place}
 pub use Rattle.inv_shapes.proofs.Frame.{concluded_post}
 
--- how a row comes to stand
-abbrev pub Was : ℕ → (ℕ → Status) → Post → Base → ℕ → ℕ → Type 0
-Was clock status post base j s = (stands post j ≡ Some s) ⊎ ((j ≡ index_base base) × (tries_base clock status post base s ≡ true))
+-- a link that is loaded again is still the one that was published
+abbrev pub loads_again : (ℕ → Status) → (Place → ℕ) → Root → HazardAt → ℕ → Bool
+loads_again status mem root (CheckLink link) s = leads (mem (link_place root)) s && (mem (link_place root) == link && under status root)
+loads_again status mem root at s = false
+
+abbrev pub again_protect : (ℕ → Status) → (Place → ℕ) → Root → ProtectAt → ℕ → Bool
+again_protect status mem root (ByHazard at) s = loads_again status mem root at s
+again_protect status mem root at s = false
+
+abbrev pub again_base : (ℕ → Status) → (Place → ℕ) → Base → ℕ → Bool
+again_base status mem (Protect aim index root steps at) s = again_protect status mem root at s
+again_base status mem base s = false
+
+-- how a row comes to stand: it stood, or the try had loaded it, or its link is loaded again now
+abbrev pub Was : ℕ → (ℕ → Status) → (Place → ℕ) → Post → Base → ℕ → ℕ → Type 0
+Was clock status mem post base j s = (stands post j ≡ Some s) ⊎ ((j ≡ index_base base) × ((tries_base clock status post base s ≡ true) ⊎ (again_base status mem base s ≡ true)))
 
 abbrev pub Rises : (ℕ → Status) → Post → ℕ → Root → ℕ → ℕ → ℕ → Type 0
 Rises status post index root link j s = (stands post j ≡ Some s) ⊎ ((j ≡ index) × (leads link s ≡ true) × (under status root ≡ true))
@@ -93,13 +108,45 @@ answer_stood first era link found aim index root n post j s false e h = rw e at 
 pub concluded_stood : (aim : Aim) (index : ℕ) (root : Root) (n link era : ℕ) (post : Post) (told : List Event) (j s : ℕ) → stands (concluded aim index root n link era post told).post j ≡ Some s → stands post j ≡ Some s
 concluded_stood aim index root n link era post told j s h = same_stands (concluded aim index root n link era post told).post post j s (concluded_post aim index root n link era post told) h
 
+-- hazard pointers: a link that ends the protection is loaded in that step, and a first one that ends it is null
+pub first_stood : (status : ℕ → Status) (aim : Aim) (index : ℕ) (root : Root) (n link : ℕ) (post : Post) (j s : ℕ) (null : Bool) → (link == 0) ≡ null → index < length post.standing
+    → stands (if null then protected aim index root n link 0 post else goes post [] (Protect aim index root n (ByHazard (PublishLink link)))).post j ≡ Some s → stands post j ≡ Some s
+first_stood status aim index root n link post j s true e b h =
+    by_rises (held_rises status post index root link j s b (same_stands (protected aim index root n link 0 post).post (held_post post index root link) j s (protected_post aim index root n link 0 post) h))
+  where
+    by_rises : Rises status post index root link j s → stands post j ≡ Some s
+    by_rises (inl x) = x
+    by_rises (inr x) = absurd (let y = x.1 in grind (arith, nat_tests))
+first_stood status aim index root n link post j s false e b h = h
+
+pub again_stood : (status : ℕ → Status) (aim : Aim) (index : ℕ) (root : Root) (n link found : ℕ) (post : Post) (j s : ℕ) (same : Bool) → (found == link || found == 0) ≡ same → index < length post.standing
+    → stands (if same then protected aim index root n found 0 post else goes post [] (Protect aim index root n (ByHazard (PublishLink found)))).post j ≡ Some s → (stands post j ≡ Some s) ⊎ ((j ≡ index) × ((leads found s && (found == link && under status root)) ≡ true))
+again_stood status aim index root n link found post j s true e b h =
+    by_rises (held_rises status post index root found j s b (same_stands (protected aim index root n found 0 post).post (held_post post index root found) j s (protected_post aim index root n found 0 post) h))
+  where
+    by_rises : Rises status post index root found j s → (stands post j ≡ Some s) ⊎ ((j ≡ index) × ((leads found s && (found == link && under status root)) ≡ true))
+    by_rises (inl x) = inl x
+    by_rises (inr x) = inr (x.0, (let y = x.1 in let z = x.2 in grind (arith, nat_tests)))
+again_stood status aim index root n link found post j s false e b h = inl h
+
+abbrev Rose : ℕ → (ℕ → Status) → (Place → ℕ) → Post → ℕ → Root → ProtectAt → ℕ → ℕ → Type 0
+Rose clock status mem post index root at j s = (stands post j ≡ Some s) ⊎ ((j ≡ index) × ((tries_protect clock status post root at s ≡ true) ⊎ (again_protect status mem root at s ≡ true)))
+
+tried_rose : (clock : ℕ) (status : ℕ → Status) (mem : Place → ℕ) (post : Post) (index : ℕ) (root : Root) (at : ProtectAt) (j s : ℕ) → (stands post j ≡ Some s) ⊎ ((j ≡ index) × (tries_protect clock status post root at s ≡ true)) → Rose clock status mem post index root at j s
+tried_rose clock status mem post index root at j s (inl x) = inl x
+tried_rose clock status mem post index root at j s (inr x) = inr (x.0, inl x.1)
+
+again_rose : (clock : ℕ) (status : ℕ → Status) (mem : Place → ℕ) (post : Post) (index : ℕ) (root : Root) (at : ProtectAt) (j s : ℕ) → (stands post j ≡ Some s) ⊎ ((j ≡ index) × (again_protect status mem root at s ≡ true)) → Rose clock status mem post index root at j s
+again_rose clock status mem post index root at j s (inl x) = inl x
+again_rose clock status mem post index root at j s (inr x) = inr (x.0, inr x.1)
+
 protect_stood : (clock : ℕ) (status : ℕ → Status) (scheme : SchemeKind) (most : ℕ) (mem : Place → ℕ) (aim : Aim) (index : ℕ) (root : Root) (n : ℕ) (at : ProtectAt) (post last : Post) (j s : ℕ) → clock ≡ mem Clock → helps scheme ≡ false → protect_fits scheme most at ≡ true → index < length post.standing
-    → stands (protect_turn aim index root n at post (found (protect_move index root at last) (mem (place_in (protect_move index root at last))))).post j ≡ Some s → (stands post j ≡ Some s) ⊎ ((j ≡ index) × (tries_protect clock status post root at s ≡ true))
+    → stands (protect_turn aim index root n at post (found (protect_move index root at last) (mem (place_in (protect_move index root at last))))).post j ≡ Some s → Rose clock status mem post index root at j s
 protect_stood clock status scheme most mem aim index root n (LoadClock tries) post last j s c w f b h = inl h
 protect_stood clock status scheme most mem aim index root n (PublishEra era tries) post last j s c w f b h = inl h
 protect_stood clock status scheme most mem aim index root n (LoadLink era tries) post last j s c w f b h = inl h
 protect_stood clock status scheme most mem aim index root n (CheckClock era tries link) post last j s c w f b h =
-    rw c (check_stood (mem Clock) status aim index root n era tries link post j s (mem Clock == era) refl b h)
+    tried_rose clock status mem post index root (CheckClock era tries link) j s (rw c (check_stood (mem Clock) status aim index root n era tries link post j s (mem Clock == era) refl b h))
 protect_stood clock status scheme most mem aim index root n PublishRequest post last j s c w f b h = inl h
 protect_stood clock status scheme most mem aim index root n LoadOwnClock post last j s c w f b h = inl h
 protect_stood clock status scheme most mem aim index root n (PublishHelper first era end) post last j s c w f b h = inl h
@@ -112,8 +159,12 @@ protect_stood clock status scheme most mem aim index root n (WithdrawRequest lin
 protect_stood clock status scheme most mem aim index root n (WithdrawHelper link era) post last j s c w f b h = absurd (grind (arith, nat_tests))
 protect_stood clock status scheme most mem aim index root n LoadWithin post last j s c w f b h = inl h
 protect_stood clock status scheme most mem aim index root n (CheckUpper link) post last j s c w f b h =
-    rw c (upper_stood (mem Clock) status aim index root n link post j s (mem Clock == upper post.span) refl b h)
+    tried_rose clock status mem post index root (CheckUpper link) j s (rw c (upper_stood (mem Clock) status aim index root n link post j s (mem Clock == upper post.span) refl b h))
 protect_stood clock status scheme most mem aim index root n (RaiseUpper era) post last j s c w f b h = inl h
+protect_stood clock status scheme most mem aim index root n (ByHazard FirstLink) post last j s c w f b h = inl (first_stood status aim index root n (mem (link_place root)) post j s (mem (link_place root) == 0) refl b h)
+protect_stood clock status scheme most mem aim index root n (ByHazard (PublishLink link)) post last j s c w f b h = inl h
+protect_stood clock status scheme most mem aim index root n (ByHazard (CheckLink link)) post last j s c w f b h =
+    again_rose clock status mem post index root (ByHazard (CheckLink link)) j s (again_stood status aim index root n link (mem (link_place root)) post j s (mem (link_place root) == link || mem (link_place root) == 0) refl b h)
 
 -- a followed row is held once the head is still its parent
 pub reload_stood : (status : ℕ → Status) (parent index slot found n : ℕ) (post : Post) (j s : ℕ) (same : Bool) → (found == parent + 1) ≡ same → index < length post.standing → (found ≡ parent + 1 → in_queue (status parent) ≡ true)
@@ -188,13 +239,17 @@ pub begin_stood : (at : BeginAt) (found : ℕ) (post : Post) (j s : ℕ) → sta
 begin_stood LoadLower found post j s h = h
 begin_stood (PublishSpan era) found post j s h = h
 
+reload_rose : (status : ℕ → Status) (parent index slot j s : ℕ) (post : Post) → (stands post j ≡ Some s) ⊎ ((j ≡ index) × ((slot == s && in_queue (status parent)) ≡ true)) → (stands post j ≡ Some s) ⊎ ((j ≡ index) × (((slot == s && in_queue (status parent)) ≡ true) ⊎ (false ≡ true)))
+reload_rose status parent index slot j s post (inl x) = inl x
+reload_rose status parent index slot j s post (inr x) = inr (x.0, inl x.1)
+
 -- what stands after a machine's step
 pub base_stood : (status : ℕ → Status) (config : Config) (mem : Place → ℕ) (base : Base) (post last : Post) (j s : ℕ) → helps config.scheme ≡ false → base_fits config base ≡ true → index_base base < length post.standing → ((p : ℕ) → mem Head ≡ p + 1 → in_queue (status p) ≡ true)
-    → stands (after base post (found (base_move base last) (mem (place_in (base_move base last))))).post j ≡ Some s → Was (mem Clock) status post base j s
+    → stands (after base post (found (base_move base last) (mem (place_in (base_move base last))))).post j ≡ Some s → Was (mem Clock) status mem post base j s
 base_stood status config mem (Begin at) post last j s w f b q h = inl (begin_stood at (found (base_move (Begin at) last) (mem (place_in (base_move (Begin at) last)))) post j s h)
 base_stood status config mem (Protect aim index root steps at) post last j s w f b q h = protect_stood (mem Clock) status config.scheme config.tries mem aim index root (bump steps) at post last j s refl w f b h
-base_stood status config mem (Reload parent index slot era steps) post last j s w f b q h = reload_stood status parent index slot (mem Head) (bump steps) post j s (mem Head == parent + 1) refl b (q parent) h
-base_stood status config mem (Clear index) post last j s w f b q h = inl (withdrawn_shrinks post index j s h)
+base_stood status config mem (Reload parent index slot era steps) post last j s w f b q h = reload_rose status parent index slot j s post (reload_stood status parent index slot (mem Head) (bump steps) post j s (mem Head == parent + 1) refl b (q parent) h)
+base_stood status config mem (Clear rows index) post last j s w f b q h = inl (withdrawn_shrinks post index j s h)
 base_stood status config mem Finish post last j s w f b q h = inl h
 base_stood status config mem (Release index) post last j s w f b q h = inl (withdrawn_shrinks post index j s h)
 base_stood status config mem (Allocate at) post last j s w f b q h = inl (allocate_stood at (found (base_move (Allocate at) last) (mem (place_in (base_move (Allocate at) last)))) post j s h)

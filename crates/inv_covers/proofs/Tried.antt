@@ -1,7 +1,7 @@
 -- What a try has loaded after a step it had loaded before, or loads in this step.
 use Rattle.std.proofs.Common.{ℕ, ◌≤◌, ◌+◌, ◌≡◌, sym, subst, true, false, arith, refl, Bool, Option, Some, None, ◌&&◌, ◌⊎◌, inl, inr, List, [], ◌∷◌}
 use Rattle.std.proofs.lemmas.Bool.Decides.{nat_tests}
-use Rattle.std.specs.Prelude.{◌==◌, if◌then◌else◌, nat_le}
+use Rattle.std.specs.Prelude.{◌==◌, ◌||◌, if◌then◌else◌, nat_le}
 use Rattle.inv_shapes.specs.words.Place.{Place}
 use Rattle.inv_shapes.specs.words.Place.Place.{Clock}
 use Rattle.inv_shapes.specs.words.declared.config.SchemeKind.{SchemeKind}
@@ -13,7 +13,8 @@ use Rattle.inv_shapes.specs.model.Links.{link_place, parent_of}
 use Rattle.inv_shapes.specs.model.Memory.{found, place_in, written}
 use Rattle.inv_shapes.specs.model.Posts.{upper}
 use Rattle.inv_shapes.specs.model.Phases.{Aim, Alone, Follows, Tries, Endless, Failed, ProtectAt, Base, Outcome, Goes, Ends, goes, Walk, BeginAt, AllocateAt, RetireAt, MoveAt, Turn}
-use Rattle.inv_shapes.specs.model.Phases.ProtectAt.{LoadClock, PublishEra, LoadLink, CheckClock, PublishRequest, LoadOwnClock, PublishHelper, LoadOwnLink, CheckOwnClock, AnswerOwn, LoadAnswer, TakeAnswer, WithdrawRequest, WithdrawHelper, LoadWithin, CheckUpper, RaiseUpper}
+use Rattle.inv_shapes.specs.model.Phases.ProtectAt.{LoadClock, PublishEra, LoadLink, CheckClock, PublishRequest, LoadOwnClock, PublishHelper, LoadOwnLink, CheckOwnClock, AnswerOwn, LoadAnswer, TakeAnswer, WithdrawRequest, WithdrawHelper, LoadWithin, CheckUpper, RaiseUpper, ByHazard}
+use Rattle.inv_shapes.specs.model.Phases.HazardAt.{FirstLink, PublishLink, CheckLink}
 use Rattle.inv_shapes.specs.model.Phases.Base.{Begin, Protect, Reload, Clear, Finish, Release, Allocate, Write, GiveUp, Retire, Move}
 use Rattle.inv_shapes.specs.model.Protect.{held_post, told_held, failed_once, trying, concluded, protected}
 use Rattle.inv_shapes.specs.model.Machine.{protect_move, begin_turn, protect_turn, allocate_turn, retire_turn, move_turn, after}
@@ -37,6 +38,8 @@ use Rattle.inv_covers.specs.Held.{leads, under, tries_protect, tries_base, index
 use Rattle.inv_rows.specs.Queue.{in_queue}
 use Rattle.inv_covers.specs.Tries.{starts_protect, starts_base}
 use Rattle.inv_shapes.specs.words.declared.config.Config.{Config}
+use Rattle.inv_covers.proofs.Stood.{loads_again}
+use Rattle.inv_shapes.proofs.model.Facts.{same_number}
 
 -- what an outcome has tried
 abbrev pub out_tries : ℕ → (ℕ → Status) → Post → Outcome → ℕ → Bool
@@ -47,10 +50,11 @@ abbrev pub out_index : Outcome → ℕ
 out_index (Goes base) = index_base base
 out_index (Ends ending) = 0
 
--- the link that a step loads in a try, at an era that is the clock
+-- the link that a step loads in a try, at an era that is the clock; or that it loads again, as it was published
 abbrev pub loads_link : ℕ → (ℕ → Status) → (Place → ℕ) → Post → Root → ProtectAt → ℕ → Bool
 loads_link clock status mem post root (LoadLink era tries) s = leads (mem (link_place root)) s && (clock == era && under status root)
 loads_link clock status mem post root LoadWithin s = leads (mem (link_place root)) s && (clock == upper post.span && under status root)
+loads_link clock status mem post root (ByHazard at) s = loads_again status mem root at s
 loads_link clock status mem post root at s = false
 
 -- a try of the next outcome
@@ -81,6 +85,21 @@ upper_tries : (clock : ℕ) (status : ℕ → Status) (mem : Place → ℕ) (aim
 upper_tries clock status mem aim index root n link post next s true e f h = concluded_tries clock status mem (upper post.span) aim index root n link clock (held_post post index root link) next (told_held index root link n) s (link == 0) refl f e h
 upper_tries clock status mem aim index root n link post next s false e f h = absurd (cc)
 
+first_tries : (clock : ℕ) (status : ℕ → Status) (mem : Place → ℕ) (aim : Aim) (index : ℕ) (root : Root) (n link : ℕ) (post next : Post) (s : ℕ) (null : Bool) → (link == 0) ≡ null → (aim ≡ Follows → root ≡ roots.Next (parent_of root))
+    → out_tries clock status next (if null then protected aim index root n link 0 post else goes post [] (Protect aim index root n (ByHazard (PublishLink link)))).outcome s ≡ true → ⊥
+first_tries clock status mem aim index root n link post next s true e f h =
+    let q = concluded_tries clock status mem clock aim index root n link 0 (held_post post index root link) next (told_held index root link n) s (link == 0) refl f (same_number clock) h in
+    let y = q.1 in absurd (grind (arith, nat_tests))
+first_tries clock status mem aim index root n link post next s false e f h = absurd (cc)
+
+again_tries : (clock : ℕ) (status : ℕ → Status) (mem : Place → ℕ) (aim : Aim) (index : ℕ) (root : Root) (n link found : ℕ) (post next : Post) (s : ℕ) (same : Bool) → (found == link || found == 0) ≡ same → (aim ≡ Follows → root ≡ roots.Next (parent_of root))
+    → out_tries clock status next (if same then protected aim index root n found 0 post else goes post [] (Protect aim index root n (ByHazard (PublishLink found)))).outcome s ≡ true
+    → (out_index (if same then protected aim index root n found 0 post else goes post [] (Protect aim index root n (ByHazard (PublishLink found)))).outcome ≡ index) × ((leads found s && (found == link && under status root)) ≡ true)
+again_tries clock status mem aim index root n link found post next s true e f h =
+    let q = concluded_tries clock status mem clock aim index root n found 0 (held_post post index root found) next (told_held index root found n) s (found == 0) refl f (same_number clock) h in
+    (q.0, (let y = q.1 in grind (arith, nat_tests)))
+again_tries clock status mem aim index root n link found post next s false e f h = absurd (cc)
+
 pub trying_none : (clock : ℕ) (status : ℕ → Status) (config : Config) (post : Post) (root : Root) (era : ℕ) (tries : Tries) (s : ℕ) → tries_protect clock status post root (trying config era tries) s ≡ false
 trying_none clock status config post root era Endless s = refl
 trying_none clock status config post root era (Failed count) s = by_more (nat_le config.tries count) where
@@ -110,6 +129,11 @@ protect_tries clock status scheme most mem aim index root n LoadWithin post last
 protect_tries clock status scheme most mem aim index root n (CheckUpper link) post last next s c w f g e h =
     let q = upper_tries (mem Clock) status mem aim index root n link post next s (mem Clock == upper post.span) refl g (rw c at h) in (q.0, inl (rw c (q.1)))
 protect_tries clock status scheme most mem aim index root n (RaiseUpper era) post last next s c w f g e h = absurd (cc)
+protect_tries clock status scheme most mem aim index root n (ByHazard FirstLink) post last next s c w f g e h =
+    absurd (first_tries clock status mem aim index root n (mem (link_place root)) post next s (mem (link_place root) == 0) refl g h)
+protect_tries clock status scheme most mem aim index root n (ByHazard (PublishLink link)) post last next s c w f g e h = absurd (cc)
+protect_tries clock status scheme most mem aim index root n (ByHazard (CheckLink link)) post last next s c w f g e h =
+    let q = again_tries clock status mem aim index root n link (mem (link_place root)) post next s (mem (link_place root) == link || mem (link_place root) == 0) refl g h in (q.0, inr q.1)
 
 -- no try is under way at a start
 pub start_protect : (clock : ℕ) (status : ℕ → Status) (post : Post) (root : Root) (at : ProtectAt) (s : ℕ) → starts_protect at ≡ true → tries_protect clock status post root at s ≡ false
@@ -130,6 +154,7 @@ start_protect clock status post root (WithdrawHelper link era) s h = absurd (cc)
 start_protect clock status post root LoadWithin s h = refl
 start_protect clock status post root (CheckUpper link) s h = absurd (cc)
 start_protect clock status post root (RaiseUpper era) s h = refl
+start_protect clock status post root (ByHazard at) s h = refl
 
 pub start_untried : (clock : ℕ) (status : ℕ → Status) (post : Post) (base : Base) (s : ℕ) → starts_base base ≡ true → tries_base clock status post base s ≡ false
 start_untried clock status post (Begin at) s h = refl
@@ -188,6 +213,7 @@ protect_back clock later old new post root (WithdrawHelper link era) s l m f h =
 protect_back clock later old new post root LoadWithin s l m f h = absurd (cc)
 protect_back clock later old new post root (CheckUpper link) s l m f h = let u : under new root ≡ true = grind (arith, nat_tests) in let k = under_back old new root f u in grind (arith, nat_tests)
 protect_back clock later old new post root (RaiseUpper era) s l m f h = absurd (cc)
+protect_back clock later old new post root (ByHazard at) s l m f h = absurd (cc)
 
 pub tries_back : (clock later : ℕ) (old new : ℕ → Status) (post : Post) (base : Base) (s : ℕ) → clock ≤ later → era_base post base ≤ clock → ((p : ℕ) → follows_row base p ≡ true → in_queue (new p) ≡ true → in_queue (old p) ≡ true) → tries_base later new post base s ≡ true → tries_base clock old post base s ≡ true
 tries_back clock later old new post (Begin at) s l m f h = absurd (cc)
@@ -246,7 +272,7 @@ pub other_tries : (clock : ℕ) (status : ℕ → Status) (base : Base) (post ne
 other_tries clock status (Begin at) post next found s p = begin_tries clock status at post next found s
 other_tries clock status (Protect aim index root steps at) post next found s p = absurd (cc)
 other_tries clock status (Reload parent index slot era steps) post next found s p = tries_if clock status next _ _ s (found == parent + 1) refl refl
-other_tries clock status (Clear index) post next found s p = refl
+other_tries clock status (Clear rows index) post next found s p = refl
 other_tries clock status Finish post next found s p = refl
 other_tries clock status (Release index) post next found s p = refl
 other_tries clock status (Allocate at) post next found s p = allocate_tries clock status at post next found s
@@ -260,14 +286,20 @@ pub tried_quiet : (clock : ℕ) (status : ℕ → Status) (post : Post) (root : 
 tried_quiet clock status post root (PublishEra era tries) s h = absurd (cc)
 tried_quiet clock status post root (TakeAnswer link era) s h = absurd (cc)
 tried_quiet clock status post root (RaiseUpper era) s h = absurd (cc)
+tried_quiet clock status post root (ByHazard at) s h = absurd (cc)
 tried_quiet clock status post root at s h = refl
 
 pub loaded_quiet : (clock : ℕ) (status : ℕ → Status) (mem : Place → ℕ) (post : Post) (root : Root) (at : ProtectAt) (s : ℕ) → loads_link clock status mem post root at s ≡ true → stores_protect at ≡ false
 loaded_quiet clock status mem post root (PublishEra era tries) s h = absurd (cc)
 loaded_quiet clock status mem post root (TakeAnswer link era) s h = absurd (cc)
 loaded_quiet clock status mem post root (RaiseUpper era) s h = absurd (cc)
+loaded_quiet clock status mem post root (ByHazard FirstLink) s h = refl
+loaded_quiet clock status mem post root (ByHazard (PublishLink link)) s h = absurd (cc)
+loaded_quiet clock status mem post root (ByHazard (CheckLink link)) s h = refl
 loaded_quiet clock status mem post root at s h = refl
 
 pub protect_clock : (mem : Place → ℕ) (index : ℕ) (root : Root) (at : ProtectAt) (post : Post) → written mem (protect_move index root at post) Clock ≡ mem Clock
 protect_clock mem index root (LoadClock tries) post = refl
+protect_clock mem index root (ByHazard FirstLink) post = refl
+protect_clock mem index root (ByHazard at) post = refl
 protect_clock mem index root at post = refl

@@ -1,7 +1,7 @@
 -- Where nothing stands, over each step and each beginning of a call.
 use Rattle.std.proofs.Common.{ℕ, ◌+◌, ◌-◌, ◌≡◌, sym, subst, ap, true, false, arith, refl, Bool, Option, Some, None, List, [], ◌∷◌}
 use Rattle.std.proofs.lemmas.Bool.Decides.{nat_tests}
-use Rattle.std.specs.Prelude.{◌==◌, if◌then◌else◌, nat_lt}
+use Rattle.std.specs.Prelude.{◌==◌, ◌||◌, if◌then◌else◌, nat_lt}
 use Rattle.inv_shapes.specs.words.declared.layout.Layout.{Layout}
 use Rattle.inv_shapes.specs.defs.declared.event.Event.{Event}
 use Rattle.inv_shapes.specs.defs.declared.event.Event.TheVariants as events
@@ -9,10 +9,11 @@ use Rattle.inv_shapes.specs.defs.declared.event.Root.{Root}
 use Rattle.inv_shapes.specs.defs.declared.event.Root.TheVariants as roots
 use Rattle.inv_shapes.specs.model.declared.post.Post.{Post}
 use Rattle.inv_shapes.specs.model.Desks.{Desk}
-use Rattle.inv_shapes.specs.model.Guards.{guards, guard_at, eras_in, published}
+use Rattle.inv_shapes.specs.model.Guards.{guards, guard_at, published}
 use Rattle.inv_shapes.specs.model.Posts.{stands, upper, with_row, tag_of, with_tag, reserves_helper}
 use Rattle.inv_shapes.specs.model.Phases.{Aim, Alone, Follows, Base, ProtectAt, Ending, Outcome, Goes, Ends, Turn, goes, ends}
-use Rattle.inv_shapes.specs.model.Phases.ProtectAt.{LoadClock, PublishEra, LoadLink, CheckClock, PublishRequest, LoadOwnClock, PublishHelper, LoadOwnLink, CheckOwnClock, AnswerOwn, LoadAnswer, TakeAnswer, WithdrawRequest, WithdrawHelper, LoadWithin, CheckUpper, RaiseUpper}
+use Rattle.inv_shapes.specs.model.Phases.ProtectAt.{LoadClock, PublishEra, LoadLink, CheckClock, PublishRequest, LoadOwnClock, PublishHelper, LoadOwnLink, CheckOwnClock, AnswerOwn, LoadAnswer, TakeAnswer, WithdrawRequest, WithdrawHelper, LoadWithin, CheckUpper, RaiseUpper, ByHazard}
+use Rattle.inv_shapes.specs.model.Phases.HazardAt.{FirstLink, PublishLink, CheckLink}
 use Rattle.inv_shapes.specs.words.Packed.{read_request}
 use Rattle.inv_shapes.specs.model.SlowPath.{own_request, answer_in, lost_turn}
 use Rattle.inv_shapes.specs.model.Phases.Base.{Begin, Protect, Reload, Clear, Finish, Release, Allocate, Write, GiveUp, Retire, Move}
@@ -25,7 +26,7 @@ use Rattle.inv_shapes.specs.defs.declared.call.Answer.{Answer}
 use Rattle.inv_shapes.specs.model.Calls.{Next, Task, Gets, Changes, Holds, Enqueues, Dequeues, AfterScan, Answered, Repeated, Counted, ScanAt, ReadGuard, GiveBack, Why, Opens, FollowsHead, Fills, ClearsNext, Clears, Finishes, GivesUp, Retires, Tidies, Advances, Releases, LetGo, KeepAt, Keeping, Phase, Idle, Runs, Scans, Works}
 use Rattle.inv_shapes.specs.model.Machine.{after, protect_turn}
 use Rattle.inv_shapes.specs.model.Rounds.{index_of}
-use Rattle.inv_shapes.specs.model.Scan.{Entry, scanned, giving_back, reading, unmet_from, with_kept, with_read, with_back, scan_turn}
+use Rattle.inv_shapes.specs.model.Scan.{Entry, scanned, giving_back, reading, unmet_from, with_kept, with_read, with_back, reads_guard, scan_turn}
 use Rattle.inv_shapes.specs.model.Steps.{resumed, phase_turn}
 use Rattle.inv_rows.specs.Hands.{runs_right, task_fills}
 use Rattle.inv_shapes.specs.Seats.{Run}
@@ -35,6 +36,7 @@ use Rattle.inv_covers.proofs.Rests.{Turned, round_vacant, work_vacant, resume_va
 use Rattle.inv_covers.proofs.Stands.{with_row_apart}
 use Rattle.inv_covers.proofs.Stood.{begin_stood, allocate_stood, write_stood, retire_stood, move_stood}
 use Rattle.inv_shapes.proofs.model.Facts.{no_truth}
+use Rattle.inv_shapes.specs.words.Schemes.{publishes_rows}
 
 -- a scan
 scanned_vacant : (later : AfterScan) (post : Post) (desk : Desk) (told : List Event) → Vacant (vacant_later later) post → Turned (scanned later post desk told)
@@ -52,7 +54,7 @@ reading_vacant later n post desk told false h = back_vacant later post desk told
 
 scan_vacant : (later : AfterScan) (at : ScanAt) (post : Post) (desk : Desk) (found : ℕ) → Vacant (vacant_later later) post → Turned (scan_turn later at post desk found)
 scan_vacant later (ReadGuard n) post desk found h =
-    reading_vacant later n post (with_read desk n (guard_at post.layout.config n, published (guard_at post.layout.config n) found)) (events.Read (guard_at post.layout.config n) (eras_in (guard_at post.layout.config n) found) ∷ []) (nat_lt (n + 1) (guards post.layout.config)) h
+    reading_vacant later n post (with_read desk n (guard_at post.layout.config n, published (publishes_rows post.layout.config.scheme) (guard_at post.layout.config n) found)) (reads_guard (publishes_rows post.layout.config.scheme) (guard_at post.layout.config n) found ∷ []) (nat_lt (n + 1) (guards post.layout.config)) h
 scan_vacant later (GiveBack place slot) post desk found h = back_vacant later post (with_back desk place) (events.Back slot ∷ []) (unmet_from (with_back desk place) place) h
 
 -- what a machine's step leaves
@@ -130,6 +132,9 @@ opens_protect task index root n (WithdrawHelper link era) post found e h = h
 opens_protect task index root n LoadWithin post found e h = h
 opens_protect task index root n (CheckUpper link) post found e h = check_vacant task index root n link found post (Protect Alone index root n (RaiseUpper found)) (found == upper post.span) e h
 opens_protect task index root n (RaiseUpper era) post found e h = h
+opens_protect task index root n (ByHazard FirstLink) post found e h = check_vacant task index root n found 0 post (Protect Alone index root n (ByHazard (PublishLink found))) (found == 0) e h
+opens_protect task index root n (ByHazard (PublishLink link)) post found e h = h
+opens_protect task index root n (ByHazard (CheckLink link)) post found e h = check_vacant task index root n found 0 post (Protect Alone index root n (ByHazard (PublishLink found))) (found == link || found == 0) e h
 
 -- a next link is followed
 deep_within : (j : ℕ) → deep j ≡ true → within j ≡ true
@@ -166,6 +171,9 @@ follow_protect head tail index n (WithdrawHelper link era) post found h = linked
 follow_protect head tail index n LoadWithin post found h = h
 follow_protect head tail index n (CheckUpper link) post found h = next_vacant head tail index n link found post (Protect Follows index (roots.Next head) n (RaiseUpper found)) (found == upper post.span) h
 follow_protect head tail index n (RaiseUpper era) post found h = h
+follow_protect head tail index n (ByHazard FirstLink) post found h = next_vacant head tail index n found 0 post (Protect Follows index (roots.Next head) n (ByHazard (PublishLink found))) (found == 0) h
+follow_protect head tail index n (ByHazard (PublishLink link)) post found h = h
+follow_protect head tail index n (ByHazard (CheckLink link)) post found h = next_vacant head tail index n found 0 post (Protect Follows index (roots.Next head) n (ByHazard (PublishLink found))) (found == link || found == 0) h
 
 row_vacant : (post : Post) (slot : ℕ) → Vacant within post → Vacant deep (with_row post 1 slot)
 row_vacant post slot h j k = none_from (stands (with_row post 1 slot) j) (stands post j) (λ s q. with_row_apart post 1 slot j s (grind (arith, nat_tests)) q) (h j (deep_within j k))
@@ -189,7 +197,7 @@ opens_vacant layout task (Begin at) last post found r h =
 opens_vacant layout task (Protect aim index root steps at) last post found r h =
     subst (λ (a : Aim). Out (Opens task) (protect_turn a index root (bump steps) at post found).post (protect_turn a index root (bump steps) at post found).outcome) (sym r.shape.aimed) (opens_protect task index root (bump steps) at post found r.shape.at h)
 opens_vacant layout task (Reload parent index slot era steps) last post found r h = absurd (no_truth r.suited)
-opens_vacant layout task (Clear index) last post found r h = absurd (no_truth r.suited)
+opens_vacant layout task (Clear rows index) last post found r h = absurd (no_truth r.suited)
 opens_vacant layout task Finish last post found r h = absurd (no_truth r.suited)
 opens_vacant layout task (Release index) last post found r h = absurd (no_truth r.suited)
 opens_vacant layout task (Allocate at) last post found r h = absurd (no_truth r.suited)
@@ -205,7 +213,7 @@ follows_vacant layout head tail (Protect aim index root steps at) last post foun
 follows_vacant layout head tail (Reload parent index slot era steps) last post found r h =
     subst (λ (x : ℕ). Out (FollowsHead head tail) (after (Reload parent x slot era steps) post found).post (after (Reload parent x slot era steps) post found).outcome) (sym r.shape.at) (reload_vacant head tail slot post [] (events.Held 1 slot (bump steps) ∷ []) [] (Followed (follow_ends.Followed slot)) (Followed (follow_ends.RootMoved found)) (found == parent + 1) h refl refl)
 follows_vacant layout head tail (Begin at) last post found r h = absurd (no_truth r.suited)
-follows_vacant layout head tail (Clear index) last post found r h = absurd (no_truth r.suited)
+follows_vacant layout head tail (Clear rows index) last post found r h = absurd (no_truth r.suited)
 follows_vacant layout head tail Finish last post found r h = absurd (no_truth r.suited)
 follows_vacant layout head tail (Release index) last post found r h = absurd (no_truth r.suited)
 follows_vacant layout head tail (Allocate at) last post found r h = absurd (no_truth r.suited)
@@ -226,7 +234,7 @@ fills_vacant : (layout : Layout) (task : Task) (base : Base) (last post : Post) 
 fills_vacant layout task (Begin at) last post found r t h = absurd (no_truth r.suited)
 fills_vacant layout task (Protect aim index root steps at) last post found r t h = absurd (no_truth r.suited)
 fills_vacant layout task (Reload parent index slot era steps) last post found r t h = absurd (no_truth r.suited)
-fills_vacant layout task (Clear index) last post found r t h = absurd (no_truth r.suited)
+fills_vacant layout task (Clear rows index) last post found r t h = absurd (no_truth r.suited)
 fills_vacant layout task Finish last post found r t h = absurd (no_truth r.suited)
 fills_vacant layout task (Release index) last post found r t h = absurd (no_truth r.suited)
 fills_vacant layout task (Allocate at) last post found r t h = out_of (Fills task) within (after (Allocate at) post found).post (after (Allocate at) post found).outcome (λ b j k. k) (λ e j k. filled_within task (Allocate at) t j k) (vacant_same within post (after (Allocate at) post found).post (λ j s k. allocate_stood at found post j s k) h)
@@ -239,7 +247,7 @@ clears_next_vacant : (layout : Layout) (next : Next) (base : Base) (last post : 
 clears_next_vacant layout next (Begin at) last post found r h = absurd (no_truth r.suited)
 clears_next_vacant layout next (Protect aim index root steps at) last post found r h = absurd (no_truth r.suited)
 clears_next_vacant layout next (Reload parent index slot era steps) last post found r h = absurd (no_truth r.suited)
-clears_next_vacant layout next (Clear index) last post found r h = rw r.shape (withdrawn_vacant deep within post 1 (λ j n k. grind (arith, nat_tests)) h)
+clears_next_vacant layout next (Clear rows index) last post found r h = rw r.shape (withdrawn_vacant deep within post 1 (λ j n k. grind (arith, nat_tests)) h)
 clears_next_vacant layout next Finish last post found r h = absurd (no_truth r.suited)
 clears_next_vacant layout next (Release index) last post found r h = absurd (no_truth r.suited)
 clears_next_vacant layout next (Allocate at) last post found r h = absurd (no_truth r.suited)
@@ -252,7 +260,7 @@ clears_vacant : (layout : Layout) (task : Task) (next : Next) (base : Base) (las
 clears_vacant layout task next (Begin at) last post found r h = absurd (no_truth r.suited)
 clears_vacant layout task next (Protect aim index root steps at) last post found r h = absurd (no_truth r.suited)
 clears_vacant layout task next (Reload parent index slot era steps) last post found r h = absurd (no_truth r.suited)
-clears_vacant layout task next (Clear index) last post found r h = rw r.shape (withdrawn_vacant (beside task) (bare task) post (index_of task) (λ j n k. bare_beside task j n k) h)
+clears_vacant layout task next (Clear rows index) last post found r h = rw r.shape (withdrawn_vacant (beside task) (bare task) post (index_of task) (λ j n k. bare_beside task j n k) h)
 clears_vacant layout task next Finish last post found r h = absurd (no_truth r.suited)
 clears_vacant layout task next (Release index) last post found r h = absurd (no_truth r.suited)
 clears_vacant layout task next (Allocate at) last post found r h = absurd (no_truth r.suited)
@@ -265,7 +273,7 @@ finishes_vacant : (layout : Layout) (task : Task) (next : Next) (base : Base) (l
 finishes_vacant layout task next (Begin at) last post found r h = absurd (no_truth r.suited)
 finishes_vacant layout task next (Protect aim index root steps at) last post found r h = absurd (no_truth r.suited)
 finishes_vacant layout task next (Reload parent index slot era steps) last post found r h = absurd (no_truth r.suited)
-finishes_vacant layout task next (Clear index) last post found r h = absurd (no_truth r.suited)
+finishes_vacant layout task next (Clear rows index) last post found r h = absurd (no_truth r.suited)
 finishes_vacant layout task next Finish last post found r h = h
 finishes_vacant layout task next (Release index) last post found r h = absurd (no_truth r.suited)
 finishes_vacant layout task next (Allocate at) last post found r h = absurd (no_truth r.suited)
@@ -278,7 +286,7 @@ gives_up_vacant : (layout : Layout) (answer : Answer) (base : Base) (last post :
 gives_up_vacant layout answer (Begin at) last post found r h = absurd (no_truth r.suited)
 gives_up_vacant layout answer (Protect aim index root steps at) last post found r h = absurd (no_truth r.suited)
 gives_up_vacant layout answer (Reload parent index slot era steps) last post found r h = absurd (no_truth r.suited)
-gives_up_vacant layout answer (Clear index) last post found r h = absurd (no_truth r.suited)
+gives_up_vacant layout answer (Clear rows index) last post found r h = absurd (no_truth r.suited)
 gives_up_vacant layout answer Finish last post found r h = absurd (no_truth r.suited)
 gives_up_vacant layout answer (Release index) last post found r h = absurd (no_truth r.suited)
 gives_up_vacant layout answer (Allocate at) last post found r h = absurd (no_truth r.suited)
@@ -291,7 +299,7 @@ retires_vacant : (layout : Layout) (answer : Answer) (base : Base) (last post : 
 retires_vacant layout answer (Begin at) last post found r h = absurd (no_truth r.suited)
 retires_vacant layout answer (Protect aim index root steps at) last post found r h = absurd (no_truth r.suited)
 retires_vacant layout answer (Reload parent index slot era steps) last post found r h = absurd (no_truth r.suited)
-retires_vacant layout answer (Clear index) last post found r h = absurd (no_truth r.suited)
+retires_vacant layout answer (Clear rows index) last post found r h = absurd (no_truth r.suited)
 retires_vacant layout answer Finish last post found r h = absurd (no_truth r.suited)
 retires_vacant layout answer (Release index) last post found r h = absurd (no_truth r.suited)
 retires_vacant layout answer (Allocate at) last post found r h = absurd (no_truth r.suited)
@@ -304,7 +312,7 @@ tidies_vacant : (layout : Layout) (later : AfterScan) (base : Base) (last post :
 tidies_vacant layout later (Begin at) last post found r h = absurd (no_truth r.suited)
 tidies_vacant layout later (Protect aim index root steps at) last post found r h = absurd (no_truth r.suited)
 tidies_vacant layout later (Reload parent index slot era steps) last post found r h = absurd (no_truth r.suited)
-tidies_vacant layout later (Clear index) last post found r h = absurd (no_truth r.suited)
+tidies_vacant layout later (Clear rows index) last post found r h = absurd (no_truth r.suited)
 tidies_vacant layout later Finish last post found r h = absurd (no_truth r.suited)
 tidies_vacant layout later (Release index) last post found r h = absurd (no_truth r.suited)
 tidies_vacant layout later (Allocate at) last post found r h = absurd (no_truth r.suited)
@@ -317,7 +325,7 @@ advances_vacant : (layout : Layout) (base : Base) (last post : Post) (found : �
 advances_vacant layout (Begin at) last post found r h = absurd (no_truth r.suited)
 advances_vacant layout (Protect aim index root steps at) last post found r h = absurd (no_truth r.suited)
 advances_vacant layout (Reload parent index slot era steps) last post found r h = absurd (no_truth r.suited)
-advances_vacant layout (Clear index) last post found r h = absurd (no_truth r.suited)
+advances_vacant layout (Clear rows index) last post found r h = absurd (no_truth r.suited)
 advances_vacant layout Finish last post found r h = absurd (no_truth r.suited)
 advances_vacant layout (Release index) last post found r h = absurd (no_truth r.suited)
 advances_vacant layout (Allocate at) last post found r h = absurd (no_truth r.suited)
@@ -330,7 +338,7 @@ releases_vacant : (layout : Layout) (let_go : LetGo) (base : Base) (last post : 
 releases_vacant layout let_go (Begin at) last post found r h = absurd (no_truth r.suited)
 releases_vacant layout let_go (Protect aim index root steps at) last post found r h = absurd (no_truth r.suited)
 releases_vacant layout let_go (Reload parent index slot era steps) last post found r h = absurd (no_truth r.suited)
-releases_vacant layout let_go (Clear index) last post found r h = rw r.shape (let_vacant let_go post h)
+releases_vacant layout let_go (Clear rows index) last post found r h = rw r.shape (let_vacant let_go post h)
 releases_vacant layout let_go Finish last post found r h = absurd (no_truth r.suited)
 releases_vacant layout let_go (Release index) last post found r h = rw r.shape (let_vacant let_go post h)
 releases_vacant layout let_go (Allocate at) last post found r h = absurd (no_truth r.suited)

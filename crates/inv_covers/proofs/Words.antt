@@ -8,13 +8,15 @@ use Rattle.inv_shapes.specs.words.declared.config.Config.{Config}
 use Rattle.inv_shapes.specs.words.declared.config.SchemeKind.{SchemeKind}
 use Rattle.inv_shapes.specs.defs.declared.event.Guard.{Guard}
 use Rattle.inv_shapes.specs.defs.declared.event.Root.{Root}
-use Rattle.inv_shapes.specs.defs.Shown.{Shown}
+use Rattle.inv_shapes.specs.defs.declared.shown.Shown.{Shown}
+use Rattle.inv_shapes.specs.defs.Shown as values
 use Rattle.inv_shapes.specs.model.declared.post.Post.{Post}
-use Rattle.inv_shapes.specs.model.Guards.{guard_place, eras_in, published, own_guard}
+use Rattle.inv_shapes.specs.model.Guards.{guard_place, eras_in, linked_row, published, own_guard}
 use Rattle.inv_shapes.specs.model.Memory.{Move as Act, Load, Store, Cas, Or, And, written}
 use Rattle.inv_shapes.specs.model.Phases.{BeginAt, ProtectAt, AllocateAt, RetireAt, MoveAt, Base}
 use Rattle.inv_shapes.specs.model.Phases.BeginAt.{LoadLower, PublishSpan}
-use Rattle.inv_shapes.specs.model.Phases.ProtectAt.{PublishEra, TakeAnswer, RaiseUpper}
+use Rattle.inv_shapes.specs.model.Phases.ProtectAt.{PublishEra, TakeAnswer, RaiseUpper, ByHazard}
+use Rattle.inv_shapes.specs.model.Phases.HazardAt.{FirstLink, PublishLink, CheckLink}
 use Rattle.inv_shapes.specs.model.Phases.AllocateAt.{LoadBirth}
 use Rattle.inv_shapes.specs.model.Phases.RetireAt.{LoadLife}
 use Rattle.inv_shapes.specs.model.Phases.MoveAt.{LoadEra, HandOver}
@@ -30,7 +32,7 @@ use Rattle.inv_shapes.specs.model.Steps.{phase_move, work_move}
 use Rattle.inv_shapes.specs.model.Calls.{ChangeKept, EnqueueKept, ScanAt, ReadGuard, GiveBack, GetAt, FindVersion, ChangeAt, LoadVersion, EnqueueAt, LoadNumber, DequeueAt, LoadTail, KeepAt, Loosens, LoadHeld, StoreHeld, Looks, Misses, HideSpan, MarkLeft, TakeList, MarkTaken, Work, Getting, Changing, Enqueuing, Dequeuing, Keeping, Phase}
 use Rattle.inv_shapes.specs.model.Locals.{move}
 use Rattle.inv_shapes.specs.model.World.{World, step}
-use Rattle.inv_shapes.specs.words.Schemes.{helps}
+use Rattle.inv_shapes.specs.words.Schemes.{helps, publishes_rows}
 use Rattle.inv_shapes.specs.Seats.{move_fits, base_fits}
 use Rattle.inv_covers.specs.Covers.{eras_shown, shown, Widens}
 use Rattle.inv_shapes.proofs.model.Schemes.{each_guard}
@@ -51,10 +53,17 @@ kept_word mem (Or place bits) p h = let e : same p place ≡ false = grind (arit
 kept_word mem (And place bits) p h = let e : same p place ≡ false = grind (arith, nat_tests) in rw e refl
 
 pub shown_kept : (w : World) (i : ℕ) (guard : Guard) → keeps (move (w.seat i)) (guard_place guard) ≡ true → shown (step w i) guard ≡ shown w guard
-shown_kept w i guard h = ap (published guard) (kept_word w.mem (move (w.seat i)) (guard_place guard) h)
+shown_kept w i guard h = ap (published (publishes_rows w.layout.config.scheme) guard) (kept_word w.mem (move (w.seat i)) (guard_place guard) h)
 
 pub eras_kept : (w : World) (i : ℕ) (guard : Guard) → keeps (move (w.seat i)) (guard_place guard) ≡ true → eras_shown (step w i) guard ≡ eras_shown w guard
 eras_kept w i guard h = ap (eras_in guard) (kept_word w.mem (move (w.seat i)) (guard_place guard) h)
+
+-- where no rows are published they are the eras, and else the row
+pub eras_are_shown : (w : World) (guard : Guard) → publishes_rows w.layout.config.scheme ≡ false → shown w guard ≡ values.shown (eras_shown w guard)
+eras_are_shown w guard f = ap (λ (rows : Bool). published rows guard (w.mem (guard_place guard))) f
+
+pub rows_are_shown : (w : World) (guard : Guard) → publishes_rows w.layout.config.scheme ≡ true → shown w guard ≡ values.shown_row (linked_row (w.mem (guard_place guard)))
+rows_are_shown w guard f = ap (λ (rows : Bool). published rows guard (w.mem (guard_place guard))) f
 
 pub move_is : (w : World) (i : ℕ) (phase : Phase) → (w.seat i).phase ≡ phase → move (w.seat i) ≡ phase_move phase (w.seat i).post
 move_is w i phase e = ap (λ (p : Phase). phase_move p (w.seat i).post) e
@@ -70,6 +79,7 @@ abbrev pub stores_protect : ProtectAt → Bool
 stores_protect (PublishEra era tries) = true
 stores_protect (TakeAnswer link era) = true
 stores_protect (RaiseUpper era) = true
+stores_protect (ByHazard (PublishLink link)) = true
 stores_protect at = false
 
 abbrev pub stores_begin : BeginAt → Bool
@@ -79,7 +89,7 @@ stores_begin (PublishSpan era) = true
 abbrev pub stores_guard : Base → Bool
 stores_guard (Begin at) = stores_begin at
 stores_guard (Protect aim index root steps at) = stores_protect at
-stores_guard (Clear index) = true
+stores_guard (Clear rows index) = true
 stores_guard Finish = true
 stores_guard (Release index) = true
 stores_guard base = false
@@ -102,6 +112,9 @@ begin_index k j (PublishSpan era) post e = refl
 protect_index : (k j : ℕ) (index : ℕ) (root : Root) (at : ProtectAt) (post : Post) → (k == post.seat) ≡ false → keeps (protect_move index root at post) (Index k j) ≡ true
 protect_index k j index root (PublishEra era tries) post e = rw e refl
 protect_index k j index root (TakeAnswer link era) post e = rw e refl
+protect_index k j index root (ByHazard FirstLink) post e = refl
+protect_index k j index root (ByHazard (PublishLink link)) post e = rw e refl
+protect_index k j index root (ByHazard (CheckLink link)) post e = refl
 protect_index k j index root at post e = refl
 
 move_index : (k j : ℕ) (scheme : SchemeKind) (seats : ℕ) (at : MoveAt) (post : Post) → helps scheme ≡ false → move_fits scheme seats at ≡ true → keeps (move_move at post) (Index k j) ≡ true
@@ -120,7 +133,7 @@ pub base_index : (k j : ℕ) (config : Config) (base : Base) (post : Post) → h
 base_index k j config (Begin at) post n f e = begin_index k j at post e
 base_index k j config (Protect aim index root steps at) post n f e = protect_index k j index root at post e
 base_index k j config (Reload parent index slot era steps) post n f e = refl
-base_index k j config (Clear index) post n f e = rw e refl
+base_index k j config (Clear rows index) post n f e = rw e refl
 base_index k j config Finish post n f e = refl
 base_index k j config (Release index) post n f e = refl
 base_index k j config (Allocate at) post n f e = allocate_index k j at
@@ -172,6 +185,9 @@ quiet_protect_index : (k j : ℕ) (index : ℕ) (root : Root) (at : ProtectAt) (
 quiet_protect_index k j index root (PublishEra era tries) post e = absurd (cc)
 quiet_protect_index k j index root (TakeAnswer link era) post e = absurd (cc)
 quiet_protect_index k j index root (RaiseUpper era) post e = absurd (cc)
+quiet_protect_index k j index root (ByHazard FirstLink) post e = refl
+quiet_protect_index k j index root (ByHazard (PublishLink link)) post e = absurd (cc)
+quiet_protect_index k j index root (ByHazard (CheckLink link)) post e = refl
 quiet_protect_index k j index root at post e = refl
 
 quiet_base_index : (k j : ℕ) (config : Config) (base : Base) (post : Post) → helps config.scheme ≡ false → base_fits config base ≡ true → stores_guard base ≡ false → keeps (base_move base post) (Index k j) ≡ true
@@ -179,7 +195,7 @@ quiet_base_index k j config (Begin LoadLower) post n f e = refl
 quiet_base_index k j config (Begin (PublishSpan era)) post n f e = absurd (cc)
 quiet_base_index k j config (Protect aim index root steps at) post n f e = quiet_protect_index k j index root at post e
 quiet_base_index k j config (Reload parent index slot era steps) post n f e = refl
-quiet_base_index k j config (Clear index) post n f e = absurd (cc)
+quiet_base_index k j config (Clear rows index) post n f e = absurd (cc)
 quiet_base_index k j config Finish post n f e = absurd (cc)
 quiet_base_index k j config (Release index) post n f e = absurd (cc)
 quiet_base_index k j config (Allocate at) post n f e = allocate_index k j at
@@ -195,6 +211,8 @@ begin_span k (PublishSpan era) post e = rw e refl
 
 protect_span : (k : ℕ) (index : ℕ) (root : Root) (at : ProtectAt) (post : Post) → (k == post.seat) ≡ false → keeps (protect_move index root at post) (Interval k) ≡ true
 protect_span k index root (RaiseUpper era) post e = rw e refl
+protect_span k index root (ByHazard FirstLink) post e = refl
+protect_span k index root (ByHazard at) post e = refl
 protect_span k index root at post e = refl
 
 move_span : (k : ℕ) (scheme : SchemeKind) (seats : ℕ) (at : MoveAt) (post : Post) → helps scheme ≡ false → move_fits scheme seats at ≡ true → keeps (move_move at post) (Interval k) ≡ true
@@ -213,7 +231,7 @@ base_span : (k : ℕ) (config : Config) (base : Base) (post : Post) → helps co
 base_span k config (Begin at) post n f e = begin_span k at post e
 base_span k config (Protect aim index root steps at) post n f e = protect_span k index root at post e
 base_span k config (Reload parent index slot era steps) post n f e = refl
-base_span k config (Clear index) post n f e = refl
+base_span k config (Clear rows index) post n f e = refl
 base_span k config Finish post n f e = rw e refl
 base_span k config (Release index) post n f e = rw e refl
 base_span k config (Allocate at) post n f e = allocate_span k at
@@ -273,6 +291,8 @@ quiet_protect_span : (k : ℕ) (index : ℕ) (root : Root) (at : ProtectAt) (pos
 quiet_protect_span k index root (PublishEra era tries) post e = absurd (cc)
 quiet_protect_span k index root (TakeAnswer link era) post e = absurd (cc)
 quiet_protect_span k index root (RaiseUpper era) post e = absurd (cc)
+quiet_protect_span k index root (ByHazard FirstLink) post e = refl
+quiet_protect_span k index root (ByHazard at) post e = refl
 quiet_protect_span k index root at post e = refl
 
 quiet_base_span : (k : ℕ) (config : Config) (base : Base) (post : Post) → helps config.scheme ≡ false → base_fits config base ≡ true → stores_guard base ≡ false → keeps (base_move base post) (Interval k) ≡ true
@@ -280,7 +300,7 @@ quiet_base_span k config (Begin LoadLower) post n f e = refl
 quiet_base_span k config (Begin (PublishSpan era)) post n f e = absurd (cc)
 quiet_base_span k config (Protect aim index root steps at) post n f e = quiet_protect_span k index root at post e
 quiet_base_span k config (Reload parent index slot era steps) post n f e = refl
-quiet_base_span k config (Clear index) post n f e = absurd (cc)
+quiet_base_span k config (Clear rows index) post n f e = absurd (cc)
 quiet_base_span k config Finish post n f e = absurd (cc)
 quiet_base_span k config (Release index) post n f e = absurd (cc)
 quiet_base_span k config (Allocate at) post n f e = allocate_span k at

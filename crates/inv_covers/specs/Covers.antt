@@ -3,14 +3,15 @@
 use Rattle.std.specs.Prelude.{ℕ, zero, suc, ◌≡◌, ◌<◌, ◌==◌, ◌+◌, ◌*◌, ◌||◌, nat_lt, not, Bool, true, false, List, [], ◌∷◌, Option}
 use Rattle.inv_shapes.specs.words.declared.config.Config.{Config}
 use Rattle.inv_shapes.specs.words.declared.config.SchemeKind.{SchemeKind}
-use Rattle.inv_shapes.specs.words.declared.config.SchemeKind.TheVariants.{He, Ibr, Wfe}
+use Rattle.inv_shapes.specs.words.declared.config.SchemeKind.TheVariants.{He, Hp, Ibr, Wfe}
 use Rattle.inv_shapes.specs.defs.declared.event.Guard.{Guard}
 use Rattle.inv_shapes.specs.defs.declared.event.Guard.TheVariants.{Helper, Index, Whole}
 use Rattle.inv_shapes.specs.defs.declared.lifetime.Interval.{Interval}
 use Rattle.inv_shapes.specs.defs.declared.lifetime.Lifetime.{Lifetime}
-use Rattle.inv_shapes.specs.defs.Shown.{Shown, Seen, keeps, keeps_any}
+use Rattle.inv_shapes.specs.defs.declared.shown.Shown.{Shown}
+use Rattle.inv_shapes.specs.defs.Shown.{Seen, keeps, keeps_any, shown as eras_as, shown_row}
 use Rattle.inv_shapes.specs.model.Desks.{Desk, Report}
-use Rattle.inv_shapes.specs.model.Guards.{guards, guard_at, guard_place, eras_in, published}
+use Rattle.inv_shapes.specs.model.Guards.{guards, guard_at, guard_place, eras_in, linked_row, one_era, published}
 use Rattle.inv_shapes.specs.model.Scan.{read_before}
 use Rattle.inv_shapes.specs.model.Calls.{ScanAt, ReadGuard, GiveBack, Phase, Idle, Runs, Scans, Works}
 use Rattle.inv_shapes.specs.model.World.{World, start, step, begin, finds}
@@ -22,6 +23,7 @@ use Rattle.inv_shapes.specs.defs.declared.call.Call.{Call}
 use Rattle.inv_rows.specs.Rows.{Status, View, RowMove, is_settled}
 use Rattle.inv_rows.specs.Rows.Status.{Sealed, Listed}
 use Rattle.inv_rows.specs.Rows.RowMove.{Stays, Claims, Bears, Drops, Links, Replaces, Appends, Pops, Reads, Seals, Lists, Returns, Adopts}
+use Rattle.inv_shapes.specs.words.Schemes.{publishes_rows}
 
 -- the retire era of a row, once it is loaded, and 0 before
 abbrev pub retired_at : Status → ℕ
@@ -69,18 +71,24 @@ number_by scheme config (Helper seat) = seat
 number_by He config (Index seat index) = seat * config.indexes + index
 number_by Ibr config (Index seat index) = seat * config.indexes + index
 number_by Wfe config (Index seat index) = config.seats + (seat * config.indexes + index)
+number_by Hp config (Index seat index) = seat * config.indexes + index
 number_by scheme config (Whole seat) = seat
 
 abbrev pub number_of : Config → Guard → ℕ
 number_of config guard = number_by config.scheme config guard
 
--- the eras that a guard publishes
+-- the eras that a guard publishes, where it publishes no row
 abbrev pub eras_shown : World → Guard → Option Interval
 eras_shown w guard = eras_in guard (w.mem (guard_place guard))
 
 -- what a guard publishes
 abbrev pub shown : World → Guard → Shown
-shown w guard = published guard (w.mem (guard_place guard))
+shown w guard = published (publishes_rows w.layout.config.scheme) guard (w.mem (guard_place guard))
+
+-- what a guard publishes by a number: an era, or where rows are published a link
+abbrev pub number_shown : (rows : Bool) → ℕ → Shown
+number_shown false era = eras_as (one_era era)
+number_shown true link = shown_row (linked_row link)
 
 -- the guard covers the row
 pub record Covers (w : World) (v : View) (guard : Guard) (slot : ℕ) : Type 0 where

@@ -1,30 +1,33 @@
 -- What guards hold: what stands at an index, and what a try has loaded while its era is still the clock, is covered.
-use Rattle.std.specs.Prelude.{Bool, ℕ, ◌+◌, ◌==◌, true, false, ◌&&◌, Some, ◌≡◌, not, None, ◌≤◌, length, ◌<◌, is_some}
+use Rattle.std.specs.Prelude.{Bool, ℕ, ◌+◌, ◌==◌, true, false, ◌&&◌, Some, ◌≡◌, not, None, ◌≤◌, length, ◌<◌, is_some, nat_le}
 use Rattle.inv_shapes.specs.defs.declared.event.Root.{Root}
 use Rattle.inv_rows.specs.Rows.{Status, View, is_settled}
 use Rattle.inv_rows.specs.Queue.{in_queue}
 use Rattle.inv_shapes.specs.defs.declared.event.Root.TheVariants as roots
-use Rattle.inv_shapes.specs.model.Phases.ProtectAt.{AnswerOwn, CheckClock, CheckOwnClock, CheckUpper, LoadAnswer, LoadClock, LoadLink, LoadOwnClock, LoadOwnLink, LoadWithin, PublishEra, PublishHelper, PublishRequest, RaiseUpper, TakeAnswer, WithdrawHelper, WithdrawRequest}
+use Rattle.inv_shapes.specs.model.Phases.ProtectAt.{AnswerOwn, CheckClock, CheckOwnClock, CheckUpper, LoadAnswer, LoadClock, LoadLink, LoadOwnClock, LoadOwnLink, LoadWithin, PublishEra, PublishHelper, PublishRequest, RaiseUpper, TakeAnswer, WithdrawHelper, WithdrawRequest, ByHazard}
+use Rattle.inv_shapes.specs.model.Phases.HazardAt.{PublishLink, CheckLink}
 use Rattle.inv_shapes.specs.model.declared.post.Post.{Post}
 use Rattle.inv_shapes.specs.model.Phases.{ProtectAt, Base, Follows, Aim, Tries}
 use Rattle.inv_shapes.specs.model.Posts.{upper, stands, tag_of}
 use Rattle.inv_shapes.specs.model.Phases.Base.{Allocate, Begin, Clear, Finish, GiveUp, Move, Protect, Release, Reload, Retire, Write}
-use Rattle.inv_covers.specs.Covers.{Covers, GuardFits, number_of, eras_shown, shown, CoversNeeds, Scanning, takes_or_frees, Widens}
+use Rattle.inv_covers.specs.Covers.{Covers, GuardFits, number_of, number_shown, eras_shown, shown, CoversNeeds, Scanning, takes_or_frees, Widens}
 use Rattle.inv_shapes.specs.defs.declared.event.Guard.{Guard}
 use Rattle.inv_shapes.specs.model.World.{World, step, start, begin, finds}
-use Rattle.inv_shapes.specs.words.Place.Place.{Clock, Row, Tail}
+use Rattle.inv_shapes.specs.words.Place.Place.{Clock, Index as IndexOf, Row as RowOf, Tail}
 use Rattle.inv_shapes.specs.model.Calls.{Runs, Why, LoadHeld, StoreHeld, Keeping, Works}
-use Rattle.inv_shapes.specs.model.Guards.{own_guard, from_to, one_era}
+use Rattle.inv_shapes.specs.model.Guards.{own_guard, from_to}
 use Rattle.inv_shapes.specs.model.Links.{parent_of, link_place}
 use Rattle.inv_shapes.specs.defs.declared.event.Guard.TheVariants.{Index, Whole, Helper}
 use Rattle.inv_shapes.specs.Seats.{base_fits}
 use Rattle.inv_rows.specs.Agree.{Agree, rows_after}
 use Rattle.inv_rows.specs.Rows.Status.{InQueue}
-use Rattle.inv_shapes.specs.words.Schemes.{has_one_interval, helps}
+use Rattle.inv_shapes.specs.words.Schemes.{has_one_interval, helps, publishes_rows}
 use Rattle.inv_shapes.specs.words.declared.layout.Layout.{Layout}
 use Rattle.inv_shapes.specs.defs.declared.call.Call.{Call}
 use Rattle.inv_rows.specs.Hands.{row_move}
 use Rattle.inv_shapes.specs.words.declared.config.Config.{Config}
+use Rattle.inv_shapes.specs.defs.declared.shown.Shown.{Shown}
+use Rattle.inv_shapes.specs.defs.declared.shown.Shown.TheVariants.{Nothing, Eras, Row}
 
 -- the link leads to the row
 abbrev pub leads : ℕ → ℕ → Bool
@@ -56,6 +59,7 @@ tries_protect clock status post root (WithdrawHelper link era) s = leads link s 
 tries_protect clock status post root LoadWithin s = false
 tries_protect clock status post root (CheckUpper link) s = leads link s && (clock == upper post.span && under status root)
 tries_protect clock status post root (RaiseUpper era) s = false
+tries_protect clock status post root (ByHazard at) s = false
 
 -- the same, or the row was protected and the head is to be loaded again
 abbrev pub tries_base : ℕ → (ℕ → Status) → Post → Base → ℕ → Bool
@@ -69,7 +73,7 @@ abbrev pub index_base : Base → ℕ
 index_base (Begin at) = 0
 index_base (Protect aim index root steps at) = index
 index_base (Reload parent index slot era steps) = index
-index_base (Clear index) = index
+index_base (Clear rows index) = index
 index_base Finish = 0
 index_base (Release index) = 0
 index_base (Allocate at) = 0
@@ -101,7 +105,7 @@ abbrev pub follows_row : Base → ℕ → Bool
 follows_row (Begin at) row = false
 follows_row (Protect aim index root steps at) row = follows_root root row
 follows_row (Reload parent index slot era steps) row = parent == row
-follows_row (Clear index) row = false
+follows_row (Clear rows index) row = false
 follows_row Finish row = false
 follows_row (Release index) row = false
 follows_row (Allocate at) row = false
@@ -117,11 +121,12 @@ abbrev pub era_base : Post → Base → ℕ
 era_base post (Protect aim index root steps at) = era_protect post at
 era_base post base = 0
 
--- where the next step takes from what a guard publishes nothing stands: where an era is published or an answer taken, at
--- that index; where an interval is finished, anywhere; where what stands at an index is released, anywhere but there
+-- where the next step takes from what a guard publishes nothing stands: where an era or a link is published or an answer
+-- taken, at that index; where an interval is finished, anywhere; where what stands at an index is released, anywhere but there
 abbrev pub rests_protect : ℕ → ProtectAt → ℕ → Bool
 rests_protect index (PublishEra era tries) j = j == index
 rests_protect index (TakeAnswer link era) j = j == index
+rests_protect index (ByHazard (PublishLink link)) j = j == index
 rests_protect index at j = false
 
 abbrev pub rests_base : Base → ℕ → Bool
@@ -154,6 +159,9 @@ pub record BaseNeeds (w : World) (i : ℕ) (base : Base) : Type 0 where
   -- in a try the index word has the try's era
   pub published : (aim : Aim) (index : ℕ) (root : Root) (steps era : ℕ) (tries : Tries) → base ≡ Protect aim index root steps (LoadLink era tries)
       → eras_shown w (Index i index) ≡ from_to era era
+  -- a link that is loaded again is in the index word
+  pub links : (aim : Aim) (index : ℕ) (root : Root) (steps link : ℕ) → base ≡ Protect aim index root steps (ByHazard (CheckLink link))
+      → w.mem (IndexOf i index) ≡ link
 
 -- what a step of a copy needs of the other parts, of the seat that steps: a row stands at the first index, and the second is
 -- a higher one of the seat's
@@ -163,11 +171,12 @@ pub record CopyNeeds (w : World) (i from index : ℕ) : Type 0 where
   pub guard : GuardFits w.layout.config (own_guard w.layout.config.scheme i index)
   pub room : index < length (w.seat i).post.standing
 
--- the second step: the era is the one that the first index publishes, and the tag of the second has 32 bits
+-- the second step: the era, or the link, is the one that the first index publishes; and where it is an era the tag of the second has
+-- 32 bits
 pub record StoreNeeds (w : World) (i from index era : ℕ) : Type 0 where
   pub copy : CopyNeeds w i from index
-  pub shows : eras_shown w (Index i from) ≡ one_era era
-  pub tag : tag_of (w.seat i).post index < 4294967295
+  pub shows : shown w (Index i from) ≡ number_shown (publishes_rows w.layout.config.scheme) era
+  pub tag : publishes_rows w.layout.config.scheme ≡ false → tag_of (w.seat i).post index < 4294967295
 
 -- what is needed of the other parts where a link is loaded: what is known of the rows; births are at most the clock; the
 -- tail's row is in the queue, and so is the row after one that is
@@ -175,16 +184,21 @@ pub record RootsNeeds (w : World) (v : View) : Type 0 where
   pub rows : Agree w v
   pub births : (s : ℕ) → is_settled (v.status s) ≡ true → v.birth s ≤ w.mem Clock
   pub tail : (s : ℕ) → w.mem Tail ≡ s + 1 → v.status s ≡ InQueue
-  pub nexts : (p s : ℕ) → v.status p ≡ InQueue → w.mem (Row p 0) ≡ s + 1 → v.status s ≡ InQueue
+  pub nexts : (p s : ℕ) → v.status p ≡ InQueue → w.mem (RowOf p 0) ≡ s + 1 → v.status s ≡ InQueue
 
--- the row of a link that is loaded is covered by each guard that publishes an interval up to the clock, where the link is
--- a root, or the next link of a row that is still in the queue
+-- what is published reaches a row that is linked at this clock: eras up to it, or that row
+abbrev pub reaches : (clock slot : ℕ) → Shown → Bool
+reaches clock slot Nothing = false
+reaches clock slot (Eras span) = nat_le clock span.hi
+reaches clock slot (Row row) = slot == row
+
+-- the row of a link that is loaded is covered by each guard that publishes an interval up to the clock, or the row, where the
+-- link is a root, or the next link of a row that is still in the queue
 abbrev pub LoadsCover : Type 0
 LoadsCover =
-    (w : World) (v : View) (guard : Guard) (root : Root) (lo hi slot : ℕ)
+    (w : World) (v : View) (guard : Guard) (root : Root) (slot : ℕ)
     → RootsNeeds w v
-    → eras_shown w guard ≡ from_to lo hi
-    → w.mem Clock ≤ hi
+    → reaches (w.mem Clock) slot (shown w guard) ≡ true
     → w.mem (link_place root) ≡ slot + 1
     → under v.status root ≡ true
     → Covers w v guard slot
@@ -210,7 +224,7 @@ pub record HeldNeeds (w : World) (i : ℕ) (v : View) : Type 0 where
   pub parents : (k : ℕ) (why : Why) (base : Base) (p : ℕ) → (w.seat k).phase ≡ Runs why base → follows_row base p ≡ true
       → stands (w.seat k).post 0 ≡ Some p
 
--- under Hazard Eras and 2GE what guards hold stays held over each step
+-- where no seat helps another what guards hold stays held over each step
 abbrev pub HeldKept : Type 0
 HeldKept =
     (w : World) (i : ℕ) (v : View)

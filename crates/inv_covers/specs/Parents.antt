@@ -54,7 +54,7 @@ ParentsStart = (layout : Layout) → Parents (start layout)
 abbrev pub ParentsBegin : Type 0
 ParentsBegin = (w : World) (i : ℕ) (call : Call) → Parents w → Parents (begin w i call)
 
--- under Hazard Eras and 2GE
+-- where no seat helps another
 abbrev pub ParentsKept : Type 0
 ParentsKept = (w : World) (i : ℕ) → helps w.layout.config.scheme ≡ false → ParentsNeeds w i → Parents w → Parents (step w i)
 

@@ -3,7 +3,8 @@ use Rattle.std.specs.Prelude.{ℕ, ◌≡◌, Bool, true, false, not, Some}
 use Rattle.inv_shapes.specs.model.declared.post.Post.{Post}
 use Rattle.inv_shapes.specs.model.Posts.{stands}
 use Rattle.inv_shapes.specs.model.Phases.{ProtectAt, MoveAt, Base}
-use Rattle.inv_shapes.specs.model.Phases.ProtectAt.{LoadClock, PublishEra, LoadLink, CheckClock, PublishRequest, LoadOwnClock, PublishHelper, LoadOwnLink, CheckOwnClock, AnswerOwn, LoadAnswer, TakeAnswer, WithdrawRequest, WithdrawHelper, LoadWithin, CheckUpper, RaiseUpper}
+use Rattle.inv_shapes.specs.model.Phases.ProtectAt.{LoadClock, PublishEra, LoadLink, CheckClock, PublishRequest, LoadOwnClock, PublishHelper, LoadOwnLink, CheckOwnClock, AnswerOwn, LoadAnswer, TakeAnswer, WithdrawRequest, WithdrawHelper, LoadWithin, CheckUpper, RaiseUpper, ByHazard}
+use Rattle.inv_shapes.specs.model.Phases.HazardAt.{FirstLink, PublishLink, CheckLink}
 use Rattle.inv_shapes.specs.model.Phases.MoveAt.{LoadEra, LoadRequest, ShowEra, LoadAsked, CheckEra, AnswerAsked, LoadReserved, HandOver}
 use Rattle.inv_shapes.specs.model.Phases.Base.{Begin, Protect, Reload, Clear, Finish, Release, Allocate, Write, GiveUp, Retire, Move}
 use Rattle.inv_shapes.specs.model.Calls.{LoadHeld, StoreHeld, Work, Keeping, Phase, Idle, Runs, Scans, Works, CallTurn}
@@ -29,6 +30,9 @@ starts_protect (WithdrawHelper link era) = false
 starts_protect LoadWithin = true
 starts_protect (CheckUpper link) = false
 starts_protect (RaiseUpper era) = true
+starts_protect (ByHazard FirstLink) = true
+starts_protect (ByHazard (PublishLink link)) = false
+starts_protect (ByHazard (CheckLink link)) = false
 
 abbrev pub starts_move : MoveAt → Bool
 starts_move (LoadEra helps) = true
@@ -45,7 +49,7 @@ abbrev pub starts_base : Base → Bool
 starts_base (Begin at) = true
 starts_base (Protect aim index root steps at) = starts_protect at
 starts_base (Reload parent index slot era steps) = false
-starts_base (Clear index) = true
+starts_base (Clear rows index) = true
 starts_base Finish = true
 starts_base (Release index) = true
 starts_base (Allocate at) = true

@@ -27,7 +27,7 @@ pub fn scans_give_back_unmet()
     ensures step { ScansKept }
 {}
 
-/// Under Hazard Eras and 2GE what stands at an index of a seat is covered by the guard of that index,
+/// Where no seat helps another, what stands at an index of a seat is covered by the guard of that index,
 /// and so is what a try has loaded while its era is the clock: from the start on, and over every step
 /// and every call that begins.
 pub fn rows_are_held()
@@ -63,7 +63,7 @@ pub fn guards_rest()
     ensures spans { SpansRest }
 {}
 
-/// Under Hazard Eras and 2GE the row whose next link is followed stands at index 0, from the start on,
+/// Where no seat helps another, the row whose next link is followed stands at index 0, from the start on,
 /// and over every step and every call that begins.
 pub fn followed_rows_stand()
     ensures start { ParentsStart }
@@ -73,7 +73,8 @@ pub fn followed_rows_stand()
 {}
 
 /// The row of a link that is loaded is covered by each guard that publishes an interval up to the
-/// clock, under every scheme: where the link is a root, or the next link of a row in the queue.
+/// clock, or that row, under every scheme: where the link is a root, or the next link of a row in the
+/// queue.
 pub fn loads_cover()
     ensures { LoadsCover }
 {}

@@ -60,7 +60,7 @@ abbrev pub helper_holds : Layout → ℕ → (ℕ → Status) → (ℕ → Deal)
 helper_holds layout clock status deal (Begin at) s = false
 helper_holds layout clock status deal (Protect aim index root steps at) s = turn_holds clock status root at s
 helper_holds layout clock status deal (Reload parent index slot era steps) s = false
-helper_holds layout clock status deal (Clear index) s = false
+helper_holds layout clock status deal (Clear rows index) s = false
 helper_holds layout clock status deal Finish s = false
 helper_holds layout clock status deal (Release index) s = false
 helper_holds layout clock status deal (Allocate at) s = false

@@ -2,7 +2,8 @@
 use Rattle.std.specs.Prelude.{Bool, false, true, ℕ, ◌==◌, ◌&&◌, ◌+◌, ◌≡◌, ◌≤◌, ◌<◌, Option, Some, None}
 use Rattle.inv_covers.specs.defs.declared.event.Root.{Root}
 use Rattle.inv_covers.specs.defs.declared.event.Root.TheVariants as roots
-use Rattle.inv_covers.specs.model.Phases.ProtectAt.{CheckClock, CheckUpper, TakeAnswer}
+use Rattle.inv_covers.specs.model.Phases.ProtectAt.{CheckClock, CheckUpper, TakeAnswer, ByHazard}
+use Rattle.inv_covers.specs.model.Phases.HazardAt.{CheckLink}
 use Rattle.inv_covers.specs.model.declared.post.Post.{Post}
 use Rattle.inv_covers.specs.model.Phases.{ProtectAt, Base}
 use Rattle.inv_covers.specs.Held.{leads, Held, Holds}
@@ -30,12 +31,13 @@ is_end roots.Head = true
 is_end roots.Tail = true
 is_end (roots.Next parent) = false
 
--- a step that found this makes a row stand: it concludes a try whose era is the clock, takes an answer, or finds the head
--- where it was
+-- a step that found this makes a row stand: it concludes a try whose era is the clock, takes an answer, finds the link again that is
+-- published, or finds the head where it was
 abbrev pub holds_at : Post → Root → ProtectAt → ℕ → ℕ → Bool
 holds_at post root (CheckClock era tries link) found s = (found == era) && (is_end root && leads link s)
 holds_at post root (TakeAnswer link era) found s = is_end root && leads link s
 holds_at post root (CheckUpper link) found s = (found == upper post.span) && (is_end root && leads link s)
+holds_at post root (ByHazard (CheckLink link)) found s = (found == link) && (is_end root && leads link s)
 holds_at post root at found s = false
 
 abbrev pub holds_base : Post → Base → ℕ → ℕ → ℕ → Bool

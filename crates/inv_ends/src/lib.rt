@@ -49,7 +49,7 @@ pub fn births_are_told()
 {}
 
 /// A step tells Null exactly where the link is null by which it concludes a protection: the link of
-/// a try whose era is the clock, or that of the answer.
+/// a try whose era is the clock, that of the answer, or one that hazard pointers load.
 pub fn nulls_are_told()
     ensures { NullTold }
 {}

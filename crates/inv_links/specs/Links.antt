@@ -99,7 +99,13 @@ pub record LinksShow (w : World) (i : ℕ) (v : View) (l : Line) : Type 0 where
   pub heads : (task : Task) (aim : Aim) (index : ℕ) (root : Root) (steps : ℕ) (at : ProtectAt) (link era s : ℕ) → (w.seat i).phase ≡ Runs (Opens task) (Protect aim index root steps at) → at_asks at ≡ true → read_request (finds w i) ≡ Some (requests.Answered link era) → link ≡ s + 1 → is_head root ≡ true → FromHead (queue_of v) l v.head s
 
 abbrev pub LinksGive : Type 0
-LinksGive = (w : World) (i : ℕ) (v : View) (l : Line) (z : Asking) → OriginsNeeds w i z → Links w v l z → LinksShow w i v l
+LinksGive =
+    (w : World) (i : ℕ) (v : View) (l : Line) (z : Asking)
+    → OriginsNeeds w i z
+    → Both w v l
+    → ((s b : ℕ) → v.status s ≡ Linked b → (w.book.row s).root ≡ roots.Bucket b)
+    → Links w v l z
+    → LinksShow w i v l
 
 -- a try of the seat has loaded a link to the row
 pub record Tried (w : World) (v : View) (k s : ℕ) : Type 0 where
@@ -108,7 +114,7 @@ pub record Tried (w : World) (v : View) (k s : ℕ) : Type 0 where
   pub is : (w.seat k).phase ≡ Runs why base
   pub tries : tries_base (w.mem Clock) v.status (w.seat k).post base s ≡ true
 
--- under Hazard Eras and 2GE only tries load links, and a guard holds the row of each
+-- where no seat helps another only tries load links, and a guard holds the row of each
 abbrev pub TrackedTried : Type 0
 TrackedTried =
     (w : World) (k s : ℕ) (v : View) (z : Asking)

@@ -1,5 +1,5 @@
 -- What was true of a root and a link when the link was loaded stays true of them as long as the link is tracked.
-use Rattle.std.specs.Prelude.{ℕ, ◌≡◌, ◌<◌, ◌+◌, ◌==◌, ◌&&◌, Bool, true, false, Option, Some, None}
+use Rattle.std.specs.Prelude.{ℕ, ◌≡◌, ◌<◌, ◌+◌, ◌==◌, ◌&&◌, ◌||◌, Bool, true, false, [], Option, Some, None}
 use Rattle.inv_covers.specs.words.Place.{is_valid}
 use Rattle.inv_covers.specs.words.Packed.{read_request}
 use Rattle.inv_covers.specs.words.declared.layout.Layout.{Layout}
@@ -13,11 +13,12 @@ use Rattle.inv_covers.specs.model.Machine.{after}
 use Rattle.inv_covers.specs.model.declared.post.Post.{Post}
 use Rattle.inv_covers.specs.model.Posts.{counted, upper}
 use Rattle.inv_covers.specs.model.Phases.{Aim, ProtectAt, MoveAt, Base, Ending, Ends, Followed, Protected}
-use Rattle.inv_covers.specs.model.Phases.ProtectAt.{LoadClock, PublishEra, LoadLink, CheckClock, PublishRequest, LoadOwnClock, PublishHelper, LoadOwnLink, CheckOwnClock, AnswerOwn, LoadAnswer, TakeAnswer, WithdrawRequest, WithdrawHelper, LoadWithin, CheckUpper, RaiseUpper}
+use Rattle.inv_covers.specs.model.Phases.ProtectAt.{LoadClock, PublishEra, LoadLink, CheckClock, PublishRequest, LoadOwnClock, PublishHelper, LoadOwnLink, CheckOwnClock, AnswerOwn, LoadAnswer, TakeAnswer, WithdrawRequest, WithdrawHelper, LoadWithin, CheckUpper, RaiseUpper, ByHazard}
+use Rattle.inv_covers.specs.model.Phases.HazardAt.{FirstLink, PublishLink, CheckLink}
 use Rattle.inv_covers.specs.model.Phases.MoveAt.{LoadEra, LoadRequest, ShowEra, LoadAsked}
 use Rattle.inv_covers.specs.model.Phases.Base.{Begin, Protect, Reload, Clear, Finish, Release, Allocate, Write, GiveUp, Retire, Move}
 use Rattle.inv_covers.specs.model.Calls.{Why, Phase, Idle, Runs, Scans, Works}
-use Rattle.inv_covers.specs.model.World.{World, start, begin, step, is_busy, finds}
+use Rattle.inv_covers.specs.model.World.{World, start, begin, step, is_busy, finds, told_in}
 use Rattle.inv_covers.specs.shapes.Eras.{Eras}
 use Rattle.inv_covers.specs.shapes.Seats.{Seats, root_by}
 use Rattle.inv_requests.specs.Needs.{Needs}
@@ -28,7 +29,7 @@ use Rattle.inv_requests.specs.Views.Deal.{Quiet}
 use Rattle.inv_covers.specs.rows.Follow.{at_asks}
 use Rattle.inv_links.specs.Tracked.{root_in, Tracked}
 
--- the step loads a link, for the own protection or for the request of another seat
+-- the step loads a link, for the own protection or for the request of another seat, and may carry it from there on
 abbrev pub loads_at : ProtectAt → Bool
 loads_at (LoadClock tries) = false
 loads_at (PublishEra era tries) = false
@@ -47,6 +48,9 @@ loads_at (WithdrawHelper link era) = false
 loads_at LoadWithin = true
 loads_at (CheckUpper link) = false
 loads_at (RaiseUpper era) = false
+loads_at (ByHazard FirstLink) = false
+loads_at (ByHazard (PublishLink link)) = false
+loads_at (ByHazard (CheckLink link)) = true
 
 abbrev pub loads_asked : MoveAt → Bool
 loads_asked (LoadEra helps) = false
@@ -59,7 +63,7 @@ abbrev pub loads_base : Base → Bool
 loads_base (Begin at) = false
 loads_base (Protect aim index root steps at) = loads_at at
 loads_base (Reload parent index slot era steps) = false
-loads_base (Clear index) = false
+loads_base (Clear rows index) = false
 loads_base Finish = false
 loads_base (Release index) = false
 loads_base (Allocate at) = false
@@ -83,11 +87,11 @@ pub record OriginsNeeds (w : World) (i : ℕ) (z : View) : Type 0 where
   pub needs : Needs w
   pub requests : Requests w z
 
--- where a link that is tracked for seat k after a step of seat i comes from: it was tracked before, or the step loads it;
--- and the protection's root is the same
+-- where a link that is tracked for seat k after a step of seat i comes from: it was tracked before, or the step loads it, and
+-- tells nothing; and the protection's root is the same
 pub data Came (w : World) (i : ℕ) (z : View) (k link : ℕ) : Type 0 where
   Before : root_in (step w i) k ≡ root_in w k → Tracked w z k link → Came w i z k link
-  Now : root_in (step w i) k ≡ root_in w k → loads_link (w.seat i).phase ≡ true → w.mem (link_place (root_in w k)) ≡ link → Came w i z k link
+  Now : root_in (step w i) k ≡ root_in w k → loads_link (w.seat i).phase ≡ true → told_in w i ≡ [] → w.mem (link_place (root_in w k)) ≡ link → Came w i z k link
 
 abbrev pub TrackedCame : Type 0
 TrackedCame =
@@ -101,9 +105,9 @@ TrackedCame =
 pub record Origins (good : ℕ → Root → ℕ → Bool) (w : World) (z : View) : Type 0 where
   pub tracked : (k link : ℕ) → Tracked w z k link → good k (root_in w k) link ≡ true
 
--- what is in a root that a step loads is good, and what is tracked stays good over the step
+-- what is in a root that a step loads is good, where it tells nothing, and what is tracked stays good over the step
 pub record Stays (good after : ℕ → Root → ℕ → Bool) (w : World) (i : ℕ) (z : View) : Type 0 where
-  pub fresh : (k : ℕ) → loads_link (w.seat i).phase ≡ true → after k (root_in w k) (w.mem (link_place (root_in w k))) ≡ true
+  pub fresh : (k : ℕ) → loads_link (w.seat i).phase ≡ true → told_in w i ≡ [] → after k (root_in w k) (w.mem (link_place (root_in w k))) ≡ true
   pub stays : (k link : ℕ) → Tracked w z k link → good k (root_in w k) link ≡ true → after k (root_in w k) link ≡ true
 
 abbrev pub OriginsKept : Type 0
@@ -143,6 +147,8 @@ abbrev pub ends_at : Post → ProtectAt → (found x : ℕ) → Bool
 ends_at post (CheckClock era tries link) found x = (found == era) && (link == x)
 ends_at post (WithdrawHelper link era) found x = link == x
 ends_at post (CheckUpper link) found x = (found == upper post.span) && (link == x)
+ends_at post (ByHazard FirstLink) found x = (found == 0) && (found == x)
+ends_at post (ByHazard (CheckLink link)) found x = (found == link || found == 0) && (found == x)
 ends_at post at found x = false
 
 abbrev pub ends_base : Post → Base → (found x : ℕ) → Bool
@@ -156,14 +162,29 @@ EndsWith =
     → link_of ending ≡ Some link
     → ends_base post base found link ≡ true
 
--- that link was tracked
-abbrev pub EndTracked : Type 0
-EndTracked =
+-- that link was tracked, or its root leads to it in this very step
+pub data Ended (w : World) (i : ℕ) (z : View) (link : ℕ) : Type 0 where
+  HadBefore : Tracked w z i link → Ended w i z link
+  LoadedNow : w.mem (link_place (root_in w i)) ≡ link → Ended w i z link
+
+abbrev pub EndComes : Type 0
+EndComes =
     (w : World) (i : ℕ) (z : View) (why : Why) (base : Base) (ending : Ending) (link : ℕ)
     → (w.seat i).phase ≡ Runs why base
     → (after base (counted (w.seat i).post) (finds w i)).outcome ≡ Ends ending
     → link_of ending ≡ Some link
-    → Tracked w z i link
+    → Ended w i z link
+
+-- so it is good where what is tracked is, and what the root leads to
+abbrev pub EndGood : Type 0
+EndGood =
+    (good : ℕ → Root → ℕ → Bool) (w : World) (i : ℕ) (z : View) (why : Why) (base : Base) (ending : Ending) (link : ℕ)
+    → Origins good w z
+    → good i (root_in w i) (w.mem (link_place (root_in w i))) ≡ true
+    → (w.seat i).phase ≡ Runs why base
+    → (after base (counted (w.seat i).post) (finds w i)).outcome ≡ Ends ending
+    → link_of ending ≡ Some link
+    → good i (root_in w i) link ≡ true
 
 -- and it is one of the root that its call is after
 abbrev pub EndRoot : Type 0

@@ -8,7 +8,7 @@ use Rattle.inv_covers.specs.defs.declared.event.Root.TheVariants as roots
 use Rattle.inv_covers.specs.model.Links.{link_number}
 use Rattle.inv_covers.specs.model.Posts.{upper}
 use Rattle.inv_covers.specs.model.Phases.{ProtectAt, MoveAt, Base}
-use Rattle.inv_covers.specs.model.Phases.ProtectAt.{LoadClock, PublishEra, LoadLink, CheckClock, PublishRequest, LoadOwnClock, PublishHelper, LoadOwnLink, CheckOwnClock, AnswerOwn, LoadAnswer, TakeAnswer, WithdrawRequest, WithdrawHelper, LoadWithin, CheckUpper, RaiseUpper}
+use Rattle.inv_covers.specs.model.Phases.ProtectAt.{LoadClock, PublishEra, LoadLink, CheckClock, PublishRequest, LoadOwnClock, PublishHelper, LoadOwnLink, CheckOwnClock, AnswerOwn, LoadAnswer, TakeAnswer, WithdrawRequest, WithdrawHelper, LoadWithin, CheckUpper, RaiseUpper, ByHazard}
 use Rattle.inv_covers.specs.model.Phases.MoveAt.{LoadEra, LoadRequest, ShowEra, LoadAsked, CheckEra, AnswerAsked, LoadReserved, HandOver, HideEra, HideLate, ExchangeClock}
 use Rattle.inv_covers.specs.model.Phases.Base.{Begin, Protect, Reload, Clear, Finish, Release, Allocate, Write, GiveUp, Retire, Move}
 use Rattle.inv_covers.specs.model.Calls.{Phase, Idle, Runs, Scans, Works}
@@ -17,7 +17,7 @@ use Rattle.inv_requests.specs.Views.{View, Deal}
 use Rattle.inv_requests.specs.Views.Deal.{Quiet, Open, Answered, Passed, Taken}
 
 -- the protection carries the link x: it was loaded, and its era is still the clock, or it is an answer's. `upto` is the
--- upper end of the seat's interval
+-- upper end of the seat's interval. A link that is to be loaded again may not be the root's any more: it is not carried
 abbrev pub carries_at : ℕ → ℕ → ProtectAt → ℕ → Bool
 carries_at clock upto (LoadClock tries) x = false
 carries_at clock upto (PublishEra era tries) x = false
@@ -36,6 +36,7 @@ carries_at clock upto (WithdrawHelper link era) x = link == x
 carries_at clock upto LoadWithin x = false
 carries_at clock upto (CheckUpper link) x = link == x && clock == upto
 carries_at clock upto (RaiseUpper era) x = false
+carries_at clock upto (ByHazard at) x = false
 
 -- a followed link is carried until the head is loaded again
 abbrev pub carries_base : ℕ → ℕ → Base → ℕ → Bool
@@ -87,7 +88,7 @@ abbrev pub helps_base : Layout → ℕ → ℕ → Base → Deal → ℕ → Boo
 helps_base layout clock k (Begin at) d x = false
 helps_base layout clock k (Protect aim index root steps at) d x = false
 helps_base layout clock k (Reload parent index slot era steps) d x = false
-helps_base layout clock k (Clear index) d x = false
+helps_base layout clock k (Clear rows index) d x = false
 helps_base layout clock k Finish d x = false
 helps_base layout clock k (Release index) d x = false
 helps_base layout clock k (Allocate at) d x = false
@@ -107,7 +108,7 @@ abbrev pub root_base : Base → Root
 root_base (Begin at) = roots.Head
 root_base (Protect aim index root steps at) = root
 root_base (Reload parent index slot era steps) = roots.Next parent
-root_base (Clear index) = roots.Head
+root_base (Clear rows index) = roots.Head
 root_base Finish = roots.Head
 root_base (Release index) = roots.Head
 root_base (Allocate at) = roots.Head

@@ -3,7 +3,7 @@
 #![tactic(auto)]
 
 ghost use Rattle.inv_links.specs.Links.{HeldLinksStay, LinksBegin, LinksGive, LinksKept, LinksStart, TrackedTried};
-ghost use Rattle.inv_links.specs.Origins.{AnswerTracked, EndRoot, EndTracked, EndsWith, OriginsBegin, OriginsKept, OriginsStart, TrackedCame};
+ghost use Rattle.inv_links.specs.Origins.{AnswerTracked, EndComes, EndGood, EndRoot, EndsWith, OriginsBegin, OriginsKept, OriginsStart, TrackedCame};
 
 /// A link that is tracked for a seat after a step was tracked before, for the same root, or the step
 /// loads it from that root. Tracked are the links that the seat's protection carries while their era
@@ -21,11 +21,13 @@ pub fn origins_hold()
     ensures step { OriginsKept }
 {}
 
-/// A protection ends where it has checked a link, and that link was tracked, for the root that its
-/// call is after: to the row that it holds, or null. And the answer that a seat finds in its request is a link that was tracked.
+/// A protection ends where it has checked a link, and that link was tracked, or is the one that its
+/// root leads to now: it is of the root that its call is after, and leads to the row that it holds, or
+/// is null. And the answer that a seat finds in its request is a link that was tracked.
 pub fn ends_are_tracked()
     ensures ends { EndsWith }
-    ensures tracked { EndTracked }
+    ensures comes { EndComes }
+    ensures good { EndGood }
     ensures root { EndRoot }
     ensures answers { AnswerTracked }
 {}
@@ -45,7 +47,7 @@ pub fn links_give()
     ensures { LinksGive }
 {}
 
-/// Under Hazard Eras and 2GE each link that is tracked was loaded by a try of its seat, whose guard
+/// Where no seat helps another, each link that is tracked was loaded by a try of its seat, whose guard
 /// holds the row: so no step takes or frees it.
 pub fn held_links_stay()
     ensures tried { TrackedTried }

@@ -2,6 +2,7 @@
 use Rattle.std.proofs.Common.{ℕ, ◌≡◌, ◌<◌, ◌+◌, ◌^◌, Bool, true, false, List, [], arith, refl, sym, ap, subst, ◌∙◌}
 use Rattle.std.proofs.lemmas.Bool.Decides.{nat_tests}
 use Rattle.std.specs.Prelude.{◌==◌, ◌&&◌, if◌then◌else◌, ◌-◌, not, length, slice_index, slice_set}
+use Rattle.inv_shapes.specs.words.Schemes.{publishes_rows}
 use Rattle.inv_shapes.specs.words.Place.{Place}
 use Rattle.inv_shapes.specs.words.Place.Place.{Index, Request}
 use Rattle.inv_shapes.specs.words.Packed.{halves, read_request, pending_word, answered_word}
@@ -62,7 +63,7 @@ heard_word mem seat i v index word found h a e =
     ap answer_in (ap read_request (e ∙ h.is) ∙ read_request-answered h.link h.era l s f)
 
 -- the machine goes on to take an answer that was heard
-take_heard : (mem : Place → ℕ) (seat : ℕ → Local) (i : ℕ) (v : View) (m : Move) (why : Why) (aim : Aim) (index : ℕ) (root : Root) (n found : ℕ) (h : Heard index (link_number (seat i).post.layout root) (v.deal i)) → At mem seat i v → found ≡ request_of (v.deal i) → Words (written mem m) v.clock v.helper v.era v.mark v.deal
+take_heard : (mem : Place → ℕ) (seat : ℕ → Local) (i : ℕ) (v : View) (m : Move) (why : Why) (aim : Aim) (index : ℕ) (root : Root) (n found : ℕ) (h : Heard index (link_number (seat i).post.layout root) (v.deal i)) → At mem seat i v → found ≡ request_of (v.deal i) → Words (publishes_rows (seat i).post.layout.config.scheme) (written mem m) v.clock v.helper v.era v.mark v.deal
     → Parts (seat i).post.layout.config (record v { role = upd v.role i (roles.Takes index (link_number (seat i).post.layout root) h.link h.era) })
     → Made mem seat i m (run_turn why (seat i).desk (goes (counted (seat i).post) [] (Protect aim index root n (answer_in (read_request found))))) v.deal
 take_heard mem seat i v m why aim index root n found h a e u d =

@@ -5,13 +5,14 @@ use Rattle.std.specs.Prelude.{◌==◌, ◌&&◌, nat_lt, nat_le, ◌-◌}
 use Rattle.inv_shapes.specs.words.Place.{Place, has}
 use Rattle.inv_shapes.specs.words.Place.Place.{Clock, Index}
 use Rattle.inv_shapes.specs.words.Packed.{halves, pending_word}
+use Rattle.inv_shapes.specs.words.Schemes.{publishes_rows}
 use Rattle.inv_shapes.specs.defs.declared.event.Event.{Event}
 use Rattle.inv_shapes.specs.defs.declared.event.Root.{Root}
 use Rattle.inv_shapes.specs.model.declared.post.Post.{Post}
 use Rattle.inv_shapes.specs.model.Links.{link_place, link_number, parent_of}
 use Rattle.inv_shapes.specs.model.Memory.{upd, written, put}
 use Rattle.inv_shapes.specs.model.Memory as memory
-use Rattle.inv_shapes.specs.model.Posts.{counted, tag_of, with_row, index_word, helper_word, reserves_index, reserves_helper}
+use Rattle.inv_shapes.specs.model.Posts.{counted, tag_of, with_row, index_word, shown_word, helper_word, reserves_index, reserves_helper}
 use Rattle.inv_shapes.specs.model.Phases.{Aim, Tries, Endless, Failed, ProtectAt, Turn, goes, ends, Alone, Follows}
 use Rattle.inv_shapes.specs.model.Calls.{Why, Phase, Runs}
 use Rattle.inv_shapes.specs.model.Steps.{run_turn}
@@ -36,7 +37,7 @@ use Rattle.inv_requests.specs.Standing.{has_failed, Words}
 use Rattle.inv_requests.specs.NextDeals.{protect_deals}
 use Rattle.inv_requests.specs.Turns.{PostOf, RoleOf, Made}
 use Rattle.inv_requests.specs.Context.{At, phase_there}
-use Rattle.inv_requests.proofs.Words.{words_helper, words_era, words_request}
+use Rattle.inv_requests.proofs.Words.{words_helper, words_era, words_row, words_request}
 use Rattle.inv_requests.proofs.Requester as own
 use Rattle.inv_requests.proofs.Turns.{same_deals}
 use Rattle.inv_requests.proofs.Going.{same_role, stands_in, own_post, go, rest}
@@ -60,10 +61,17 @@ publish_try : (c : Config) (v : View) (x j e : ℕ) (lost : Bool) → x < c.seat
 publish_try c v x j e false b d q = own.publishes_first-keeps c v x j e b d q
 publish_try c v x j e true b d q = own.publishes_again-keeps c v x j e b d q
 
-pub index_words : (mem : Place → ℕ) (seat : ℕ → Local) (i : ℕ) (v : View) (index era : ℕ) → At mem seat i v → is_quiet (v.deal i) ≡ true → Words (put mem (Index (seat i).post.seat index) (index_word (seat i).post index era)) v.clock v.helper (upd2 v.era i index era) v.mark v.deal
+pub index_words : (mem : Place → ℕ) (seat : ℕ → Local) (i : ℕ) (v : View) (index era : ℕ) → At mem seat i v → is_quiet (v.deal i) ≡ true → Words (publishes_rows (seat i).post.layout.config.scheme) (put mem (Index (seat i).post.seat index) (index_word (seat i).post index era)) v.clock v.helper (upd2 v.era i index era) v.mark v.deal
 index_words mem seat i v index era a q =
     words_era mem v.clock v.helper v.era v.mark v.deal i (seat i).post.seat index era (index_word (seat i).post index era) a.facts.words a.number
     (ap (λ (n : ℕ). halves era n) (sym (quiet_mark mem seat i v index a q)))
+
+-- what an index word publishes next: an era, or where rows are published a link
+pub words_shown : (mem : Place → ℕ) (seat : ℕ → Local) (i : ℕ) (v : View) (rows : Bool) (index number : ℕ) → At mem seat i v → rows ≡ publishes_rows (seat i).post.layout.config.scheme → is_quiet (v.deal i) ≡ true
+    → Words (publishes_rows (seat i).post.layout.config.scheme) (put mem (Index (seat i).post.seat index) (shown_word rows (seat i).post index number)) v.clock v.helper (upd2 v.era i index number) v.mark v.deal
+words_shown mem seat i v false index number a e q = index_words mem seat i v index number a q
+words_shown mem seat i v true index number a e q =
+    let u = words_row mem v.clock v.helper v.era v.mark v.deal (seat i).post.seat index number (sym e) a.facts.words in record { clocks = u.clocks; helpers = u.helpers; indexes = λ p. absurd (cc); requests = u.requests }
 
 publish_link : (mem : Place → ℕ) (seat : ℕ → Local) (i : ℕ) (v : View) (why : Why) (aim : Aim) (index : ℕ) (root : Root) (steps n era : ℕ) (tries : Tries) → At mem seat i v → (seat i).phase ≡ Runs why (Protect aim index root steps (PublishEra era tries))
     → Made mem seat i (protect_move index root (PublishEra era tries) (seat i).post) (run_turn why (seat i).desk (goes (counted (seat i).post) (reserves_index (counted (seat i).post) index era) (Protect aim index root n (LoadLink era tries)))) v.deal

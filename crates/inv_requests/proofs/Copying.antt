@@ -4,7 +4,7 @@ use Rattle.std.specs.Prelude.{if◌then◌else◌, Option, Some, None}
 use Rattle.inv_shapes.specs.words.Place.{Place}
 use Rattle.inv_shapes.specs.words.Place.Place.{Index}
 use Rattle.inv_shapes.specs.words.Packed.{read_reservation}
-use Rattle.inv_shapes.specs.words.Schemes.{has_one_interval}
+use Rattle.inv_shapes.specs.words.Schemes.{has_one_interval, publishes_rows}
 use Rattle.inv_shapes.specs.words.declared.layout.Layout.{Layout}
 use Rattle.inv_shapes.specs.words.declared.packed.Reservation.{Reservation}
 use Rattle.inv_shapes.specs.defs.declared.event.Event.{Event}
@@ -14,9 +14,9 @@ use Rattle.inv_shapes.specs.model.Desks.{Desk}
 use Rattle.inv_shapes.specs.model.Guards.{guard_place}
 use Rattle.inv_shapes.specs.model.Memory.{upd, Move, place_in, found}
 use Rattle.inv_shapes.specs.model.Memory as memory
-use Rattle.inv_shapes.specs.model.Posts.{counted, stands, reserves_index}
+use Rattle.inv_shapes.specs.model.Posts.{counted, stands}
 use Rattle.inv_shapes.specs.model.Rounds.{scheme_of}
-use Rattle.inv_shapes.specs.model.Keep.{keep_move, keep_turn, copied, load_held}
+use Rattle.inv_shapes.specs.model.Keep.{held_number, keep_move, keep_turn, copied, load_held}
 use Rattle.inv_shapes.specs.model.Calls.{Getting, Changing, Enqueuing, Dequeuing, KeepAt, Loosens, LoadHeld, StoreHeld, Looks, Misses, HideSpan, MarkLeft, TakeList, MarkTaken, Work, Keeping, Works}
 use Rattle.inv_shapes.specs.model.Steps.{work_move, work_turn}
 use Rattle.inv_shapes.specs.model.Locals.{Local}
@@ -26,8 +26,10 @@ use Rattle.inv_requests.specs.Turns.{PostOf, RoleOf, Made}
 use Rattle.inv_requests.specs.Context.{At}
 use Rattle.inv_requests.proofs.Requester as own
 use Rattle.inv_requests.proofs.Turns.{made}
-use Rattle.inv_requests.proofs.Going.{stands_in, own_post}
-use Rattle.inv_requests.proofs.Asking.{index_words}
+use Rattle.inv_requests.proofs.Going.{same_role, stands_in, own_post}
+use Rattle.inv_requests.proofs.Asking.{words_shown}
+use Rattle.inv_requests.proofs.Words.{words_row}
+use Rattle.inv_requests.specs.Standing.{copy_role}
 use Rattle.inv_requests.proofs.Handing.{read_index}
 use Rattle.inv_requests.proofs.Resting.{call_made, get_leaves, change_leaves, enqueue_leaves, dequeue_leaves, work_made}
 
@@ -52,24 +54,40 @@ load_copied mem seat i v from index a q = loaded (has_one_interval (scheme_of (s
     loaded true =
         call_made mem seat i v (Works (Keeping (LoadHeld from index))) (memory.Load (word true)) (load_held from index (counted (seat i).post) (seat i).desk (mem (word true)) true) a q refl refl
         (copied_left (seat i).post.layout (seat i).post.tags from index (counted (seat i).post) (seat i).desk [] (stands (counted (seat i).post) from) (own_post mem seat i v a))
-    loaded false =
-        let e = ap (λ (n : ℕ). (read_reservation (mem (Index n from))).era) a.number ∙ ap (λ (r : Reservation). r.era) (read_index mem seat i v i from a) in
-        made mem seat v.role i (memory.Load (word false)) (load_held from index (counted (seat i).post) (seat i).desk (mem (word false)) false) (roles.Copies from (v.era i from))
-        (record v { role = upd v.role i (roles.Copies from (v.era i from)) }) a.facts.locals
-        (record { post = own_post mem seat i v a; phase = record { is = ap (roles.Copies from) e; there = refl } })
-        refl a.facts.words
-        (own.copies-keeps (seat i).post.layout.config v i from a.below a.facts.parts (stands_in mem seat i v (Works (Keeping (LoadHeld from index))) a q))
+    loaded false = held (publishes_rows (scheme_of (seat i).post)) refl
+      where
+        held : (rows : Bool) → publishes_rows (scheme_of (seat i).post) ≡ rows → Made mem seat i (memory.Load (word false)) (load_held from index (counted (seat i).post) (seat i).desk (mem (word false)) false) v.deal
+        held true p =
+            call_made mem seat i v (Works (Keeping (LoadHeld from index))) (memory.Load (word false)) (load_held from index (counted (seat i).post) (seat i).desk (mem (word false)) false) a q refl refl
+            (record { post = own_post mem seat i v a; phase = record { is = ap (λ (b : Bool). copy_role b from (held_number b (mem (word false)))) p; there = refl } })
+        held false p =
+            let e = ap (λ (n : ℕ). (read_reservation (mem (Index n from))).era) a.number ∙ ap (λ (r : Reservation). r.era) (read_index mem seat i v i from a p) in
+            made mem seat v.role i (memory.Load (word false)) (load_held from index (counted (seat i).post) (seat i).desk (mem (word false)) false) (roles.Copies from (v.era i from))
+            (record v { role = upd v.role i (roles.Copies from (v.era i from)) }) a.facts.locals
+            (record { post = own_post mem seat i v a; phase = record { is = ap (λ (b : Bool). copy_role b from (held_number b (mem (word false)))) p ∙ ap (roles.Copies from) e; there = refl } })
+            refl a.facts.words
+            (own.copies-keeps (seat i).post.layout.config v i from a.below a.facts.parts (stands_in mem seat i v (Works (Keeping (LoadHeld from index))) a q))
 
--- 2. The era is stored at the other index, whose tag is the seat's own.
+-- 2. The era is stored at the other index, whose tag is the seat's own; or the link as it is.
 store_copied : (mem : Place → ℕ) (seat : ℕ → Local) (i : ℕ) (v : View) (from index era found : ℕ) → At mem seat i v → (seat i).phase ≡ Works (Keeping (StoreHeld from index era))
     → Made mem seat i (keep_move (StoreHeld from index era) (seat i).post) (keep_turn (StoreHeld from index era) (counted (seat i).post) (seat i).desk found) v.deal
-store_copied mem seat i v from index era found a q =
-    let r = stands_in mem seat i v (Works (Keeping (StoreHeld from index era))) a q in
-    made mem seat v.role i (keep_move (StoreHeld from index era) (seat i).post) (keep_turn (StoreHeld from index era) (counted (seat i).post) (seat i).desk found) roles.Away
-    (record v { era = upd2 v.era i index era; role = upd v.role i roles.Away }) a.facts.locals
-    (copied_left (seat i).post.layout (seat i).post.tags from index (counted (seat i).post) (seat i).desk (reserves_index (counted (seat i).post) index era) (stands (counted (seat i).post) from) (own_post mem seat i v a))
-    refl (index_words mem seat i v index era a (rw r at (a.facts.parts.fit i)))
-    (own.stores-keeps (seat i).post.layout.config v i from index era a.below a.facts.parts r)
+store_copied mem seat i v from index era found a q = stored (publishes_rows (seat i).post.layout.config.scheme) refl
+  where
+    stored : (rows : Bool) → publishes_rows (seat i).post.layout.config.scheme ≡ rows → Made mem seat i (keep_move (StoreHeld from index era) (seat i).post) (keep_turn (StoreHeld from index era) (counted (seat i).post) (seat i).desk found) v.deal
+    stored true p =
+        let r = stands_in mem seat i v (Works (Keeping (StoreHeld from index era))) a q ∙ ap (λ (b : Bool). copy_role b from era) p in
+        made mem seat v.role i (keep_move (StoreHeld from index era) (seat i).post) (keep_turn (StoreHeld from index era) (counted (seat i).post) (seat i).desk found) roles.Away
+        (record v { role = upd v.role i roles.Away }) a.facts.locals
+        (copied_left (seat i).post.layout (seat i).post.tags from index (counted (seat i).post) (seat i).desk _ (stands (counted (seat i).post) from) (own_post mem seat i v a))
+        refl (words_row mem v.clock v.helper v.era v.mark v.deal (seat i).post.seat index _ p a.facts.words)
+        (same_role (seat i).post.layout.config v i roles.Away a.facts.parts r)
+    stored false p =
+        let r = stands_in mem seat i v (Works (Keeping (StoreHeld from index era))) a q ∙ ap (λ (b : Bool). copy_role b from era) p in
+        made mem seat v.role i (keep_move (StoreHeld from index era) (seat i).post) (keep_turn (StoreHeld from index era) (counted (seat i).post) (seat i).desk found) roles.Away
+        (record v { era = upd2 v.era i index era; role = upd v.role i roles.Away }) a.facts.locals
+        (copied_left (seat i).post.layout (seat i).post.tags from index (counted (seat i).post) (seat i).desk _ (stands (counted (seat i).post) from) (own_post mem seat i v a))
+        refl (words_shown mem seat i v (publishes_rows (scheme_of (seat i).post)) index era a refl (rw r at (a.facts.parts.fit i)))
+        (own.stores-keeps (seat i).post.layout.config v i from index era a.below a.facts.parts r)
 
 keep_made : (mem : Place → ℕ) (seat : ℕ → Local) (i : ℕ) (v : View) (at : KeepAt) → At mem seat i v → (seat i).phase ≡ Works (Keeping at) → KeepFits (counted (seat i).post) at
     → Made mem seat i (keep_move at (seat i).post) (keep_turn at (counted (seat i).post) (seat i).desk (found_by mem (keep_move at (seat i).post))) v.deal

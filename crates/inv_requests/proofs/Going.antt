@@ -1,6 +1,7 @@
 -- The turns of a seat that is at a step, by the role that it comes to.
 use Rattle.std.proofs.Common.{ℕ, ◌≡◌, ◌<◌, ◌^◌, true, List, arith, refl, sym, ap, subst, ◌∙◌}
 use Rattle.inv_shapes.specs.words.Place.{Place, has}
+use Rattle.inv_shapes.specs.words.Schemes.{publishes_rows}
 use Rattle.inv_shapes.proofs.words.Numbers.{number_below, words_few}
 use Rattle.inv_shapes.specs.words.declared.config.Config.{Config}
 use Rattle.inv_shapes.specs.defs.declared.event.Event.{Event}
@@ -49,7 +50,7 @@ pub go : (mem : Place → ℕ) (seat : ℕ → Local) (i : ℕ) (v : View) (m : 
     → base_there (seat i).post.layout base ≡ true
     → v.tag ≡ v'.tag
     → v'.role ≡ upd v.role i r
-    → Words (written mem m) v'.clock v'.helper v'.era v'.mark v'.deal
+    → Words (publishes_rows (seat i).post.layout.config.scheme) (written mem m) v'.clock v'.helper v'.era v'.mark v'.deal
     → Parts (seat i).post.layout.config v'
     → Made mem seat i m (run_turn why (seat i).desk (goes (counted (seat i).post) told base)) v'.deal
 go mem seat i v m why told base r v' a p t g e u d =
@@ -64,7 +65,7 @@ pub rest : (mem : Place → ℕ) (seat : ℕ → Local) (i : ℕ) (v : View) (m 
     → Moves (PostOf (seat i).post.layout (seat i).post.tags) (RoleOf (seat i).post.layout Away) why t
     → v.tag ≡ v'.tag
     → v'.role ≡ upd v.role i Away
-    → Words (written mem m) v'.clock v'.helper v'.era v'.mark v'.deal
+    → Words (publishes_rows (seat i).post.layout.config.scheme) (written mem m) v'.clock v'.helper v'.era v'.mark v'.deal
     → Parts (seat i).post.layout.config v'
     → Made mem seat i m (run_turn why (seat i).desk t) v'.deal
 rest mem seat i v m why t v' a h g e u d =

@@ -5,6 +5,7 @@ use Rattle.std.specs.Prelude.{◌==◌, ◌&&◌, nat_lt, if◌then◌else◌, �
 use Rattle.inv_shapes.specs.words.Place.{Place}
 use Rattle.inv_shapes.specs.words.Place.Place.{Clock, Index, Request}
 use Rattle.inv_shapes.specs.words.Packed.{halves, read_reservation, pending_word, answered_word}
+use Rattle.inv_shapes.specs.words.Schemes.{publishes_rows}
 use Rattle.inv_shapes.specs.defs.declared.event.Root.{Root}
 use Rattle.inv_shapes.specs.model.declared.post.Post.{Post}
 use Rattle.inv_shapes.specs.model.Links.{link_number}
@@ -107,15 +108,15 @@ mark_few mem seat i v k j a = let b = bounds_of (seat i).post.layout a.valid in 
     few (Taken t' j' w' l' e') = omega arith
 
 -- what is read of an index word
-pub read_index : (mem : Place → ℕ) (seat : ℕ → Local) (i : ℕ) (v : View) (k j : ℕ) → At mem seat i v → read_reservation (mem (Index k j)) ≡ record { era = v.era k j; tag = v.mark k j }
-read_index mem seat i v k j a = ap read_reservation (a.facts.words.indexes k j) ∙ read_reservation-halves (v.era k j) (v.mark k j) (mark_few mem seat i v k j a)
+pub read_index : (mem : Place → ℕ) (seat : ℕ → Local) (i : ℕ) (v : View) (k j : ℕ) → At mem seat i v → publishes_rows (seat i).post.layout.config.scheme ≡ false → read_reservation (mem (Index k j)) ≡ record { era = v.era k j; tag = v.mark k j }
+read_index mem seat i v k j a p = ap read_reservation (a.facts.words.indexes p k j) ∙ read_reservation-halves (v.era k j) (v.mark k j) (mark_few mem seat i v k j a)
 
 -- 7. The index word is loaded.
-pub load_reserved : (mem : Place → ℕ) (seat : ℕ → Local) (i : ℕ) (v : View) (why : Why) (e k t j : ℕ) (root : Root) (link : ℕ) → At mem seat i v → (seat i).phase ≡ Runs why (bases.Move (LoadReserved e k t j root link))
+pub load_reserved : (mem : Place → ℕ) (seat : ℕ → Local) (i : ℕ) (v : View) (why : Why) (e k t j : ℕ) (root : Root) (link : ℕ) → At mem seat i v → (seat i).phase ≡ Runs why (bases.Move (LoadReserved e k t j root link)) → publishes_rows (seat i).post.layout.config.scheme ≡ false
     → Made mem seat i (memory.Load (Index k j)) (run_turn why (seat i).desk (move_turn (LoadReserved e k t j root link) (counted (seat i).post) (mem (Index k j)))) v.deal
-load_reserved mem seat i v why e k t j root link a q =
+load_reserved mem seat i v why e k t j root link a q p =
     let r = stands_in mem seat i v (Runs why (bases.Move (LoadReserved e k t j root link))) a q in
-    let x = read_index mem seat i v k j a in
+    let x = read_index mem seat i v k j a p in
     let y : (read_reservation (mem (Index k j))).tag ≡ v.mark k j = ap (λ (s : Reservation). s.tag) x in
     let z : (read_reservation (mem (Index k j))).era ≡ v.era k j = ap (λ (s : Reservation). s.era) x in
     if_by ((read_reservation (mem (Index k j))).tag == t) (goes (counted (seat i).post) [] (bases.Move (HandOver e k t j root link (read_reservation (mem (Index k j))).era))) (goes (counted (seat i).post) [] (bases.Move (next_request (counted (seat i).post) e k true)))
@@ -141,12 +142,12 @@ gave_is t j w l e m (Passed t' j' w' l' e') h = cc
 gave_is t j w l e m (Taken t' j' w' l' e') h = cc
 
 -- 8. The index word is exchanged: the hand-over.
-hand_over : (mem : Place → ℕ) (seat : ℕ → Local) (i : ℕ) (v : View) (why : Why) (e k t j : ℕ) (root : Root) (link old : ℕ) → At mem seat i v → (seat i).phase ≡ Runs why (bases.Move (HandOver e k t j root link old)) → (mem (Index k j) == halves old t) ≡ true
+hand_over : (mem : Place → ℕ) (seat : ℕ → Local) (i : ℕ) (v : View) (why : Why) (e k t j : ℕ) (root : Root) (link old : ℕ) → At mem seat i v → (seat i).phase ≡ Runs why (bases.Move (HandOver e k t j root link old)) → publishes_rows (seat i).post.layout.config.scheme ≡ false → (mem (Index k j) == halves old t) ≡ true
     → Made mem seat i (move_move (HandOver e k t j root link old) (seat i).post) (run_turn why (seat i).desk (after_hand_over e k t j old (counted (seat i).post) true)) (upd v.deal k (Passed t j (link_number (seat i).post.layout root) link e))
-hand_over mem seat i v why e k t j root link old a q h =
+hand_over mem seat i v why e k t j root link old a q p h =
     let r = stands_in mem seat i v (Runs why (bases.Move (HandOver e k t j root link old))) a q in
     let b = asked_bits mem seat i v e k t j (link_number (seat i).post.layout root) a (rw r at (a.facts.parts.whom i)) (rw r at (a.facts.parts.spare i)) (rw r at (a.facts.parts.eras i)) in
-    let x : halves (v.era k j) (v.mark k j) ≡ halves old t = sym (a.facts.words.indexes k j) ∙ number_is (mem (Index k j)) (halves old t) h in
+    let x : halves (v.era k j) (v.mark k j) ≡ halves old t = sym (a.facts.words.indexes p k j) ∙ number_is (mem (Index k j)) (halves old t) h in
     let y = halves_one (v.era k j) (v.mark k j) old t (mark_few mem seat i v k j a) b.tag_in x in
     let z = y.1 in
     let f : (nat_lt t (v.tag k j) || (gave_by t j (link_number (seat i).post.layout root) link e i (v.deal k) && v.era k j == old)) ≡ true = rw r at (a.facts.parts.known i) in
@@ -159,9 +160,9 @@ hand_over mem seat i v why e k t j root link old a q h =
     (mover.hands_next-keeps (seat i).post.layout.config v i e k t j (link_number (seat i).post.layout root) link old a.below a.facts.parts r o)
     (mover.hands_last-keeps (seat i).post.layout.config v i e k t j (link_number (seat i).post.layout root) link old a.below a.facts.parts r o)
 
-hand_late : (mem : Place → ℕ) (seat : ℕ → Local) (i : ℕ) (v : View) (why : Why) (e k t j : ℕ) (root : Root) (link old : ℕ) → At mem seat i v → (seat i).phase ≡ Runs why (bases.Move (HandOver e k t j root link old)) → (mem (Index k j) == halves old t) ≡ false
+hand_late : (mem : Place → ℕ) (seat : ℕ → Local) (i : ℕ) (v : View) (why : Why) (e k t j : ℕ) (root : Root) (link old : ℕ) → At mem seat i v → (seat i).phase ≡ Runs why (bases.Move (HandOver e k t j root link old)) → publishes_rows (seat i).post.layout.config.scheme ≡ false → (mem (Index k j) == halves old t) ≡ false
     → Made mem seat i (move_move (HandOver e k t j root link old) (seat i).post) (run_turn why (seat i).desk (after_hand_over e k t j old (counted (seat i).post) false)) v.deal
-hand_late mem seat i v why e k t j root link old a q h =
+hand_late mem seat i v why e k t j root link old a q p h =
     let r = stands_in mem seat i v (Runs why (bases.Move (HandOver e k t j root link old))) a q in
     next_go mem seat i v (move_move (HandOver e k t j root link old) (seat i).post) why [] e k true (next_request (counted (seat i).post) e k true) v a refl refl
     (words_same mem v.clock v.helper v.era v.mark v.deal (Index k j) (if mem (Index k j) == halves old t then halves e (t + 1) else mem (Index k j)) a.facts.words (not_exchanged (mem (Index k j)) (halves old t) (halves e (t + 1)) h))
@@ -169,15 +170,15 @@ hand_late mem seat i v why e k t j root link old a q h =
     (mover.hands_not_last-keeps (seat i).post.layout.config v i e k t j (link_number (seat i).post.layout root) link old a.below a.facts.parts r moved_on)
   where
     moved_on : v.mark k j ≡ t → v.era k j ≡ old → ⊥
-    moved_on x y = let g : (mem (Index k j) == halves old t) ≡ true = same_test (mem (Index k j)) (halves old t) (a.facts.words.indexes k j ∙ ap (halves (v.era k j)) x ∙ ap (λ (n : ℕ). halves n t) y) in cc
+    moved_on x y = let g : (mem (Index k j) == halves old t) ≡ true = same_test (mem (Index k j)) (halves old t) (a.facts.words.indexes p k j ∙ ap (halves (v.era k j)) x ∙ ap (λ (n : ℕ). halves n t) y) in cc
 
-pub exchange_index : (mem : Place → ℕ) (seat : ℕ → Local) (i : ℕ) (v : View) (why : Why) (e k t j : ℕ) (root : Root) (link old : ℕ) → At mem seat i v → (seat i).phase ≡ Runs why (bases.Move (HandOver e k t j root link old))
+pub exchange_index : (mem : Place → ℕ) (seat : ℕ → Local) (i : ℕ) (v : View) (why : Why) (e k t j : ℕ) (root : Root) (link old : ℕ) → At mem seat i v → (seat i).phase ≡ Runs why (bases.Move (HandOver e k t j root link old)) → publishes_rows (seat i).post.layout.config.scheme ≡ false
     → Made mem seat i (move_move (HandOver e k t j root link old) (seat i).post) (run_turn why (seat i).desk (move_turn (HandOver e k t j root link old) (counted (seat i).post) (mem (Index k j)))) (move_deals mem i (seat i).post (HandOver e k t j root link old) v.deal)
-exchange_index mem seat i v why e k t j root link old a q = by (mem (Index k j) == halves old t) refl
+exchange_index mem seat i v why e k t j root link old a q p = by (mem (Index k j) == halves old t) refl
   where
     by : (b : Bool) → (mem (Index k j) == halves old t) ≡ b → Made mem seat i (move_move (HandOver e k t j root link old) (seat i).post) (run_turn why (seat i).desk (after_hand_over e k t j old (counted (seat i).post) b)) (move_deals mem i (seat i).post (HandOver e k t j root link old) v.deal)
-    by true h = same_deals mem seat i (move_move (HandOver e k t j root link old) (seat i).post) (run_turn why (seat i).desk (after_hand_over e k t j old (counted (seat i).post) true)) (upd v.deal k (Passed t j (link_number (seat i).post.layout root) link e)) (move_deals mem i (seat i).post (HandOver e k t j root link old) v.deal) (rw h refl) (hand_over mem seat i v why e k t j root link old a q h)
-    by false h = same_deals mem seat i (move_move (HandOver e k t j root link old) (seat i).post) (run_turn why (seat i).desk (after_hand_over e k t j old (counted (seat i).post) false)) v.deal (move_deals mem i (seat i).post (HandOver e k t j root link old) v.deal) (rw h refl) (hand_late mem seat i v why e k t j root link old a q h)
+    by true h = same_deals mem seat i (move_move (HandOver e k t j root link old) (seat i).post) (run_turn why (seat i).desk (after_hand_over e k t j old (counted (seat i).post) true)) (upd v.deal k (Passed t j (link_number (seat i).post.layout root) link e)) (move_deals mem i (seat i).post (HandOver e k t j root link old) v.deal) (rw h refl) (hand_over mem seat i v why e k t j root link old a q p h)
+    by false h = same_deals mem seat i (move_move (HandOver e k t j root link old) (seat i).post) (run_turn why (seat i).desk (after_hand_over e k t j old (counted (seat i).post) false)) v.deal (move_deals mem i (seat i).post (HandOver e k t j root link old) v.deal) (rw h refl) (hand_late mem seat i v why e k t j root link old a q p h)
 
 -- 9. The helper word is withdrawn.
 pub hide_era : (mem : Place → ℕ) (seat : ℕ → Local) (i : ℕ) (v : View) (why : Why) (e : ℕ) → At mem seat i v → (seat i).phase ≡ Runs why (bases.Move (HideEra e))

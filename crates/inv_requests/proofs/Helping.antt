@@ -23,7 +23,7 @@ use Rattle.inv_shapes.specs.model.Phases.ProtectAt.{LoadClock, PublishEra, LoadL
 use Rattle.inv_shapes.specs.model.Phases.Ending.{Clocked}
 use Rattle.inv_shapes.specs.defs.declared.call.ClockMove.TheVariants as moves
 use Rattle.inv_shapes.specs.model.MoveClock.{next_request, all_met, moving}
-use Rattle.inv_shapes.specs.words.Schemes.{helps}
+use Rattle.inv_shapes.specs.words.Schemes.{publishes_rows, helps}
 use Rattle.inv_shapes.specs.Seats.{agree}
 use Rattle.inv_requests.specs.Views.{View, Role, Role as roles}
 use Rattle.inv_requests.specs.Views.Deal.{Open}
@@ -45,7 +45,7 @@ last_role e true = roles.Hides e
 
 -- the next request, or all were met
 pub next_go : (mem : Place → ℕ) (seat : ℕ → Local) (i : ℕ) (v : View) (m : Move) (why : Why) (told : List Event) (e k : ℕ) (shown : Bool) (at : MoveAt) (v' : View) → At mem seat i v → at ≡ next_request (counted (seat i).post) e k shown → v.tag ≡ v'.tag
-    → Words (written mem m) v'.clock v'.helper v'.era v'.mark v'.deal
+    → Words (publishes_rows (seat i).post.layout.config.scheme) (written mem m) v'.clock v'.helper v'.era v'.mark v'.deal
     → (k + 1 < (seat i).post.layout.config.seats → Parts (seat i).post.layout.config (record v' { role = upd v.role i (roles.Meets e (k + 1) shown) }))
     → ((seat i).post.layout.config.seats ≤ k + 1 → Parts (seat i).post.layout.config (record v' { role = upd v.role i (last_role e shown) }))
     → Made mem seat i m (run_turn why (seat i).desk (goes (counted (seat i).post) told (bases.Move at))) v'.deal
@@ -113,7 +113,7 @@ asker_base : (layout : Layout) (base : Base) (why : Why) (t j w : ℕ) → phase
 asker_base layout (bases.Begin at) why t j w h f = absurd (cc)
 asker_base layout (bases.Protect aim index root steps at) why t j w h f = asker_at layout aim index root steps at why t j w h f
 asker_base layout (bases.Reload parent index slot era steps) why t j w h f = absurd (cc)
-asker_base layout (bases.Clear index) why t j w h f = absurd (cc)
+asker_base layout (bases.Clear rows index) why t j w h f = absurd (cc)
 asker_base layout bases.Finish why t j w h f = absurd (cc)
 asker_base layout (bases.Release index) why t j w h f = absurd (cc)
 asker_base layout (bases.Allocate at) why t j w h f = absurd (cc)
@@ -139,7 +139,7 @@ asker : (layout : Layout) (phase : Phase) (t j w : ℕ) → phase_there layout p
 asker layout Idle t j w h f = absurd (cc)
 asker layout (Runs why base) t j w h f = asker_base layout base why t j w h f
 asker layout (Scans later at) t j w h f = absurd (cc)
-asker layout (Works work) t j w h f = each_work_role work (λ (r : Role). fits r (Open t j w) ≡ true → Asker layout j w) (λ g. absurd (cc)) (λ from era g. absurd (cc)) f
+asker layout (Works work) t j w h f = each_work_role layout work (λ (r : Role). fits r (Open t j w) ≡ true → Asker layout j w) (λ g. absurd (cc)) (λ from era g. absurd (cc)) f
 
 pub asker_of : (mem : Place → ℕ) (seat : ℕ → Local) (i : ℕ) (v : View) (k t j w : ℕ) → At mem seat i v → v.deal k ≡ Open t j w → Asker (seat i).post.layout j w
 asker_of mem seat i v k t j w a q = asker (seat i).post.layout (seat k).phase t j w (a.inside k) (ap (λ (r : Role). fits r (Open t j w)) (a.facts.locals.roles k) ∙ ap (fits (v.role k)) (sym q) ∙ a.facts.parts.fit k)

@@ -13,15 +13,16 @@ use Rattle.inv_shapes.specs.model.Phases.{Aim, Tries, Endless, Failed, ProtectAt
 use Rattle.inv_shapes.specs.model.Calls.{Why, Phase, Idle, Runs, Opens, FollowsHead, Scans, Works}
 use Rattle.inv_shapes.specs.model.Steps.{run_turn, phase_move, phase_turn}
 use Rattle.inv_shapes.specs.model.Locals.{Local, busy_in, begun, settled, turn}
-use Rattle.inv_shapes.specs.model.Machine.{protect_move, protect_turn, move_move, move_turn, base_move, after}
+use Rattle.inv_shapes.specs.model.Machine.{hazard_move, protect_move, protect_turn, move_move, move_turn, base_move, after}
 use Rattle.inv_shapes.specs.Frame.{Moves}
 use Rattle.inv_shapes.specs.words.declared.layout.Layout.{Layout}
 use Rattle.inv_shapes.specs.defs.declared.call.Call.{Call}
-use Rattle.inv_shapes.specs.model.Phases.ProtectAt.{LoadClock, PublishEra, LoadLink, CheckClock, PublishRequest, LoadOwnClock, PublishHelper, LoadOwnLink, CheckOwnClock, AnswerOwn, LoadAnswer, TakeAnswer, WithdrawRequest, WithdrawHelper, LoadWithin, CheckUpper, RaiseUpper}
+use Rattle.inv_shapes.specs.model.Phases.ProtectAt.{LoadClock, PublishEra, LoadLink, CheckClock, PublishRequest, LoadOwnClock, PublishHelper, LoadOwnLink, CheckOwnClock, AnswerOwn, LoadAnswer, TakeAnswer, WithdrawRequest, WithdrawHelper, LoadWithin, CheckUpper, RaiseUpper, ByHazard}
 use Rattle.inv_shapes.specs.model.Phases.MoveAt.{LoadEra, LoadRequest, ShowEra, LoadAsked, CheckEra, AnswerAsked, LoadReserved, HandOver, HideEra, HideLate, ExchangeClock}
 use Rattle.inv_shapes.specs.model.World.{World, step, begin, start, is_busy, gift_at, offered, finds}
 use Rattle.inv_shapes.proofs.model.Ranges.{bounds_of}
 use Rattle.inv_shapes.specs.words.Schemes.{helps}
+use Rattle.inv_shapes.proofs.Tries.{helps_plain}
 use Rattle.inv_shapes.specs.Seats.{kind_of, suits, base_fits, protect_fits, Seats, PostFits, PhaseFits, Shaped, root_by}
 use Rattle.inv_shapes.proofs.Inside.{shape_moves}
 use Rattle.inv_shapes.proofs.Kept.{counted_fits, run_counted, work_counted}
@@ -43,7 +44,7 @@ use Rattle.inv_requests.proofs.Answering.{exchange_own, load_answer, take_answer
 use Rattle.inv_requests.proofs.Helping.{load_era}
 use Rattle.inv_requests.proofs.Serving.{load_request, show_era, load_asked, check_era}
 use Rattle.inv_requests.proofs.Handing.{answer_asked, load_reserved, exchange_index, hide_era, hide_late, exchange_clock}
-use Rattle.inv_requests.proofs.Resting.{begin_made, within_made, upper_made, raise_made, reload_made, clear_made, finish_made, release_made, allocate_made, write_made, give_up_made, retire_made, scan_made, idle_made}
+use Rattle.inv_requests.proofs.Resting.{hazard_made, begin_made, within_made, upper_made, raise_made, reload_made, clear_made, finish_made, release_made, allocate_made, write_made, give_up_made, retire_made, scan_made, idle_made}
 use Rattle.inv_requests.proofs.Copying.{found_by, own_made}
 use Rattle.inv_shapes.proofs.Written.{index_few, task_there}
 use Rattle.inv_shapes.proofs.model.Facts.{zero_either}
@@ -52,26 +53,27 @@ fresh : (steps : ℕ) (tries : Tries) → first_paced steps tries ≡ true → h
 fresh steps Endless h = refl
 fresh steps (Failed count) h = grind (arith, nat_tests)
 
-protect_made : {Q : Post → Type 0} {P : Post → Phase → Type 0} (mem : Place → ℕ) (seat : ℕ → Local) (i : ℕ) (v : View) (why : Why) (aim : Aim) (index : ℕ) (root : Root) (steps n : ℕ) (at : ProtectAt) → At mem seat i v → (seat i).phase ≡ Runs why (bases.Protect aim index root steps at) → paced (seat i).post.layout.config steps at ≡ true
+protect_made : {Q : Post → Type 0} {P : Post → Phase → Type 0} (mem : Place → ℕ) (seat : ℕ → Local) (i : ℕ) (v : View) (why : Why) (aim : Aim) (index : ℕ) (root : Root) (steps n : ℕ) (at : ProtectAt) → At mem seat i v → (seat i).phase ≡ Runs why (bases.Protect aim index root steps at) → protect_fits (seat i).post.layout.config.scheme (seat i).post.layout.config.tries at ≡ true → paced (seat i).post.layout.config steps at ≡ true
     → Moves Q P why (protect_turn aim index root n at (counted (seat i).post) (found_by mem (protect_move index root at (seat i).post)))
     → Made mem seat i (protect_move index root at (seat i).post) (run_turn why (seat i).desk (protect_turn aim index root n at (counted (seat i).post) (found_by mem (protect_move index root at (seat i).post)))) (protect_deals mem i (seat i).post index root at v.deal)
-protect_made mem seat i v why aim index root steps n (LoadClock tries) a q p m = load_clock mem seat i v why aim index root steps n tries a q (fresh steps tries p)
-protect_made mem seat i v why aim index root steps n (PublishEra era tries) a q p m = publish_era mem seat i v why aim index root steps n era tries a q
-protect_made mem seat i v why aim index root steps n (LoadLink era tries) a q p m = load_link mem seat i v why aim index root steps n era tries a q
-protect_made mem seat i v why aim index root steps n (CheckClock era tries link) a q p m = check_clock mem seat i v why aim index root steps n era link tries a q m
-protect_made mem seat i v why aim index root steps n PublishRequest a q p m = publish_ask mem seat i v why aim index root steps n a q
-protect_made mem seat i v why aim index root steps n LoadOwnClock a q p m = load_own_clock mem seat i v why aim index root steps n a q
-protect_made mem seat i v why aim index root steps n (PublishHelper first era last) a q p m = publish_helper mem seat i v why aim index root steps n first era last a q
-protect_made mem seat i v why aim index root steps n (LoadOwnLink first era last) a q p m = load_own_link mem seat i v why aim index root steps n first era last a q
-protect_made mem seat i v why aim index root steps n (CheckOwnClock first era last link) a q p m = check_own_clock mem seat i v why aim index root steps n first era link last a q
-protect_made mem seat i v why aim index root steps n (AnswerOwn first era link) a q p m = exchange_own mem seat i v why aim index root steps n first era link a q
-protect_made mem seat i v why aim index root steps n (LoadAnswer first) a q p m = load_answer mem seat i v why aim index root steps n first a q
-protect_made mem seat i v why aim index root steps n (TakeAnswer link era) a q p m = take_answer mem seat i v why aim index root steps n link era a q
-protect_made mem seat i v why aim index root steps n (WithdrawRequest link era) a q p m = withdraw_request mem seat i v why aim index root steps n link era a q
-protect_made mem seat i v why aim index root steps n (WithdrawHelper link era) a q p m = withdraw_helper mem seat i v why aim index root steps n link era a q m
-protect_made mem seat i v why aim index root steps n LoadWithin a q p m = within_made mem seat i v why aim index root steps n (mem (link_place root)) a q m
-protect_made mem seat i v why aim index root steps n (CheckUpper link) a q p m = upper_made mem seat i v why aim index root steps n link (mem Clock) a q m
-protect_made mem seat i v why aim index root steps n (RaiseUpper era) a q p m = raise_made mem seat i v why aim index root steps n era 0 a q m
+protect_made mem seat i v why aim index root steps n (LoadClock tries) a q f p m = load_clock mem seat i v why aim index root steps n tries a q (fresh steps tries p)
+protect_made mem seat i v why aim index root steps n (PublishEra era tries) a q f p m = publish_era mem seat i v why aim index root steps n era tries a q
+protect_made mem seat i v why aim index root steps n (LoadLink era tries) a q f p m = load_link mem seat i v why aim index root steps n era tries a q
+protect_made mem seat i v why aim index root steps n (CheckClock era tries link) a q f p m = check_clock mem seat i v why aim index root steps n era link tries a q m
+protect_made mem seat i v why aim index root steps n PublishRequest a q f p m = publish_ask mem seat i v why aim index root steps n a q
+protect_made mem seat i v why aim index root steps n LoadOwnClock a q f p m = load_own_clock mem seat i v why aim index root steps n a q
+protect_made mem seat i v why aim index root steps n (PublishHelper first era last) a q f p m = publish_helper mem seat i v why aim index root steps n first era last a q
+protect_made mem seat i v why aim index root steps n (LoadOwnLink first era last) a q f p m = load_own_link mem seat i v why aim index root steps n first era last a q
+protect_made mem seat i v why aim index root steps n (CheckOwnClock first era last link) a q f p m = check_own_clock mem seat i v why aim index root steps n first era link last a q
+protect_made mem seat i v why aim index root steps n (AnswerOwn first era link) a q f p m = exchange_own mem seat i v why aim index root steps n first era link a q
+protect_made mem seat i v why aim index root steps n (LoadAnswer first) a q f p m = load_answer mem seat i v why aim index root steps n first a q
+protect_made mem seat i v why aim index root steps n (TakeAnswer link era) a q f p m = take_answer mem seat i v why aim index root steps n link era a q
+protect_made mem seat i v why aim index root steps n (WithdrawRequest link era) a q f p m = withdraw_request mem seat i v why aim index root steps n link era a q
+protect_made mem seat i v why aim index root steps n (WithdrawHelper link era) a q f p m = withdraw_helper mem seat i v why aim index root steps n link era a q m
+protect_made mem seat i v why aim index root steps n LoadWithin a q f p m = within_made mem seat i v why aim index root steps n (mem (link_place root)) a q m
+protect_made mem seat i v why aim index root steps n (CheckUpper link) a q f p m = upper_made mem seat i v why aim index root steps n link (mem Clock) a q m
+protect_made mem seat i v why aim index root steps n (RaiseUpper era) a q f p m = raise_made mem seat i v why aim index root steps n era 0 a q m
+protect_made mem seat i v why aim index root steps n (ByHazard at) a q f p m = hazard_made mem seat i v why aim index root steps n at (found_by mem (hazard_move index root at (seat i).post)) a q f m
 
 move_made : {Q : Post → Type 0} {P : Post → Phase → Type 0} (mem : Place → ℕ) (seat : ℕ → Local) (i : ℕ) (v : View) (why : Why) (at : MoveAt) → At mem seat i v → (seat i).phase ≡ Runs why (bases.Move at) → base_fits (seat i).post.layout.config (bases.Move at) ≡ true
     → Moves Q P why (move_turn at (counted (seat i).post) (found_by mem (move_move at (seat i).post)))
@@ -82,8 +84,8 @@ move_made mem seat i v why (ShowEra e k t j root) a q f m = show_era mem seat i 
 move_made mem seat i v why (LoadAsked e k t j root) a q f m = load_asked mem seat i v why e k t j root a q
 move_made mem seat i v why (CheckEra e k t j root link) a q f m = check_era mem seat i v why e k t j root link a q
 move_made mem seat i v why (AnswerAsked e k t j root link) a q f m = answer_asked mem seat i v why e k t j root link a q
-move_made mem seat i v why (LoadReserved e k t j root link) a q f m = load_reserved mem seat i v why e k t j root link a q
-move_made mem seat i v why (HandOver e k t j root link old) a q f m = exchange_index mem seat i v why e k t j root link old a q
+move_made mem seat i v why (LoadReserved e k t j root link) a q f m = load_reserved mem seat i v why e k t j root link a q (helps_plain (seat i).post.layout.config.scheme (nat_lt k (seat i).post.layout.config.seats) f)
+move_made mem seat i v why (HandOver e k t j root link old) a q f m = exchange_index mem seat i v why e k t j root link old a q (helps_plain (seat i).post.layout.config.scheme (nat_lt k (seat i).post.layout.config.seats) f)
 move_made mem seat i v why (HideEra e) a q f m = hide_era mem seat i v why e a q
 move_made mem seat i v why (HideLate seen) a q f m = hide_late mem seat i v why seen a q m
 move_made mem seat i v why (ExchangeClock e) a q f m = exchange_clock mem seat i v why e a q m
@@ -92,9 +94,9 @@ base_made : {Q : Post → Type 0} {P : Post → Phase → Type 0} (mem : Place �
     → Moves Q P why (after base (counted (seat i).post) (found_by mem (base_move base (seat i).post)))
     → Made mem seat i (base_move base (seat i).post) (run_turn why (seat i).desk (after base (counted (seat i).post) (found_by mem (base_move base (seat i).post)))) (base_deals mem i (seat i).post base v.deal)
 base_made mem seat i v why (bases.Begin at) a q f p m = begin_made mem seat i v why at (found_by mem (base_move (bases.Begin at) (seat i).post)) a q m
-base_made mem seat i v why (bases.Protect aim index root steps at) a q f p m = protect_made mem seat i v why aim index root steps (bump steps) at a q p m
+base_made mem seat i v why (bases.Protect aim index root steps at) a q f p m = protect_made mem seat i v why aim index root steps (bump steps) at a q f p m
 base_made mem seat i v why (bases.Reload parent index slot era steps) a q f p m = reload_made mem seat i v why parent index slot era steps (found_by mem (base_move (bases.Reload parent index slot era steps) (seat i).post)) a q m
-base_made mem seat i v why (bases.Clear index) a q f p m = clear_made mem seat i v why index (found_by mem (base_move (bases.Clear index) (seat i).post)) a q m
+base_made mem seat i v why (bases.Clear rows index) a q f p m = clear_made mem seat i v why rows index (found_by mem (base_move (bases.Clear rows index) (seat i).post)) a q f m
 base_made mem seat i v why bases.Finish a q f p m = finish_made mem seat i v why (found_by mem (base_move bases.Finish (seat i).post)) a q m
 base_made mem seat i v why (bases.Release index) a q f p m = release_made mem seat i v why index (found_by mem (base_move (bases.Release index) (seat i).post)) a q m
 base_made mem seat i v why (bases.Allocate at) a q f p m = allocate_made mem seat i v why at (found_by mem (base_move (bases.Allocate at) (seat i).post)) a q m
@@ -133,7 +135,7 @@ base_inside layout why (bases.Protect aim index root steps at) y u s h =
     both : nat_lt index layout.config.indexes ≡ true → has layout (link_place root) ≡ true → (nat_lt index layout.config.indexes && has layout (link_place root)) ≡ true
     both z r = rw z r
 base_inside layout why (bases.Reload parent index slot era steps) y u s h = refl
-base_inside layout why (bases.Clear index) y u s h = refl
+base_inside layout why (bases.Clear rows index) y u s h = refl
 base_inside layout why bases.Finish y u s h = refl
 base_inside layout why (bases.Release index) y u s h = refl
 base_inside layout why (bases.Allocate at) y u s h = refl
@@ -179,7 +181,7 @@ base_alone : (layout : Layout) (base : Base) → base_fits layout.config base �
 base_alone layout (bases.Begin at) f h = refl
 base_alone layout (bases.Protect aim index root steps at) f h = protect_alone layout index root at f h
 base_alone layout (bases.Reload parent index slot era steps) f h = refl
-base_alone layout (bases.Clear index) f h = refl
+base_alone layout (bases.Clear rows index) f h = refl
 base_alone layout bases.Finish f h = refl
 base_alone layout (bases.Release index) f h = refl
 base_alone layout (bases.Allocate at) f h = refl
@@ -192,7 +194,7 @@ phase_alone : (layout : Layout) (phase : Phase) (post : Post) → PhaseFits layo
 phase_alone layout Idle post f h = refl
 phase_alone layout (Runs why base) post f h = base_alone layout base f.fits h
 phase_alone layout (Scans later at) post f h = refl
-phase_alone layout (Works work) post f h = each_work_role work (λ (r : Role). is_turn r ≡ false) refl (λ from era. refl)
+phase_alone layout (Works work) post f h = each_work_role layout work (λ (r : Role). is_turn r ≡ false) refl (λ from era. refl)
 
 -- a seat of a World that is to step
 pub at_of : (w : World) (i : ℕ) (v : View) → is_valid w.layout ≡ true → i < w.layout.config.seats → Seats w → Needs w → Facts w.layout w.mem w.seat v → At w.mem w.seat i v
@@ -293,7 +295,7 @@ requests_start layout y =
           words = record {
             clocks = refl;
             helpers = λ k. zero_either (has layout (Helper k)) ∙ sym no_halves;
-            indexes = λ k j. zero_either (has layout (Index k j)) ∙ sym no_halves;
+            indexes = λ p k j. zero_either (has layout (Index k j)) ∙ sym no_halves;
             requests = λ k. zero_either (has layout (Request k));
           };
           locals = record { tags = λ k j. no_tag layout k j; roles = λ k. refl; there = λ k. refl };

@@ -3,15 +3,17 @@ use Rattle.std.proofs.Common.{ℕ, ◌≡◌, ◌<◌, ◌+◌, Bool, true, fals
 use Rattle.std.proofs.lemmas.Bool.Decides.{nat_tests}
 use Rattle.std.specs.Prelude.{◌==◌, ◌&&◌, not}
 use Rattle.inv_shapes.specs.words.Place.{is_valid}
+use Rattle.inv_shapes.specs.words.Schemes.{publishes_rows}
 use Rattle.inv_shapes.specs.words.Place.Place.{Helper, Index, Request}
 use Rattle.inv_shapes.specs.words.Packed.{halves, read_reservation}
 use Rattle.inv_shapes.specs.words.declared.packed.Reservation.{Reservation}
 use Rattle.inv_shapes.specs.words.declared.layout.Layout.{Layout}
 use Rattle.inv_shapes.specs.defs.declared.event.Root.{Root}
 use Rattle.inv_shapes.proofs.model.Ranges.{bounds_of}
+use Rattle.inv_shapes.specs.model.Keep.{held_number}
 use Rattle.inv_shapes.specs.model.Links.{link_number}
 use Rattle.inv_shapes.specs.model.Memory.{found}
-use Rattle.inv_shapes.specs.model.Posts.{tag_of}
+use Rattle.inv_shapes.specs.model.Posts.{shown_word, tag_of}
 use Rattle.inv_shapes.specs.model.SlowPath.{asking, own_request}
 use Rattle.inv_shapes.specs.model.Phases.ProtectAt.{AnswerOwn, LoadAnswer, TakeAnswer}
 use Rattle.inv_shapes.specs.model.Phases.Base.{Protect}
@@ -21,9 +23,10 @@ use Rattle.inv_shapes.specs.Seats.{Seats}
 use Rattle.inv_shapes.proofs.words.Parts.{read_reservation-halves}
 use Rattle.inv_shapes.proofs.Frame.{finds_at}
 use Rattle.inv_requests.specs.Copying.{Copying}
+use Rattle.inv_requests.specs.Hazards.{Hazards, copy_shows, phase_shows}
 use Rattle.inv_requests.specs.Deals.{is_quiet, is_open, asked_at, fits}
 use Rattle.inv_requests.specs.Known.{IsAnswer, Known}
-use Rattle.inv_requests.specs.Standing.{role_of, request_of, Requests}
+use Rattle.inv_requests.specs.Standing.{copy_role, role_of, request_of, Requests}
 use Rattle.inv_requests.specs.Views.{View, Role, Role as roles}
 use Rattle.inv_requests.proofs.Answering.{heard, word_by_open}
 use Rattle.inv_requests.proofs.Kept.{idle_of}
@@ -101,21 +104,37 @@ known w v k y s f = record {
 }
 
 -- the word that is copied has the seat's own tag, since nothing is asked, and the era that was found
-copied_word : (w : World) (v : View) (k from era : ℕ) → Requests w v → v.role k ≡ roles.Copies from era → w.mem (Index k from) ≡ halves era (tag_of (w.seat k).post from)
-copied_word w v k from era f r =
+copied_word : (w : World) (v : View) (k from era : ℕ) → publishes_rows w.layout.config.scheme ≡ false → Requests w v → v.role k ≡ roles.Copies from era → w.mem (Index k from) ≡ halves era (tag_of (w.seat k).post from)
+copied_word w v k from era p f r =
     let d : is_quiet (v.deal k) ≡ true = rw r at (f.parts.fit k) in
     let t : v.mark k from ≡ tag_of (w.seat k).post from = grind (arith, nat_tests, f.parts.marks k from, f.locals.tags k from, d) in
     let e : (v.era k from == era) ≡ true = rw r at (f.parts.published k) in
-    f.words.indexes k from ∙ ap (λ (x : ℕ). halves x (v.mark k from)) (number_is (v.era k from) era e) ∙ ap (halves era) t
+    f.words.indexes p k from ∙ ap (λ (x : ℕ). halves x (v.mark k from)) (number_is (v.era k from) era e) ∙ ap (halves era) t
 
-copied_era : (w : World) (v : View) (k from era : ℕ) → is_valid w.layout ≡ true → Requests w v → v.role k ≡ roles.Copies from era → (read_reservation (w.mem (Index k from))).era ≡ era
-copied_era w v k from era y f r =
+copied_era : (w : World) (v : View) (k from era : ℕ) → publishes_rows w.layout.config.scheme ≡ false → is_valid w.layout ≡ true → Requests w v → v.role k ≡ roles.Copies from era → (read_reservation (w.mem (Index k from))).era ≡ era
+copied_era w v k from era p y f r =
     let low = tag_low w v k from y f in
-    ap (λ (word : ℕ). (read_reservation word).era) (copied_word w v k from era f r)
+    ap (λ (word : ℕ). (read_reservation word).era) (copied_word w v k from era p f r)
     ∙ ap (λ (x : Reservation). x.era) (read_reservation-halves era (tag_of (w.seat k).post from) (omega (arith, low)))
 
-pub copying : (w : World) (v : View) (k : ℕ) → is_valid w.layout ≡ true → Requests w v → Copying w k
-copying w v k y f = record {
-  word = λ from index era q. copied_word w v k from era f (stands_as w v k (Works (Keeping (StoreHeld from index era))) f q);
-  publishes = λ from index era q. copied_era w v k from era y f (stands_as w v k (Works (Keeping (StoreHeld from index era))) f q);
+-- the link of a copy is in the index word
+copied_link : (w : World) (k from index link : ℕ) → publishes_rows w.layout.config.scheme ≡ true → Hazards w → (w.seat k).phase ≡ Works (Keeping (StoreHeld from index link)) → w.mem (Index k from) ≡ link
+copied_link w k from index link p h q =
+    subst (λ (rows : Bool). copy_shows rows w.mem k from link) p (subst (phase_shows (publishes_rows w.layout.config.scheme) w.mem k) q (h.shows k))
+
+copy_role_of : (w : World) (v : View) (k from index number : ℕ) → publishes_rows w.layout.config.scheme ≡ false → Requests w v → (w.seat k).phase ≡ Works (Keeping (StoreHeld from index number)) → v.role k ≡ roles.Copies from number
+copy_role_of w v k from index number p f q = stands_as w v k (Works (Keeping (StoreHeld from index number))) f q ∙ ap (λ (rows : Bool). copy_role rows from number) p
+
+pub copying : (w : World) (v : View) (k : ℕ) → is_valid w.layout ≡ true → Requests w v → Hazards w → Copying w k
+copying w v k y f h = record {
+  word = λ from index number q. word_of from index number q (publishes_rows w.layout.config.scheme) refl;
+  publishes = λ from index number q. number_of from index number q (publishes_rows w.layout.config.scheme) refl;
 }
+  where
+    word_of : (from index number : ℕ) → (w.seat k).phase ≡ Works (Keeping (StoreHeld from index number)) → (rows : Bool) → publishes_rows w.layout.config.scheme ≡ rows → w.mem (Index k from) ≡ shown_word rows (w.seat k).post from number
+    word_of from index number q true p = copied_link w k from index number p h q
+    word_of from index number q false p = copied_word w v k from number p f (copy_role_of w v k from index number p f q)
+
+    number_of : (from index number : ℕ) → (w.seat k).phase ≡ Works (Keeping (StoreHeld from index number)) → (rows : Bool) → publishes_rows w.layout.config.scheme ≡ rows → held_number rows (w.mem (Index k from)) ≡ number
+    number_of from index number q true p = copied_link w k from index number p h q
+    number_of from index number q false p = copied_era w v k from number p y f (copy_role_of w v k from index number p f q)

@@ -5,6 +5,7 @@ pub mod Copying
 pub mod Falling
 pub mod Going
 pub mod Handing
+pub mod Hazards
 pub mod Helping
 pub mod Kept
 pub mod Known

@@ -6,7 +6,7 @@ use Rattle.inv_shapes.specs.words.Place.{is_valid}
 use Rattle.inv_shapes.specs.words.Packed.{read_reservation, reservation_word}
 use Rattle.inv_shapes.specs.words.declared.config.Config.{Config}
 use Rattle.inv_shapes.specs.words.declared.config.SchemeKind.{SchemeKind}
-use Rattle.inv_shapes.specs.words.declared.config.SchemeKind.TheVariants.{He, Ibr, Wfe}
+use Rattle.inv_shapes.specs.words.declared.config.SchemeKind.TheVariants.{He, Hp, Ibr, Wfe}
 use Rattle.inv_shapes.specs.words.declared.layout.Layout.{Layout}
 use Rattle.inv_shapes.specs.defs.declared.call.Call.{Call}
 use Rattle.inv_shapes.specs.defs.declared.call.ClockMove.TheVariants as moves
@@ -23,7 +23,7 @@ use Rattle.inv_shapes.specs.model.Phases.AllocateAt.{LoadBirth, ClaimSlot, Store
 use Rattle.inv_shapes.specs.model.Phases.RetireAt.{LoadLife, LoadRetire, StoreRetired}
 use Rattle.inv_shapes.specs.model.Phases.MoveAt.{LoadEra, LoadRequest, ShowEra, LoadAsked, CheckEra, AnswerAsked, LoadReserved, HandOver, HideEra, HideLate, ExchangeClock}
 use Rattle.inv_shapes.specs.model.Phases.Base.{Begin, Protect, Reload, Clear, Finish, Release, Allocate, Write, GiveUp, Retire, Move}
-use Rattle.inv_shapes.specs.model.Phases.ProtectAt.{LoadClock, PublishEra, LoadLink, CheckClock, PublishRequest, LoadOwnClock, PublishHelper, LoadOwnLink, CheckOwnClock, AnswerOwn, LoadAnswer, TakeAnswer, WithdrawRequest, WithdrawHelper, LoadWithin, CheckUpper, RaiseUpper}
+use Rattle.inv_shapes.specs.model.Phases.ProtectAt.{LoadClock, PublishEra, LoadLink, CheckClock, PublishRequest, LoadOwnClock, PublishHelper, LoadOwnLink, CheckOwnClock, AnswerOwn, LoadAnswer, TakeAnswer, WithdrawRequest, WithdrawHelper, LoadWithin, CheckUpper, RaiseUpper, ByHazard}
 use Rattle.inv_shapes.specs.model.Phases.Ending.{Done, Followed, Clocked}
 use Rattle.inv_shapes.specs.model.Machine.{after}
 use Rattle.inv_shapes.specs.model.Rest.{protect_most}
@@ -34,8 +34,8 @@ use Rattle.inv_shapes.specs.model.Calls.{LoadHeld, Work, Keeping, Why, Phase, Id
 use Rattle.inv_shapes.specs.model.Locals.{Local}
 use Rattle.inv_shapes.specs.model.World.{World, start, begin, step, finds, offered}
 use Rattle.inv_shapes.specs.Frame.{StepsOn, Stores, Grows, Owes, Moves}
-use Rattle.inv_shapes.specs.words.Schemes.{counts_tries}
-use Rattle.inv_shapes.proofs.words.Schemes.{no_counts_by_clock, no_counts_in_interval}
+use Rattle.inv_shapes.specs.words.Schemes.{counts_tries, publishes_rows}
+use Rattle.inv_shapes.proofs.words.Schemes.{counts_eras, eras_not_rows, no_counts_by_clock, no_counts_in_interval}
 pub use Rattle.inv_shapes.proofs.words.Schemes.{no_counts_by_clock as wfe_not_he, no_counts_in_interval as wfe_not_ibr}
 use Rattle.inv_shapes.specs.Seats.{PostFits, PhaseFits, Run, Seats, protect_fits}
 use Rattle.inv_shapes.proofs.Frame.{seat_stays, seat_steps, begin_stays, begin_begins, after_seated, begun_seated, moves_with}
@@ -50,6 +50,7 @@ protect_starts : (c : Config) (scheme : SchemeKind) → paced c 0 (protect_at sc
 protect_starts c He = refl
 protect_starts c Ibr = refl
 protect_starts c Wfe = refl
+protect_starts c Hp = refl
 
 -- each phase that a call comes to by anything but a step inside a machine
 pace_grows : (layout : Layout) (k : ℕ) → is_valid layout ≡ true → Grows (PostFits layout k) (InPace layout.config)
@@ -70,7 +71,7 @@ pace_grows layout k v =
       finishes = λ post task next a b q. refl;
       gives_up = λ post answer slot q. refl;
       retires = λ post answer slot q. refl;
-      tidies = λ post later q. refl;
+      tidies = λ post later m q. refl;
       advances = λ post q. refl;
       clears_kept = λ post let_go n q. refl;
       releases = λ post let_go ibr none q. refl;
@@ -133,7 +134,7 @@ base_pace layout why (Protect aim index root steps at) post found t r p = protec
 base_pace layout why (Reload parent index slot era steps) post found t r p =
     if_by (found == parent + 1) (ends (with_row post index slot) (events.Held index slot (bump steps) ∷ []) (Followed (follow_ends.Followed slot))) (ends post [] (Followed (follow_ends.RootMoved found)))
     (StepsOn Any (InPace layout.config) why) (λ h. record { post = tt; phase = tt }) (λ h. record { post = tt; phase = tt })
-base_pace layout why (Clear index) post found t r p = record { post = tt; phase = tt }
+base_pace layout why (Clear rows index) post found t r p = record { post = tt; phase = tt }
 base_pace layout why Finish post found t r p = record { post = tt; phase = tt }
 base_pace layout why (Release index) post found t r p = record { post = tt; phase = tt }
 base_pace layout why (Allocate at) post found t r p = allocate_pace layout.config why at post found
@@ -183,6 +184,9 @@ paces_begin w i call v s p =
 pub paces_start : (layout : Layout) → Paces (start layout)
 paces_start layout = record { paced = λ k. refl }
 
+no_counts_in_rows : (scheme : SchemeKind) → counts_tries scheme ≡ true → publishes_rows scheme ≡ true → ⊥
+no_counts_in_rows scheme h r = let e = eras_not_rows scheme (counts_eras scheme h) in cc
+
 -- a protection's next step is no later than its last
 pub protects_in_time : (c : Config) (steps : ℕ) (at : ProtectAt) → paced c steps at ≡ true → counts_tries c.scheme ≡ true → protect_fits c.scheme c.tries at ≡ true → steps + 1 ≤ protect_most c
 protects_in_time c steps (LoadClock Endless) p w f = absurd (no_counts_by_clock c.scheme w f)
@@ -209,6 +213,7 @@ protects_in_time c steps (WithdrawHelper link era) p w f = grind (arith, nat_tes
 protects_in_time c steps LoadWithin p w f = absurd (no_counts_in_interval c.scheme w f)
 protects_in_time c steps (CheckUpper link) p w f = absurd (no_counts_in_interval c.scheme w f)
 protects_in_time c steps (RaiseUpper era) p w f = absurd (no_counts_in_interval c.scheme w f)
+protects_in_time c steps (ByHazard at) p w f = absurd (no_counts_in_rows c.scheme w f)
 
 pub reloads_in_time : (c : Config) (parent index slot era steps : ℕ) → base_paced c (Reload parent index slot era steps) ≡ true → counts_tries c.scheme ≡ true → steps ≤ protect_most c
 reloads_in_time c parent index slot era steps p w = reload_in_time (counts_tries c.scheme) p w

@@ -1,7 +1,7 @@
 -- A protection of Wait-Free Eras makes no more steps than it may.
-use Rattle.std.proofs.Common.{ℕ, ◌≡◌, ◌≤◌, ◌+◌, ◌-◌, Bool, true, false, List, [], arith, refl, sym, subst}
+use Rattle.std.proofs.Common.{◌∙◌, ℕ, ◌≡◌, ◌≤◌, ◌+◌, ◌-◌, Bool, true, false, List, [], arith, refl, sym, subst}
 use Rattle.std.proofs.lemmas.Bool.Decides.{nat_tests}
-use Rattle.std.specs.Prelude.{◌==◌, nat_le, Option, Some, None}
+use Rattle.std.specs.Prelude.{◌||◌, ◌==◌, nat_le, Option, Some, None}
 use Rattle.inv_shapes.specs.words.declared.config.Config.{Config}
 use Rattle.inv_shapes.specs.words.declared.config.SchemeKind.{SchemeKind}
 use Rattle.inv_shapes.specs.words.declared.packed.Request.{Request}
@@ -14,18 +14,19 @@ use Rattle.inv_shapes.specs.model.declared.ends.FollowEnd.TheVariants as follow_
 use Rattle.inv_shapes.specs.model.Links.{parent_of}
 use Rattle.inv_shapes.specs.model.Memory.{bump}
 use Rattle.inv_shapes.specs.model.Posts.{upper, reserves_index, reserves_helper}
-use Rattle.inv_shapes.specs.model.Phases.{Aim, Alone, Follows, Tries, Endless, Failed, ProtectAt, goes, ends}
-use Rattle.inv_shapes.specs.model.Phases.ProtectAt.{LoadClock, PublishEra, LoadLink, CheckClock, PublishRequest, LoadOwnClock, PublishHelper, LoadOwnLink, CheckOwnClock, AnswerOwn, LoadAnswer, TakeAnswer, WithdrawRequest, WithdrawHelper, LoadWithin, CheckUpper, RaiseUpper}
+use Rattle.inv_shapes.specs.model.Phases.{HazardAt, Aim, Alone, Follows, Tries, Endless, Failed, ProtectAt, goes, ends}
+use Rattle.inv_shapes.specs.model.Phases.ProtectAt.{LoadClock, PublishEra, LoadLink, CheckClock, PublishRequest, LoadOwnClock, PublishHelper, LoadOwnLink, CheckOwnClock, AnswerOwn, LoadAnswer, TakeAnswer, WithdrawRequest, WithdrawHelper, LoadWithin, CheckUpper, RaiseUpper, ByHazard}
+use Rattle.inv_shapes.specs.model.Phases.HazardAt.{FirstLink, PublishLink, CheckLink}
 use Rattle.inv_shapes.specs.model.Phases.Base.{Protect, Reload}
 use Rattle.inv_shapes.specs.model.Phases.Ending.{Followed}
 use Rattle.inv_shapes.specs.model.Protect.{trying, protected, concluded, held_post, told_held}
 use Rattle.inv_shapes.specs.model.SlowPath.{answer_in, lost_turn, own_request}
-use Rattle.inv_shapes.specs.model.Machine.{protect_turn}
+use Rattle.inv_shapes.specs.model.Machine.{hazard_turn, protect_turn}
 use Rattle.inv_shapes.specs.model.Rest.{protect_most}
 use Rattle.inv_shapes.specs.model.Calls.{Why, Phase}
 use Rattle.inv_shapes.specs.Frame.{StepsOn}
-use Rattle.inv_shapes.specs.words.Schemes.{counts_tries}
-use Rattle.inv_shapes.proofs.words.Schemes.{clock_not_counts, interval_not_counts}
+use Rattle.inv_shapes.specs.words.Schemes.{counts_tries, publishes_rows}
+use Rattle.inv_shapes.proofs.words.Schemes.{clock_not_counts, counts_helps, interval_not_counts, rows_not_help}
 use Rattle.inv_shapes.specs.Seats.{protect_fits}
 use Rattle.inv_requests.specs.Paces.{paced, reload_paced, phase_paced}
 use Rattle.inv_shapes.proofs.model.Facts.{if_by}
@@ -105,6 +106,17 @@ look_pace : (c : Config) (steps n first era link : ℕ) (last : Bool) → n ≤ 
 look_pace c steps n first era link true h p = grind (arith, nat_tests)
 look_pace c steps n first era link false h p = grind (arith, nat_tests)
 
+hazard_pace : (c : Config) (why : Why) (aim : Aim) (index : ℕ) (root : Root) (n : ℕ) (at : HazardAt) (post : Post) (found : ℕ) → publishes_rows c.scheme ≡ true → StepsOn Any (InPace c) why (hazard_turn aim index root n at post found)
+hazard_pace c why aim index root n FirstLink post found f =
+    if_by (found == 0) (protected aim index root n found 0 post) (goes post [] (Protect aim index root n (ByHazard (PublishLink found)))) (StepsOn Any (InPace c) why)
+    (λ e. concluded_pace c why aim index root n found 0 (held_post post index root found) (told_held index root found n) (free_reload c n c.scheme (counts_helps c.scheme ∙ rows_not_help c.scheme f)))
+    (λ e. record { post = tt; phase = refl })
+hazard_pace c why aim index root n (PublishLink link) post found f = record { post = tt; phase = refl }
+hazard_pace c why aim index root n (CheckLink link) post found f =
+    if_by (found == link || found == 0) (protected aim index root n found 0 post) (goes post [] (Protect aim index root n (ByHazard (PublishLink found)))) (StepsOn Any (InPace c) why)
+    (λ e. concluded_pace c why aim index root n found 0 (held_post post index root found) (told_held index root found n) (free_reload c n c.scheme (counts_helps c.scheme ∙ rows_not_help c.scheme f)))
+    (λ e. record { post = tt; phase = refl })
+
 -- a step of a protection
 pub protect_pace : (c : Config) (why : Why) (aim : Aim) (index : ℕ) (root : Root) (steps n : ℕ) (at : ProtectAt) (post : Post) (found : ℕ) → post.layout.config ≡ c → n ≤ steps + 1 → paced c steps at ≡ true → protect_fits c.scheme c.tries at ≡ true
     → StepsOn Any (InPace c) why (protect_turn aim index root n at post found)
@@ -133,3 +145,4 @@ protect_pace c why aim index root steps n (CheckUpper link) post found t h p f =
     (λ e. concluded_pace c why aim index root n link found (held_post post index root link) (told_held index root link n) (free_reload c n c.scheme (interval_not_counts c.scheme f)))
     (λ e. record { post = tt; phase = refl })
 protect_pace c why aim index root steps n (RaiseUpper era) post found t h p f = record { post = tt; phase = refl }
+protect_pace c why aim index root steps n (ByHazard at) post found t h p f = hazard_pace c why aim index root n at post found f

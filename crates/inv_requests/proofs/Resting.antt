@@ -1,28 +1,31 @@
 -- The steps of machines and calls that neither ask nor help.
-use Rattle.std.proofs.Common.{ℕ, ◌≡◌, ◌+◌, Bool, true, false, List, [], refl, sym, ap, ◌∙◌}
-use Rattle.std.specs.Prelude.{◌==◌, if◌then◌else◌, Option, Some, None, ◌-◌, ◌∷◌}
+use Rattle.std.proofs.Common.{ℕ, ◌≡◌, ◌+◌, Bool, true, false, List, [], refl, ◌∙◌}
+use Rattle.std.specs.Prelude.{◌==◌, ◌||◌, if◌then◌else◌, Option, Some, None, ◌-◌, ◌∷◌}
 use Rattle.inv_shapes.specs.words.Place.{Place, Place as places}
 use Rattle.inv_shapes.specs.words.Place.Place.{Clock}
-use Rattle.inv_shapes.specs.words.Packed.{halves}
+use Rattle.inv_shapes.specs.words.Schemes.{publishes_rows}
+use Rattle.inv_shapes.specs.Seats.{base_fits}
+use Rattle.inv_shapes.proofs.Tries.{clear_rows}
 use Rattle.inv_shapes.specs.defs.declared.event.Event.{Event}
 use Rattle.inv_shapes.specs.defs.declared.event.Root.{Root}
 use Rattle.inv_shapes.specs.model.declared.post.Post.{Post}
 use Rattle.inv_shapes.specs.model.Links.{link_place, parent_of}
 use Rattle.inv_shapes.specs.model.Memory.{upd, written, put, bump, Move}
 use Rattle.inv_shapes.specs.model.Memory as memory
-use Rattle.inv_shapes.specs.model.Posts.{counted, index_word, upper, with_row}
-use Rattle.inv_shapes.specs.model.Phases.{Aim, Base, Turn, goes, ends, BeginAt, AllocateAt, RetireAt, RowOf, Walk, Alone, Follows, Base as bases}
+use Rattle.inv_shapes.specs.model.Posts.{counted, upper, with_row}
+use Rattle.inv_shapes.specs.model.Phases.{Aim, Base, Turn, goes, ends, BeginAt, HazardAt, AllocateAt, RetireAt, RowOf, Walk, Alone, Follows, Base as bases}
 use Rattle.inv_shapes.specs.model.Calls.{Why, Phase, Idle, Runs, CallTurn, Scans, Works, Work, AfterScan, ScanAt, ReadGuard, GiveBack, GetAt, ChangeAt, EnqueueAt, DequeueAt, ChangeKept, EnqueueKept, FindVersion, FindCount, FindKey, FindValue, LoadVersion, LoadCount, LoadKey, LoadValue, ExchangeRoot, LoadNumber, LoadNext, PassTail, ExchangeNext, ExchangeTail, LoadTail, SwingTail, TakeNumber, TakeValue, ExchangeHead, KeepAt, Keeping, HideSpan}
 use Rattle.inv_shapes.specs.model.Steps.{run_turn, work_move, work_turn}
 use Rattle.inv_shapes.specs.model.Locals.{Local}
-use Rattle.inv_shapes.specs.model.Machine.{protect_move, protect_turn, base_move, after}
+use Rattle.inv_shapes.specs.model.Machine.{hazard_move, hazard_turn, protect_move, protect_turn, base_move, after}
 use Rattle.inv_shapes.specs.Frame.{WorkFits, Stores, Moves, StepsOn, Left, bared}
 use Rattle.inv_shapes.specs.words.declared.layout.Layout.{Layout}
 use Rattle.inv_shapes.specs.defs.declared.event.Event.TheVariants as events
 use Rattle.inv_shapes.specs.model.declared.ends.FollowEnd.TheVariants as follow_ends
 use Rattle.inv_shapes.specs.model.Phases.Ending.{Done, Followed}
 use Rattle.inv_shapes.specs.model.Phases.BeginAt.{LoadLower, PublishSpan}
-use Rattle.inv_shapes.specs.model.Phases.ProtectAt.{LoadWithin, CheckUpper, RaiseUpper}
+use Rattle.inv_shapes.specs.model.Phases.ProtectAt.{LoadWithin, CheckUpper, RaiseUpper, ByHazard}
+use Rattle.inv_shapes.specs.model.Phases.HazardAt.{FirstLink, PublishLink, CheckLink}
 use Rattle.inv_shapes.specs.model.Phases.AllocateAt.{LoadBirth, ClaimSlot, StoreLife}
 use Rattle.inv_shapes.specs.model.Phases.RetireAt.{LoadLife, LoadRetire, StoreRetired}
 use Rattle.inv_shapes.specs.model.Protect.{protected, concluded, held_post, told_held}
@@ -39,11 +42,11 @@ use Rattle.inv_requests.specs.Views.{View, upd2, Role as roles}
 use Rattle.inv_requests.specs.Standing.{work_role, role_of, Words}
 use Rattle.inv_requests.specs.Turns.{PostOf, RoleOf, Made}
 use Rattle.inv_requests.specs.Context.{At}
-use Rattle.inv_requests.proofs.Words.{words_era}
+use Rattle.inv_requests.proofs.Words.{words_row}
 use Rattle.inv_requests.proofs.Requester as own
 use Rattle.inv_requests.proofs.Turns.{away, made}
 use Rattle.inv_requests.proofs.Going.{same_role, stands_in, own_post, rest}
-use Rattle.inv_requests.proofs.Asking.{post_held, quiet_mark}
+use Rattle.inv_requests.proofs.Asking.{post_held, words_shown}
 
 -- a word of another kind than those that requests and helping are about
 abbrev pub is_other : Place → Bool
@@ -68,21 +71,21 @@ leaves (memory.Cas place old new) = is_other place
 leaves (memory.Or place bits) = is_other place
 leaves (memory.And place bits) = is_other place
 
-words_other : (mem : Place → ℕ) (v : View) (p : Place) (x : ℕ) → is_other p ≡ true → Words mem v.clock v.helper v.era v.mark v.deal → Words (put mem p x) v.clock v.helper v.era v.mark v.deal
+words_other : {rows : Bool} (mem : Place → ℕ) (v : View) (p : Place) (x : ℕ) → is_other p ≡ true → Words rows mem v.clock v.helper v.era v.mark v.deal → Words rows (put mem p x) v.clock v.helper v.era v.mark v.deal
 words_other mem v places.Clock x h u = absurd (cc)
 words_other mem v (places.Helper k) x h u = absurd (cc)
 words_other mem v (places.Index k j) x h u = absurd (cc)
-words_other mem v (places.Interval k) x h u = record { clocks = u.clocks; helpers = λ n. u.helpers n; indexes = λ n l. u.indexes n l; requests = λ n. u.requests n }
+words_other mem v (places.Interval k) x h u = record { clocks = u.clocks; helpers = λ n. u.helpers n; indexes = u.indexes; requests = λ n. u.requests n }
 words_other mem v (places.Request k) x h u = absurd (cc)
-words_other mem v (places.Bucket b) x h u = record { clocks = u.clocks; helpers = λ n. u.helpers n; indexes = λ n l. u.indexes n l; requests = λ n. u.requests n }
-words_other mem v places.Head x h u = record { clocks = u.clocks; helpers = λ n. u.helpers n; indexes = λ n l. u.indexes n l; requests = λ n. u.requests n }
-words_other mem v places.Tail x h u = record { clocks = u.clocks; helpers = λ n. u.helpers n; indexes = λ n l. u.indexes n l; requests = λ n. u.requests n }
-words_other mem v (places.Claim w) x h u = record { clocks = u.clocks; helpers = λ n. u.helpers n; indexes = λ n l. u.indexes n l; requests = λ n. u.requests n }
-words_other mem v (places.Life s) x h u = record { clocks = u.clocks; helpers = λ n. u.helpers n; indexes = λ n l. u.indexes n l; requests = λ n. u.requests n }
-words_other mem v (places.Row s n) x h u = record { clocks = u.clocks; helpers = λ n. u.helpers n; indexes = λ n l. u.indexes n l; requests = λ n. u.requests n }
-words_other mem v (places.PlaceOf k) x h u = record { clocks = u.clocks; helpers = λ n. u.helpers n; indexes = λ n l. u.indexes n l; requests = λ n. u.requests n }
+words_other mem v (places.Bucket b) x h u = record { clocks = u.clocks; helpers = λ n. u.helpers n; indexes = u.indexes; requests = λ n. u.requests n }
+words_other mem v places.Head x h u = record { clocks = u.clocks; helpers = λ n. u.helpers n; indexes = u.indexes; requests = λ n. u.requests n }
+words_other mem v places.Tail x h u = record { clocks = u.clocks; helpers = λ n. u.helpers n; indexes = u.indexes; requests = λ n. u.requests n }
+words_other mem v (places.Claim w) x h u = record { clocks = u.clocks; helpers = λ n. u.helpers n; indexes = u.indexes; requests = λ n. u.requests n }
+words_other mem v (places.Life s) x h u = record { clocks = u.clocks; helpers = λ n. u.helpers n; indexes = u.indexes; requests = λ n. u.requests n }
+words_other mem v (places.Row s n) x h u = record { clocks = u.clocks; helpers = λ n. u.helpers n; indexes = u.indexes; requests = λ n. u.requests n }
+words_other mem v (places.PlaceOf k) x h u = record { clocks = u.clocks; helpers = λ n. u.helpers n; indexes = u.indexes; requests = λ n. u.requests n }
 
-words_left : (mem : Place → ℕ) (v : View) (m : memory.Move) → leaves m ≡ true → Words mem v.clock v.helper v.era v.mark v.deal → Words (written mem m) v.clock v.helper v.era v.mark v.deal
+words_left : {rows : Bool} (mem : Place → ℕ) (v : View) (m : memory.Move) → leaves m ≡ true → Words rows mem v.clock v.helper v.era v.mark v.deal → Words rows (written mem m) v.clock v.helper v.era v.mark v.deal
 words_left mem v (memory.Load place) h u = u
 words_left mem v (memory.Store place value) h u = words_other mem v place value h u
 words_left mem v (memory.Cas place old new) h u = words_other mem v place (memory.change (memory.Cas place old new) (mem place)) h u
@@ -141,6 +144,26 @@ raise_made mem seat i v why aim index root steps n era found a q m =
     stay mem seat i v (protect_move index root (RaiseUpper era) (seat i).post) why (bases.Protect aim index root steps (RaiseUpper era)) (protect_turn aim index root n (RaiseUpper era) (counted (seat i).post) found) a q refl refl m
     (record { post = record { table = p.table; guarded = p.guarded; kept = p.kept }; phase = record { is = refl; there = refl } })
 
+-- hazard pointers
+pub hazard_made : {Q : Post → Type 0} {P : Post → Phase → Type 0} (mem : Place → ℕ) (seat : ℕ → Local) (i : ℕ) (v : View) (why : Why) (aim : Aim) (index : ℕ) (root : Root) (steps n : ℕ) (at : HazardAt) (found : ℕ) → At mem seat i v → (seat i).phase ≡ Runs why (bases.Protect aim index root steps (ByHazard at)) → publishes_rows (seat i).post.layout.config.scheme ≡ true
+    → Moves Q P why (hazard_turn aim index root n at (counted (seat i).post) found)
+    → Made mem seat i (hazard_move index root at (seat i).post) (run_turn why (seat i).desk (hazard_turn aim index root n at (counted (seat i).post) found)) v.deal
+hazard_made mem seat i v why aim index root steps n FirstLink found a q f m =
+    stay mem seat i v (memory.Load (link_place root)) why (bases.Protect aim index root steps (ByHazard FirstLink)) (hazard_turn aim index root n FirstLink (counted (seat i).post) found) a q refl refl m
+    (steps_if (seat i).post.layout (seat i).post.tags why (found == 0) (protected aim index root n found 0 (counted (seat i).post)) (goes (counted (seat i).post) [] (bases.Protect aim index root n (ByHazard (PublishLink found))))
+    (concluded_on (seat i).post.layout (seat i).post.tags why aim index root n found 0 (held_post (counted (seat i).post) index root found) (told_held index root found n) (post_held (seat i).post.layout (seat i).post.tags (counted (seat i).post) index root found (own_post mem seat i v a)))
+    (record { post = own_post mem seat i v a; phase = record { is = refl; there = refl } }))
+hazard_made mem seat i v why aim index root steps n (PublishLink link) found a q f m =
+    rest mem seat i v (hazard_move index root (PublishLink link) (seat i).post) why (hazard_turn aim index root n (PublishLink link) (counted (seat i).post) found) (record v { role = upd v.role i roles.Away }) a
+    (record { post = own_post mem seat i v a; phase = record { is = refl; there = refl } }) refl refl
+    (words_row mem v.clock v.helper v.era v.mark v.deal (seat i).post.seat index link f a.facts.words)
+    (same_role (seat i).post.layout.config v i roles.Away a.facts.parts (stands_in mem seat i v (Runs why (bases.Protect aim index root steps (ByHazard (PublishLink link)))) a q))
+hazard_made mem seat i v why aim index root steps n (CheckLink link) found a q f m =
+    stay mem seat i v (memory.Load (link_place root)) why (bases.Protect aim index root steps (ByHazard (CheckLink link))) (hazard_turn aim index root n (CheckLink link) (counted (seat i).post) found) a q refl refl m
+    (steps_if (seat i).post.layout (seat i).post.tags why (found == link || found == 0) (protected aim index root n found 0 (counted (seat i).post)) (goes (counted (seat i).post) [] (bases.Protect aim index root n (ByHazard (PublishLink found))))
+    (concluded_on (seat i).post.layout (seat i).post.tags why aim index root n found 0 (held_post (counted (seat i).post) index root found) (told_held index root found n) (post_held (seat i).post.layout (seat i).post.tags (counted (seat i).post) index root found (own_post mem seat i v a)))
+    (record { post = own_post mem seat i v a; phase = record { is = refl; there = refl } }))
+
 pub reload_made : {Q : Post → Type 0} {P : Post → Phase → Type 0} (mem : Place → ℕ) (seat : ℕ → Local) (i : ℕ) (v : View) (why : Why) (parent index slot era steps found : ℕ) → At mem seat i v → (seat i).phase ≡ Runs why (bases.Reload parent index slot era steps)
     → Moves Q P why (after (bases.Reload parent index slot era steps) (counted (seat i).post) found)
     → Made mem seat i (memory.Load places.Head) (run_turn why (seat i).desk (after (bases.Reload parent index slot era steps) (counted (seat i).post) found)) v.deal
@@ -151,17 +174,16 @@ reload_made mem seat i v why parent index slot era steps found a q m =
     (record { post = record { table = p.table; guarded = p.guarded; kept = p.kept }; phase = tt }) (record { post = p; phase = tt }))
 
 -- an index word is cleared
-pub clear_made : {Q : Post → Type 0} {P : Post → Phase → Type 0} (mem : Place → ℕ) (seat : ℕ → Local) (i : ℕ) (v : View) (why : Why) (index found : ℕ) → At mem seat i v → (seat i).phase ≡ Runs why (bases.Clear index)
-    → Moves Q P why (after (bases.Clear index) (counted (seat i).post) found)
-    → Made mem seat i (base_move (bases.Clear index) (seat i).post) (run_turn why (seat i).desk (after (bases.Clear index) (counted (seat i).post) found)) v.deal
-clear_made mem seat i v why index found a q m =
+pub clear_made : {Q : Post → Type 0} {P : Post → Phase → Type 0} (mem : Place → ℕ) (seat : ℕ → Local) (i : ℕ) (v : View) (why : Why) (rows : Bool) (index found : ℕ) → At mem seat i v → (seat i).phase ≡ Runs why (bases.Clear rows index) → base_fits (seat i).post.layout.config (bases.Clear rows index) ≡ true
+    → Moves Q P why (after (bases.Clear rows index) (counted (seat i).post) found)
+    → Made mem seat i (base_move (bases.Clear rows index) (seat i).post) (run_turn why (seat i).desk (after (bases.Clear rows index) (counted (seat i).post) found)) v.deal
+clear_made mem seat i v why rows index found a q f m =
     let p = own_post mem seat i v a in
-    let r = stands_in mem seat i v (Runs why (bases.Clear index)) a q in
-    rest mem seat i v (base_move (bases.Clear index) (seat i).post) why (after (bases.Clear index) (counted (seat i).post) found) (record v { era = upd2 v.era i index 0; role = upd v.role i roles.Away }) a
-    (moves_with why (after (bases.Clear index) (counted (seat i).post) found) m (record { post = record { table = p.table; guarded = p.guarded; kept = p.kept }; phase = tt }))
+    let r = stands_in mem seat i v (Runs why (bases.Clear rows index)) a q in
+    rest mem seat i v (base_move (bases.Clear rows index) (seat i).post) why (after (bases.Clear rows index) (counted (seat i).post) found) (record v { era = upd2 v.era i index 0; role = upd v.role i roles.Away }) a
+    (moves_with why (after (bases.Clear rows index) (counted (seat i).post) found) m (record { post = record { table = p.table; guarded = p.guarded; kept = p.kept }; phase = tt }))
     refl refl
-    (words_era mem v.clock v.helper v.era v.mark v.deal i (seat i).post.seat index 0 (index_word (seat i).post index 0) a.facts.words a.number
-    (ap (λ (n : ℕ). halves 0 n) (sym (quiet_mark mem seat i v index a (rw r at (a.facts.parts.fit i))))))
+    (words_shown mem seat i v rows index 0 a (clear_rows (seat i).post.layout.config.scheme rows f) (rw r at (a.facts.parts.fit i)))
     (own.clears-keeps (seat i).post.layout.config v i index a.below a.facts.parts r)
 
 pub finish_made : {Q : Post → Type 0} {P : Post → Phase → Type 0} (mem : Place → ℕ) (seat : ℕ → Local) (i : ℕ) (v : View) (why : Why) (found : ℕ) → At mem seat i v → (seat i).phase ≡ Runs why bases.Finish
@@ -260,7 +282,7 @@ work_bared layout tags (Keeping at) post p = keep_bared layout tags at post p
 work_bared layout tags work post p = p
 
 -- a call's own step that is none of a copy
-pub work_made : (mem : Place → ℕ) (seat : ℕ → Local) (i : ℕ) (v : View) (work : Work) (found : ℕ) → At mem seat i v → (seat i).phase ≡ Works work → leaves (work_move work (seat i).post) ≡ true → work_role work ≡ roles.Away
+pub work_made : (mem : Place → ℕ) (seat : ℕ → Local) (i : ℕ) (v : View) (work : Work) (found : ℕ) → At mem seat i v → (seat i).phase ≡ Works work → leaves (work_move work (seat i).post) ≡ true → work_role (seat i).post.layout work ≡ roles.Away
     → WorkFits (counted (seat i).post) work
     → Stores (RoleOf (seat i).post.layout roles.Away) (counted (seat i).post) found work
     → Made mem seat i (work_move work (seat i).post) (work_turn work (counted (seat i).post) (seat i).desk found) v.deal

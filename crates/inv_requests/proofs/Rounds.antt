@@ -1,9 +1,10 @@
 -- After a machine, and after a call's own step, the parent of a followed link stands.
 use Rattle.std.proofs.Common.{ℕ, ◌≡◌, ◌+◌, Bool, true, false, List, [], ◌∷◌, ◌++◌, length, drop}
 use Rattle.std.specs.Prelude.{◌==◌, ◌%◌, ◌-◌, nat_lt, Option, Some, None}
-use Rattle.inv_shapes.specs.words.Schemes.{has_one_interval}
+use Rattle.inv_shapes.specs.words.Schemes.{has_one_interval, publishes_rows}
+use Rattle.inv_shapes.specs.words.Schemes.{moves as moves_clock}
 use Rattle.inv_shapes.specs.words.declared.config.SchemeKind.{SchemeKind}
-use Rattle.inv_shapes.specs.words.declared.config.SchemeKind.TheVariants.{He, Ibr, Wfe}
+use Rattle.inv_shapes.specs.words.declared.config.SchemeKind.TheVariants.{He, Hp, Ibr, Wfe}
 use Rattle.inv_shapes.specs.defs.declared.call.Answer.{Answer}
 use Rattle.inv_shapes.specs.defs.declared.call.Answer.TheVariants as the_answers
 use Rattle.inv_shapes.specs.defs.declared.call.Call.{Call}
@@ -13,7 +14,6 @@ use Rattle.inv_shapes.specs.defs.declared.event.Event.{Event}
 use Rattle.inv_shapes.specs.defs.declared.event.Event.TheVariants as events
 use Rattle.inv_shapes.specs.defs.declared.event.Root.TheVariants as root_names
 use Rattle.inv_shapes.specs.defs.declared.lifetime.Interval.{Interval}
-use Rattle.inv_shapes.specs.defs.Shown.{shown}
 use Rattle.inv_shapes.specs.model.declared.ends.AllocateEnd.{AllocateEnd}
 use Rattle.inv_shapes.specs.model.declared.ends.AllocateEnd.TheVariants as allocate_ends
 use Rattle.inv_shapes.specs.model.declared.ends.FollowEnd.{FollowEnd}
@@ -21,12 +21,12 @@ use Rattle.inv_shapes.specs.model.declared.ends.FollowEnd.TheVariants as follow_
 use Rattle.inv_shapes.specs.model.declared.ends.ProtectEnd.TheVariants as protect_ends
 use Rattle.inv_shapes.specs.model.declared.post.Post.{Post}
 use Rattle.inv_shapes.specs.model.Desks.{Desk, with_life}
-use Rattle.inv_shapes.specs.model.Guards.{guards, guard_at, eras_in}
-use Rattle.inv_shapes.specs.model.Posts.{cleared, reserves_index, stands, withdrawn, standing_from}
+use Rattle.inv_shapes.specs.model.Guards.{guards, guard_at, published}
+use Rattle.inv_shapes.specs.model.Posts.{cleared, publishes_index, stands, withdrawn, standing_from}
 use Rattle.inv_shapes.proofs.model.Facts.{if_by}
 use Rattle.inv_shapes.specs.model.Phases.{Base, Ending}
 use Rattle.inv_shapes.specs.model.Phases.Ending.{Done, Protected, Followed, Allocated, Retired, Clocked}
-use Rattle.inv_shapes.specs.model.Rounds.{bucket_of, scheme_of, index_of, taken_of, begin_span, begin_base, protect_at, finish_base, clear_base, clear_post, clear_told, round_by, round, given_up, closed, finishing_by, finishing, clearing_by, clearing, clearing_next_by, clearing_next, let_index, letting_by, letting, release_base}
+use Rattle.inv_shapes.specs.model.Rounds.{bucket_of, scheme_of, index_of, taken_of, begin_span, begin_base, protect_at, finish_base, clear_base, clear_post, clear_told, round_by, round, tidy_by, given_up, closed, finishing_by, finishing, clearing_by, clearing, clearing_next_by, clearing_next, let_index, letting_by, letting, release_base}
 use Rattle.inv_shapes.specs.model.Get as gets
 use Rattle.inv_shapes.specs.model.Change as alters
 use Rattle.inv_shapes.specs.model.Enqueue as enqueues
@@ -42,6 +42,7 @@ protect_starts : (scheme : SchemeKind) (index : ℕ) (post : Post) → protect_s
 protect_starts He index post = tt
 protect_starts Ibr index post = tt
 protect_starts Wfe index post = tt
+protect_starts Hp index post = tt
 
 span_stands : (task : Task) (post : Post) (span : Option Interval) → phase_stands (round_by task post (begin_span span)) post
 span_stands task post None = tt
@@ -60,9 +61,13 @@ given_up_stands : (answer : Answer) (post : Post) (desk : Desk) (told : List Eve
 given_up_stands answer post desk told None = record { stand = tt }
 given_up_stands answer post desk told (Some slot) = record { stand = tt }
 
+tidy_stands : (later : AfterScan) (post : Post) (moving : Bool) → phase_stands (tidy_by moving later post) post
+tidy_stands later post true = tt
+tidy_stands later post false = tt
+
 closed_stands : (task : Task) (next : Next) (post : Post) (desk : Desk) (told : List Event) → TurnStands (closed task next post desk told)
 closed_stands task Again post desk told = record { stand = round_stands task post }
-closed_stands task MakeRoom post desk told = record { stand = tt }
+closed_stands task MakeRoom post desk told = record { stand = tidy_stands (Repeated task) post (moves_clock (scheme_of post)) }
 closed_stands task (Answering answer) post desk told = given_up_stands answer post desk told (taken_of task)
 closed_stands task (Retiring slot answer) post desk told = record { stand = tt }
 
@@ -178,9 +183,9 @@ letting_stands : (let_go : LetGo) (post : Post) → phase_stands (letting let_go
 letting_stands let_go post = letting_by_stands let_go (release_base (scheme_of post) post (let_index let_go)) post
 
 -- a seat leaves
-parting_stands : (x : Option ℕ) (post : Post) → phase_stands (keeps.parting_index x) post
-parting_stands None post = tt
-parting_stands (Some index) post = tt
+parting_stands : (rows : Bool) (x : Option ℕ) (post : Post) → phase_stands (keeps.parting_index rows x) post
+parting_stands rows None post = tt
+parting_stands rows (Some index) post = tt
 
 parting_span_stands : (x : Option Interval) (post : Post) → phase_stands (keeps.parting_span x) post
 parting_span_stands None post = tt
@@ -190,7 +195,7 @@ leaving_stands : (post : Post) → phase_stands (keeps.parting post) post
 leaving_stands post =
     if_by (has_one_interval (scheme_of post)) (keeps.parting_span post.span) (keeps.parting_from 2 post) (λ (phase : Phase). phase_stands phase post)
     (λ e. parting_span_stands post.span post)
-    (λ e. parting_stands (standing_from 2 (drop 2 post.standing)) post)
+    (λ e. parting_stands (publishes_rows (scheme_of post)) (standing_from 2 (drop 2 post.standing)) post)
 
 taking_stands : (place : ℕ) (post : Post) (desk : Desk) (left : Bool) (found : ℕ) → TurnStands (keeps.taking place post desk left found)
 taking_stands place post desk true found = record { stand = tt }
@@ -200,7 +205,7 @@ released_stands : (let_go : LetGo) (post : Post) (desk : Desk) (told : List Even
 released_stands Released post desk told = record { stand = tt }
 released_stands (Rehold key) post desk told = record { stand = round_stands (Holds key) post }
 released_stands (Dropped index) post desk told = record { stand = tt }
-released_stands (Parting index) post desk told = record { stand = parting_stands (standing_from (index + 1) (drop (index + 1) post.standing)) post }
+released_stands (Parting index) post desk told = record { stand = parting_stands (publishes_rows (scheme_of post)) (standing_from (index + 1) (drop (index + 1) post.standing)) post }
 
 copied_stands : (from index : ℕ) (post : Post) (desk : Desk) (reserved : List Event) (kept : Option ℕ) → TurnStands (keeps.copied from index post desk reserved kept)
 copied_stands from index post desk reserved None = record { stand = tt }
@@ -227,7 +232,7 @@ look_stands index key (FindValue slot version pair) post desk found = record { s
 keep_stands : (at : KeepAt) (post : Post) (desk : Desk) (found : ℕ) → TurnStands (keeps.keep_turn at post desk found)
 keep_stands (Loosens let_go) post desk found = released_stands let_go (withdrawn post (let_index let_go)) desk (cleared (let_index let_go) (stands post (let_index let_go)))
 keep_stands (LoadHeld from index) post desk found = load_held_stands from index post desk found (has_one_interval (scheme_of post))
-keep_stands (StoreHeld from index era) post desk found = copied_stands from index post desk (reserves_index post index era) (stands post from)
+keep_stands (StoreHeld from index era) post desk found = copied_stands from index post desk (publishes_index (publishes_rows (scheme_of post)) post index era) (stands post from)
 keep_stands (Looks index key at) post desk found = look_stands index key at post desk found
 keep_stands (Misses index) post desk found = record { stand = tt }
 keep_stands HideSpan post desk found = record { stand = tt }
@@ -260,8 +265,8 @@ reading_guard_stands later number post desk told false = giving_back_stands late
 pub scan_turn_stands : (later : AfterScan) (at : ScanAt) (post : Post) (desk : Desk) (found : ℕ) → TurnStands (scan.scan_turn later at post desk found)
 scan_turn_stands later (ReadGuard number) post desk found =
     let guard = guard_at post.layout.config number in
-    let span = eras_in guard found in
-    reading_guard_stands later number post (scan.with_read desk number (guard, shown span)) (events.Read guard span ∷ []) (nat_lt (number + 1) (guards post.layout.config))
+    let rows = publishes_rows (scheme_of post) in
+    reading_guard_stands later number post (scan.with_read desk number (guard, published rows guard found)) (scan.reads_guard rows guard found ∷ []) (nat_lt (number + 1) (guards post.layout.config))
 scan_turn_stands later (GiveBack place slot) post desk found =
     giving_back_stands later post (scan.with_back desk place) (events.Back slot ∷ []) (scan.unmet_from (scan.with_back desk place) place)
 
@@ -332,7 +337,7 @@ followed_by_stands head tail (Retired life) post desk told h = closed_stands Deq
 followed_by_stands head tail (Clocked clock) post desk told h = closed_stands Dequeues Again post desk told
 
 tidying_stands : (answer : Answer) (post : Post) (desk : Desk) (told : List Event) (due : Bool) → TurnStands (steps.tidying answer post desk told due)
-tidying_stands answer post desk told true = record { stand = tt }
+tidying_stands answer post desk told true = record { stand = tidy_stands (Answered answer) post (moves_clock (scheme_of post)) }
 tidying_stands answer post desk told false = record { stand = tt }
 
 retired_by_stands : (answer : Answer) (ending : Ending) (post : Post) (desk : Desk) (told : List Event) → TurnStands (steps.retired_by answer ending post desk told)

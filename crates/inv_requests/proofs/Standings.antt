@@ -2,7 +2,7 @@
 use Rattle.std.proofs.Common.{ℕ, ◌≡◌, ◌<◌, ◌+◌, Bool, true, false, [], ◌∷◌, length, arith, refl, sym, ap, subst, ◌∙◌}
 use Rattle.std.proofs.lemmas.Bool.Decides.{nat_tests}
 use Rattle.std.proofs.lemmas.List.{get_or-set_other}
-use Rattle.std.specs.Prelude.{◌==◌, ◌-◌, nat_le, if◌then◌else◌, Option, Some, None}
+use Rattle.std.specs.Prelude.{◌||◌, ◌==◌, ◌-◌, nat_le, if◌then◌else◌, Option, Some, None}
 use Rattle.inv_shapes.specs.words.Packed.{read_request}
 use Rattle.inv_shapes.specs.words.declared.layout.Layout.{Layout}
 use Rattle.inv_shapes.specs.words.declared.packed.Request.{Request}
@@ -18,12 +18,13 @@ use Rattle.inv_shapes.specs.model.Memory.{bump}
 use Rattle.inv_shapes.specs.model.Posts.{stands, with_row, with_tag, tag_of, upper, reserves_index, reserves_helper}
 use Rattle.inv_shapes.specs.model.Protect.{protect_end, held_post, told_held, protected, trying, failed_once}
 use Rattle.inv_shapes.specs.model.SlowPath.{answer_in, lost_turn, own_request}
-use Rattle.inv_shapes.specs.model.Phases.{Aim, Alone, Tries, Endless, Failed, ProtectAt, Base, Ending, Outcome, Goes, Ends, Turn, goes, ends}
+use Rattle.inv_shapes.specs.model.Phases.{HazardAt, Aim, Alone, Tries, Endless, Failed, ProtectAt, Base, Ending, Outcome, Goes, Ends, Turn, goes, ends}
 use Rattle.inv_shapes.specs.model.Phases.BeginAt.{LoadLower, PublishSpan}
-use Rattle.inv_shapes.specs.model.Phases.ProtectAt.{LoadClock, PublishEra, LoadLink, CheckClock, PublishRequest, LoadOwnClock, PublishHelper, LoadOwnLink, CheckOwnClock, AnswerOwn, LoadAnswer, TakeAnswer, WithdrawRequest, WithdrawHelper, LoadWithin, CheckUpper, RaiseUpper}
+use Rattle.inv_shapes.specs.model.Phases.ProtectAt.{LoadClock, PublishEra, LoadLink, CheckClock, PublishRequest, LoadOwnClock, PublishHelper, LoadOwnLink, CheckOwnClock, AnswerOwn, LoadAnswer, TakeAnswer, WithdrawRequest, WithdrawHelper, LoadWithin, CheckUpper, RaiseUpper, ByHazard}
+use Rattle.inv_shapes.specs.model.Phases.HazardAt.{FirstLink, PublishLink, CheckLink}
 use Rattle.inv_shapes.specs.model.Phases.Base.{Begin, Protect, Reload, Clear, Finish, Release, Allocate, Write, GiveUp, Retire, Move}
 use Rattle.inv_shapes.specs.model.Phases.Ending.{Followed}
-use Rattle.inv_shapes.specs.model.Machine.{protect_turn, after}
+use Rattle.inv_shapes.specs.model.Machine.{hazard_turn, protect_turn, after}
 use Rattle.inv_shapes.specs.model.Rounds.{index_of}
 use Rattle.inv_shapes.specs.model.Calls.{Task, Gets, Changes, Holds, Enqueues, Dequeues, Why, Opens, FollowsHead, Fills, ClearsNext, Clears, Finishes, GivesUp, Retires, Tidies, Advances, Releases}
 use Rattle.inv_shapes.specs.Seats.{PostFits, Run, task_root}
@@ -78,6 +79,16 @@ publish_free task aim index root n era Endless post = tt
 publish_free task aim index root n era (Failed count) post =
     if_by (nat_le post.layout.config.tries count) PublishRequest (LoadLink era (Failed count)) (λ (at : ProtectAt). MachineStands (Opens task) (goes post (reserves_index post index era) (Protect aim index root n at))) (λ e. tt) (λ e. tt)
 
+again_stands : (task : Task) (index : ℕ) (root : Root) (n link : ℕ) (over : Bool) (post : Post) → index ≡ index_of task → is_root root ≡ true → index < length post.standing
+    → MachineStands (Opens task) (if over then protected Alone index root n link 0 post else goes post [] (Protect Alone index root n (ByHazard (PublishLink link))))
+again_stands task index root n link true post e r b = end_stands link 0 (index_of task) (held_post post index root link) (subst (λ (j : ℕ). LinkStands link j (held_post post index root link)) e (held_stands post index root link b r))
+again_stands task index root n link false post e r b = tt
+
+hazard_stands : (task : Task) (index : ℕ) (root : Root) (n : ℕ) (at : HazardAt) (post : Post) (found : ℕ) → index ≡ index_of task → is_root root ≡ true → index < length post.standing → MachineStands (Opens task) (hazard_turn Alone index root n at post found)
+hazard_stands task index root n FirstLink post found e r b = again_stands task index root n found (found == 0) post e r b
+hazard_stands task index root n (PublishLink link) post found e r b = tt
+hazard_stands task index root n (CheckLink link) post found e r b = again_stands task index root n found (found == link || found == 0) post e r b
+
 -- the protection of a task's root
 open_stands : (task : Task) (index : ℕ) (root : Root) (n : ℕ) (at : ProtectAt) (post : Post) (found : ℕ) → index ≡ index_of task → is_root root ≡ true → index < length post.standing → protect_stands at index post
     → MachineStands (Opens task) (protect_turn Alone index root n at post found)
@@ -108,6 +119,17 @@ open_stands task index root n (CheckUpper link) post found e r b h =
     (λ g. end_stands link found (index_of task) (held_post post index root link) (subst (λ (j : ℕ). LinkStands link j (held_post post index root link)) e (held_stands post index root link b r)))
     (λ g. tt)
 open_stands task index root n (RaiseUpper era) post found e r b h = tt
+open_stands task index root n (ByHazard at) post found e r b h = hazard_stands task index root n at post found e r b
+
+again_keeps : (aim : Aim) (index parent n link : ℕ) (over : Bool) (post : Post)
+    → stands (if over then protected aim index (root_names.Next parent) n link 0 post else goes post [] (Protect aim index (root_names.Next parent) n (ByHazard (PublishLink link)))).post 0 ≡ stands post 0
+again_keeps aim index parent n link true post = ap (λ (p : Post). stands p 0) (concluded_post aim index (root_names.Next parent) n link 0 post (told_held index (root_names.Next parent) link n))
+again_keeps aim index parent n link false post = refl
+
+hazard_keeps : (aim : Aim) (index parent n : ℕ) (at : HazardAt) (post : Post) (found : ℕ) → stands (hazard_turn aim index (root_names.Next parent) n at post found).post 0 ≡ stands post 0
+hazard_keeps aim index parent n FirstLink post found = again_keeps aim index parent n found (found == 0) post
+hazard_keeps aim index parent n (PublishLink link) post found = refl
+hazard_keeps aim index parent n (CheckLink link) post found = again_keeps aim index parent n found (found == link || found == 0) post
 
 -- the follow leaves what stands at index 0
 follow_keeps : (aim : Aim) (index parent n : ℕ) (at : ProtectAt) (post : Post) (found : ℕ) → stands (protect_turn aim index (root_names.Next parent) n at post found).post 0 ≡ stands post 0
@@ -134,6 +156,7 @@ follow_keeps aim index parent n (CheckUpper link) post found =
     if_by (found == upper post.span) (protected aim index (root_names.Next parent) n link found post) (goes post [] (Protect aim index (root_names.Next parent) n (RaiseUpper found))) (λ (t : Turn). stands t.post 0 ≡ stands post 0)
     (λ e. ap (λ (p : Post). stands p 0) (concluded_post aim index (root_names.Next parent) n link found post (told_held index (root_names.Next parent) link n))) (λ e. refl)
 follow_keeps aim index parent n (RaiseUpper era) post found = refl
+follow_keeps aim index parent n (ByHazard at) post found = hazard_keeps aim index parent n at post found
 
 follow_outcome : (head tail : ℕ) (outcome : Outcome) (post : Post) → stands post 0 ≡ Some head → OutcomeStands (FollowsHead head tail) outcome post
 follow_outcome head tail (Goes base) post h = h
@@ -152,7 +175,7 @@ follow_machine layout head tail (Protect aim index root steps at) post found r h
 follow_machine layout head tail (Reload parent index slot era steps) post found r h =
     if_by (found == parent + 1) (ends (with_row post index slot) (events.Held index slot (bump steps) ∷ []) (Followed (follow_ends.Followed slot))) (ends post [] (Followed (follow_ends.RootMoved found))) (MachineStands (FollowsHead head tail))
     (λ e. let x : index ≡ 1 = r.shape.at in row_other post index slot 0 (rw x refl) ∙ h) (λ e. h)
-follow_machine layout head tail (Clear index) post found r h = absurd (let x = r.suited in cc)
+follow_machine layout head tail (Clear rows index) post found r h = absurd (let x = r.suited in cc)
 follow_machine layout head tail Finish post found r h = absurd (let x = r.suited in cc)
 follow_machine layout head tail (Release index) post found r h = absurd (let x = r.suited in cc)
 follow_machine layout head tail (Allocate at) post found r h = absurd (let x = r.suited in cc)
@@ -175,7 +198,7 @@ open_machine layout k task (Protect aim index root steps at) post found q r h =
     subst (λ (x : Aim). MachineStands (Opens task) (protect_turn x index root (bump steps) at post found)) (sym r.shape.aimed)
     (open_stands task index root (bump steps) at post found r.shape.at (ap is_root r.shape.of ∙ task_is_root layout.config.buckets task) (omega (arith, index_small task, r.shape.at, q.standing)) h)
 open_machine layout k task (Reload parent index slot era steps) post found q r h = absurd (let x = r.suited in cc)
-open_machine layout k task (Clear index) post found q r h = absurd (let x = r.suited in cc)
+open_machine layout k task (Clear rows index) post found q r h = absurd (let x = r.suited in cc)
 open_machine layout k task Finish post found q r h = absurd (let x = r.suited in cc)
 open_machine layout k task (Release index) post found q r h = absurd (let x = r.suited in cc)
 open_machine layout k task (Allocate at) post found q r h = absurd (let x = r.suited in cc)

@@ -4,9 +4,10 @@ use Rattle.std.proofs.lemmas.Bool.Decides.{nat_tests}
 use Rattle.std.proofs.lemmas.Grind.{rows}
 use Rattle.std.specs.Prelude.{◌==◌, if◌then◌else◌, slice_index}
 use Rattle.inv_shapes.specs.words.Place.{Place}
+use Rattle.inv_shapes.specs.words.Schemes.{publishes_rows}
 use Rattle.inv_shapes.specs.words.declared.config.Config.{Config}
 use Rattle.inv_shapes.specs.words.declared.config.SchemeKind.{SchemeKind}
-use Rattle.inv_shapes.specs.words.declared.config.SchemeKind.TheVariants.{He, Ibr, Wfe}
+use Rattle.inv_shapes.specs.words.declared.config.SchemeKind.TheVariants.{He, Hp, Ibr, Wfe}
 use Rattle.inv_shapes.specs.words.declared.layout.Layout.{Layout}
 use Rattle.inv_shapes.specs.defs.declared.event.Root.{Root}
 use Rattle.inv_shapes.specs.model.Valid.{Bounds}
@@ -22,7 +23,7 @@ use Rattle.inv_shapes.proofs.Frame.{settled_seated}
 use Rattle.inv_requests.specs.Views.{View, Deal, Role}
 use Rattle.inv_requests.specs.Views.Role.{Away, Copies}
 use Rattle.inv_requests.specs.Parts.{Parts}
-use Rattle.inv_requests.specs.Standing.{protect_role, work_role, role_of, is_there, Words, Locals}
+use Rattle.inv_requests.specs.Standing.{protect_role, copy_role, work_role, role_of, is_there, Words, Locals}
 use Rattle.inv_requests.specs.Turns.{PostOf, RoleOf, Made}
 
 some_cells : (n m : ℕ) → 1 ≤ n → 1 ≤ m → 0 < n * m
@@ -32,6 +33,7 @@ guards_by_some : (scheme : SchemeKind) (c : Config) → Bounds c → 0 < guards_
 guards_by_some He c b = some_cells c.seats c.indexes (omega (arith, b.seats)) (omega (arith, b.indexes))
 guards_by_some Ibr c b = omega (arith, b.seats)
 guards_by_some Wfe c b = omega (arith, b.seats)
+guards_by_some Hp c b = some_cells c.seats c.indexes (omega (arith, b.seats)) (omega (arith, b.indexes))
 
 -- there are guards
 pub guards_some : (c : Config) → Bounds c → 0 < guards c
@@ -41,15 +43,20 @@ protect_away : (layout : Layout) (index : ℕ) (root : Root) (scheme : SchemeKin
 protect_away layout index root He = refl
 protect_away layout index root Ibr = refl
 protect_away layout index root Wfe = refl
+protect_away layout index root Hp = refl
 
 -- a call's own step asks and helps nothing, or is the second of a copy
-pub each_work_role : (work : Work) (P : Role → Type 0) → P Away → ((from era : ℕ) → P (Copies from era)) → P (work_role work)
-each_work_role (Keeping (StoreHeld from index era)) P f g = g from era
-each_work_role work P f g = f
+pub each_copy_role : (rows : Bool) (from number : ℕ) (P : Role → Type 0) → P Away → ((from era : ℕ) → P (Copies from era)) → P (copy_role rows from number)
+each_copy_role true from number P f g = f
+each_copy_role false from number P f g = g from number
 
-works_away : (work : Work) → stores_held work ≡ false → work_role work ≡ Away
-works_away (Keeping (StoreHeld from index era)) n = absurd (cc)
-works_away work n = refl
+pub each_work_role : (layout : Layout) (work : Work) (P : Role → Type 0) → P Away → ((from era : ℕ) → P (Copies from era)) → P (work_role layout work)
+each_work_role layout (Keeping (StoreHeld from index number)) P f g = each_copy_role (publishes_rows layout.config.scheme) from number P f g
+each_work_role layout work P f g = f
+
+works_away : (layout : Layout) (work : Work) → stores_held work ≡ false → work_role layout work ≡ Away
+works_away layout (Keeping (StoreHeld from index era)) n = absurd (cc)
+works_away layout work n = refl
 
 -- each phase that a call comes to by anything but a step inside a machine or the first step of a copy asks and helps nothing
 pub away : (layout : Layout) (tags : List ℕ) → Grows (PostOf layout tags) (RoleOf layout Away)
@@ -68,13 +75,13 @@ away layout tags = record {
   finishes = λ post task next a b q. record { is = refl; there = refl };
   gives_up = λ post answer slot q. record { is = refl; there = refl };
   retires = λ post answer slot q. record { is = refl; there = refl };
-  tidies = λ post later q. record { is = refl; there = refl };
+  tidies = λ post later m q. record { is = refl; there = refl };
   advances = λ post q. record { is = refl; there = refl };
   clears_kept = λ post let_go n q. record { is = refl; there = refl };
   releases = λ post let_go ibr none q. record { is = refl; there = refl };
   scans = λ post later number b q. record { is = refl; there = refl };
   gives_back = λ post later place slot q. record { is = refl; there = refl };
-  works = λ post work n f q. record { is = works_away work n; there = refl };
+  works = λ post work n f q. record { is = works_away layout work n; there = refl };
 }
 
 -- a fact of each entry of a function that is changed at one number
@@ -107,7 +114,7 @@ pub made : (mem : Place → ℕ) (seat : ℕ → Local) (role : ℕ → Role) (i
     → Locals (seat i).post.layout seat v.tag role
     → Left (PostOf (seat i).post.layout (seat i).post.tags) (RoleOf (seat i).post.layout r) t
     → v.role ≡ upd role i r
-    → Words (written mem m) v.clock v.helper v.era v.mark v.deal
+    → Words (publishes_rows (seat i).post.layout.config.scheme) (written mem m) v.clock v.helper v.era v.mark v.deal
     → Parts (seat i).post.layout.config v
     → Made mem seat i m t v.deal
 made mem seat role i m t r v c s e u d = (v, record { facts = record { words = u; locals = subst (Locals (seat i).post.layout (upd seat i (settled (seat i) t)) v.tag) (sym e) (locals_turn (seat i).post.layout seat v.tag role i (settled (seat i) t) r c (settled_seated (seat i) t s)); parts = d }; deal = refl })

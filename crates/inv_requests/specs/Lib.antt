@@ -3,6 +3,7 @@ pub mod Asked
 pub mod Context
 pub mod Copying
 pub mod Deals
+pub mod Hazards
 pub mod Heard
 pub mod Known
 pub mod Needs

@@ -62,7 +62,7 @@ abbrev pub base_deals : (Place → ℕ) → ℕ → Post → Base → (ℕ → D
 base_deals mem i post (Begin at) deals = deals
 base_deals mem i post (Protect aim index root steps at) deals = protect_deals mem i post index root at deals
 base_deals mem i post (Reload parent index slot era steps) deals = deals
-base_deals mem i post (Clear index) deals = deals
+base_deals mem i post (Clear rows index) deals = deals
 base_deals mem i post Finish deals = deals
 base_deals mem i post (Release index) deals = deals
 base_deals mem i post (Allocate at) deals = deals

@@ -76,7 +76,7 @@ abbrev pub base_falls : Config → ℕ → Base → Type 0
 base_falls c left (Begin at) = ⊥
 base_falls c left (Protect aim index root steps at) = ⊥
 base_falls c left (Reload parent index slot era steps) = ⊥
-base_falls c left (Clear index) = ⊥
+base_falls c left (Clear rows index) = ⊥
 base_falls c left Finish = ⊥
 base_falls c left (Release index) = ⊥
 base_falls c left (Allocate at) = ⊥

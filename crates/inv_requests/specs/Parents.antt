@@ -6,7 +6,8 @@ use Rattle.inv_shapes.specs.model.declared.ends.ProtectEnd.TheVariants as protec
 use Rattle.inv_shapes.specs.model.declared.post.Post.{Post}
 use Rattle.inv_shapes.specs.model.Posts.{stands, upper}
 use Rattle.inv_shapes.specs.model.Phases.{ProtectAt, Base, Ending, Outcome, Goes, Ends, Turn}
-use Rattle.inv_shapes.specs.model.Phases.ProtectAt.{CheckClock, TakeAnswer, WithdrawRequest, WithdrawHelper, CheckUpper}
+use Rattle.inv_shapes.specs.model.Phases.ProtectAt.{CheckClock, TakeAnswer, WithdrawRequest, WithdrawHelper, CheckUpper, ByHazard}
+use Rattle.inv_shapes.specs.model.Phases.HazardAt.{CheckLink}
 use Rattle.inv_shapes.specs.model.Phases.Base.{Begin, Protect}
 use Rattle.inv_shapes.specs.model.Phases.Ending.{Done, Protected, Followed, Allocated, Retired, Clocked}
 use Rattle.inv_shapes.specs.model.Rounds.{index_of}
@@ -14,11 +15,13 @@ use Rattle.inv_shapes.specs.model.Calls.{Why, Opens, FollowsHead, DequeueAt, Loa
 use Rattle.inv_shapes.specs.model.World.{World}
 use Rattle.inv_shapes.specs.Frame.{phase_left}
 
--- a step that found this makes the row to which its link leads stand: it concludes a try, or takes an answer
+-- a step that found this makes the row to which its link leads stand: it concludes a try, takes an answer, or finds the link again that
+-- is published
 abbrev pub rises_at : Post → ProtectAt → (found slot : ℕ) → Bool
 rises_at post (CheckClock era tries link) found slot = (found == era) && (link == slot + 1)
 rises_at post (TakeAnswer link era) found slot = link == slot + 1
 rises_at post (CheckUpper link) found slot = (found == upper post.span) && (link == slot + 1)
+rises_at post (ByHazard (CheckLink link)) found slot = (found == link) && (link == slot + 1)
 rises_at post at found slot = false
 
 -- a link that is not null leads to the row that stands at the index

@@ -4,7 +4,7 @@ use Rattle.inv_shapes.specs.words.Place.Place.{Clock, Request}
 use Rattle.inv_shapes.specs.defs.declared.event.Root.{Root}
 use Rattle.inv_shapes.specs.model.SlowPath.{own_request}
 use Rattle.inv_shapes.specs.model.Phases.{Aim, ProtectAt, MoveAt}
-use Rattle.inv_shapes.specs.model.Phases.ProtectAt.{LoadClock, PublishEra, LoadLink, CheckClock, PublishRequest, LoadOwnClock, PublishHelper, LoadOwnLink, CheckOwnClock, AnswerOwn, LoadAnswer, TakeAnswer, WithdrawRequest, WithdrawHelper, LoadWithin, CheckUpper, RaiseUpper}
+use Rattle.inv_shapes.specs.model.Phases.ProtectAt.{LoadClock, PublishEra, LoadLink, CheckClock, PublishRequest, LoadOwnClock, PublishHelper, LoadOwnLink, CheckOwnClock, AnswerOwn, LoadAnswer, TakeAnswer, WithdrawRequest, WithdrawHelper, LoadWithin, CheckUpper, RaiseUpper, ByHazard}
 use Rattle.inv_shapes.specs.model.Phases.MoveAt.{LoadEra, LoadRequest, ShowEra, LoadAsked, CheckEra, AnswerAsked, LoadReserved, HandOver, HideEra, HideLate, ExchangeClock}
 use Rattle.inv_shapes.specs.model.Phases.Base.{Protect, Move}
 use Rattle.inv_shapes.specs.model.Calls.{Why, Runs}
@@ -29,6 +29,7 @@ first_in (WithdrawHelper link era) = None
 first_in LoadWithin = None
 first_in (CheckUpper link) = None
 first_in (RaiseUpper era) = None
+first_in (ByHazard at) = None
 
 -- the era from which a mover moves the clock
 abbrev pub era_in : MoveAt → Option ℕ

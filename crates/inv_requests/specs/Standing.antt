@@ -3,12 +3,13 @@ use Rattle.std.specs.Prelude.{ℕ, ◌≡◌, Bool, true, false, nat_lt}
 use Rattle.inv_shapes.specs.words.Place.{Place, has}
 use Rattle.inv_shapes.specs.words.Place.Place.{Clock, Helper, Index, Request}
 use Rattle.inv_shapes.specs.words.Packed.{halves, pending_word, answered_word}
+use Rattle.inv_shapes.specs.words.Schemes.{publishes_rows}
 use Rattle.inv_shapes.specs.words.declared.layout.Layout.{Layout}
 use Rattle.inv_shapes.specs.defs.declared.event.Root.{Root}
 use Rattle.inv_shapes.specs.model.Links.{link_place, link_number}
 use Rattle.inv_shapes.specs.model.Posts.{tag_of}
 use Rattle.inv_shapes.specs.model.Phases.{Tries, Endless, Failed, ProtectAt, MoveAt, Base}
-use Rattle.inv_shapes.specs.model.Phases.ProtectAt.{LoadClock, PublishEra, LoadLink, CheckClock, PublishRequest, LoadOwnClock, PublishHelper, LoadOwnLink, CheckOwnClock, AnswerOwn, LoadAnswer, TakeAnswer, WithdrawRequest, WithdrawHelper, LoadWithin, CheckUpper, RaiseUpper}
+use Rattle.inv_shapes.specs.model.Phases.ProtectAt.{LoadClock, PublishEra, LoadLink, CheckClock, PublishRequest, LoadOwnClock, PublishHelper, LoadOwnLink, CheckOwnClock, AnswerOwn, LoadAnswer, TakeAnswer, WithdrawRequest, WithdrawHelper, LoadWithin, CheckUpper, RaiseUpper, ByHazard}
 use Rattle.inv_shapes.specs.model.Phases.MoveAt.{LoadEra, LoadRequest, ShowEra, LoadAsked, CheckEra, AnswerAsked, LoadReserved, HandOver, HideEra, HideLate, ExchangeClock}
 use Rattle.inv_shapes.specs.model.Phases.Base.{Begin, Protect, Reload, Clear, Finish, Release, Allocate, Write, GiveUp, Retire, Move}
 use Rattle.inv_shapes.specs.model.Calls.{StoreHeld, Work, Keeping, Phase, Idle, Runs, Scans, Works}
@@ -42,6 +43,7 @@ protect_role layout j r (WithdrawHelper link era) = Leaves j link era
 protect_role layout j r LoadWithin = Away
 protect_role layout j r (CheckUpper link) = Away
 protect_role layout j r (RaiseUpper era) = Away
+protect_role layout j r (ByHazard at) = Away
 
 abbrev pub move_role : Layout → MoveAt → Role
 move_role layout (LoadEra helps) = Away
@@ -60,7 +62,7 @@ abbrev pub base_role : Layout → Base → Role
 base_role layout (Begin at) = Away
 base_role layout (Protect aim index root steps at) = protect_role layout index root at
 base_role layout (Reload parent index slot era steps) = Away
-base_role layout (Clear index) = Away
+base_role layout (Clear rows index) = Away
 base_role layout Finish = Away
 base_role layout (Release index) = Away
 base_role layout (Allocate at) = Away
@@ -69,16 +71,20 @@ base_role layout (GiveUp slot) = Away
 base_role layout (Retire at) = Away
 base_role layout (Move at) = move_role layout at
 
--- of a call's own steps only the second of a copy matters
-abbrev pub work_role : Work → Role
-work_role (Keeping (StoreHeld from index era)) = Copies from era
-work_role work = Away
+-- of a call's own steps only the second of a copy matters, where eras are published
+abbrev pub copy_role : (rows : Bool) → ℕ → ℕ → Role
+copy_role true from link = Away
+copy_role false from era = Copies from era
+
+abbrev pub work_role : Layout → Work → Role
+work_role layout (Keeping (StoreHeld from index number)) = copy_role (publishes_rows layout.config.scheme) from number
+work_role layout work = Away
 
 abbrev pub role_of : Layout → Phase → Role
 role_of layout Idle = Away
 role_of layout (Runs why base) = base_role layout base
 role_of layout (Scans later at) = Away
-role_of layout (Works work) = work_role work
+role_of layout (Works work) = work_role layout work
 
 -- the link word that a mover is asked for is one of the table's
 abbrev pub asked_there : Layout → MoveAt → Bool
@@ -96,7 +102,7 @@ abbrev pub base_there : Layout → Base → Bool
 base_there layout (Begin at) = true
 base_there layout (Protect aim index root steps at) = true
 base_there layout (Reload parent index slot era steps) = true
-base_there layout (Clear index) = true
+base_there layout (Clear rows index) = true
 base_there layout Finish = true
 base_there layout (Release index) = true
 base_there layout (Allocate at) = true
@@ -119,11 +125,11 @@ request_of (Answered t j w l e m) = answered_word l e
 request_of (Passed t j w l e) = answered_word l e
 request_of (Taken t j w l e) = answered_word l e
 
--- the words of clock, helpers, indexes and requests
-pub record Words (mem : Place → ℕ) (clock : ℕ) (helper : ℕ → ℕ) (era mark : ℕ → ℕ → ℕ) (deal : ℕ → Deal) : Type 0 where
+-- the words of clock, helpers and requests, and where no rows are published of indexes
+pub record Words (rows : Bool) (mem : Place → ℕ) (clock : ℕ) (helper : ℕ → ℕ) (era mark : ℕ → ℕ → ℕ) (deal : ℕ → Deal) : Type 0 where
   pub clocks : mem Clock ≡ clock
   pub helpers : (k : ℕ) → mem (Helper k) ≡ halves (helper k) 0
-  pub indexes : (k j : ℕ) → mem (Index k j) ≡ halves (era k j) (mark k j)
+  pub indexes : rows ≡ false → (k j : ℕ) → mem (Index k j) ≡ halves (era k j) (mark k j)
   pub requests : (k : ℕ) → mem (Request k) ≡ request_of (deal k)
 
 -- the tags and roles of the seats; a request that a mover is at asks for one of the table's words
@@ -134,7 +140,7 @@ pub record Locals (layout : Layout) (seat : ℕ → Local) (tag : ℕ → ℕ �
 
 -- words and seats are those of the view, and the parts hold of it
 pub record Facts (layout : Layout) (mem : Place → ℕ) (seat : ℕ → Local) (v : View) : Type 0 where
-  pub words : Words mem v.clock v.helper v.era v.mark v.deal
+  pub words : Words (publishes_rows layout.config.scheme) mem v.clock v.helper v.era v.mark v.deal
   pub locals : Locals layout seat v.tag v.role
   pub parts : Parts layout.config v
 

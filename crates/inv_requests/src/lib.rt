@@ -10,6 +10,7 @@ ghost use Rattle.inv_shapes.specs.model.World.{World, start, begin, step, is_bus
 ghost use Rattle.inv_shapes.specs.Seats.{Seats};
 ghost use Rattle.inv_shapes.specs.Slots.{Slots};
 ghost use Rattle.inv_requests.specs.Copying.{Copying};
+ghost use Rattle.inv_requests.specs.Hazards.{Hazards};
 ghost use Rattle.inv_requests.specs.Known.{Known};
 ghost use Rattle.inv_requests.specs.Needs.{Needs};
 ghost use Rattle.inv_requests.specs.Paces.{Paces, InTime, MovesOn};
@@ -40,10 +41,19 @@ pub fn requests_tell()
     ensures { (w : World) (v : View) (k : ℕ) → is_valid w.layout ≡ true → Seats w → Requests w v → Known w v.clock k }
 {}
 
+/// Where index words publish rows, the link that a protection loads again is in its index word, and the
+/// link of a copy in the word that is copied: from the start on, and over every step and every call
+/// that begins.
+pub fn published_links_stay()
+    ensures start { (layout : Table) → Hazards (start layout) }
+    ensures begin { (w : World) (i : ℕ) (call : Call) → is_valid w.layout ≡ true → Seats w → Hazards w → Hazards (begin w i call) }
+    ensures step { (w : World) (i : ℕ) → is_valid w.layout ≡ true → Seats w → Hazards w → Hazards (step w i) }
+{}
+
 /// Between the two steps of a copy the index word that is copied is still the one that the copy has
-/// read: it publishes the era that was found, with the seat's own tag.
+/// read: it publishes the era that was found, with the seat's own tag, or the link.
 pub fn copied_words_stay()
-    ensures { (w : World) (v : View) (k : ℕ) → is_valid w.layout ≡ true → Requests w v → Copying w k }
+    ensures { (w : World) (v : View) (k : ℕ) → is_valid w.layout ≡ true → Requests w v → Hazards w → Copying w k }
 {}
 
 /// While a request is pending the clock is at most one above the first value that its owner loaded

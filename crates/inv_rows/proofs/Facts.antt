@@ -113,7 +113,7 @@ retire_apart : (slots k : ℕ) (v : View) (answer : Answer) (base : Base) (desk 
 retire_apart slots k v answer (Begin at) desk g p = tt
 retire_apart slots k v answer (Protect aim index root steps at) desk g p = tt
 retire_apart slots k v answer (Reload parent index slot era steps) desk g p = tt
-retire_apart slots k v answer (Clear index) desk g p = tt
+retire_apart slots k v answer (Clear rows index) desk g p = tt
 retire_apart slots k v answer Finish desk g p = tt
 retire_apart slots k v answer (Release index) desk g p = tt
 retire_apart slots k v answer (Allocate at) desk g p = tt

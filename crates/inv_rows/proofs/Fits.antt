@@ -71,7 +71,7 @@ fill_fits : (slots i : ℕ) (mem : Place → ℕ) (v : View) (task : Task) (base
 fill_fits slots i mem v task (Begin at) post list n g w p = tt
 fill_fits slots i mem v task (Protect aim index root steps at) post list n g w p = tt
 fill_fits slots i mem v task (Reload parent index slot era steps) post list n g w p = tt
-fill_fits slots i mem v task (Clear index) post list n g w p = tt
+fill_fits slots i mem v task (Clear rows index) post list n g w p = tt
 fill_fits slots i mem v task Finish post list n g w p = tt
 fill_fits slots i mem v task (Release index) post list n g w p = tt
 fill_fits slots i mem v task (Allocate LoadBirth) post list n g w p = tt
@@ -88,7 +88,7 @@ give_up_fits : (slots i : ℕ) (v : View) (answer : Answer) (base : Base) (found
 give_up_fits slots i v answer (Begin at) found list g p = tt
 give_up_fits slots i v answer (Protect aim index root steps at) found list g p = tt
 give_up_fits slots i v answer (Reload parent index slot era steps) found list g p = tt
-give_up_fits slots i v answer (Clear index) found list g p = tt
+give_up_fits slots i v answer (Clear rows index) found list g p = tt
 give_up_fits slots i v answer Finish found list g p = tt
 give_up_fits slots i v answer (Release index) found list g p = tt
 give_up_fits slots i v answer (Allocate at) found list g p = absurd (no_truth p.right)
@@ -101,7 +101,7 @@ retire_fits : (slots i : ℕ) (v : View) (answer : Answer) (base : Base) (found 
 retire_fits slots i v answer (Begin at) found list g p = tt
 retire_fits slots i v answer (Protect aim index root steps at) found list g p = tt
 retire_fits slots i v answer (Reload parent index slot era steps) found list g p = tt
-retire_fits slots i v answer (Clear index) found list g p = tt
+retire_fits slots i v answer (Clear rows index) found list g p = tt
 retire_fits slots i v answer Finish found list g p = tt
 retire_fits slots i v answer (Release index) found list g p = tt
 retire_fits slots i v answer (Allocate at) found list g p = absurd (no_truth p.right)

@@ -1,20 +1,21 @@
 -- The steps of a machine that follows the head's next link.
 use Rattle.std.proofs.Common.{ℕ, ◌+◌, ◌-◌, ◌<◌, ◌≡◌, Bool, true, false, arith, refl, sym, subst, ◌∙◌, ◌&&◌, List, []}
 use Rattle.std.proofs.lemmas.Bool.Decides.{nat_tests}
-use Rattle.std.specs.Prelude.{◌==◌, not, if◌then◌else◌, Option, Some, None}
+use Rattle.std.specs.Prelude.{◌==◌, ◌||◌, not, if◌then◌else◌, Option, Some, None}
 use Rattle.wfe_core.specs.words.Packed.{read_request}
 use Rattle.wfe_core.specs.words.declared.packed.Request.{Request}
 use Rattle.wfe_core.specs.words.declared.packed.Request.TheVariants as requests
 use Rattle.wfe_core.specs.words.declared.config.Config.{Config}
 use Rattle.wfe_core.specs.words.declared.config.SchemeKind.{SchemeKind}
-use Rattle.wfe_core.specs.words.declared.config.SchemeKind.TheVariants.{He, Ibr, Wfe}
+use Rattle.wfe_core.specs.words.declared.config.SchemeKind.TheVariants.{He, Hp, Ibr, Wfe}
 use Rattle.wfe_core.specs.defs.declared.event.Event.{Event}
 use Rattle.wfe_core.specs.defs.declared.event.Root.{Root}
 use Rattle.wfe_core.specs.defs.declared.event.Root.TheVariants as roots
 use Rattle.wfe_core.specs.declared.post.Post.{Post}
 use Rattle.wfe_core.specs.declared.ends.FollowEnd.TheVariants as follow_ends
 use Rattle.wfe_core.specs.Phases.{Aim, Alone, Follows, Tries, Endless, Failed, ProtectAt, Base, Outcome, Goes, Ends, goes, Ending as endings}
-use Rattle.wfe_core.specs.Phases.ProtectAt.{LoadClock, PublishEra, LoadLink, CheckClock, PublishRequest, LoadOwnClock, PublishHelper, LoadOwnLink, CheckOwnClock, AnswerOwn, LoadAnswer, TakeAnswer, WithdrawRequest, WithdrawHelper, LoadWithin, CheckUpper, RaiseUpper}
+use Rattle.wfe_core.specs.Phases.ProtectAt.{LoadClock, PublishEra, LoadLink, CheckClock, PublishRequest, LoadOwnClock, PublishHelper, LoadOwnLink, CheckOwnClock, AnswerOwn, LoadAnswer, TakeAnswer, WithdrawRequest, WithdrawHelper, LoadWithin, CheckUpper, RaiseUpper, ByHazard}
+use Rattle.wfe_core.specs.Phases.HazardAt.{FirstLink, PublishLink, CheckLink}
 use Rattle.wfe_core.specs.Phases.Base.{Begin, Protect, Reload, Clear, Finish, Release, Allocate, Write, GiveUp, Retire, Move}
 use Rattle.wfe_core.specs.Machine as machine
 use Rattle.wfe_core.specs.Memory as memory
@@ -71,6 +72,10 @@ raised_loads : (h next index n link found : ℕ) (post : Post) (same : Bool) →
 raised_loads h next index n link found post true f = concluded_loads h next index n link found (protects.held_post post index (roots.Next h) link) (protects.told_held index (roots.Next h) link n) (link == 0) refl f
 raised_loads h next index n link found post false f = none_loaded h next index n (RaiseUpper found) (λ x u. absurd (no_truth u))
 
+hazard_loads : (h next index n found : ℕ) (post : Post) (same : Bool) → ((x : ℕ) → (found == x && not (x == 0)) ≡ true → next ≡ x) → OutLoads h next (if same then protects.protected Follows index (roots.Next h) n found 0 post else (goes post [] (Protect Follows index (roots.Next h) n (ByHazard (PublishLink found))))).outcome
+hazard_loads h next index n found post true f = concluded_loads h next index n found 0 (protects.held_post post index (roots.Next h) found) (protects.told_held index (roots.Next h) found n) (found == 0) refl f
+hazard_loads h next index n found post false f = none_loaded h next index n (ByHazard (PublishLink found)) f
+
 own_loads : (h next index n first era link found : ℕ) (last : Bool) (post : Post) (same : Bool) → ((x : ℕ) → (link == x && not (x == 0)) ≡ true → next ≡ x) → OutLoads h next (if same then (goes post [] (Protect Follows index (roots.Next h) n (AnswerOwn first era link))) else (goes post [] (Protect Follows index (roots.Next h) n (slow.lost_turn first last found)))).outcome
 own_loads h next index n first era link found last post true f = none_loaded h next index n (AnswerOwn first era link) f
 own_loads h next index n first era link found last post false f = none_loaded h next index n (slow.lost_turn first last found) (λ x u. absurd (no_truth (false_is_true (at_loaded (slow.lost_turn first last found) x) (lost_loaded first last found x) u)))
@@ -100,6 +105,9 @@ protect_loads h next index n (WithdrawHelper link era) post found f r a = conclu
 protect_loads h next index n LoadWithin post found f r a = none_loaded h next index n (CheckUpper found) (λ x u. found_is found next x (r refl) u)
 protect_loads h next index n (CheckUpper link) post found f r a = raised_loads h next index n link found post (found == upper post.span) f
 protect_loads h next index n (RaiseUpper era) post found f r a = none_loaded h next index n LoadWithin (λ x u. absurd (no_truth u))
+protect_loads h next index n (ByHazard FirstLink) post found f r a = hazard_loads h next index n found post (found == 0) (λ x u. found_is found next x (r refl) u)
+protect_loads h next index n (ByHazard (PublishLink link)) post found f r a = none_loaded h next index n (ByHazard (CheckLink link)) f
+protect_loads h next index n (ByHazard (CheckLink link)) post found f r a = hazard_loads h next index n found post (found == link || found == 0) (λ x u. found_is found next x (r refl) u)
 
 -- what it loads is the next link
 reads_next : (mem : Place → ℕ) (h index : ℕ) (at : ProtectAt) (post : Post) → at_reads at ≡ true → memory.found (machine.protect_move index (roots.Next h) at post) (mem (place_in (machine.protect_move index (roots.Next h) at post))) ≡ mem (Row h 0)
@@ -120,6 +128,9 @@ reads_next mem h index (WithdrawHelper link era) post u = absurd (no_truth u)
 reads_next mem h index LoadWithin post u = refl
 reads_next mem h index (CheckUpper link) post u = absurd (no_truth u)
 reads_next mem h index (RaiseUpper era) post u = absurd (no_truth u)
+reads_next mem h index (ByHazard FirstLink) post u = refl
+reads_next mem h index (ByHazard (PublishLink link)) post u = absurd (no_truth u)
+reads_next mem h index (ByHazard (CheckLink link)) post u = refl
 
 reload_ends : (h next parent index slot n : ℕ) (post : Post) (found : ℕ) (same : Bool) → (found == parent + 1) ≡ same → OutLoads h next (machine.after (Reload parent index slot 0 n) post found).outcome
 reload_ends h next parent index slot n post found true e = rw e tt
@@ -148,7 +159,7 @@ pub base_loads : (mem : Place → ℕ) (h : ℕ) (base : Base) (post other : Pos
 base_loads mem h (Protect aim index root steps at) post other a l = by_aim mem h index (bump steps) aim root at post other l.right l.loaded (a aim index root steps at refl)
 base_loads mem h (Reload parent index slot era steps) post other a l = reload_ends h (mem (Row h 0)) parent index slot steps other (mem Head) (mem Head == parent + 1) refl
 base_loads mem h (Begin at) post other a l = absurd (no_truth l.right)
-base_loads mem h (Clear index) post other a l = absurd (no_truth l.right)
+base_loads mem h (Clear rows index) post other a l = absurd (no_truth l.right)
 base_loads mem h Finish post other a l = absurd (no_truth l.right)
 base_loads mem h (Release index) post other a l = absurd (no_truth l.right)
 base_loads mem h (Allocate at) post other a l = absurd (no_truth l.right)
@@ -194,6 +205,9 @@ protect_not aim index root n (WithdrawHelper link era) post found = concluded_no
 protect_not aim index root n LoadWithin post found = refl
 protect_not aim index root n (CheckUpper link) post found = grind (arith, protected_not aim index root n link found post)
 protect_not aim index root n (RaiseUpper era) post found = refl
+protect_not aim index root n (ByHazard FirstLink) post found = grind (arith, protected_not aim index root n found 0 post)
+protect_not aim index root n (ByHazard (PublishLink link)) post found = refl
+protect_not aim index root n (ByHazard (CheckLink link)) post found = grind (arith, protected_not aim index root n found 0 post)
 
 followed_is : (outcome : Outcome) (slot : ℕ) → outcome ≡ Ends (endings.Followed (follow_ends.Followed slot)) → is_followed outcome ≡ true
 followed_is outcome slot e = rw e refl
@@ -210,7 +224,7 @@ base_follows mem h (Protect aim index root steps at) other found slot l e =
     absurd (no_truth (sym (protect_not aim index root (bump steps) at other found) ∙ followed_is (machine.protect_turn aim index root (bump steps) at other found).outcome slot e))
 base_follows mem h (Reload parent index row era steps) other found slot l e = reload_slot parent index row steps slot (mem (Row h 0)) other found (found == parent + 1) refl (l.loaded (row + 1) (same_number (row + 1))) e
 base_follows mem h (Begin at) other found slot l e = absurd (no_truth l.right)
-base_follows mem h (Clear index) other found slot l e = absurd (no_truth l.right)
+base_follows mem h (Clear rows index) other found slot l e = absurd (no_truth l.right)
 base_follows mem h Finish other found slot l e = absurd (no_truth l.right)
 base_follows mem h (Release index) other found slot l e = absurd (no_truth l.right)
 base_follows mem h (Allocate at) other found slot l e = absurd (no_truth l.right)
@@ -238,12 +252,15 @@ loaded_at (WithdrawHelper link era) x e = grind (arith, nat_tests)
 loaded_at LoadWithin x e = absurd (no_truth e)
 loaded_at (CheckUpper link) x e = grind (arith, nat_tests)
 loaded_at (RaiseUpper era) x e = absurd (no_truth e)
+loaded_at (ByHazard FirstLink) x e = absurd (no_truth e)
+loaded_at (ByHazard (PublishLink link)) x e = grind (arith, nat_tests)
+loaded_at (ByHazard (CheckLink link)) x e = grind (arith, nat_tests)
 
 loaded_some : (base : Base) (x : ℕ) → base_loaded base x ≡ true → (x == 0) ≡ false
 loaded_some (Protect aim index root steps at) x e = loaded_at at x e
 loaded_some (Reload parent index slot era steps) x e = grind (arith, nat_tests)
 loaded_some (Begin at) x e = absurd (no_truth e)
-loaded_some (Clear index) x e = absurd (no_truth e)
+loaded_some (Clear rows index) x e = absurd (no_truth e)
 loaded_some Finish x e = absurd (no_truth e)
 loaded_some (Release index) x e = absurd (no_truth e)
 loaded_some (Allocate at) x e = absurd (no_truth e)
@@ -276,5 +293,6 @@ loads_stay (Runs (Releases let_go) base) next n2 f l = tt
 -- the protection begins with no link loaded
 pub follow_begins : (scheme : SchemeKind) (h next : ℕ) → LoadsBase h (follow_base scheme h) next
 follow_begins He h next = none_loaded h next 1 0 (LoadClock Endless) (λ x u. absurd (no_truth u))
+follow_begins Hp h next = none_loaded h next 1 0 (ByHazard FirstLink) (λ x u. absurd (no_truth u))
 follow_begins Ibr h next = none_loaded h next 1 0 LoadWithin (λ x u. absurd (no_truth u))
 follow_begins Wfe h next = none_loaded h next 1 0 (LoadClock (Failed 0)) (λ x u. absurd (no_truth u))

@@ -31,6 +31,8 @@ use Rattle.inv_rows.proofs.Places.{adopts, Placed, phase_placed}
 use Rattle.inv_rows.proofs.Rounds.{round_hand, round_right, letting_hand, letting_right, parting_hand, parting_right}
 use Rattle.inv_rows.proofs.Steps.{Did}
 use Rattle.inv_rows.proofs.Phases.{Offers, phase_did}
+use Rattle.wfe_core.specs.words.Schemes.{publishes_rows}
+use Rattle.wfe_core.specs.Rounds.{scheme_of}
 
 -- a move of one seat leaves the others what they have
 pub made_hand : (i k : ℕ) (v : View) (m : RowMove) → (k == i) ≡ false → (made i v m).hand k ≡ v.hand k
@@ -137,7 +139,7 @@ settled_plays i v l post desk rounds (GoesOn phase) h f o r = record { hand = h;
 settled_plays i v l post desk rounds (Answers answer) h f o r = record { hand = h; lists = f; once = o; right = refl }
 
 did_plays : (slots i : ℕ) (mem : Place → ℕ) (v : View) (l : Local) (t : CallTurn) → Did slots i mem v t → Plays i (settled l t).phase (settled l t).desk.list v
-did_plays slots i mem v l t d = settled_plays i v l t.post (noting t.desk (told_by t)) (rounds_told l.rounds (told_by t)) t.outcome d.hand d.lists d.once d.right
+did_plays slots i mem v l t d = settled_plays i v l t.post (noting t.desk (told_by t)) (rounds_told (publishes_rows (scheme_of t.post)) l.rounds (told_by t)) t.outcome d.hand d.lists d.once d.right
 
 not_adopted : (word : ℕ) (taken : Bool) → word ≡ 0 → (taken ≡ true → word ≡ 1) → taken ≡ false
 not_adopted word true e f = absurd (omega (arith, e, f refl))
@@ -176,7 +178,7 @@ goes_to (Answers answer) work e = absurd (cc)
 own_present : (slots i : ℕ) (m : RowMove) (mem after : Place → ℕ) (v : View) (l : Local) (t : CallTurn) → Placed i mem after m t.outcome → Did slots i after v t → Present after i (settled l t).phase
 own_present slots i m mem after v l t q d =
     let P : Phase → Type 0 = λ y. Present after i y in
-    subst P (settled_phase l t.post (noting t.desk (told_by t)) (rounds_told l.rounds (told_by t)) t.outcome) (record {
+    subst P (settled_phase l t.post (noting t.desk (told_by t)) (rounds_told (publishes_rows (scheme_of t.post)) l.rounds (told_by t)) t.outcome) (record {
       here = q.here;
       marks = λ place count e. d.marks place count (goes_to t.outcome (Keeping (MarkTaken place count)) e);
     })

@@ -32,7 +32,8 @@ use Rattle.wfe_core.specs.WriteRow.{row_word}
 use Rattle.wfe_core.specs.Steps.{run_turn}
 use Rattle.wfe_core.specs.defs.declared.event.Root.{Root}
 use Rattle.wfe_core.specs.Phases.BeginAt.{LoadLower, PublishSpan}
-use Rattle.wfe_core.specs.Phases.ProtectAt.{LoadClock, PublishEra, LoadLink, CheckClock, PublishRequest, LoadOwnClock, PublishHelper, LoadOwnLink, CheckOwnClock, AnswerOwn, LoadAnswer, TakeAnswer, WithdrawRequest, WithdrawHelper, LoadWithin, CheckUpper, RaiseUpper}
+use Rattle.wfe_core.specs.Phases.ProtectAt.{LoadClock, PublishEra, LoadLink, CheckClock, PublishRequest, LoadOwnClock, PublishHelper, LoadOwnLink, CheckOwnClock, AnswerOwn, LoadAnswer, TakeAnswer, WithdrawRequest, WithdrawHelper, LoadWithin, CheckUpper, RaiseUpper, ByHazard}
+use Rattle.wfe_core.specs.Phases.HazardAt.{FirstLink, PublishLink, CheckLink}
 use Rattle.wfe_core.specs.Phases.MoveAt.{LoadEra, LoadRequest, ShowEra, LoadAsked, CheckEra, AnswerAsked, LoadReserved, HandOver, HideEra, HideLate, ExchangeClock}
 use Rattle.inv_rows.specs.Queue.{Line, Walks, leads_in}
 use Rattle.inv_rows.proofs.Words.{put_other}
@@ -109,7 +110,7 @@ abbrev pub is_write : Base → Bool
 is_write (Begin at) = false
 is_write (Protect aim index root steps at) = false
 is_write (Reload parent index slot era steps) = false
-is_write (Clear index) = false
+is_write (Clear rows index) = false
 is_write Finish = false
 is_write (Release index) = false
 is_write (Allocate at) = false
@@ -134,6 +135,9 @@ protect_links index root (WithdrawHelper link era) post = refl
 protect_links index root LoadWithin post = refl
 protect_links index root (CheckUpper link) post = refl
 protect_links index root (RaiseUpper era) post = refl
+protect_links index root (ByHazard FirstLink) post = refl
+protect_links index root (ByHazard (PublishLink link)) post = refl
+protect_links index root (ByHazard (CheckLink link)) post = refl
 
 move_links : (at : MoveAt) (post : Post) → is_linking (machine.move_move at post) ≡ false
 move_links (LoadEra helps) post = refl
@@ -166,7 +170,7 @@ pub base_links : (base : Base) (post : Post) → is_write base ≡ false → is_
 base_links (Begin at) post h = begin_links at post
 base_links (Protect aim index root steps at) post h = protect_links index root at post
 base_links (Reload parent index slot era steps) post h = refl
-base_links (Clear index) post h = refl
+base_links (Clear rows index) post h = refl
 base_links Finish post h = refl
 base_links (Release index) post h = refl
 base_links (Allocate at) post h = allocate_links at

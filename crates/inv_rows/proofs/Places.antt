@@ -10,7 +10,8 @@ use Rattle.wfe_core.specs.Memory as memory
 use Rattle.wfe_core.specs.Memory.{Move, Load, Store, Cas, Or, And, change, place_in, written}
 use Rattle.wfe_core.specs.Phases.{Base, BeginAt, ProtectAt, AllocateAt, RetireAt, MoveAt}
 use Rattle.wfe_core.specs.Phases.BeginAt.{LoadLower, PublishSpan}
-use Rattle.wfe_core.specs.Phases.ProtectAt.{LoadClock, PublishEra, LoadLink, CheckClock, PublishRequest, LoadOwnClock, PublishHelper, LoadOwnLink, CheckOwnClock, AnswerOwn, LoadAnswer, TakeAnswer, WithdrawRequest, WithdrawHelper, LoadWithin, CheckUpper, RaiseUpper}
+use Rattle.wfe_core.specs.Phases.ProtectAt.{LoadClock, PublishEra, LoadLink, CheckClock, PublishRequest, LoadOwnClock, PublishHelper, LoadOwnLink, CheckOwnClock, AnswerOwn, LoadAnswer, TakeAnswer, WithdrawRequest, WithdrawHelper, LoadWithin, CheckUpper, RaiseUpper, ByHazard}
+use Rattle.wfe_core.specs.Phases.HazardAt.{FirstLink, PublishLink, CheckLink}
 use Rattle.wfe_core.specs.Phases.AllocateAt.{LoadBirth, ClaimSlot, StoreLife}
 use Rattle.wfe_core.specs.Phases.RetireAt.{LoadLife, LoadRetire, StoreRetired}
 use Rattle.wfe_core.specs.Phases.MoveAt.{LoadEra, LoadRequest, ShowEra, LoadAsked, CheckEra, AnswerAsked, LoadReserved, HandOver, HideEra, HideLate, ExchangeClock}
@@ -97,6 +98,9 @@ protect_places index root (WithdrawHelper link era) post = refl
 protect_places index root LoadWithin post = refl
 protect_places index root (CheckUpper link) post = refl
 protect_places index root (RaiseUpper era) post = refl
+protect_places index root (ByHazard FirstLink) post = refl
+protect_places index root (ByHazard (PublishLink link)) post = refl
+protect_places index root (ByHazard (CheckLink link)) post = refl
 
 move_places : (at : MoveAt) (post : Post) → is_placing (machine.move_move at post) ≡ false
 move_places (LoadEra helps) post = refl
@@ -129,7 +133,7 @@ base_places : (base : Base) (post : Post) → is_placing (base_move base post) �
 base_places (Begin at) post = begin_places at post
 base_places (Protect aim index root steps at) post = protect_places index root at post
 base_places (Reload parent index slot era steps) post = refl
-base_places (Clear index) post = refl
+base_places (Clear rows index) post = refl
 base_places Finish post = refl
 base_places (Release index) post = refl
 base_places (Allocate at) post = allocate_places at
@@ -209,7 +213,7 @@ base_adopts : (base : Base) (found k : ℕ) → adopts (base_row base found) k �
 base_adopts (Begin at) found k = refl
 base_adopts (Protect aim index root steps at) found k = refl
 base_adopts (Reload parent index slot era steps) found k = refl
-base_adopts (Clear index) found k = refl
+base_adopts (Clear rows index) found k = refl
 base_adopts Finish found k = refl
 base_adopts (Release index) found k = refl
 base_adopts (Allocate at) found k = allocate_adopts at found k

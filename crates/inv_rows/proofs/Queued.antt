@@ -56,6 +56,7 @@ use Rattle.wfe_core.specs.Locals.{Local, turn, settled, told_by, rounds_told, be
 use Rattle.wfe_core.specs.World.{World, start, step, finds, offered, list_in}
 use Rattle.inv_rows.proofs.Tries.{finds_base}
 use Rattle.wfe_core.proofs.Facts.{first_of, same_both, no_truth}
+use Rattle.wfe_core.specs.words.Schemes.{publishes_rows}
 
 -- the moves of rows by machines leave the queue's rows
 claim_calm : (slot : ℕ) (shown : Bool) → is_calm (if shown then Stays else Claims slot) ≡ true
@@ -76,7 +77,7 @@ base_calm : (base : Base) (found : ℕ) → is_calm (base_row base found) ≡ tr
 base_calm (Begin at) found = refl
 base_calm (Protect aim index root steps at) found = refl
 base_calm (Reload parent index slot era steps) found = refl
-base_calm (Clear index) found = refl
+base_calm (Clear rows index) found = refl
 base_calm Finish found = refl
 base_calm (Release index) found = refl
 base_calm (Allocate at) found = allocate_calm at found
@@ -105,7 +106,7 @@ plain_write : (base : Base) → is_plain base ≡ true → is_write base ≡ fal
 plain_write (Begin at) h = refl
 plain_write (Protect aim index root steps at) h = refl
 plain_write (Reload parent index slot era steps) h = refl
-plain_write (Clear index) h = refl
+plain_write (Clear rows index) h = refl
 plain_write Finish h = refl
 plain_write (Release index) h = refl
 plain_write (Allocate at) h = refl
@@ -116,7 +117,7 @@ give_write : (base : Base) → is_giving_up base ≡ true → is_write base ≡ 
 give_write (Begin at) h = refl
 give_write (Protect aim index root steps at) h = refl
 give_write (Reload parent index slot era steps) h = refl
-give_write (Clear index) h = refl
+give_write (Clear rows index) h = refl
 give_write Finish h = refl
 give_write (Release index) h = refl
 give_write (Allocate at) h = refl
@@ -127,7 +128,7 @@ retire_write : (base : Base) → is_retiring base ≡ true → is_write base ≡
 retire_write (Begin at) h = refl
 retire_write (Protect aim index root steps at) h = refl
 retire_write (Reload parent index slot era steps) h = refl
-retire_write (Clear index) h = refl
+retire_write (Clear rows index) h = refl
 retire_write Finish h = refl
 retire_write (Release index) h = refl
 retire_write (Allocate at) h = refl
@@ -233,7 +234,7 @@ went_fills slots i mem v l task (Write slot row place) post next desk d p r f g 
 went_fills slots i mem v l task (Begin at) post next desk d p r f g w = absurd (no_truth (only_fills task (Begin at) r))
 went_fills slots i mem v l task (Protect aim index root steps at) post next desk d p r f g w = absurd (no_truth (only_fills task (Protect aim index root steps at) r))
 went_fills slots i mem v l task (Reload parent index slot era steps) post next desk d p r f g w = absurd (no_truth (only_fills task (Reload parent index slot era steps) r))
-went_fills slots i mem v l task (Clear index) post next desk d p r f g w = absurd (no_truth (only_fills task (Clear index) r))
+went_fills slots i mem v l task (Clear rows index) post next desk d p r f g w = absurd (no_truth (only_fills task (Clear rows index) r))
 went_fills slots i mem v l task Finish post next desk d p r f g w = absurd (no_truth (only_fills task Finish r))
 went_fills slots i mem v l task (Release index) post next desk d p r f g w = absurd (no_truth (only_fills task (Release index) r))
 went_fills slots i mem v l task (GiveUp slot) post next desk d p r f g w = absurd (no_truth (only_fills task (GiveUp slot) r))
@@ -410,7 +411,7 @@ blank_born slots k v (Runs (Fills Dequeues) base) list s d p e = absurd (no_trut
 blank_born slots k v (Runs (Fills (Enqueues kept)) (Begin at)) list s d p e = absurd (no_truth e)
 blank_born slots k v (Runs (Fills (Enqueues kept)) (Protect aim index root steps at)) list s d p e = absurd (no_truth e)
 blank_born slots k v (Runs (Fills (Enqueues kept)) (Reload parent index slot era steps)) list s d p e = absurd (no_truth e)
-blank_born slots k v (Runs (Fills (Enqueues kept)) (Clear index)) list s d p e = absurd (no_truth e)
+blank_born slots k v (Runs (Fills (Enqueues kept)) (Clear rows index)) list s d p e = absurd (no_truth e)
 blank_born slots k v (Runs (Fills (Enqueues kept)) Finish) list s d p e = absurd (no_truth e)
 blank_born slots k v (Runs (Fills (Enqueues kept)) (Release index)) list s d p e = absurd (no_truth e)
 blank_born slots k v (Runs (Fills (Enqueues kept)) (Allocate at)) list s d p e = absurd (no_truth e)
@@ -510,7 +511,7 @@ queue_kept w i v l n b =
       rows = rows_kept w i v needs b.rows;
       queue = record {
         line = went.line;
-        walks = λ k. walks_at i k (rows_after w i v) (line_after w i l) (step w i).mem (w.seat k) (settled own t) (k == i) refl (subst P (settled_phase own t.post (noting t.desk (told_by t)) (rounds_told own.rounds (told_by t)) t.outcome) went.own) (λ e. went.others (w.seat k).phase (b.queue.walks k) (far_by own.phase (w.seat k).phase (finds w i) (λ later place slot q. n.backs later place slot k q)) (others_of (SlotsOf w) k i v l w.mem (w.seat k).phase (list_in w k) e b.rows.good (b.rows.plays k) b.queue.line));
+        walks = λ k. walks_at i k (rows_after w i v) (line_after w i l) (step w i).mem (w.seat k) (settled own t) (k == i) refl (subst P (settled_phase own t.post (noting t.desk (told_by t)) (rounds_told (publishes_rows (scheme_of t.post)) own.rounds (told_by t)) t.outcome) went.own) (λ e. went.others (w.seat k).phase (b.queue.walks k) (far_by own.phase (w.seat k).phase (finds w i) (λ later place slot q. n.backs later place slot k q)) (others_of (SlotsOf w) k i v l w.mem (w.seat k).phase (list_in w k) e b.rows.good (b.rows.plays k) b.queue.line));
       };
     }
 

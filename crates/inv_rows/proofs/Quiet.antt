@@ -1,12 +1,13 @@
 -- Phases in which a call has found nothing of the queue, and the turns that lead to them.
 use Rattle.std.proofs.Common.{◌&&◌, ℕ, ◌+◌, ◌%◌, ◌≡◌, Bool, true, false, refl, List, [], ◌∷◌, ◌++◌, length}
-use Rattle.wfe_core.specs.words.Schemes.{has_one_interval}
+use Rattle.wfe_core.specs.words.Schemes.{has_one_interval, moves, publishes_rows}
 use Rattle.wfe_core.specs.words.declared.config.SchemeKind.{SchemeKind}
-use Rattle.wfe_core.specs.words.declared.config.SchemeKind.TheVariants.{He, Ibr, Wfe}
+use Rattle.wfe_core.specs.words.declared.config.SchemeKind.TheVariants.{He, Hp, Ibr, Wfe}
 use Rattle.wfe_core.specs.defs.declared.event.Root.{Root}
 use Rattle.wfe_core.specs.Phases.{BeginAt, ProtectAt, Base, Ending, Ending as endings}
 use Rattle.wfe_core.specs.Phases.BeginAt.{LoadLower}
-use Rattle.wfe_core.specs.Phases.ProtectAt.{LoadClock, PublishEra, LoadLink, CheckClock, PublishRequest, LoadOwnClock, PublishHelper, LoadOwnLink, CheckOwnClock, AnswerOwn, LoadAnswer, TakeAnswer, WithdrawRequest, WithdrawHelper, LoadWithin, CheckUpper, RaiseUpper}
+use Rattle.wfe_core.specs.Phases.ProtectAt.{LoadClock, PublishEra, LoadLink, CheckClock, PublishRequest, LoadOwnClock, PublishHelper, LoadOwnLink, CheckOwnClock, AnswerOwn, LoadAnswer, TakeAnswer, WithdrawRequest, WithdrawHelper, LoadWithin, CheckUpper, RaiseUpper, ByHazard}
+use Rattle.wfe_core.specs.Phases.HazardAt.{FirstLink, PublishLink, CheckLink}
 use Rattle.wfe_core.specs.Phases.Base.{Begin, Protect}
 use Rattle.inv_rows.specs.Tries.{is_alone, is_tail, is_head}
 use Rattle.std.specs.Prelude.{◌==◌, nat_lt, Option, Some, None, drop}
@@ -25,12 +26,11 @@ use Rattle.wfe_core.specs.Rounds.{scheme_of, taken_of, round, round_by, begin_ba
 use Rattle.wfe_core.specs.Get as gets
 use Rattle.wfe_core.specs.Change as alters
 use Rattle.wfe_core.specs.Keep as keeps
-use Rattle.wfe_core.specs.Posts.{cleared, reserves_index, stands, standing_from, withdrawn}
+use Rattle.wfe_core.specs.Posts.{cleared, stands, standing_from, withdrawn, publishes_index}
 use Rattle.wfe_core.specs.Scan as scan
 use Rattle.wfe_core.specs.Steps as steps
 use Rattle.wfe_core.specs.Calls.{ChangeKept, Task, Gets, Changes, Holds, Enqueues, Dequeues, Next, Again, MakeRoom, Answering, Retiring, AfterScan, Answered, Repeated, Counted, Why, Opens, FollowsHead, Fills, ClearsNext, Clears, Finishes, GivesUp, Retires, Tidies, Advances, Releases, ScanAt, ReadGuard, GiveBack, GetAt, FindVersion, FindCount, FindKey, FindValue, ChangeAt, LoadVersion, LoadCount, LoadKey, LoadValue, ExchangeRoot, Work, Getting, Changing, Enqueuing, Dequeuing, Phase, Idle, Runs, Scans, Works, CallTurn, CallOutcome, GoesOn, LetGo, Released, Rehold, Dropped, Parting, KeepAt, Loosens, LoadHeld, StoreHeld, Looks, Misses, HideSpan, MarkLeft, TakeList, MarkTaken, Keeping}
 use Rattle.wfe_core.specs.defs.declared.event.Guard.{Guard}
-use Rattle.wfe_core.specs.defs.Shown.{shown}
 use Rattle.wfe_core.specs.Guards as the_guards
 use Rattle.wfe_core.specs.Calls as calls
 use Rattle.inv_rows.specs.Queue.{Line, Walks}
@@ -62,6 +62,9 @@ at_starts (WithdrawHelper link era) = false
 at_starts LoadWithin = true
 at_starts (CheckUpper link) = false
 at_starts (RaiseUpper era) = false
+at_starts (ByHazard FirstLink) = true
+at_starts (ByHazard (PublishLink link)) = false
+at_starts (ByHazard (CheckLink link)) = false
 
 -- a protection of such a root begins
 abbrev pub starts_by : (Root → Bool) → Base → Bool
@@ -130,6 +133,7 @@ quiet_walks (Works (Keeping at)) q l next head tail h = record { stood = λ h e.
 
 starts_at : (scheme : SchemeKind) → at_starts (rounds.protect_at scheme) ≡ true
 starts_at He = refl
+starts_at Hp = refl
 starts_at Ibr = refl
 starts_at Wfe = refl
 
@@ -157,13 +161,21 @@ scheme_round task post scheme = each_begin scheme post (λ (base : Option Base).
 pub round_quiet : (task : Task) (post : Post) → is_quiet (round task post) ≡ true
 round_quiet task post = scheme_round task post (scheme_of post)
 
+-- a list is tidied: first the clock moves, or the scan comes at once
+tidy_by_quiet : (moving : Bool) (later : AfterScan) (post : Post) → is_quiet (rounds.tidy_by moving later post) ≡ true
+tidy_by_quiet true later post = refl
+tidy_by_quiet false later post = refl
+
+tidy_quiet : (later : AfterScan) (post : Post) → is_quiet (rounds.first_tidy later post) ≡ true
+tidy_quiet later post = tidy_by_quiet (moves (scheme_of post)) later post
+
 given_up_quiet : (answer : Answer) (post : Post) (desk : Desk) (told : List Event) (x : Option ℕ) → Quiet (given_up answer post desk told x)
 given_up_quiet answer post desk told None = refl
 given_up_quiet answer post desk told (Some slot) = refl
 
 pub closed_quiet : (task : Task) (next : Next) (post : Post) (desk : Desk) (told : List Event) → Quiet (closed task next post desk told)
 closed_quiet task Again post desk told = round_quiet task post
-closed_quiet task MakeRoom post desk told = refl
+closed_quiet task MakeRoom post desk told = tidy_quiet (Repeated task) post
 closed_quiet task (Answering answer) post desk told = given_up_quiet answer post desk told (taken_of task)
 closed_quiet task (Retiring slot answer) post desk told = refl
 
@@ -243,11 +255,11 @@ read_more_quiet : (later : AfterScan) (number : ℕ) (post : Post) (desk : Desk)
 read_more_quiet later number post desk told true = refl
 read_more_quiet later number post desk told false = giving_back_quiet later post desk told (scan.unmet_from desk 0)
 
-read_quiet : (later : AfterScan) (number : ℕ) (post : Post) (desk : Desk) (guard : Guard) (span : Option Interval) → Quiet (scan.read_guard later number post desk guard span)
-read_quiet later number post desk guard span = read_more_quiet later number post (scan.with_read desk number (guard, shown span)) (events.Read guard span ∷ []) (nat_lt (number + 1) (the_guards.guards post.layout.config))
+read_quiet : (later : AfterScan) (number : ℕ) (post : Post) (desk : Desk) (rows : Bool) (guard : Guard) (word : ℕ) → Quiet (scan.read_guard later number post desk rows guard word)
+read_quiet later number post desk rows guard word = read_more_quiet later number post (scan.with_read desk number (guard, the_guards.published rows guard word)) (scan.reads_guard rows guard word ∷ []) (nat_lt (number + 1) (the_guards.guards post.layout.config))
 
 pub scan_quiet : (later : AfterScan) (at : ScanAt) (post : Post) (desk : Desk) (found : ℕ) → Quiet (scan.scan_turn later at post desk found)
-scan_quiet later (ReadGuard number) post desk found = read_quiet later number post desk (the_guards.guard_at post.layout.config number) (the_guards.eras_in (the_guards.guard_at post.layout.config number) found)
+scan_quiet later (ReadGuard number) post desk found = read_quiet later number post desk (publishes_rows (scheme_of post)) (the_guards.guard_at post.layout.config number) found
 scan_quiet later (GiveBack place slot) post desk found = giving_back_quiet later post (scan.with_back desk place) (events.Back slot ∷ []) (scan.unmet_from (scan.with_back desk place) place)
 
 pub opened_null_quiet : (task : Task) (post : Post) (desk : Desk) (told : List Event) → Quiet (steps.opened_null task post desk told)
@@ -273,12 +285,12 @@ advanced_quiet (Followed end) post desk told = refl
 advanced_quiet (Allocated end) post desk told = refl
 advanced_quiet (endings.Retired life) post desk told = refl
 
-parting_by_quiet : (x : Option ℕ) → is_quiet (keeps.parting_index x) ≡ true
-parting_by_quiet None = refl
-parting_by_quiet (Some index) = refl
+parting_by_quiet : (rows : Bool) (x : Option ℕ) → is_quiet (keeps.parting_index rows x) ≡ true
+parting_by_quiet rows None = refl
+parting_by_quiet rows (Some index) = refl
 
 parting_from_quiet : (index : ℕ) (post : Post) → is_quiet (keeps.parting_from index post) ≡ true
-parting_from_quiet index post = parting_by_quiet (standing_from index (drop index post.standing))
+parting_from_quiet index post = parting_by_quiet (publishes_rows (scheme_of post)) (standing_from index (drop index post.standing))
 
 parting_span_quiet : (x : Option Interval) → is_quiet (keeps.parting_span x) ≡ true
 parting_span_quiet None = refl
@@ -323,7 +335,7 @@ pub keep_quiet : (at : KeepAt) (post : Post) (desk : Desk) (found : ℕ) → Qui
 keep_quiet (Loosens let_go) post desk found =
     released_quiet let_go (withdrawn post (rounds.let_index let_go)) desk (cleared (rounds.let_index let_go) (stands post (rounds.let_index let_go)))
 keep_quiet (LoadHeld from index) post desk found = load_held_quiet from index post desk found (has_one_interval (scheme_of post))
-keep_quiet (StoreHeld from index era) post desk found = copied_quiet from index post desk (reserves_index post index era) (stands post from)
+keep_quiet (StoreHeld from index era) post desk found = copied_quiet from index post desk (publishes_index (publishes_rows (scheme_of post)) post index era) (stands post from)
 keep_quiet (Looks index key at) post desk found = look_quiet index key at post desk found
 keep_quiet (Misses index) post desk found = refl
 keep_quiet HideSpan post desk found = refl
@@ -332,7 +344,7 @@ keep_quiet (TakeList place) post desk found = taking_quiet place post desk (foun
 keep_quiet (MarkTaken place count) post desk found = refl
 
 tidying_quiet : (answer : Answer) (post : Post) (desk : Desk) (told : List Event) (due : Bool) → Quiet (steps.tidying answer post desk told due)
-tidying_quiet answer post desk told true = refl
+tidying_quiet answer post desk told true = tidy_quiet (Answered answer) post
 tidying_quiet answer post desk told false = refl
 
 pub retired_quiet : (answer : Answer) (ending : Ending) (post : Post) (desk : Desk) (told : List Event) → Quiet (steps.retired_by answer ending post desk told)

@@ -1,7 +1,7 @@
 -- Where a round ends and where the call goes on, what was in hand is in hand, and the list stays.
 use Rattle.std.proofs.Common.{ℕ, ◌+◌, ◌≡◌, Bool, true, false, refl, ◌∙◌, List, [], ◌∷◌, ◌++◌}
 use Rattle.std.specs.Prelude.{◌==◌, nat_lt, Option, Some, None, drop}
-use Rattle.wfe_core.specs.words.Schemes.{has_one_interval}
+use Rattle.wfe_core.specs.words.Schemes.{has_one_interval, moves, publishes_rows}
 use Rattle.wfe_core.specs.words.declared.config.SchemeKind.{SchemeKind}
 use Rattle.wfe_core.specs.defs.declared.call.Answer.{Answer}
 use Rattle.wfe_core.specs.defs.declared.call.Answer.TheVariants as the_answers
@@ -22,10 +22,10 @@ use Rattle.wfe_core.specs.Keep as keeps
 use Rattle.wfe_core.specs.Change as alters
 use Rattle.wfe_core.specs.Enqueue as enqueues
 use Rattle.wfe_core.specs.Dequeue as dequeues
-use Rattle.wfe_core.specs.Calls.{ChangeKept, EnqueueKept, Task, Gets, Changes, Enqueues, Dequeues, Next, Again, MakeRoom, Answering, Retiring, GetAt, FindVersion, FindCount, FindKey, FindValue, CallTurn, LetGo, Parting}
+use Rattle.wfe_core.specs.Calls.{AfterScan, Repeated, ChangeKept, EnqueueKept, Task, Gets, Changes, Enqueues, Dequeues, Next, Again, MakeRoom, Answering, Retiring, GetAt, FindVersion, FindCount, FindKey, FindValue, CallTurn, LetGo, Parting}
 use Rattle.inv_rows.specs.Rows.{Hand}
 use Rattle.inv_rows.specs.Rows.Hand.{Empty}
-use Rattle.inv_rows.specs.Hands.{hand_of, hand_task, hand_next, hand_base, hand_in, is_plain, goes_right, fills_right, Leaves}
+use Rattle.inv_rows.specs.Hands.{hand_of, hand_task, hand_next, hand_base, hand_in, hand_later, is_plain, goes_right, fills_right, Leaves}
 use Rattle.wfe_core.proofs.Facts.{same_number, if_by}
 use Rattle.wfe_core.proofs.Schemes.{each_begin, each_clear, each_finish, each_release}
 
@@ -88,12 +88,12 @@ pub round_right : (task : Task) (post : Post) (list : List Lifetime) → goes_ri
 round_right task post list = round_by_right task post (begin_base (scheme_of post) post) list (begin_plain (scheme_of post) post)
 
 -- a seat that leaves lets go of what stands, and then marks its place
-parting_by_hand : (x : Option ℕ) → hand_in (keeps.parting_index x) ≡ Empty
-parting_by_hand None = refl
-parting_by_hand (Some index) = refl
+parting_by_hand : (rows : Bool) (x : Option ℕ) → hand_in (keeps.parting_index rows x) ≡ Empty
+parting_by_hand rows None = refl
+parting_by_hand rows (Some index) = refl
 
 parting_from_hand : (index : ℕ) (post : Post) → hand_in (keeps.parting_from index post) ≡ Empty
-parting_from_hand index post = parting_by_hand (standing_from index (drop index post.standing))
+parting_from_hand index post = parting_by_hand (publishes_rows (scheme_of post)) (standing_from index (drop index post.standing))
 
 parting_span_hand : (x : Option Interval) → hand_in (keeps.parting_span x) ≡ Empty
 parting_span_hand None = refl
@@ -102,12 +102,12 @@ parting_span_hand (Some span) = refl
 pub parting_hand : (post : Post) → hand_in (keeps.parting post) ≡ Empty
 parting_hand post = if_by (has_one_interval (scheme_of post)) (keeps.parting_span post.span) (keeps.parting_from 2 post) (λ phase. hand_in phase ≡ Empty) (λ e. parting_span_hand post.span) (λ e. parting_from_hand 2 post)
 
-parting_by_right : (x : Option ℕ) (list : List Lifetime) → goes_right (keeps.parting_index x) list ≡ true
-parting_by_right None list = refl
-parting_by_right (Some index) list = refl
+parting_by_right : (rows : Bool) (x : Option ℕ) (list : List Lifetime) → goes_right (keeps.parting_index rows x) list ≡ true
+parting_by_right rows None list = refl
+parting_by_right rows (Some index) list = refl
 
 parting_from_right : (index : ℕ) (post : Post) (list : List Lifetime) → goes_right (keeps.parting_from index post) list ≡ true
-parting_from_right index post list = parting_by_right (standing_from index (drop index post.standing)) list
+parting_from_right index post list = parting_by_right (publishes_rows (scheme_of post)) (standing_from index (drop index post.standing)) list
 
 parting_span_right : (x : Option Interval) (list : List Lifetime) → goes_right (keeps.parting_span x) list ≡ true
 parting_span_right None list = refl
@@ -119,13 +119,28 @@ parting_right post list = if_by (has_one_interval (scheme_of post)) (keeps.parti
 pub parting_leaves : (index : ℕ) (post : Post) (desk : Desk) (told : List Event) → Leaves Empty desk.list (keeps.released (Parting index) post desk told)
 parting_leaves index post desk told = record { hand = parting_from_hand (index + 1) post; right = parting_from_right (index + 1) post desk.list; list = refl }
 
+-- a list is tidied: first the clock moves, or the scan comes at once
+tidy_by_hand : (moving : Bool) (later : AfterScan) (post : Post) → hand_in (rounds.tidy_by moving later post) ≡ hand_later later
+tidy_by_hand true later post = refl
+tidy_by_hand false later post = refl
+
+pub tidy_hand : (later : AfterScan) (post : Post) → hand_in (rounds.first_tidy later post) ≡ hand_later later
+tidy_hand later post = tidy_by_hand (moves (scheme_of post)) later post
+
+tidy_by_right : (moving : Bool) (later : AfterScan) (post : Post) (list : List Lifetime) → goes_right (rounds.tidy_by moving later post) list ≡ true
+tidy_by_right true later post list = refl
+tidy_by_right false later post list = refl
+
+pub tidy_right : (later : AfterScan) (post : Post) (list : List Lifetime) → goes_right (rounds.first_tidy later post) list ≡ true
+tidy_right later post list = tidy_by_right (moves (scheme_of post)) later post list
+
 given_up_leaves : (answer : Answer) (post : Post) (desk : Desk) (told : List Event) (x : Option ℕ) → Leaves (hand_of x) desk.list (given_up answer post desk told x)
 given_up_leaves answer post desk told None = record { hand = refl; right = refl; list = refl }
 given_up_leaves answer post desk told (Some slot) = record { hand = refl; right = refl; list = refl }
 
 pub closed_leaves : (task : Task) (next : Next) (post : Post) (desk : Desk) (told : List Event) → Leaves (hand_next task next) desk.list (closed task next post desk told)
 closed_leaves task Again post desk told = record { hand = round_hand task post; right = round_right task post desk.list; list = refl }
-closed_leaves task MakeRoom post desk told = record { hand = refl; right = refl; list = refl }
+closed_leaves task MakeRoom post desk told = record { hand = tidy_hand (Repeated task) post; right = tidy_right (Repeated task) post desk.list; list = refl }
 closed_leaves task (Answering answer) post desk told = given_up_leaves answer post desk told (taken_of task)
 closed_leaves task (Retiring slot answer) post desk told = record { hand = refl; right = refl; list = refl }
 

@@ -13,12 +13,13 @@ use Rattle.wfe_core.specs.Phases.Ending.{Done, Allocated}
 use Rattle.wfe_core.specs.Change as alters
 use Rattle.wfe_core.specs.Enqueue as enqueues
 use Rattle.wfe_core.specs.Steps as steps
-use Rattle.wfe_core.specs.Calls.{Task, Gets, Changes, Holds, Enqueues, Dequeues, Again, Why, Opens, FollowsHead, Fills, ClearsNext, Clears, Finishes, GivesUp, Retires, Tidies, Advances, Releases}
+use Rattle.wfe_core.specs.Calls.{Task, Gets, Changes, Holds, Enqueues, Dequeues, Again, Why, Opens, FollowsHead, Fills, ClearsNext, Clears, Finishes, GivesUp, Retires, Tidies, Advances, Releases, Answered}
 use Rattle.inv_rows.specs.Rows.Hand.{Empty, Taken}
 use Rattle.inv_rows.specs.Hands.{hand_of, hand_task, hand_next, is_plain, fills_right, holds_none, holds_slot, Leaves, hand_why, task_fills}
 use Rattle.wfe_core.specs.defs.declared.event.Root.{Root}
 use Rattle.wfe_core.specs.Phases.BeginAt.{LoadLower, PublishSpan}
-use Rattle.wfe_core.specs.Phases.ProtectAt.{LoadClock, PublishEra, LoadLink, CheckClock, PublishRequest, LoadOwnClock, PublishHelper, LoadOwnLink, CheckOwnClock, AnswerOwn, LoadAnswer, TakeAnswer, WithdrawRequest, WithdrawHelper, LoadWithin, CheckUpper, RaiseUpper}
+use Rattle.wfe_core.specs.Phases.ProtectAt.{LoadClock, PublishEra, LoadLink, CheckClock, PublishRequest, LoadOwnClock, PublishHelper, LoadOwnLink, CheckOwnClock, AnswerOwn, LoadAnswer, TakeAnswer, WithdrawRequest, WithdrawHelper, LoadWithin, CheckUpper, RaiseUpper, ByHazard}
+use Rattle.wfe_core.specs.Phases.HazardAt.{FirstLink, PublishLink, CheckLink}
 use Rattle.wfe_core.specs.Phases.MoveAt.{LoadEra, LoadRequest, ShowEra, LoadAsked, CheckEra, AnswerAsked, LoadReserved, HandOver, HideEra, HideLate, ExchangeClock}
 use Rattle.wfe_core.specs.Phases.Base.{Begin, Protect, Reload, Clear, Finish, Release, Allocate, Write, GiveUp, Retire, Move}
 use Rattle.wfe_core.specs.Machine as machine
@@ -30,7 +31,7 @@ use Rattle.wfe_core.specs.words.Packed.{reservation_word}
 use Rattle.wfe_core.specs.Posts.{reserves_helper}
 use Rattle.wfe_core.proofs.Facts.{same_number}
 use Rattle.inv_rows.proofs.Words.{is_writing}
-use Rattle.inv_rows.proofs.Rounds.{closed_leaves, finishing_leaves, clearing_leaves, leaves_along}
+use Rattle.inv_rows.proofs.Rounds.{closed_leaves, finishing_leaves, clearing_leaves, leaves_along, tidy_hand, tidy_right}
 use Rattle.inv_rows.proofs.Turns.{opened_leaves, followed_by_leaves, tidied_leaves, advanced_leaves, released_leaves}
 
 -- a machine that handles no row goes on as one
@@ -70,6 +71,9 @@ protect_goes aim index root n (WithdrawHelper link era) post found = concluded_p
 protect_goes aim index root n LoadWithin post found = refl
 protect_goes aim index root n (CheckUpper link) post found = grind (arith, protected_plain aim index root n link found post)
 protect_goes aim index root n (RaiseUpper era) post found = refl
+protect_goes aim index root n (ByHazard FirstLink) post found = grind (arith, protected_plain aim index root n found 0 post)
+protect_goes aim index root n (ByHazard (PublishLink link)) post found = refl
+protect_goes aim index root n (ByHazard (CheckLink link)) post found = grind (arith, protected_plain aim index root n found 0 post)
 
 move_goes : (at : MoveAt) (post : Post) (found : ℕ) → Plain (machine.move_turn at post found)
 move_goes (LoadEra helps) post found = grind arith
@@ -92,7 +96,7 @@ pub plain_goes : (base : Base) (post : Post) (found : ℕ) → is_plain base ≡
 plain_goes (Begin at) post found h = begin_goes at post found
 plain_goes (Protect aim index root steps at) post found h = protect_goes aim index root (bump steps) at post found
 plain_goes (Reload parent index slot era steps) post found h = grind arith
-plain_goes (Clear index) post found h = refl
+plain_goes (Clear rows index) post found h = refl
 plain_goes Finish post found h = refl
 plain_goes (Release index) post found h = refl
 plain_goes (Allocate at) post found h = cc
@@ -120,6 +124,9 @@ protect_writes index root (WithdrawHelper link era) post = refl
 protect_writes index root LoadWithin post = refl
 protect_writes index root (CheckUpper link) post = refl
 protect_writes index root (RaiseUpper era) post = refl
+protect_writes index root (ByHazard FirstLink) post = refl
+protect_writes index root (ByHazard (PublishLink link)) post = refl
+protect_writes index root (ByHazard (CheckLink link)) post = refl
 
 move_writes : (at : MoveAt) (post : Post) → is_writing (machine.move_move at post) ≡ false
 move_writes (LoadEra helps) post = refl
@@ -142,7 +149,7 @@ pub plain_writes : (base : Base) (post : Post) → is_plain base ≡ true → is
 plain_writes (Begin at) post h = begin_writes at post
 plain_writes (Protect aim index root steps at) post h = protect_writes index root at post
 plain_writes (Reload parent index slot era steps) post h = refl
-plain_writes (Clear index) post h = refl
+plain_writes (Clear rows index) post h = refl
 plain_writes Finish post h = refl
 plain_writes (Release index) post h = refl
 plain_writes (Allocate at) post h = cc
@@ -250,7 +257,7 @@ pub retired_leaves : (answer : Answer) (life : Lifetime) (post : Post) (desk : D
 retired_leaves answer life post desk told = by_due (post.retired % post.layout.config.every == 0)
   where
     by_due : (due : Bool) → Leaves Empty (desk.list ++ life ∷ []) (steps.tidying answer post (with_life desk life) told due)
-    by_due true = record { hand = refl; right = refl; list = refl }
+    by_due true = record { hand = tidy_hand (Answered answer) post; right = tidy_right (Answered answer) post (desk.list ++ life ∷ []); list = refl }
     by_due false = record { hand = refl; right = refl; list = refl }
 
 -- only rows are taken and written where a row is filled
@@ -258,7 +265,7 @@ abbrev pub is_filling : Base → Bool
 is_filling (Begin at) = false
 is_filling (Protect aim index root steps at) = false
 is_filling (Reload parent index slot era steps) = false
-is_filling (Clear index) = false
+is_filling (Clear rows index) = false
 is_filling Finish = false
 is_filling (Release index) = false
 is_filling (Allocate at) = true
@@ -269,7 +276,7 @@ right_fills : (base : Base) (x : Option ℕ) → fills_right base x ≡ true →
 right_fills (Begin at) x h = h
 right_fills (Protect aim index root steps at) x h = h
 right_fills (Reload parent index slot era steps) x h = h
-right_fills (Clear index) x h = h
+right_fills (Clear rows index) x h = h
 right_fills Finish x h = h
 right_fills (Release index) x h = h
 right_fills (Allocate at) x h = refl

@@ -44,6 +44,7 @@ use Rattle.inv_rows.proofs.Lists.{no_entry_from, in_list_last, once_last, once_r
 use Rattle.inv_rows.proofs.Turns.{read_leaves, back_leaves}
 use Rattle.inv_rows.proofs.Runs.{is_plain_why, plain_goes, plain_writes, plain_leaves, spent_leaves, given_leaves, written_leaves, retired_leaves, only_fills}
 use Rattle.wfe_core.proofs.Facts.{words_below, no_truth, rest_of}
+use Rattle.wfe_core.specs.words.Schemes.{publishes_rows}
 
 -- what the step of seat i leaves agrees with the rows
 pub record Did (slots i : ℕ) (mem : Place → ℕ) (v : View) (t : CallTurn) : Type 0 where
@@ -92,7 +93,7 @@ pub plain_row : (base : Base) (found : ℕ) → is_plain base ≡ true → base_
 plain_row (Begin at) found h = refl
 plain_row (Protect aim index root steps at) found h = refl
 plain_row (Reload parent index slot era steps) found h = refl
-plain_row (Clear index) found h = refl
+plain_row (Clear rows index) found h = refl
 plain_row Finish found h = refl
 plain_row (Release index) found h = refl
 plain_row (Allocate at) found h = cc
@@ -297,7 +298,7 @@ did_fills slots i mem v task (Write slot row place) post next desk n g w p =
 did_fills slots i mem v task (Begin at) post next desk n g w p = absurd (no_truth (only_fills task (Begin at) p.right))
 did_fills slots i mem v task (Protect aim index root steps at) post next desk n g w p = absurd (no_truth (only_fills task (Protect aim index root steps at) p.right))
 did_fills slots i mem v task (Reload parent index slot era steps) post next desk n g w p = absurd (no_truth (only_fills task (Reload parent index slot era steps) p.right))
-did_fills slots i mem v task (Clear index) post next desk n g w p = absurd (no_truth (only_fills task (Clear index) p.right))
+did_fills slots i mem v task (Clear rows index) post next desk n g w p = absurd (no_truth (only_fills task (Clear rows index) p.right))
 did_fills slots i mem v task Finish post next desk n g w p = absurd (no_truth (only_fills task Finish p.right))
 did_fills slots i mem v task (Release index) post next desk n g w p = absurd (no_truth (only_fills task (Release index) p.right))
 did_fills slots i mem v task (GiveUp slot) post next desk n g w p = absurd (no_truth (only_fills task (GiveUp slot) p.right))
@@ -364,7 +365,7 @@ did_gives_up slots i mem v answer (GiveUp slot) post next desk g w p = did_drops
 did_gives_up slots i mem v answer (Begin at) post next desk g w p = absurd (no_truth p.right)
 did_gives_up slots i mem v answer (Protect aim index root steps at) post next desk g w p = absurd (no_truth p.right)
 did_gives_up slots i mem v answer (Reload parent index slot era steps) post next desk g w p = absurd (no_truth p.right)
-did_gives_up slots i mem v answer (Clear index) post next desk g w p = absurd (no_truth p.right)
+did_gives_up slots i mem v answer (Clear rows index) post next desk g w p = absurd (no_truth p.right)
 did_gives_up slots i mem v answer Finish post next desk g w p = absurd (no_truth p.right)
 did_gives_up slots i mem v answer (Release index) post next desk g w p = absurd (no_truth p.right)
 did_gives_up slots i mem v answer (Allocate at) post next desk g w p = absurd (no_truth p.right)
@@ -440,7 +441,7 @@ did_retires slots i mem v answer (Retire (StoreRetired slot birth retire)) post 
 did_retires slots i mem v answer (Begin at) post next desk g w p = absurd (no_truth p.right)
 did_retires slots i mem v answer (Protect aim index root steps at) post next desk g w p = absurd (no_truth p.right)
 did_retires slots i mem v answer (Reload parent index slot era steps) post next desk g w p = absurd (no_truth p.right)
-did_retires slots i mem v answer (Clear index) post next desk g w p = absurd (no_truth p.right)
+did_retires slots i mem v answer (Clear rows index) post next desk g w p = absurd (no_truth p.right)
 did_retires slots i mem v answer Finish post next desk g w p = absurd (no_truth p.right)
 did_retires slots i mem v answer (Release index) post next desk g w p = absurd (no_truth p.right)
 did_retires slots i mem v answer (Allocate at) post next desk g w p = absurd (no_truth p.right)
@@ -489,7 +490,8 @@ did_scans slots i mem v later (ReadGuard number) post next desk g w p =
     number
     next
     desk
+    (publishes_rows next.layout.config.scheme)
     (the_guards.guard_at next.layout.config number)
-    (the_guards.eras_in (the_guards.guard_at next.layout.config number) (mem (the_guards.guard_place (the_guards.guard_at post.layout.config number)))))
+    (mem (the_guards.guard_place (the_guards.guard_at post.layout.config number))))
 did_scans slots i mem v later (GiveBack place slot) post next desk g w p =
     did_returns slots i mem v later place slot next desk (mem (Claim (claim_word slot))) g w p

@@ -1,7 +1,7 @@
 -- A protection of the queue's tail or head, and what a row is to which it leads.
 use Rattle.std.proofs.Common.{ℕ, ◌≤◌, ◌+◌, ◌-◌, ◌≡◌, Bool, true, false, arith, refl, ◌&&◌, ◌∙◌, sym, []}
 use Rattle.std.proofs.lemmas.Bool.Decides.{nat_tests}
-use Rattle.std.specs.Prelude.{◌==◌, if◌then◌else◌, Option, Some, None}
+use Rattle.std.specs.Prelude.{◌==◌, ◌||◌, if◌then◌else◌, Option, Some, None}
 use Rattle.wfe_core.specs.declared.ends.ProtectEnd.TheVariants as protect_ends
 use Rattle.wfe_core.specs.declared.post.Post.{Post}
 use Rattle.wfe_core.specs.Phases.{Base, Ending, Ending as endings, goes, Outcome, Goes, Ends, Aim, Alone, Follows, Tries, Endless, Failed, ProtectAt}
@@ -20,7 +20,8 @@ use Rattle.wfe_core.specs.words.declared.packed.Request.TheVariants as requests
 use Rattle.wfe_core.specs.words.Packed.{read_request}
 use Rattle.wfe_core.specs.defs.declared.event.Root.{Root}
 use Rattle.wfe_core.specs.Phases.BeginAt.{LoadLower, PublishSpan}
-use Rattle.wfe_core.specs.Phases.ProtectAt.{LoadClock, PublishEra, LoadLink, CheckClock, PublishRequest, LoadOwnClock, PublishHelper, LoadOwnLink, CheckOwnClock, AnswerOwn, LoadAnswer, TakeAnswer, WithdrawRequest, WithdrawHelper, LoadWithin, CheckUpper, RaiseUpper}
+use Rattle.wfe_core.specs.Phases.ProtectAt.{LoadClock, PublishEra, LoadLink, CheckClock, PublishRequest, LoadOwnClock, PublishHelper, LoadOwnLink, CheckOwnClock, AnswerOwn, LoadAnswer, TakeAnswer, WithdrawRequest, WithdrawHelper, LoadWithin, CheckUpper, RaiseUpper, ByHazard}
+use Rattle.wfe_core.specs.Phases.HazardAt.{FirstLink, PublishLink, CheckLink}
 use Rattle.wfe_core.specs.Protect as protects
 use Rattle.wfe_core.specs.SlowPath as slow
 use Rattle.wfe_core.specs.Posts.{counted, upper}
@@ -104,6 +105,9 @@ at_reads (WithdrawHelper link era) = false
 at_reads LoadWithin = true
 at_reads (CheckUpper link) = false
 at_reads (RaiseUpper era) = false
+at_reads (ByHazard FirstLink) = true
+at_reads (ByHazard (PublishLink link)) = false
+at_reads (ByHazard (CheckLink link)) = true
 
 abbrev pub at_checks : ProtectAt → Bool
 at_checks (LoadClock tries) = false
@@ -123,6 +127,7 @@ at_checks (WithdrawHelper link era) = false
 at_checks LoadWithin = false
 at_checks (CheckUpper link) = true
 at_checks (RaiseUpper era) = false
+at_checks (ByHazard at) = false
 
 clock_same : (found clock era : ℕ) → found ≡ clock → (found == era) ≡ true → (clock == era) ≡ true
 clock_same found clock era e o = grind (arith, nat_tests, e, o)
@@ -146,6 +151,9 @@ protect_tries wanted clock upto index root n (WithdrawHelper link era) post foun
 protect_tries wanted clock upto index root n LoadWithin post found P r f d c a = goes_try wanted clock upto index root n (CheckUpper found) P r (λ s u. d refl s (link_of found s clock upto u))
 protect_tries wanted clock upto index root n (CheckUpper link) post found P r f d c a = checked wanted clock upto index root n found link (RaiseUpper found) post P (found == upper post.span) r (λ o s e. f s (link_at link s clock (upper post.span) e (clock_same found clock (upper post.span) (c refl) o))) (λ s. refl)
 protect_tries wanted clock upto index root n (RaiseUpper era) post found P r f d c a = goes_try wanted clock upto index root n LoadWithin P r (λ s u. absurd (no_truth u))
+protect_tries wanted clock upto index root n (ByHazard FirstLink) post found P r f d c a = checked wanted clock upto index root n 0 found (ByHazard (PublishLink found)) post P (found == 0) r (λ o s e. d refl s e) (λ s. refl)
+protect_tries wanted clock upto index root n (ByHazard (PublishLink link)) post found P r f d c a = goes_try wanted clock upto index root n (ByHazard (CheckLink link)) P r (λ s u. absurd (no_truth u))
+protect_tries wanted clock upto index root n (ByHazard (CheckLink link)) post found P r f d c a = checked wanted clock upto index root n 0 found (ByHazard (PublishLink found)) post P (found == link || found == 0) r (λ o s e. d refl s e) (λ s. refl)
 
 -- what it finds
 abbrev finds_at : (Place → ℕ) → ℕ → Root → ProtectAt → Post → ℕ
@@ -169,6 +177,9 @@ found_reads mem index root (WithdrawHelper link era) post u = absurd (no_truth u
 found_reads mem index root LoadWithin post u = refl
 found_reads mem index root (CheckUpper link) post u = absurd (no_truth u)
 found_reads mem index root (RaiseUpper era) post u = absurd (no_truth u)
+found_reads mem index root (ByHazard FirstLink) post u = refl
+found_reads mem index root (ByHazard (PublishLink link)) post u = absurd (no_truth u)
+found_reads mem index root (ByHazard (CheckLink link)) post u = refl
 
 found_checks : (mem : Place → ℕ) (index : ℕ) (root : Root) (at : ProtectAt) (post : Post) → at_checks at ≡ true → finds_at mem index root at post ≡ mem Clock
 found_checks mem index root (LoadClock tries) post u = absurd (no_truth u)
@@ -188,6 +199,7 @@ found_checks mem index root (WithdrawHelper link era) post u = absurd (no_truth 
 found_checks mem index root LoadWithin post u = absurd (no_truth u)
 found_checks mem index root (CheckUpper link) post u = refl
 found_checks mem index root (RaiseUpper era) post u = absurd (no_truth u)
+found_checks mem index root (ByHazard at) post u = absurd (no_truth u)
 
 abbrev pub finds_base : (Place → ℕ) → Base → Post → ℕ
 finds_base mem base post = memory.found (base_move base post) (mem (place_in (base_move base post)))
@@ -203,7 +215,7 @@ base_out wanted mem upto (Protect Alone index root steps at) post P t d a =
     protect_tries wanted (mem Clock) upto index root (bump steps) at (counted post) (finds_at mem index root at post) P t.right t.tried (λ u s e. d root t.right s (sym (found_reads mem index root at post u) ∙ e)) (λ u. found_checks mem index root at post u) (λ link era u r s e. a Alone index root steps at link era refl u r s e)
 base_out wanted mem upto (Protect Follows index root steps at) post P t d a = absurd (no_truth t.right)
 base_out wanted mem upto (Reload parent index slot era steps) post P t d a = absurd (no_truth t.right)
-base_out wanted mem upto (Clear index) post P t d a = absurd (no_truth t.right)
+base_out wanted mem upto (Clear rows index) post P t d a = absurd (no_truth t.right)
 base_out wanted mem upto Finish post P t d a = absurd (no_truth t.right)
 base_out wanted mem upto (Release index) post P t d a = absurd (no_truth t.right)
 base_out wanted mem upto (Allocate at) post P t d a = absurd (no_truth t.right)
@@ -231,13 +243,14 @@ start_none (WithdrawHelper link era) clock upto s e = absurd (no_truth e)
 start_none LoadWithin clock upto s e = refl
 start_none (CheckUpper link) clock upto s e = absurd (no_truth e)
 start_none (RaiseUpper era) clock upto s e = absurd (no_truth e)
+start_none (ByHazard at) clock upto s e = refl
 
 start_tries : (wanted : Root → Bool) (clock upto : ℕ) (base : Base) (P : ℕ → Type 0) → starts_by wanted base ≡ true → TriesBase wanted clock upto base P
 start_tries wanted clock upto (Begin at) P h = record { right = refl; tried = λ s u. absurd (no_truth u) }
 start_tries wanted clock upto (Protect Alone index root steps at) P h = record { right = first_of (wanted root) (at_starts at) h; tried = λ s u. absurd (no_truth (false_is_true (at_tries clock upto at s) (start_none at clock upto s (rest_of (wanted root) (at_starts at) h)) u)) }
 start_tries wanted clock upto (Protect Follows index root steps at) P h = absurd (no_truth h)
 start_tries wanted clock upto (Reload parent index slot era steps) P h = absurd (no_truth h)
-start_tries wanted clock upto (Clear index) P h = absurd (no_truth h)
+start_tries wanted clock upto (Clear rows index) P h = absurd (no_truth h)
 start_tries wanted clock upto Finish P h = absurd (no_truth h)
 start_tries wanted clock upto (Release index) P h = absurd (no_truth h)
 start_tries wanted clock upto (Allocate at) P h = absurd (no_truth h)
@@ -285,6 +298,7 @@ at_back (WithdrawHelper link era) clock now upto s e f h = h
 at_back LoadWithin clock now upto s e f h = h
 at_back (CheckUpper link) clock now upto s e f h = grind (arith, nat_tests)
 at_back (RaiseUpper era) clock now upto s e f h = h
+at_back (ByHazard at) clock now upto s e f h = h
 
 base_back : (base : Base) (clock now upto s : ℕ) → base_era upto base ≤ clock → clock ≤ now → base_tries now upto base s ≡ true → base_tries clock upto base s ≡ true
 base_back (Protect aim index root steps at) clock now upto s e f h = at_back at clock now upto s e f h

@@ -1,14 +1,13 @@
 -- The steps of a call's own and those of a scan, and what comes after a machine: what is in hand, and the list.
 use Rattle.std.proofs.Common.{ℕ, zero, suc, ◌+◌, ◌-◌, ◌≡◌, Bool, true, false, arith, refl, ap, ◌∙◌, sym, List, [], ◌∷◌, suc-add, zero-add}
 use Rattle.std.specs.Prelude.{◌==◌, nat_lt, Option, Some, None, drop}
-use Rattle.wfe_core.specs.defs.Shown.{shown, Seen, keeps_any}
+use Rattle.wfe_core.specs.defs.Shown.{Seen, keeps_any}
 use Rattle.wfe_core.specs.defs.declared.call.Answer.TheVariants as the_answers
 use Rattle.wfe_core.specs.defs.declared.event.Event.TheVariants as events
 use Rattle.wfe_core.specs.defs.declared.call.ClockMove.{ClockMove}
 use Rattle.wfe_core.specs.defs.declared.call.ClockMove.TheVariants as clock_moves
 use Rattle.wfe_core.specs.Guards as the_guards
 use Rattle.wfe_core.specs.defs.declared.event.Event.{Event}
-use Rattle.wfe_core.specs.defs.declared.lifetime.Interval.{Interval}
 use Rattle.wfe_core.specs.defs.declared.lifetime.Lifetime.{Lifetime}
 use Rattle.wfe_core.specs.declared.ends.ProtectEnd.TheVariants as protect_ends
 use Rattle.wfe_core.specs.declared.post.Post.{Post}
@@ -21,8 +20,8 @@ use Rattle.wfe_core.specs.Enqueue as enqueues
 use Rattle.wfe_core.specs.Dequeue as dequeues
 use Rattle.wfe_core.specs.Scan as scan
 use Rattle.wfe_core.specs.Keep as keeps
-use Rattle.wfe_core.specs.Posts.{cleared, reserves_index, stands, withdrawn}
-use Rattle.wfe_core.specs.words.Schemes.{has_one_interval}
+use Rattle.wfe_core.specs.Posts.{cleared, stands, withdrawn, publishes_index}
+use Rattle.wfe_core.specs.words.Schemes.{has_one_interval, publishes_rows}
 use Rattle.wfe_core.specs.Steps as steps
 use Rattle.wfe_core.specs.Calls.{ChangeKept, EnqueueKept, Task, Gets, Changes, Holds, Enqueues, Dequeues, Again, Answering, Retiring, AfterScan, Answered, Repeated, Counted, GiveBack, LetGo, Released, Rehold, Dropped, Parting, GetAt, FindVersion, FindCount, FindKey, FindValue, KeepAt, Loosens, LoadHeld, StoreHeld, Looks, Misses, HideSpan, MarkLeft, TakeList, MarkTaken}
 use Rattle.inv_rows.specs.Rows.Hand.{Empty, Old}
@@ -128,14 +127,14 @@ read_more_leaves : (later : AfterScan) (number : ℕ) (post : Post) (desk : Desk
 read_more_leaves later number post desk told true = record { hand = refl; right = refl; list = refl }
 read_more_leaves later number post desk told false = giving_back_leaves later post desk told (scan.unmet_from desk 0) (unmet_stands desk 0)
 
-pub read_leaves : (later : AfterScan) (number : ℕ) (post : Post) (desk : Desk) (guard : Guard) (span : Option Interval) → Leaves (hand_later later) desk.list (scan.read_guard later number post desk guard span)
-read_leaves later number post desk guard span =
+pub read_leaves : (later : AfterScan) (number : ℕ) (post : Post) (desk : Desk) (rows : Bool) (guard : Guard) (word : ℕ) → Leaves (hand_later later) desk.list (scan.read_guard later number post desk rows guard word)
+read_leaves later number post desk rows guard word =
     read_more_leaves
     later
     number
     post
-    (scan.with_read desk number (guard, shown span))
-    (events.Read guard span ∷ [])
+    (scan.with_read desk number (guard, the_guards.published rows guard word))
+    (scan.reads_guard rows guard word ∷ [])
     (nat_lt (number + 1) (the_guards.guards post.layout.config))
 
 pub back_leaves : (later : AfterScan) (place slot : ℕ) (post : Post) (desk : Desk) (found : ℕ) → Leaves (hand_later later) (remove desk.list place) (scan.scan_turn later (GiveBack place slot) post desk found)
@@ -250,7 +249,7 @@ pub keep_leaves : (at : KeepAt) (post : Post) (desk : Desk) (found : ℕ) → ta
 keep_leaves (Loosens let_go) post desk found h =
     released_leaves let_go (withdrawn post (let_index let_go)) desk (cleared (let_index let_go) (stands post (let_index let_go)))
 keep_leaves (LoadHeld from index) post desk found h = load_held_leaves from index post desk found (has_one_interval (scheme_of post))
-keep_leaves (StoreHeld from index era) post desk found h = copied_leaves from index post desk (reserves_index post index era) (stands post from)
+keep_leaves (StoreHeld from index era) post desk found h = copied_leaves from index post desk (publishes_index (publishes_rows (scheme_of post)) post index era) (stands post from)
 keep_leaves (Looks index key at) post desk found h = look_leaves index key at post desk found
 keep_leaves (Misses index) post desk found h = record { hand = refl; right = refl; list = refl }
 keep_leaves HideSpan post desk found h = record { hand = refl; right = refl; list = refl }

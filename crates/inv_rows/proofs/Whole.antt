@@ -23,7 +23,8 @@ use Rattle.wfe_core.specs.words.Packed.{read_request}
 use Rattle.wfe_core.specs.defs.declared.event.Root.{Root}
 use Rattle.wfe_core.specs.defs.declared.event.Root.TheVariants as roots
 use Rattle.wfe_core.specs.Phases.BeginAt.{LoadLower, PublishSpan}
-use Rattle.wfe_core.specs.Phases.ProtectAt.{LoadClock, PublishEra, LoadLink, CheckClock, PublishRequest, LoadOwnClock, PublishHelper, LoadOwnLink, CheckOwnClock, AnswerOwn, LoadAnswer, TakeAnswer, WithdrawRequest, WithdrawHelper, LoadWithin, CheckUpper, RaiseUpper}
+use Rattle.wfe_core.specs.Phases.ProtectAt.{LoadClock, PublishEra, LoadLink, CheckClock, PublishRequest, LoadOwnClock, PublishHelper, LoadOwnLink, CheckOwnClock, AnswerOwn, LoadAnswer, TakeAnswer, WithdrawRequest, WithdrawHelper, LoadWithin, CheckUpper, RaiseUpper, ByHazard}
+use Rattle.wfe_core.specs.Phases.HazardAt.{FirstLink, PublishLink, CheckLink}
 use Rattle.wfe_core.specs.Posts.{counted, upper}
 use Rattle.wfe_core.specs.Links.{link_place}
 use Rattle.inv_rows.specs.Queue.{Line, line_move, moved_line}
@@ -40,6 +41,8 @@ use Rattle.inv_rows.proofs.Facts.{lined_stays, queue_ends}
 use Rattle.inv_rows.proofs.Tries.{TryOut, base_out, quiet_tries, others_tries, EraFits, finds_base}
 use Rattle.inv_rows.proofs.Opened.{WhyOut, NewTries, resumed_tries, work_tries, by_quiet}
 use Rattle.wfe_core.proofs.Facts.{rest_of, no_truth}
+use Rattle.wfe_core.specs.words.Schemes.{publishes_rows}
+use Rattle.wfe_core.specs.Rounds.{scheme_of}
 
 clock_stays : (mem : Place → ℕ) (index : ℕ) (root : Root) (at : ProtectAt) (post : Post) → written mem (machine.protect_move index root at post) Clock ≡ mem Clock
 clock_stays mem index root (LoadClock tries) post = refl
@@ -59,6 +62,9 @@ clock_stays mem index root (WithdrawHelper link era) post = refl
 clock_stays mem index root LoadWithin post = refl
 clock_stays mem index root (CheckUpper link) post = refl
 clock_stays mem index root (RaiseUpper era) post = refl
+clock_stays mem index root (ByHazard FirstLink) post = refl
+clock_stays mem index root (ByHazard (PublishLink link)) post = refl
+clock_stays mem index root (ByHazard (CheckLink link)) post = refl
 
 -- a machine that opens moves neither the rows nor the clock
 open_new : (T : ℕ → (ℕ → Bool) → ℕ → Type 0) (mem : Place → ℕ) (i : ℕ) (v : View) (base : Base) (post : Post) (found : ℕ) (wanted : Root → Bool) → opens_by wanted base ≡ true → T (mem Clock) (queue_of v) v.head → T (written mem (base_move base post) Clock) (queue_of (made i v (base_row base found))) (made i v (base_row base found)).head
@@ -66,7 +72,7 @@ open_new T mem i v (Begin LoadLower) post found wanted h x = x
 open_new T mem i v (Begin (PublishSpan era)) post found wanted h x = x
 open_new T mem i v (Protect aim index root steps at) post found wanted h x = let P : ℕ → Type 0 = λ c. T c (queue_of v) v.head in subst P (sym (clock_stays mem index root at post)) x
 open_new T mem i v (Reload parent index slot era steps) post found wanted h x = absurd (no_truth h)
-open_new T mem i v (Clear index) post found wanted h x = absurd (no_truth h)
+open_new T mem i v (Clear rows index) post found wanted h x = absurd (no_truth h)
 open_new T mem i v Finish post found wanted h x = absurd (no_truth h)
 open_new T mem i v (Release index) post found wanted h x = absurd (no_truth h)
 open_new T mem i v (Allocate at) post found wanted h x = absurd (no_truth h)
@@ -197,7 +203,7 @@ whole_kept w i v l n b =
     record {
       both = queue_kept w i v l needs b.both;
       tries = λ k. seat_tries i k (w.seat k) (settled own t) (k == i) ((step w i).mem Clock) (queue_of (rows_after w i v)) (line_after w i l) (rows_after w i v).head refl
-          (settled_tries own t.post (noting t.desk (told_by t)) (rounds_told own.rounds (told_by t)) t.outcome ((step w i).mem Clock) (queue_of (rows_after w i v)) (line_after w i l) (rows_after w i v).head (own_new w i v l own.phase (upper t.post.span) (finds w i) n b refl))
+          (settled_tries own t.post (noting t.desk (told_by t)) (rounds_told (publishes_rows (scheme_of t.post)) own.rounds (told_by t)) t.outcome ((step w i).mem Clock) (queue_of (rows_after w i v)) (line_after w i l) (rows_after w i v).head (own_new w i v l own.phase (upper t.post.span) (finds w i) n b refl))
           (λ e. others_tries (w.seat k).phase (w.mem Clock) ((step w i).mem Clock) (upper (w.seat k).post.span) (queue_of v) (queue_of (rows_after w i v)) l (line_after w i l) v.head (rows_after w i v).head (era_fits (w.seat k).phase (w.mem Clock) (upper (w.seat k).post.span) (n.eras k)) n.rises
           (λ task base s q u o. let stay : RowStays w i v l s = lined_stays w i v l s needs b.both (λ later place slot r. apart_by s slot (s == slot) (base_tries (w.mem Clock) (upper (w.seat k).post.span) base) refl u (n.untried later place slot k task base r q)) o in record { lined = stay.lined; first = stay.heads })
           (b.tries k));

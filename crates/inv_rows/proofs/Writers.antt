@@ -78,7 +78,7 @@ base_stays slots i mem v (Fills task) (Write slot row place) post list s p true 
 base_stays slots i mem v why (Begin at) post list s p true e g l n = absurd (no_truth e)
 base_stays slots i mem v why (Protect aim index root steps at) post list s p true e g l n = absurd (no_truth e)
 base_stays slots i mem v why (Reload parent index slot era steps) post list s p true e g l n = absurd (no_truth e)
-base_stays slots i mem v why (Clear index) post list s p true e g l n = absurd (no_truth e)
+base_stays slots i mem v why (Clear rows index) post list s p true e g l n = absurd (no_truth e)
 base_stays slots i mem v why Finish post list s p true e g l n = absurd (no_truth e)
 base_stays slots i mem v why (Release index) post list s p true e g l n = absurd (no_truth e)
 base_stays slots i mem v why (Allocate at) post list s p true e g l n = absurd (no_truth e)

@@ -4,12 +4,18 @@ use Rattle.wfe_core.specs.words.Packed.{read_request}
 use Rattle.wfe_core.specs.words.declared.packed.Request.TheVariants as requests
 use Rattle.wfe_core.specs.defs.declared.event.Root.{Root}
 use Rattle.wfe_core.specs.defs.declared.event.Root.TheVariants as roots
-use Rattle.wfe_core.specs.Phases.{Aim, Alone, Follows, ProtectAt, Base}
-use Rattle.wfe_core.specs.Phases.ProtectAt.{LoadClock, PublishEra, LoadLink, CheckClock, PublishRequest, LoadOwnClock, PublishHelper, LoadOwnLink, CheckOwnClock, AnswerOwn, LoadAnswer, TakeAnswer, WithdrawRequest, WithdrawHelper, LoadWithin, CheckUpper, RaiseUpper}
+use Rattle.wfe_core.specs.Phases.{Aim, Alone, Follows, HazardAt, ProtectAt, Base}
+use Rattle.wfe_core.specs.Phases.HazardAt.{FirstLink, PublishLink, CheckLink}
+use Rattle.wfe_core.specs.Phases.ProtectAt.{LoadClock, PublishEra, LoadLink, CheckClock, PublishRequest, LoadOwnClock, PublishHelper, LoadOwnLink, CheckOwnClock, AnswerOwn, LoadAnswer, TakeAnswer, WithdrawRequest, WithdrawHelper, LoadWithin, CheckUpper, RaiseUpper, ByHazard}
 use Rattle.wfe_core.specs.Phases.Base.{Begin, Protect, Reload}
 use Rattle.wfe_core.specs.Calls.{Why, Opens, FollowsHead, Phase, Idle, Runs, Scans, Works}
 
 -- the protection has loaded this link, and it is not null
+abbrev pub hazard_loaded : HazardAt → ℕ → Bool
+hazard_loaded FirstLink x = false
+hazard_loaded (PublishLink link) x = link == x && not (x == 0)
+hazard_loaded (CheckLink link) x = link == x && not (x == 0)
+
 abbrev pub at_loaded : ProtectAt → ℕ → Bool
 at_loaded (LoadClock tries) x = false
 at_loaded (PublishEra era tries) x = false
@@ -28,6 +34,7 @@ at_loaded (WithdrawHelper link era) x = link == x && not (x == 0)
 at_loaded LoadWithin x = false
 at_loaded (CheckUpper link) x = link == x && not (x == 0)
 at_loaded (RaiseUpper era) x = false
+at_loaded (ByHazard at) x = hazard_loaded at x
 
 -- it reads an answer to its request now
 abbrev pub at_asks : ProtectAt → Bool

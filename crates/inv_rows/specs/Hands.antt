@@ -48,7 +48,7 @@ abbrev pub hand_base : Base → Hand
 hand_base (Begin at) = Empty
 hand_base (Protect aim index root steps at) = Empty
 hand_base (Reload parent index slot era steps) = Empty
-hand_base (Clear index) = Empty
+hand_base (Clear rows index) = Empty
 hand_base Finish = Empty
 hand_base (Release index) = Empty
 hand_base (Allocate at) = hand_allocate at
@@ -120,7 +120,7 @@ abbrev pub is_plain : Base → Bool
 is_plain (Begin at) = true
 is_plain (Protect aim index root steps at) = true
 is_plain (Reload parent index slot era steps) = true
-is_plain (Clear index) = true
+is_plain (Clear rows index) = true
 is_plain Finish = true
 is_plain (Release index) = true
 is_plain (Allocate at) = false
@@ -142,7 +142,7 @@ abbrev pub fills_right : Base → Option ℕ → Bool
 fills_right (Begin at) taken = false
 fills_right (Protect aim index root steps at) taken = false
 fills_right (Reload parent index slot era steps) taken = false
-fills_right (Clear index) taken = false
+fills_right (Clear rows index) taken = false
 fills_right Finish taken = false
 fills_right (Release index) taken = false
 fills_right (Allocate at) taken = holds_none taken
@@ -161,7 +161,7 @@ abbrev pub is_giving_up : Base → Bool
 is_giving_up (Begin at) = false
 is_giving_up (Protect aim index root steps at) = false
 is_giving_up (Reload parent index slot era steps) = false
-is_giving_up (Clear index) = false
+is_giving_up (Clear rows index) = false
 is_giving_up Finish = false
 is_giving_up (Release index) = false
 is_giving_up (Allocate at) = false
@@ -174,7 +174,7 @@ abbrev pub is_retiring : Base → Bool
 is_retiring (Begin at) = false
 is_retiring (Protect aim index root steps at) = false
 is_retiring (Reload parent index slot era steps) = false
-is_retiring (Clear index) = false
+is_retiring (Clear rows index) = false
 is_retiring Finish = false
 is_retiring (Release index) = false
 is_retiring (Allocate at) = false
@@ -263,7 +263,7 @@ abbrev pub base_row : Base → ℕ → RowMove
 base_row (Begin at) found = Stays
 base_row (Protect aim index root steps at) found = Stays
 base_row (Reload parent index slot era steps) found = Stays
-base_row (Clear index) found = Stays
+base_row (Clear rows index) found = Stays
 base_row Finish found = Stays
 base_row (Release index) found = Stays
 base_row (Allocate at) found = allocate_row at found

@@ -160,7 +160,7 @@ abbrev pub base_blanks : Base → ℕ → Bool
 base_blanks (Begin at) s = false
 base_blanks (Protect aim index root steps at) s = false
 base_blanks (Reload parent index slot era steps) s = false
-base_blanks (Clear index) s = false
+base_blanks (Clear rows index) s = false
 base_blanks Finish s = false
 base_blanks (Release index) s = false
 base_blanks (Allocate at) s = false
@@ -209,7 +209,7 @@ abbrev pub base_items : Base → Bool
 base_items (Begin at) = true
 base_items (Protect aim index root steps at) = true
 base_items (Reload parent index slot era steps) = true
-base_items (Clear index) = true
+base_items (Clear rows index) = true
 base_items Finish = true
 base_items (Release index) = true
 base_items (Allocate at) = true

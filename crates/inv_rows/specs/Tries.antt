@@ -11,7 +11,7 @@ use Rattle.wfe_core.specs.defs.declared.event.Root.{Root}
 use Rattle.wfe_core.specs.defs.declared.event.Root.TheVariants as roots
 use Rattle.wfe_core.specs.Posts.{upper}
 use Rattle.wfe_core.specs.Phases.{Aim, Alone, Follows, ProtectAt, Base, Walk}
-use Rattle.wfe_core.specs.Phases.ProtectAt.{LoadClock, PublishEra, LoadLink, CheckClock, PublishRequest, LoadOwnClock, PublishHelper, LoadOwnLink, CheckOwnClock, AnswerOwn, LoadAnswer, TakeAnswer, WithdrawRequest, WithdrawHelper, LoadWithin, CheckUpper, RaiseUpper}
+use Rattle.wfe_core.specs.Phases.ProtectAt.{LoadClock, PublishEra, LoadLink, CheckClock, PublishRequest, LoadOwnClock, PublishHelper, LoadOwnLink, CheckOwnClock, AnswerOwn, LoadAnswer, TakeAnswer, WithdrawRequest, WithdrawHelper, LoadWithin, CheckUpper, RaiseUpper, ByHazard}
 use Rattle.wfe_core.specs.Phases.AllocateAt.{ClaimSlot, StoreLife}
 use Rattle.wfe_core.specs.Phases.Base.{Begin, Protect, Reload, Clear, Finish, Release, Allocate, Write, GiveUp, Retire, Move}
 use Rattle.wfe_core.specs.Calls.{Task, Gets, Changes, Holds, Enqueues, Dequeues, Why, Opens, FollowsHead, AfterScan, GiveBack, Phase, Idle, Runs, Scans, Works}
@@ -41,6 +41,7 @@ at_tries clock upto (WithdrawHelper link era) s = link == s + 1
 at_tries clock upto LoadWithin s = false
 at_tries clock upto (CheckUpper link) s = link == s + 1 && clock == upto
 at_tries clock upto (RaiseUpper era) s = false
+at_tries clock upto (ByHazard at) s = false
 
 abbrev pub base_tries : ℕ → ℕ → Base → ℕ → Bool
 base_tries clock upto (Begin at) s = false
@@ -66,12 +67,13 @@ at_era upto (WithdrawHelper link era) = 0
 at_era upto LoadWithin = 0
 at_era upto (CheckUpper link) = upto
 at_era upto (RaiseUpper era) = 0
+at_era upto (ByHazard at) = 0
 
 abbrev pub base_era : ℕ → Base → ℕ
 base_era upto (Begin at) = 0
 base_era upto (Protect aim index root steps at) = at_era upto at
 base_era upto (Reload parent index slot era steps) = 0
-base_era upto (Clear index) = 0
+base_era upto (Clear rows index) = 0
 base_era upto Finish = 0
 base_era upto (Release index) = 0
 base_era upto (Allocate at) = 0

@@ -22,12 +22,14 @@ use Rattle.wfe_core.specs.declared.ends.FollowEnd.TheVariants as follow_ends
 use Rattle.wfe_core.specs.declared.ends.ProtectEnd.TheVariants as protect_ends
 use Rattle.wfe_core.specs.declared.post.Post.{Post}
 use Rattle.wfe_core.specs.Desks.{Desk, with_life}
-use Rattle.wfe_core.specs.Guards.{guards, guard_at, eras_in, published}
-use Rattle.wfe_core.specs.Posts.{stands, standing_from, cleared, cleared_from, reserves_index, reserves_span, withdrawn}
-use Rattle.wfe_core.specs.words.Schemes.{has_one_interval}
+use Rattle.wfe_core.specs.Guards.{guards, guard_at, published}
+use Rattle.wfe_core.specs.Posts.{stands, standing_from, cleared, cleared_from, publishes_index, reserves_span, withdrawn}
+use Rattle.wfe_core.specs.words.Schemes.{has_one_interval, publishes_rows}
+use Rattle.wfe_core.specs.words.Schemes.{moves as moves_clock}
+use Rattle.wfe_core.specs.defs.declared.event.Guard.{Guard}
 use Rattle.wfe_core.specs.Phases.{Ending, Base}
 use Rattle.wfe_core.specs.Phases.Ending.{Done, Protected, Followed, Allocated, Retired, Clocked}
-use Rattle.wfe_core.specs.Rounds.{scheme_of, begin_span, round, round_by, bucket_of, let_index, index_of, taken_of, finish_base, clear_base, clear_post, clear_told, given_up, closed, finishing_by, finishing, clearing_by, clearing, clearing_next_by, clearing_next}
+use Rattle.wfe_core.specs.Rounds.{scheme_of, begin_span, round, round_by, tidy_by, bucket_of, let_index, index_of, taken_of, finish_base, clear_base, clear_post, clear_told, given_up, closed, finishing_by, finishing, clearing_by, clearing, clearing_next_by, clearing_next}
 use Rattle.wfe_core.specs.Get as gets
 use Rattle.wfe_core.specs.Change as alters
 use Rattle.wfe_core.specs.Enqueue as enqueues
@@ -75,9 +77,14 @@ round_free task post = each_begin (scheme_of post) post (λ (base : Option Base)
 round_counts : (b : ℕ) (task : Task) (post : Post) (desk : Desk) (told : List Event) → backs told + size desk ≤ b → Counts b (goes_on post desk told (round task post))
 round_counts b task post desk told h = (omega arith, round_free task post)
 
+-- the clock is to be moved, where retirements do that, and the list to be scanned
+tidy_counts : (b : ℕ) (later : AfterScan) (moving : Bool) (post : Post) (desk : Desk) (told : List Event) → backs told + size desk ≤ b + later_more later → Counts b (goes_on post desk told (tidy_by moving later post))
+tidy_counts b later true post desk told h = (h, refl)
+tidy_counts b later false post desk told h = (h, refl)
+
 closed_counts : (b : ℕ) (task : Task) (next : Next) (post : Post) (desk : Desk) (told : List Event) → backs told + size desk ≤ b → Counts b (closed task next post desk told)
 closed_counts b task Again post desk told h = round_counts b task post desk told h
-closed_counts b task MakeRoom post desk told h = (omega arith, refl)
+closed_counts b task MakeRoom post desk told h = tidy_counts b (Repeated task) (moves_clock (scheme_of post)) post desk told (omega arith)
 closed_counts b task (Answering answer) post desk told h = given_up_counts b answer post desk told (taken_of task) h
 closed_counts b task (Retiring slot answer) post desk told h = (omega arith, refl)
 
@@ -215,9 +222,9 @@ dequeue_counts b (TakeValue head next number) post desk found h = (omega arith, 
 dequeue_counts b (ExchangeHead head next number value) post desk found h = taken_counts b head next number value post desk (found == head + 1) h
 
 -- a seat that leaves
-parting_counts : (b : ℕ) (x : Option ℕ) (post : Post) (desk : Desk) (told : List Event) → backs told + size desk ≤ b → Counts b (goes_on post desk told (keeps.parting_index x))
-parting_counts b None post desk told h = (omega arith, refl)
-parting_counts b (Some index) post desk told h = (omega arith, refl)
+parting_counts : (b : ℕ) (rows : Bool) (x : Option ℕ) (post : Post) (desk : Desk) (told : List Event) → backs told + size desk ≤ b → Counts b (goes_on post desk told (keeps.parting_index rows x))
+parting_counts b rows None post desk told h = (omega arith, refl)
+parting_counts b rows (Some index) post desk told h = (omega arith, refl)
 
 quiet_all : (index : ℕ) (rows : List (Option ℕ)) → backs (cleared_from index rows) ≡ 0
 quiet_all index [] = refl
@@ -237,7 +244,11 @@ released_counts : (b : ℕ) (let_go : LetGo) (post : Post) (desk : Desk) (told :
 released_counts b Released post desk told h = (omega arith, refl)
 released_counts b (Rehold key) post desk told h = round_counts b (Holds key) post desk told h
 released_counts b (Dropped index) post desk told h = (omega arith, refl)
-released_counts b (Parting index) post desk told h = parting_counts b (standing_from (index + 1) (drop (index + 1) post.standing)) post desk told h
+released_counts b (Parting index) post desk told h = parting_counts b (publishes_rows (scheme_of post)) (standing_from (index + 1) (drop (index + 1) post.standing)) post desk told h
+
+pub quiet_shown : (rows : Bool) (post : Post) (index number : ℕ) → backs (publishes_index rows post index number) ≡ 0
+quiet_shown true post index number = refl
+quiet_shown false post index number = refl
 
 quiet_copied : (from index slot : ℕ) (reserved : List Event) (x : Option ℕ) → backs reserved ≡ 0 → backs (cleared index x ++ reserved ++ events.Copied from index slot ∷ []) ≡ 0
 quiet_copied from index slot reserved x r =
@@ -270,7 +281,7 @@ keep_counts : (b : ℕ) (at : KeepAt) (post : Post) (desk : Desk) (found : ℕ) 
 keep_counts b (Loosens let_go) post desk found g h = let c = quiet_cleared (let_index let_go) (stands post (let_index let_go)) in
     released_counts b let_go (withdrawn post (let_index let_go)) desk (cleared (let_index let_go) (stands post (let_index let_go))) (omega arith)
 keep_counts b (LoadHeld from index) post desk found g h = load_held_counts b from index post desk found (has_one_interval (scheme_of post)) h
-keep_counts b (StoreHeld from index era) post desk found g h = copied_counts b from index post desk (reserves_index post index era) (stands post from) refl h
+keep_counts b (StoreHeld from index era) post desk found g h = copied_counts b from index post desk (publishes_index (publishes_rows (scheme_of post)) post index era) (stands post from) (quiet_shown (publishes_rows (scheme_of post)) post index era) h
 keep_counts b (Looks index key at) post desk found g h = look_counts b index key at post desk found h
 keep_counts b (Misses index) post desk found g h = (omega arith, refl)
 keep_counts b HideSpan post desk found g h = let e = quiet_all 2 (drop 2 post.standing) in let f = quiet_along (cleared_from 2 (drop 2 post.standing)) (reserves_span post None) refl in (omega arith, refl)
@@ -305,10 +316,16 @@ guard_counts : (b : ℕ) (later : AfterScan) (number : ℕ) (post : Post) (desk 
 guard_counts b later number post desk told true h = (h, refl)
 guard_counts b later number post desk told false h = giving_back_counts b later post desk told (scan.unmet_from desk 0) h
 
+quiet_read : (rows : Bool) (guard : Guard) (word : ℕ) → backs (scan.reads_guard rows guard word ∷ []) ≡ 0
+quiet_read true guard word = refl
+quiet_read false guard word = refl
+
 pub scan_counts : (b : ℕ) (later : AfterScan) (at : ScanAt) (post : Post) (desk : Desk) (found : ℕ) → scan_goes at desk → size desk ≤ b + later_more later → Counts b (scan.scan_turn later at post desk found)
 scan_counts b later (ReadGuard number) post desk found f h =
-    let seen : Seen = (guard_at post.layout.config number, published (guard_at post.layout.config number) found) in
-    guard_counts b later number post (scan.with_read desk number seen) (events.Read seen.0 (eras_in seen.0 found) ∷ []) (nat_lt (number + 1) (guards post.layout.config)) (omega arith)
+    let rows = publishes_rows (scheme_of post) in
+    let seen : Seen = (guard_at post.layout.config number, published rows (guard_at post.layout.config number) found) in
+    let e = quiet_read rows seen.0 found in
+    guard_counts b later number post (scan.with_read desk number seen) (scan.reads_guard rows seen.0 found ∷ []) (nat_lt (number + 1) (guards post.layout.config)) (omega arith)
 scan_counts b later (GiveBack place slot) post desk found f h = let n = length-remove desk.list place f in
     giving_back_counts b later post (scan.with_back desk place) (events.Back slot ∷ []) (scan.unmet_from (scan.with_back desk place) place) (omega arith)
 
@@ -370,7 +387,7 @@ followed_by_counts b head tail (Clocked clock) post desk told h = closed_counts 
 
 -- one life more
 tidying_counts : (b : ℕ) (answer : Answer) (post : Post) (desk : Desk) (told : List Event) (due : Bool) → backs told + size desk ≤ b + 1 → Counts b (steps.tidying answer post desk told due)
-tidying_counts b answer post desk told true h = (h, refl)
+tidying_counts b answer post desk told true h = tidy_counts b (Answered answer) (moves_clock (scheme_of post)) post desk told h
 tidying_counts b answer post desk told false h = (h, refl)
 
 retired_by_counts : (b : ℕ) (answer : Answer) (ending : Ending) (post : Post) (desk : Desk) (told : List Event) → backs told + size desk ≤ b → Counts b (steps.retired_by answer ending post desk told)

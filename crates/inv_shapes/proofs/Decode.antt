@@ -1,18 +1,17 @@
 -- Each word decodes and no era is above the clock, at the start and over each step and each call that begins.
-use Rattle.std.proofs.Common.{ℕ, ◌≡◌, ◌≤◌, Bool, true, false, refl, ap, sym, subst, arith}
+use Rattle.std.proofs.Common.{ℕ, ◌≡◌, ◌≤◌, Bool, true, false, refl, sym, subst, arith}
 use Rattle.std.proofs.lemmas.Bool.Decides.{nat_tests}
 use Rattle.std.specs.Prelude.{◌==◌, if◌then◌else◌}
 use Rattle.wfe_core.specs.words.Place.{Place, has, is_valid}
 use Rattle.wfe_core.specs.words.Place.Place.{Clock, Helper, Index, Interval, Bucket, Head, Tail, Claim, Life, Row, PlaceOf, Request as RequestOf}
-use Rattle.wfe_core.specs.words.Packed.{halves, read_reservation}
-use Rattle.wfe_core.specs.words.Schemes.{has_one_interval}
-use Rattle.wfe_core.specs.words.declared.packed.Reservation.{Reservation}
+use Rattle.wfe_core.specs.words.Packed.{halves}
+use Rattle.wfe_core.specs.words.Schemes.{has_one_interval, publishes_rows}
 use Rattle.wfe_core.specs.defs.declared.event.Guard.TheVariants.{Whole}
 use Rattle.wfe_core.specs.defs.declared.event.Guard.TheVariants as guards
-use Rattle.wfe_core.specs.Guards.{guard_place}
-use Rattle.wfe_core.specs.Keep.{keep_move}
+use Rattle.wfe_core.specs.Guards.{guard_place, own_guard}
+use Rattle.wfe_core.specs.Keep.{keep_move, held_number}
 use Rattle.wfe_core.specs.words.declared.config.SchemeKind.{SchemeKind}
-use Rattle.wfe_core.specs.words.declared.config.SchemeKind.TheVariants.{He, Ibr, Wfe}
+use Rattle.wfe_core.specs.words.declared.config.SchemeKind.TheVariants.{He, Hp, Ibr, Wfe}
 use Rattle.wfe_core.specs.words.declared.layout.Layout.{Layout}
 use Rattle.wfe_core.specs.defs.declared.call.Call.{Call}
 use Rattle.wfe_core.specs.defs.declared.event.Root.{Root}
@@ -24,20 +23,21 @@ use Rattle.wfe_core.proofs.Ranges.{bounds_of}
 use Rattle.wfe_core.specs.Rounds.{scheme_of, protect_at}
 use Rattle.wfe_core.specs.Steps.{phase_move, work_move}
 use Rattle.wfe_core.specs.Locals.{Local, move, after, begun_post}
-use Rattle.wfe_core.specs.Phases.{ProtectAt, MoveAt, Base}
-use Rattle.wfe_core.specs.Phases.ProtectAt.{PublishRequest, AnswerOwn, RaiseUpper}
+use Rattle.wfe_core.specs.Phases.{HazardAt, ProtectAt, MoveAt, Base}
+use Rattle.wfe_core.specs.Phases.ProtectAt.{PublishRequest, AnswerOwn, RaiseUpper, ByHazard}
+use Rattle.wfe_core.specs.Phases.HazardAt.{PublishLink}
 use Rattle.wfe_core.specs.Phases.MoveAt.{AnswerAsked}
 use Rattle.wfe_core.specs.Phases.Base.{Begin, Protect, Reload, Clear, Finish, Release, Allocate, Write, GiveUp, Retire, Move as Moves}
 use Rattle.wfe_core.specs.Calls.{KeepAt, LoadHeld, StoreHeld, Work, Getting, Changing, Enqueuing, Dequeuing, Keeping, Phase, Idle, Runs, Scans, Works}
 use Rattle.wfe_core.specs.World.{World, first_word, start, begin, step, offered}
 use Rattle.inv_shapes.specs.Frame.{Grows, Seated, Owes, Stores, stores_held}
 use Rattle.inv_shapes.specs.Seats.{PhaseFits, Seats}
-use Rattle.inv_shapes.specs.Slots.{ProtectsIn, MovesIn, BaseIn, PhaseIn, Slots}
-use Rattle.inv_shapes.specs.Eras.{HelperIn, IndexIn, RequestIn, LifeIn, NoLife, Lives, WordIn, ClockIn, protect_eras, base_eras, work_eras, PhaseEras, protect_needs, move_needs, base_needs, phase_needs, base_life, life_needs, PostEras, Eras, ErasNeeds}
+use Rattle.inv_shapes.specs.Slots.{HazardIn, ProtectsIn, MovesIn, BaseIn, PhaseIn, Slots}
+use Rattle.inv_shapes.specs.Eras.{HelperIn, HeldIn, ShownIn, hazard_needs, RequestIn, LifeIn, NoLife, Lives, WordIn, ClockIn, protect_eras, base_eras, work_eras, PhaseEras, protect_needs, move_needs, base_needs, phase_needs, base_life, life_needs, PostEras, Eras, ErasNeeds}
 use Rattle.inv_shapes.proofs.Frame.{seat_stays, seat_steps, begin_stays, begin_begins, after_seated, begun_seated, moves_with, move_counted, finds_counted}
 use Rattle.inv_shapes.proofs.Shapes.{shape_grows}
 use Rattle.inv_shapes.proofs.Inside.{shape_moves}
-use Rattle.inv_shapes.proofs.Finds.{index_read}
+use Rattle.inv_shapes.proofs.Indexes.{held_shown}
 use Rattle.inv_shapes.proofs.Kept.{counted_fits, begun_fits, run_counted, work_counted, one_moves}
 use Rattle.inv_shapes.proofs.Monotone.{word_later, phase_later, post_later}
 use Rattle.inv_shapes.proofs.Written.{words_written, phase_in, phase_clock, nothing_shown, nothing_asked, index_in}
@@ -50,15 +50,16 @@ protect_at_eras : (s : SchemeKind) (c : ℕ) (post : Post) → protect_eras c po
 protect_at_eras He c post = tt
 protect_at_eras Ibr c post = tt
 protect_at_eras Wfe c post = tt
+protect_at_eras Hp c post = tt
 
 -- nor do steps of a call's own but for the second of a copy
-no_era : (c : ℕ) (work : Work) → stores_held work ≡ false → work_eras c work
-no_era c (Getting key at) n = tt
-no_era c (Changing kept at) n = tt
-no_era c (Enqueuing kept at) n = tt
-no_era c (Dequeuing at) n = tt
-no_era c (Keeping (StoreHeld from index era)) n = absurd (cc)
-no_era c (Keeping at) n = tt
+no_era : (layout : Layout) (c : ℕ) (work : Work) → stores_held work ≡ false → work_eras layout c work
+no_era layout c (Getting key at) n = tt
+no_era layout c (Changing kept at) n = tt
+no_era layout c (Enqueuing kept at) n = tt
+no_era layout c (Dequeuing at) n = tt
+no_era layout c (Keeping (StoreHeld from index era)) n = absurd (cc)
+no_era layout c (Keeping at) n = tt
 
 era_grows : (layout : Layout) (k c word : ℕ) → is_valid layout ≡ true → Grows (PostEras layout k c word) (PhaseEras layout c)
 era_grows layout k c word v = record {
@@ -76,13 +77,13 @@ era_grows layout k c word v = record {
   finishes = λ post task next i e q. tt;
   gives_up = λ post answer slot q. tt;
   retires = λ post answer slot q. tt;
-  tidies = λ post later q. tt;
+  tidies = λ post later m q. tt;
   advances = λ post q. tt;
   clears_kept = λ post let_go i q. tt;
   releases = λ post let_go i e q. tt;
   scans = λ post later number b q. tt;
   gives_back = λ post later place slot q. tt;
-  works = λ post work n f q. no_era c work n;
+  works = λ post work n f q. no_era layout c work n;
 }
 
 counted_post : (layout : Layout) (k c word : ℕ) (post : Post) → PostEras layout k c word post → PostEras layout k c word (counted post)
@@ -99,18 +100,21 @@ base_counted : (layout : Layout) (c : ℕ) (post : Post) (base : Base) → base_
 base_counted layout c post (Protect aim index root steps at) e = protect_counted c post at e
 base_counted layout c post base e = e
 
--- an index word that is copied has an era of the clock's
-held_era : (layout : Layout) (mem : Place → ℕ) → Told layout mem → (post : Post) (from : ℕ) (one : Bool) → one ≡ false → (read_reservation (mem (guard_place (if one then Whole post.seat else guards.Index post.seat from)))).era ≤ mem Clock
+-- an index word that is copied has an era of the clock's, or a link
+held_era : (layout : Layout) (mem : Place → ℕ) → Told layout mem → (post : Post) (from : ℕ) (one : Bool) → one ≡ false
+    → HeldIn (publishes_rows layout.config.scheme) layout (mem Clock) (held_number (publishes_rows layout.config.scheme) (mem (guard_place (if one then Whole post.seat else guards.Index post.seat from))))
 held_era layout mem w post from true i = absurd (cc)
-held_era layout mem w post from false i = let x = w.words (Index post.seat from) in subst (λ (era : ℕ). era ≤ mem Clock) (sym (ap (λ (r : Reservation). r.era) (index_read (mem Clock) (mem (Index post.seat from)) x))) x.most
+held_era layout mem w post from false i = held_shown (publishes_rows layout.config.scheme) layout (mem Clock) (mem (Index post.seat from)) (w.words (Index post.seat from))
 
-keep_stores : (layout : Layout) (mem : Place → ℕ) → Told layout mem → (at : KeepAt) (post : Post) → Stores (PhaseEras layout (mem Clock)) post (found (keep_move at post) (mem (place_in (keep_move at post)))) (Keeping at)
-keep_stores layout mem w (LoadHeld from index) post = λ i. held_era layout mem w post from (has_one_interval (scheme_of post)) i
-keep_stores layout mem w at post = tt
+keep_stores : (layout : Layout) (mem : Place → ℕ) → Told layout mem → (at : KeepAt) (post : Post) → post.layout ≡ layout → Stores (PhaseEras layout (mem Clock)) post (found (keep_move at post) (mem (place_in (keep_move at post)))) (Keeping at)
+keep_stores layout mem w (LoadHeld from index) post l = λ i.
+    let word = mem (guard_place (own_guard (scheme_of post) post.seat from)) in
+    subst (λ (t : Layout). HeldIn (publishes_rows layout.config.scheme) layout (mem Clock) (held_number (publishes_rows t.config.scheme) word)) (sym l) (held_era layout mem w post from (has_one_interval (scheme_of post)) i)
+keep_stores layout mem w at post l = tt
 
-stores_eras : (layout : Layout) (mem : Place → ℕ) → Told layout mem → (work : Work) (post : Post) → Stores (PhaseEras layout (mem Clock)) post (found (work_move work post) (mem (place_in (work_move work post)))) work
-stores_eras layout mem w (Keeping at) post = keep_stores layout mem w at post
-stores_eras layout mem w work post = tt
+stores_eras : (layout : Layout) (mem : Place → ℕ) → Told layout mem → (work : Work) (post : Post) → post.layout ≡ layout → Stores (PhaseEras layout (mem Clock)) post (found (work_move work post) (mem (place_in (work_move work post)))) work
+stores_eras layout mem w (Keeping at) post l = keep_stores layout mem w at post l
+stores_eras layout mem w work post l = tt
 
 hidden_eras : (layout : Layout) (k c word : ℕ) (post : Post) → PostEras layout k c word post → PostEras layout k c 0 (withdrawn_all post)
 hidden_eras layout k c word post q = record { fits = record { seat = q.fits.seat; layout = q.fits.layout; cursor = q.fits.cursor; tags = q.fits.tags; standing = refl }; span = tt; shown = refl }
@@ -123,7 +127,7 @@ owed_at layout k mem w (Runs why base) post q p e d = let r = run_counted layout
     moves_with why _ (shape_moves layout k w.valid why base (counted post) _ q.fits r) (era_steps layout k mem w why base (counted post) q r (base_counted layout (mem Clock) post base e) d)
 owed_at layout k mem w (Scans later at) post q p e d = subst (λ (word : ℕ). PostEras layout k (mem Clock) word (counted post)) (sym (scan_span mem k at (counted post))) q
 owed_at layout k mem w (Works work) post q p e d =
-    record { post = work_left (λ word left. PostEras layout k (mem Clock) word left) mem k work (counted post) q.fits.seat q (hidden_eras layout k (mem Clock) (mem (Interval k)) (counted post) q); fits = work_counted work post p; stores = stores_eras layout mem w work (counted post) }
+    record { post = work_left (λ word left. PostEras layout k (mem Clock) word left) mem k work (counted post) q.fits.seat q (hidden_eras layout k (mem Clock) (mem (Interval k)) (counted post) q); fits = work_counted work post p; stores = stores_eras layout mem w work (counted post) q.fits.layout }
 
 pub told_of : (w : World) → is_valid w.layout ≡ true → Eras w → Told w.layout w.mem
 told_of w v e = record { valid = v; some = e.some; most = e.most; words = e.words }
@@ -151,9 +155,14 @@ seated_later layout k c d word l h s = record { post = post_later layout k c d w
 pub clock_next : (w : World) (i : ℕ) → Eras w → ClockIn w.layout.config.last_era (w.mem Clock) ((step w i).mem Clock)
 clock_next w i e = phase_clock w.layout w.mem (w.seat i).phase (w.seat i).post e.most (e.seats i).phase
 
+hazard_given : (layout : Layout) (at : HazardAt) → HazardIn layout.config.slots at → hazard_needs at layout
+hazard_given layout (PublishLink link) h = h.1
+hazard_given layout at h = tt
+
 protect_given : (layout : Layout) (root : Root) (at : ProtectAt) → ProtectsIn layout root at → protect_needs at layout root
 protect_given layout root PublishRequest h = h.root_in
 protect_given layout root (AnswerOwn first era link) h = h.at_in
+protect_given layout root (ByHazard at) h = hazard_given layout at h.at_in
 protect_given layout root at h = tt
 
 move_given : (layout : Layout) (at : MoveAt) → MovesIn layout.config.slots at → move_needs at layout
@@ -164,7 +173,7 @@ base_given : (layout : Layout) (mem : Place → ℕ) (base : Base) → BaseIn la
 base_given layout mem (Begin at) h l = tt
 base_given layout mem (Protect aim index root steps at) h l = protect_given layout root at h
 base_given layout mem (Reload parent index slot era steps) h l = tt
-base_given layout mem (Clear index) h l = tt
+base_given layout mem (Clear rows index) h l = tt
 base_given layout mem Finish h l = tt
 base_given layout mem (Release index) h l = tt
 base_given layout mem (Allocate at) h l = tt
@@ -214,10 +223,14 @@ start_life true true = Lives 1 0 refl (record { born = record { some = omega ari
 start_life true false = NoLife refl
 start_life false d = NoLife refl
 
+start_index : (rows : Bool) (layout : Layout) → ShownIn rows layout 1 0
+start_index true layout = omega arith
+start_index false layout = index_in 1 0 0 0 no_index (omega arith) (omega arith)
+
 start_words : (layout : Layout) (place : Place) → WordIn layout 1 place (first_word layout place)
 start_words layout Clock = tt
 start_words layout (Helper seat) = subst (HelperIn 1) (sym (zero_either (has layout (Helper seat)))) (nothing_shown 1)
-start_words layout (Index seat index) = subst (IndexIn 1) (sym (zero_either (has layout (Index seat index)))) (index_in 1 0 0 0 no_index (omega arith) (omega arith))
+start_words layout (Index seat index) = subst (ShownIn (publishes_rows layout.config.scheme) layout 1) (sym (zero_either (has layout (Index seat index)))) (start_index (publishes_rows layout.config.scheme) layout)
 start_words layout (Interval seat) = tt
 start_words layout (RequestOf seat) = subst (RequestIn layout 1) (sym (zero_either (has layout (RequestOf seat)))) (nothing_asked layout 1)
 start_words layout (Bucket bucket) = tt

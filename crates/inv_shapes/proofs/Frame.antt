@@ -1,33 +1,37 @@
 -- A step changes one word and one seat. Where a machine has ended, and at the call's own steps, the phase that comes next
 -- is one of a few: so a property of one seat is carried over a step by what it says inside the machines, and of those.
-use Rattle.std.proofs.Common.{ℕ, ◌≡◌, true, false, List, refl, arith, ap}
+use Rattle.std.proofs.Common.{ℕ, ◌≡◌, Bool, true, false, List, refl, arith, ap}
 use Rattle.std.proofs.lemmas.Bool.Decides.{nat_tests}
 use Rattle.std.specs.Prelude.{◌==◌, ◌-◌}
 use Rattle.wfe_core.specs.words.Place.{Place, same}
+use Rattle.wfe_core.specs.words.Place.Place.{Index}
 use Rattle.wfe_core.proofs.words.Places.{same_self}
 use Rattle.wfe_core.specs.Memory.{Move, Load, Store, Cas, Or, And, place_in, change, found, written}
 use Rattle.wfe_core.specs.declared.post.Post.{Post}
 use Rattle.wfe_core.specs.Desks.{Desk, noting}
-use Rattle.wfe_core.specs.Phases.{Aim, Alone, Follows, Outcome, Goes, Ends, Turn, BeginAt, ProtectAt, MoveAt, Base, goes, ends}
+use Rattle.wfe_core.specs.Phases.{Aim, Alone, Follows, Outcome, Goes, Ends, Turn, BeginAt, HazardAt, ProtectAt, MoveAt, Base, goes, ends}
 use Rattle.wfe_core.specs.Phases.Ending.{Followed}
 use Rattle.wfe_core.specs.declared.ends.FollowEnd.TheVariants as follow_ends
 use Rattle.wfe_core.specs.Protect.{concluded}
 use Rattle.wfe_core.specs.Links.{parent_of}
 use Rattle.wfe_core.proofs.Facts.{if_by}
 use Rattle.wfe_core.specs.Phases.BeginAt.{LoadLower, PublishSpan}
-use Rattle.wfe_core.specs.Phases.ProtectAt.{LoadClock}
+use Rattle.wfe_core.specs.Phases.ProtectAt.{LoadClock, ByHazard}
+use Rattle.wfe_core.specs.Phases.HazardAt.{FirstLink}
 use Rattle.wfe_core.specs.Phases.MoveAt.{LoadEra}
 use Rattle.wfe_core.specs.Phases.Base.{Begin, Protect, Reload, Clear, Finish, Release, Allocate, Write, GiveUp, Retire, Move as MoveBase}
-use Rattle.wfe_core.specs.Machine.{begin_move, protect_move, move_move, base_move}
+use Rattle.wfe_core.specs.Machine.{begin_move, hazard_move, protect_move, move_move, base_move}
 use Rattle.wfe_core.specs.Scan.{scan_move}
 use Rattle.wfe_core.specs.Change.{change_move}
 use Rattle.wfe_core.specs.Keep.{keep_move}
 use Rattle.wfe_core.specs.Machine as machine
-use Rattle.wfe_core.specs.Posts.{counted}
-use Rattle.wfe_core.specs.Calls.{ChangeKept, ChangeAt, LoadVersion, ScanAt, ReadGuard, GiveBack, KeepAt, Loosens, Work, Getting, Changing, Enqueuing, Dequeuing, Keeping, Why, Phase, Idle, Runs, Scans, Works, CallTurn, CallOutcome, GoesOn, Answers}
+use Rattle.wfe_core.specs.Posts.{counted, shown_word}
+use Rattle.wfe_core.specs.Calls.{ChangeKept, ChangeAt, LoadVersion, ScanAt, ReadGuard, GiveBack, KeepAt, Loosens, StoreHeld, Work, Getting, Changing, Enqueuing, Dequeuing, Keeping, Why, Phase, Idle, Runs, Scans, Works, CallTurn, CallOutcome, GoesOn, Answers}
 use Rattle.wfe_core.specs.Steps.{resumed, run_turn, work_move, phase_move, phase_turn}
 use Rattle.wfe_core.specs.Locals.{Local, move, turn, after, settled_by, settled, told_by, rounds_told, begun_post, begun}
+use Rattle.wfe_core.specs.Rounds.{scheme_of}
 use Rattle.wfe_core.specs.World.{World, step, begin, finds, offered}
+use Rattle.wfe_core.specs.words.Schemes.{publishes_rows}
 use Rattle.wfe_core.specs.defs.declared.call.Call.{Call}
 use Rattle.wfe_core.specs.defs.declared.event.Event.{Event}
 use Rattle.wfe_core.specs.defs.declared.event.Root.{Root}
@@ -92,7 +96,7 @@ settled_by_seated l post desk rounds (GoesOn phase) q p = record { post = q; pha
 settled_by_seated l post desk rounds (Answers answer) q p = record { post = q; phase = p }
 
 pub settled_seated : {Q : Post → Type 0} {P : Post → Phase → Type 0} (l : Local) (t : CallTurn) → Left Q P t → Seated Q P (settled l t)
-settled_seated l t h = settled_by_seated l t.post (noting t.desk (told_by t)) (rounds_told l.rounds (told_by t)) t.outcome h.post h.phase
+settled_seated l t h = settled_by_seated l t.post (noting t.desk (told_by t)) (rounds_told (publishes_rows (scheme_of t.post)) l.rounds (told_by t)) t.outcome h.post h.phase
 
 resumed_left : {Q : Post → Type 0} {P : Post → Phase → Type 0} (g : Grows Q P) (why : Why) (desk : Desk) (post : Post) (told : List Event) (outcome : Outcome) → Q post → Passed P why post outcome → Left Q P (resumed why desk post told outcome)
 resumed_left g why desk post told (Goes base) q p = record { post = q; phase = p }
@@ -129,19 +133,28 @@ begin_counted : (at : BeginAt) (post : Post) → begin_move at (counted post) �
 begin_counted LoadLower post = refl
 begin_counted (PublishSpan era) post = refl
 
+hazard_counted : (index : ℕ) (root : Root) (at : HazardAt) (post : Post) → hazard_move index root at (counted post) ≡ hazard_move index root at post
+hazard_counted index root FirstLink post = refl
+hazard_counted index root at post = refl
+
 protect_counted : (index : ℕ) (root : Root) (at : ProtectAt) (post : Post) → protect_move index root at (counted post) ≡ protect_move index root at post
 protect_counted index root (LoadClock tries) post = refl
+protect_counted index root (ByHazard at) post = hazard_counted index root at post
 protect_counted index root at post = refl
 
 move_at_counted : (at : MoveAt) (post : Post) → move_move at (counted post) ≡ move_move at post
 move_at_counted (LoadEra helps) post = refl
 move_at_counted at post = refl
 
+shown_counted : (rows : Bool) (index number : ℕ) (post : Post) → shown_word rows (counted post) index number ≡ shown_word rows post index number
+shown_counted true index number post = refl
+shown_counted false index number post = refl
+
 base_counted : (base : Base) (post : Post) → base_move base (counted post) ≡ base_move base post
 base_counted (Begin at) post = begin_counted at post
 base_counted (Protect aim index root steps at) post = protect_counted index root at post
 base_counted (Reload parent index slot era steps) post = refl
-base_counted (Clear index) post = refl
+base_counted (Clear rows index) post = ap (λ (word : ℕ). Store (Index post.seat index) word) (shown_counted rows index 0 post)
 base_counted Finish post = refl
 base_counted (Release index) post = refl
 base_counted (Allocate at) post = refl
@@ -160,6 +173,7 @@ change_counted kept at post = refl
 
 keep_counted : (at : KeepAt) (post : Post) → keep_move at (counted post) ≡ keep_move at post
 keep_counted (Loosens let_go) post = refl
+keep_counted (StoreHeld from index number) post = ap (λ (word : ℕ). Store (Index post.seat index) word) (shown_counted (publishes_rows (scheme_of post)) index number post)
 keep_counted at post = refl
 
 work_counted : (work : Work) (post : Post) → work_move work (counted post) ≡ work_move work post

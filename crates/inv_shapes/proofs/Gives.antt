@@ -24,7 +24,7 @@ gives_guards w v s h k why aim index root steps at e =
     record { below = index_below w.layout why index v p.0 r.shape.at; there = root_there w.layout why root b.buckets.0 r.shape.of p.1.root_in }
 
 pub gives_clears : (w : World) → is_valid w.layout ≡ true → Seats w → Slots w → GivesClears w
-gives_clears w v s h k why index e = let r = subst (PhaseFits w.layout (w.seat k).post) e (s.fits k).phase in
+gives_clears w v s h k why rows index e = let r = subst (PhaseFits w.layout (w.seat k).post) e (s.fits k).phase in
     let p = subst (PhaseIn w.layout (w.seat k).desk) e (h.seats k).phase in index_below w.layout why index v p.0 r.shape
 
 walk_slot : (walk : Walk) (slots : ℕ) → (nat_le walk.start slots && nat_le walk.slot slots && nat_le walk.left slots) ≡ true → walk.slot ≤ slots

@@ -12,9 +12,9 @@ use Rattle.wfe_core.specs.Posts.{standing_from, withdrawn}
 use Rattle.wfe_core.proofs.Facts.{if_by}
 use Rattle.wfe_core.specs.Phases.{Base}
 use Rattle.wfe_core.specs.Phases.Base.{Clear, Finish}
-use Rattle.wfe_core.specs.Rounds.{scheme_of, index_of, taken_of, begin_span, begin_where, clear_base, clear_post, clear_told, finish_span, finish_base, kept_row, let_index, letting, letting_by, release_span, round_by, round, given_up, closed, finishing_by, finishing, clearing_by, clearing, clearing_next_by, clearing_next}
-use Rattle.wfe_core.specs.Calls.{Task, Dequeues, Next, Again, MakeRoom, Answering, Retiring, Repeated, LetGo, Released, Rehold, Dropped, Parting, Loosens, HideSpan, MarkLeft, Keeping, Phase, Runs, ClearsNext, Clears, Finishes}
-use Rattle.wfe_core.specs.words.Schemes.{has_one_interval}
+use Rattle.wfe_core.specs.Rounds.{scheme_of, first_tidy, index_of, taken_of, tidy_by, begin_span, begin_where, clear_base, clear_post, clear_told, finish_span, finish_base, kept_row, let_index, letting, letting_by, release_span, round_by, round, given_up, closed, finishing_by, finishing, clearing_by, clearing, clearing_next_by, clearing_next}
+use Rattle.wfe_core.specs.Calls.{AfterScan, Task, Dequeues, Next, Again, MakeRoom, Answering, Retiring, Repeated, LetGo, Released, Rehold, Dropped, Parting, Loosens, HideSpan, MarkLeft, Keeping, Phase, Runs, ClearsNext, Clears, Finishes}
+use Rattle.wfe_core.specs.words.Schemes.{has_one_interval, moves, publishes_rows}
 use Rattle.inv_shapes.specs.Frame.{Left, SpanStands, parts, Parts, Grows}
 
 pub no_span : (post : Post) → has_one_interval (scheme_of post) ≡ false → SpanStands post
@@ -36,9 +36,17 @@ given_up_left : {Q : Post → Type 0} {P : Post → Phase → Type 0} (g : Grows
 given_up_left g answer post desk told None q = record { post = q; phase = g.idle post q }
 given_up_left g answer post desk told (Some slot) q = record { post = q; phase = g.gives_up post answer slot q }
 
+-- a call is to move the clock, where retirements do, and then to scan
+pub tidying_grows : {Q : Post → Type 0} {P : Post → Phase → Type 0} (g : Grows Q P) (later : AfterScan) (post : Post) → Q post → P post (first_tidy later post)
+tidying_grows {P = P} g later post q = by (moves (scheme_of post)) refl
+  where
+    by : (b : Bool) → moves (scheme_of post) ≡ b → P post (tidy_by b later post)
+    by true e = g.tidies post later e q
+    by false e = g.scans post later 0 (g.guarded post q) q
+
 pub closed_left : {Q : Post → Type 0} {P : Post → Phase → Type 0} (g : Grows Q P) (task : Task) (next : Next) (post : Post) (desk : Desk) (told : List Event) → Q post → Left Q P (closed task next post desk told)
 closed_left g task Again post desk told q = record { post = q; phase = round_grows g task post q }
-closed_left g task MakeRoom post desk told q = record { post = q; phase = g.tidies post (Repeated task) q }
+closed_left g task MakeRoom post desk told q = record { post = q; phase = tidying_grows g (Repeated task) post q }
 closed_left g task (Answering answer) post desk told q = given_up_left g answer post desk told (taken_of task) q
 closed_left g task (Retiring slot answer) post desk told q = record { post = q; phase = g.retires post answer slot q }
 
@@ -74,11 +82,11 @@ clear_post_keeps {Q} g post index q = if_by (has_one_interval (scheme_of post)) 
 
 pub record IsClear (scheme : SchemeKind) (index : ℕ) (base : Base) : Type 0 where
   pub plain : has_one_interval scheme ≡ false
-  pub is : base ≡ Clear index
+  pub is : base ≡ Clear (publishes_rows scheme) index
 
 pub clear_is : (s : SchemeKind) (index : ℕ) (base : Base) → clear_base s index ≡ Some base → IsClear s index base
 clear_is s index base h =
-    if_by (has_one_interval s) None (Some (Clear index)) (λ (x : Option Base). x ≡ Some base → IsClear s index base)
+    if_by (has_one_interval s) None (Some (Clear (publishes_rows s) index)) (λ (x : Option Base). x ≡ Some base → IsClear s index base)
     (λ i e. absurd (cc))
     (λ i e. record { plain = i; is = cc })
     h
@@ -108,7 +116,7 @@ let_span_grows g let_go post (Some slot) a i e q = g.works post (Keeping (Loosen
 
 pub letting_grows : {Q : Post → Type 0} {P : Post → Phase → Type 0} (g : Grows Q P) (let_go : LetGo) (post : Post) → parts let_go ≡ false → Q post → P post (letting let_go post)
 letting_grows {P = P} g let_go post a q =
-    if_by (has_one_interval (scheme_of post)) (release_span (let_index let_go) (kept_row (withdrawn post (let_index let_go)))) (Some (Clear (let_index let_go))) (λ (x : Option Base). P post (letting_by let_go x))
+    if_by (has_one_interval (scheme_of post)) (release_span (let_index let_go) (kept_row (withdrawn post (let_index let_go)))) (Some (Clear (publishes_rows (scheme_of post)) (let_index let_go))) (λ (x : Option Base). P post (letting_by let_go x))
     (λ i. let_span_grows g let_go post (kept_row (withdrawn post (let_index let_go))) a i refl q)
     (λ i. g.clears_kept post let_go i q)
 
@@ -116,7 +124,7 @@ letting_grows {P = P} g let_go post a q =
 pub parting_grows : {Q : Post → Type 0} {P : Post → Phase → Type 0} (g : Grows Q P) (index : ℕ) (post : Post) → has_one_interval (scheme_of post) ≡ false → Q post → P post (parting_from index post)
 parting_grows {P = P} g index post i q = by (standing_from index (drop index post.standing))
   where
-    by : (x : Option ℕ) → P post (parting_index x)
+    by : (x : Option ℕ) → P post (parting_index (publishes_rows (scheme_of post)) x)
     by None = g.works post (Keeping MarkLeft) refl (λ h. absurd (cc)) q
     by (Some next) = g.clears_kept post (Parting next) i q
 

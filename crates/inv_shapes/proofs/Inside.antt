@@ -1,8 +1,8 @@
 -- Each step inside a machine keeps the static shape.
-use Rattle.std.proofs.Common.{ℕ, zero, suc, ◌≡◌, ◌≤◌, ◌<◌, ◌+◌, Bool, true, false, not, ◌&&◌, List, Option, Some, None, refl, ap, sym, subst, ◌∙◌, arith}
+use Rattle.std.proofs.Common.{ℕ, zero, suc, ◌≡◌, ◌≤◌, ◌<◌, ◌+◌, Bool, true, false, ◌&&◌, List, Option, Some, None, refl, ap, sym, subst, ◌∙◌, arith}
 use Rattle.std.proofs.lemmas.Bool.Decides.{nat_tests}
 use Rattle.std.proofs.lemmas.List.{length-set}
-use Rattle.std.specs.Prelude.{◌==◌, nat_lt, nat_le, if◌then◌else◌}
+use Rattle.std.specs.Prelude.{◌==◌, ◌||◌, nat_lt, nat_le, if◌then◌else◌}
 use Rattle.wfe_core.specs.words.Place.{is_valid}
 use Rattle.wfe_core.specs.words.Packed.{read_request, read_reservation, reservation_word}
 use Rattle.wfe_core.specs.words.declared.config.SchemeKind.{SchemeKind}
@@ -20,9 +20,10 @@ use Rattle.wfe_core.specs.Links.{parent_of, root_at}
 use Rattle.wfe_core.specs.Posts.{with_row, with_span, with_tag, tag_of, withdrawn, lower, upper}
 use Rattle.wfe_core.proofs.Ranges.{bounds_of}
 use Rattle.wfe_core.specs.Rounds.{scheme_of}
-use Rattle.wfe_core.specs.Phases.{Aim, Follows, Tries, Endless, Failed, BeginAt, ProtectAt, Walk, AllocateAt, RetireAt, MoveAt, RowOf, Base}
+use Rattle.wfe_core.specs.Phases.{Aim, Follows, Tries, Endless, Failed, BeginAt, HazardAt, ProtectAt, Walk, AllocateAt, RetireAt, MoveAt, RowOf, Base}
 use Rattle.wfe_core.specs.Phases.BeginAt.{LoadLower, PublishSpan}
-use Rattle.wfe_core.specs.Phases.ProtectAt.{LoadClock, PublishEra, LoadLink, CheckClock, PublishRequest, LoadOwnClock, PublishHelper, LoadOwnLink, CheckOwnClock, AnswerOwn, LoadAnswer, TakeAnswer, WithdrawRequest, WithdrawHelper, LoadWithin, CheckUpper, RaiseUpper}
+use Rattle.wfe_core.specs.Phases.ProtectAt.{LoadClock, PublishEra, LoadLink, CheckClock, PublishRequest, LoadOwnClock, PublishHelper, LoadOwnLink, CheckOwnClock, AnswerOwn, LoadAnswer, TakeAnswer, WithdrawRequest, WithdrawHelper, LoadWithin, CheckUpper, RaiseUpper, ByHazard}
+use Rattle.wfe_core.specs.Phases.HazardAt.{FirstLink, PublishLink, CheckLink}
 use Rattle.wfe_core.specs.Phases.AllocateAt.{LoadBirth, ClaimSlot, StoreLife}
 use Rattle.wfe_core.specs.Phases.RetireAt.{LoadLife, LoadRetire, StoreRetired}
 use Rattle.wfe_core.specs.Phases.MoveAt.{LoadEra, LoadRequest, ShowEra, LoadAsked, CheckEra, AnswerAsked, LoadReserved, HandOver, HideEra, HideLate, ExchangeClock}
@@ -32,12 +33,13 @@ use Rattle.wfe_core.specs.SlowPath.{own_request, answer_in, lost_turn, asking}
 use Rattle.wfe_core.specs.Allocate.{is_claimed, next_slot, walk_from, walk_at, walk_on, walk_past, shown_word, shown_of, walking}
 use Rattle.wfe_core.specs.WriteRow.{first_written, last_written, after_write}
 use Rattle.wfe_core.specs.MoveClock.{after_hand_over, all_met, next_request, helping, met, moving}
-use Rattle.wfe_core.specs.Machine.{after, begin_turn, protect_turn, allocate_turn, retire_turn, move_turn}
+use Rattle.wfe_core.specs.Machine.{after, begin_turn, hazard_turn, protect_turn, allocate_turn, retire_turn, move_turn}
 use Rattle.wfe_core.specs.Calls.{LetGo, Released, Rehold, Dropped, Parting, Runs, Why, Opens, FollowsHead, Fills, Releases}
 use Rattle.wfe_core.specs.words.Schemes.{has_one_interval, helps}
 use Rattle.inv_shapes.specs.Frame.{SpanStands, Parts, Resumes, Moves}
 use Rattle.inv_shapes.specs.Seats.{agree, Kind, ToOpen, ToFollow, ToFill, ToRelease, kind_of, begins, protects, fills, finishes, releases, gives_up, retires, moves, reloads, aim_by, Parted, tries_fit, try_fits, protect_fits, move_fits, Run, PhaseFits, PostFits}
 use Rattle.inv_shapes.proofs.Growth.{no_span, bare_parts}
+use Rattle.inv_shapes.proofs.Tries.{clear_plain}
 use Rattle.inv_shapes.proofs.Machines.{moves_if, held_post_keeps, concluded_moves}
 
 -- within a round an interval stands where a machine ends
@@ -80,9 +82,9 @@ resumes_plain (Releases let_go) post e = plain_parts let_go post e
 resumes_plain why post e = tt
 
 -- a seat that leaves lets no interval go with one row
-resumes_bare : (why : Why) (index : ℕ) (post : Post) → releases (kind_of why) ≡ true → Parted (Release index) why → Resumes why post
-resumes_bare (Releases let_go) index post r e = bare_parts let_go post e
-resumes_bare why index post r e = absurd (cc)
+resumes_bare : (scheme : SchemeKind) (why : Why) (index : ℕ) (post : Post) → releases (kind_of why) ≡ true → Parted scheme (Release index) why → Resumes why post
+resumes_bare scheme (Releases let_go) index post r e = bare_parts let_go post e
+resumes_bare scheme why index post r e = absurd (cc)
 
 -- for what something is asked where it ends
 abbrev pub asks : Kind → Bool
@@ -119,10 +121,6 @@ follows_reloads : (why : Why) → aim_by why ≡ Follows → reloads (kind_of wh
 follows_reloads (Opens task) e = absurd (cc)
 follows_reloads (FollowsHead head tail) e = refl
 follows_reloads why e = absurd (cc)
-
-plain_of : (b : Bool) → not b ≡ true → b ≡ false
-plain_of true h = absurd (cc)
-plain_of false h = refl
 
 failed_fits : (s : SchemeKind) (most : ℕ) (tries : Tries) → try_fits s most tries ≡ true → tries_fit s most (failed_once tries) ≡ true
 failed_fits s most Endless h = h
@@ -171,6 +169,18 @@ over {layout = layout} {why = why} {aim = aim} {index = index} {root = root} k r
     concluded_moves why aim index root m link era left told q (resumes_from why left (protects_in (kind_of why) r.suited) s) (λ f e.
     record { suited = follows_reloads why (sym r.shape.aimed ∙ f); fits = refl; shape = record { at = r.shape.at; of = ap parent_of r.shape.of }; posted = s; parted = tt })
 
+hazard_moves : (layout : Layout) (k : ℕ) (why : Why) (aim : Aim) (index : ℕ) (root : Root) (n m : ℕ) (from at : HazardAt) (post : Post) (found : ℕ) → PostFits layout k post
+    → Run layout why (Protect aim index root n (ByHazard from)) post → Moves (PostFits layout k) (PhaseFits layout) why (hazard_turn aim index root m at post found)
+hazard_moves layout k why aim index root n m from FirstLink post found q r =
+    moves_if why (found == 0) _ _
+    (λ e. over k r m found 0 (held_post post index root found) (told_held index root found m) (held_fits layout k post index root found q) (held_span post index root found r.posted))
+    (λ e. record { post = q; phase = on r m (ByHazard (PublishLink found)) post r.fits r.posted })
+hazard_moves layout k why aim index root n m from (PublishLink link) post found q r = record { post = q; phase = on r m (ByHazard (CheckLink link)) post r.fits r.posted }
+hazard_moves layout k why aim index root n m from (CheckLink link) post found q r =
+    moves_if why (found == link || found == 0) _ _
+    (λ e. over k r m found 0 (held_post post index root found) (told_held index root found m) (held_fits layout k post index root found q) (held_span post index root found r.posted))
+    (λ e. record { post = q; phase = on r m (ByHazard (PublishLink found)) post r.fits r.posted })
+
 protect_moves : (layout : Layout) (k : ℕ) (why : Why) (aim : Aim) (index : ℕ) (root : Root) (n m : ℕ) (at : ProtectAt) (post : Post) (found : ℕ) → PostFits layout k post → post.layout ≡ layout
     → Run layout why (Protect aim index root n at) post → Moves (PostFits layout k) (PhaseFits layout) why (protect_turn aim index root m at post found)
 protect_moves layout k why aim index root n m (LoadClock tries) post found q l r = record { post = q; phase = on r m (PublishEra found tries) post r.fits r.posted }
@@ -207,6 +217,7 @@ protect_moves layout k why aim index root n m (CheckUpper link) post found q l r
     (λ e. record { post = q; phase = on r m (RaiseUpper found) post r.fits r.posted })
 protect_moves layout k why aim index root n m (RaiseUpper era) post found q l r =
     record { post = record { seat = q.seat; layout = q.layout; cursor = q.cursor; tags = q.tags; standing = q.standing }; phase = on r m LoadWithin (with_span post (from_to (lower post.span) era)) r.fits (λ e. refl) }
+protect_moves layout k why aim index root n m (ByHazard at) post found q l r = hazard_moves layout k why aim index root n m at at post found q r
 
 -- the same post with another interval
 pub span_fits : (layout : Layout) (k : ℕ) (post : Post) (span : Option Interval) → PostFits layout k post → PostFits layout k (with_span post span)
@@ -312,7 +323,7 @@ helps_of layout seat h = grind (arith, nat_tests)
 
 -- the move goes on
 moves_on : {layout : Layout} {why : Why} {at : MoveAt} {post : Post} → Run layout why (Move at) post → (next : MoveAt) (left : Post) → move_fits layout.config.scheme layout.config.seats next ≡ true → Run layout why (Move next) left
-moves_on r next left f = record { suited = r.suited; fits = f; shape = tt; posted = tt; parted = tt }
+moves_on r next left f = record { suited = r.suited; fits = f; shape = tt; posted = tt; parted = r.parted }
 
 handed : (layout : Layout) (k : ℕ) (why : Why) (era seat tag index old : ℕ) (post : Post) (same : Bool) → PostFits layout k post → Run layout why (Move (next_request post era seat true)) post
     → Moves (PostFits layout k) (PhaseFits layout) why (after_hand_over era seat tag index old post same)
@@ -366,11 +377,11 @@ shape_moves layout k v why (Reload parent index slot era steps) post found q r =
     moves_if why (found == parent + 1) _ _
     (λ e. record { post = row_fits layout k post index slot q; phase = resumes_from why (with_row post index slot) (reloads_in (kind_of why) r.suited) r.posted })
     (λ e. record { post = q; phase = resumes_from why post (reloads_in (kind_of why) r.suited) r.posted })
-shape_moves layout k v why (Clear index) post found q r =
-    record { post = withdrawn_fits layout k post index q; phase = resumes_plain why (withdrawn post index) (plain_of (has_one_interval (scheme_of post)) (subst (λ (t : Layout). not (has_one_interval t.config.scheme) ≡ true) (sym q.layout) r.fits)) }
+shape_moves layout k v why (Clear rows index) post found q r =
+    record { post = withdrawn_fits layout k post index q; phase = resumes_plain why (withdrawn post index) (subst (λ (t : Layout). has_one_interval t.config.scheme ≡ false) (sym q.layout) (clear_plain layout.config.scheme rows r.fits)) }
 shape_moves layout k v why Finish post found q r = record { post = span_fits layout k post None q; phase = resumes_out why (with_span post None) (finishes_out (kind_of why) r.suited) }
 shape_moves layout k v why (Release index) post found q r =
-    record { post = span_fits layout k (withdrawn post index) None (withdrawn_fits layout k post index q); phase = resumes_bare why index (with_span (withdrawn post index) None) r.suited r.parted }
+    record { post = span_fits layout k (withdrawn post index) None (withdrawn_fits layout k post index q); phase = resumes_bare layout.config.scheme why index (with_span (withdrawn post index) None) r.suited r.parted }
 shape_moves layout k v why (Allocate at) post found q r = allocate_moves layout k why at post found q q.layout r
 shape_moves layout k v why (Write slot row place) post found q r = write_moves layout k why slot row place post q r
 shape_moves layout k v why (GiveUp slot) post found q r = record { post = q; phase = resumes_out why post (gives_up_out (kind_of why) r.suited) }

@@ -28,7 +28,7 @@ posted_counted : (base : Base) (post : Post) → Posted base post → Posted bas
 posted_counted (Begin at) post h = h
 posted_counted (Protect aim index root steps at) post h = h
 posted_counted (Reload parent index slot era steps) post h = h
-posted_counted (Clear index) post h = h
+posted_counted (Clear rows index) post h = h
 posted_counted Finish post h = h
 posted_counted (Release index) post h = h
 posted_counted (Allocate at) post h = h

@@ -6,6 +6,7 @@ pub mod Finds
 pub mod Frame
 pub mod Gives
 pub mod Growth
+pub mod Indexes
 pub mod Inside
 pub mod Kept
 pub mod Leaving

@@ -9,12 +9,14 @@ use Rattle.wfe_core.specs.defs.declared.lifetime.Interval.{Interval as Span}
 use Rattle.wfe_core.specs.declared.post.Post.{Post}
 use Rattle.wfe_core.specs.Phases.{BeginAt, ProtectAt, AllocateAt, RetireAt, MoveAt, Base}
 use Rattle.wfe_core.specs.Phases.BeginAt.{LoadLower, PublishSpan}
-use Rattle.wfe_core.specs.Phases.ProtectAt.{LoadClock, PublishEra, LoadLink, CheckClock, PublishRequest, LoadOwnClock, PublishHelper, LoadOwnLink, CheckOwnClock, AnswerOwn, LoadAnswer, TakeAnswer, WithdrawRequest, WithdrawHelper, LoadWithin, CheckUpper, RaiseUpper}
+use Rattle.wfe_core.specs.Phases.ProtectAt.{LoadClock, PublishEra, LoadLink, CheckClock, PublishRequest, LoadOwnClock, PublishHelper, LoadOwnLink, CheckOwnClock, AnswerOwn, LoadAnswer, TakeAnswer, WithdrawRequest, WithdrawHelper, LoadWithin, CheckUpper, RaiseUpper, ByHazard}
 use Rattle.wfe_core.specs.Phases.AllocateAt.{LoadBirth, ClaimSlot, StoreLife}
 use Rattle.wfe_core.specs.Phases.RetireAt.{LoadLife, LoadRetire, StoreRetired}
 use Rattle.wfe_core.specs.Phases.MoveAt.{LoadEra, LoadRequest, ShowEra, LoadAsked, CheckEra, AnswerAsked, LoadReserved, HandOver, HideEra, HideLate, ExchangeClock}
 use Rattle.wfe_core.specs.Phases.Base.{Begin, Protect, Reload, Clear, Finish, Release, Allocate, Write, GiveUp, Retire, Move}
 use Rattle.wfe_core.specs.Calls.{StoreHeld, Work, Getting, Changing, Enqueuing, Dequeuing, Keeping, Phase, Idle, Runs, Scans, Works}
+use Rattle.wfe_core.specs.words.Schemes.{publishes_rows}
+use Rattle.inv_shapes.proofs.Indexes.{held_later, shown_later}
 use Rattle.inv_shapes.specs.Eras.{EraIn, SpanIn, AskingIn, LivesIn, LifeIn, NoLife, Lives, WordIn, TurnIn, MoverIn, begin_eras, protect_eras, allocate_eras, retire_eras, move_eras, base_eras, work_eras, PhaseEras, PostEras}
 
 pub era_later : (c d era : ℕ) → c ≤ d → EraIn c era → EraIn d era
@@ -39,7 +41,7 @@ life_later c d word h (Lives birth retire e l) = Lives birth retire e (lives_lat
 pub word_later : (layout : Layout) (c d : ℕ) (place : Place) (word : ℕ) → c ≤ d → WordIn layout c place word → WordIn layout d place word
 word_later layout c d Clock word h e = tt
 word_later layout c d (Helper seat) word h e = record { era = e.era; is = e.is; most = let m = e.most in omega arith }
-word_later layout c d (Index seat index) word h e = record { era = e.era; tag = e.tag; is = e.is; most = let m = e.most in omega arith; few = e.few }
+word_later layout c d (Index seat index) word h e = shown_later (publishes_rows layout.config.scheme) layout c d word h e
 word_later layout c d (Interval seat) word h e = tt
 word_later layout c d (Request seat) word h e = record { request = e.request; is = e.is; fits = asking_later layout c d e.request h e.fits }
 word_later layout c d (Bucket bucket) word h e = tt
@@ -78,6 +80,7 @@ protect_later c d post (WithdrawHelper link era) h e = below_later c d era h e
 protect_later c d post LoadWithin h e = tt
 protect_later c d post (CheckUpper link) h e = tt
 protect_later c d post (RaiseUpper era) h e = record { rises = e.rises; most = below_later c d era h e.most }
+protect_later c d post (ByHazard at) h e = tt
 
 allocate_later : (c d : ℕ) (at : AllocateAt) → c ≤ d → allocate_eras c at → allocate_eras d at
 allocate_later c d LoadBirth h e = tt
@@ -110,7 +113,7 @@ base_later : (layout : Layout) (c d : ℕ) (post : Post) (base : Base) → c ≤
 base_later layout c d post (Begin at) h e = begin_later c d at h e
 base_later layout c d post (Protect aim index root steps at) h e = protect_later c d post at h e
 base_later layout c d post (Reload parent index slot era steps) h e = below_later c d era h e
-base_later layout c d post (Clear index) h e = tt
+base_later layout c d post (Clear rows index) h e = tt
 base_later layout c d post Finish h e = tt
 base_later layout c d post (Release index) h e = tt
 base_later layout c d post (Allocate at) h e = allocate_later c d at h e
@@ -119,19 +122,19 @@ base_later layout c d post (GiveUp slot) h e = tt
 base_later layout c d post (Retire at) h e = retire_later c d at h e
 base_later layout c d post (Move at) h e = move_later layout c d at h e
 
-work_later : (c d : ℕ) (work : Work) → c ≤ d → work_eras c work → work_eras d work
-work_later c d (Getting key at) h e = tt
-work_later c d (Changing kept at) h e = tt
-work_later c d (Enqueuing kept at) h e = tt
-work_later c d (Dequeuing at) h e = tt
-work_later c d (Keeping (StoreHeld from index era)) h e = below_later c d era h e
-work_later c d (Keeping at) h e = tt
+work_later : (layout : Layout) (c d : ℕ) (work : Work) → c ≤ d → work_eras layout c work → work_eras layout d work
+work_later layout c d (Getting key at) h e = tt
+work_later layout c d (Changing kept at) h e = tt
+work_later layout c d (Enqueuing kept at) h e = tt
+work_later layout c d (Dequeuing at) h e = tt
+work_later layout c d (Keeping (StoreHeld from index era)) h e = held_later (publishes_rows layout.config.scheme) layout c d era h e
+work_later layout c d (Keeping at) h e = tt
 
 pub phase_later : (layout : Layout) (c d : ℕ) (post : Post) (phase : Phase) → c ≤ d → PhaseEras layout c post phase → PhaseEras layout d post phase
 phase_later layout c d post Idle h e = tt
 phase_later layout c d post (Runs why base) h e = base_later layout c d post base h e
 phase_later layout c d post (Scans later at) h e = tt
-phase_later layout c d post (Works work) h e = work_later c d work h e
+phase_later layout c d post (Works work) h e = work_later layout c d work h e
 
 pub post_later : (layout : Layout) (k c d word : ℕ) (post : Post) → c ≤ d → PostEras layout k c word post → PostEras layout k d word post
 post_later layout k c d word post h e = record { fits = e.fits; span = span_later c d post.span h e.span; shown = e.shown }

@@ -1,6 +1,6 @@
 -- No machine sends a row back, and so the notes of a call count what goes back in scans.
 use Rattle.std.proofs.Common.{ℕ, ◌≡◌, ◌≤◌, ◌+◌, ◌*◌, Bool, true, false, List, [], ◌∷◌, length, length-append, Option, Some, None, refl, sym, subst, ◌∙◌, arith}
-use Rattle.std.specs.Prelude.{◌==◌, if◌then◌else◌}
+use Rattle.std.specs.Prelude.{◌==◌, ◌||◌, if◌then◌else◌}
 use Rattle.wfe_core.specs.words.Packed.{read_reservation, reservation_word}
 use Rattle.wfe_core.specs.words.declared.layout.Layout.{Layout}
 use Rattle.wfe_core.specs.defs.declared.call.Call.{Call}
@@ -13,21 +13,24 @@ use Rattle.wfe_core.specs.CallReady.{NotesFit}
 use Rattle.wfe_core.specs.declared.post.Post.{Post}
 use Rattle.wfe_core.specs.Desks.{Desk, Notes, noted, noted_all, noting}
 use Rattle.wfe_core.specs.Memory.{bump}
-use Rattle.wfe_core.specs.Posts.{cleared, counted, stands, upper, reserves_index, reserves_helper, reserves_span}
-use Rattle.wfe_core.specs.Phases.{Aim, Alone, Follows, BeginAt, ProtectAt, Walk, AllocateAt, RetireAt, MoveAt, Base, Outcome, Goes, Ends, Turn}
+use Rattle.wfe_core.specs.Posts.{cleared, counted, stands, upper, reserves_index, publishes_index, reserves_helper, reserves_span}
+use Rattle.wfe_core.specs.Phases.{Aim, Alone, Follows, BeginAt, HazardAt, ProtectAt, Walk, AllocateAt, RetireAt, MoveAt, Base, Outcome, Goes, Ends, Turn}
 use Rattle.wfe_core.specs.Phases.BeginAt.{LoadLower, PublishSpan}
-use Rattle.wfe_core.specs.Phases.ProtectAt.{LoadClock, PublishEra, LoadLink, CheckClock, PublishRequest, LoadOwnClock, PublishHelper, LoadOwnLink, CheckOwnClock, AnswerOwn, LoadAnswer, TakeAnswer, WithdrawRequest, WithdrawHelper, LoadWithin, CheckUpper, RaiseUpper}
+use Rattle.wfe_core.specs.Phases.ProtectAt.{LoadClock, PublishEra, LoadLink, CheckClock, PublishRequest, LoadOwnClock, PublishHelper, LoadOwnLink, CheckOwnClock, AnswerOwn, LoadAnswer, TakeAnswer, WithdrawRequest, WithdrawHelper, LoadWithin, CheckUpper, RaiseUpper, ByHazard}
+use Rattle.wfe_core.specs.Phases.HazardAt.{FirstLink, PublishLink, CheckLink}
 use Rattle.wfe_core.specs.Phases.AllocateAt.{LoadBirth, ClaimSlot, StoreLife}
 use Rattle.wfe_core.specs.Phases.RetireAt.{LoadLife, LoadRetire, StoreRetired}
 use Rattle.wfe_core.specs.Phases.MoveAt.{LoadEra, LoadRequest, ShowEra, LoadAsked, CheckEra, AnswerAsked, LoadReserved, HandOver, HideEra, HideLate, ExchangeClock}
 use Rattle.wfe_core.specs.Phases.Base.{Begin, Protect, Reload, Clear, Finish, Release, Allocate, Write, GiveUp, Retire, Move}
-use Rattle.wfe_core.specs.Protect.{held_post, told_held, concluded}
+use Rattle.wfe_core.specs.Protect.{held_post, told_held, concluded, protected}
 use Rattle.wfe_core.specs.SlowPath.{own_request, asking}
 use Rattle.wfe_core.specs.Allocate.{is_claimed, walk_past, walking}
 use Rattle.wfe_core.specs.WriteRow.{last_written}
 use Rattle.wfe_core.specs.MoveClock.{after_hand_over}
-use Rattle.wfe_core.specs.Machine.{after, begin_turn, protect_turn, allocate_turn, retire_turn, move_turn}
+use Rattle.wfe_core.specs.Machine.{after, begin_turn, hazard_turn, protect_turn, allocate_turn, retire_turn, move_turn}
+use Rattle.wfe_core.specs.Rounds.{scheme_of}
 use Rattle.wfe_core.specs.Steps.{resumed, phase_turn}
+use Rattle.wfe_core.specs.words.Schemes.{publishes_rows}
 use Rattle.wfe_core.specs.Locals.{Local, turn, settled_by, settled, told_end, told_by, rounds_told, begun}
 use Rattle.wfe_core.specs.Locals as locals
 use Rattle.wfe_core.specs.Calls.{AfterScan, Answered, Repeated, Counted, Opens, FollowsHead, Fills, ClearsNext, Clears, Finishes, GivesUp, Retires, Tidies, Advances, Releases, Why, ScanAt, ReadGuard, GiveBack, Work, KeepAt, TakeList, Keeping, Phase, Idle, Runs, Scans, Works, CallTurn, CallOutcome, GoesOn, Answers}
@@ -37,7 +40,7 @@ use Rattle.inv_shapes.specs.Noted.{back_of, backs, size, why_more, later_more, m
 use Rattle.inv_shapes.specs.Slots.{scan_lists, gift_finds, phase_finds, SlotsNeeds}
 use Rattle.inv_shapes.proofs.Frame.{seat_stays, seat_steps, begin_stays, begin_begins}
 use Rattle.inv_shapes.proofs.Kept.{one_moves}
-use Rattle.inv_shapes.proofs.Backs.{Counts, quiet_along, quiet_cleared, scan_goes, work_goes, work_counts, scan_counts, resume_counts}
+use Rattle.inv_shapes.proofs.Backs.{Counts, quiet_along, quiet_cleared, quiet_shown, scan_goes, work_goes, work_counts, scan_counts, resume_counts}
 
 -- a turn in which no row goes back
 abbrev Quiet : Turn → Type 0
@@ -65,6 +68,14 @@ quiet_begin : (at : BeginAt) (post : Post) (found : ℕ) → Quiet (begin_turn a
 quiet_begin LoadLower post found = refl
 quiet_begin (PublishSpan era) post found = refl
 
+quiet_protected : (aim : Aim) (index : ℕ) (root : Root) (n link : ℕ) (post : Post) → Quiet (protected aim index root n link 0 post)
+quiet_protected aim index root n link post = quiet_concluded aim index root n link 0 (held_post post index root link) (told_held index root link n) (quiet_held index root link n)
+
+quiet_hazard : (aim : Aim) (index : ℕ) (root : Root) (n : ℕ) (at : HazardAt) (post : Post) (found : ℕ) → Quiet (hazard_turn aim index root n at post found)
+quiet_hazard aim index root n FirstLink post found = quiet_if (found == 0) _ _ (quiet_protected aim index root n found post) refl
+quiet_hazard aim index root n (PublishLink link) post found = refl
+quiet_hazard aim index root n (CheckLink link) post found = quiet_if (found == link || found == 0) _ _ (quiet_protected aim index root n found post) refl
+
 quiet_protect : (aim : Aim) (index : ℕ) (root : Root) (n : ℕ) (at : ProtectAt) (post : Post) (found : ℕ) → Quiet (protect_turn aim index root n at post found)
 quiet_protect aim index root n (LoadClock tries) post found = refl
 quiet_protect aim index root n (PublishEra era tries) post found = refl
@@ -83,6 +94,7 @@ quiet_protect aim index root n (WithdrawHelper link era) post found = quiet_conc
 quiet_protect aim index root n LoadWithin post found = refl
 quiet_protect aim index root n (CheckUpper link) post found = quiet_if (found == upper post.span) _ _ (quiet_concluded aim index root n link found (held_post post index root link) (told_held index root link n) (quiet_held index root link n)) refl
 quiet_protect aim index root n (RaiseUpper era) post found = refl
+quiet_protect aim index root n (ByHazard at) post found = quiet_hazard aim index root n at post found
 
 quiet_walking : (birth : ℕ) (post : Post) (x : Option Walk) → Quiet (walking birth post x)
 quiet_walking birth post None = refl
@@ -119,7 +131,7 @@ quiet_after : (base : Base) (post : Post) (found : ℕ) → Quiet (after base po
 quiet_after (Begin at) post found = quiet_begin at post found
 quiet_after (Protect aim index root steps at) post found = quiet_protect aim index root (bump steps) at post found
 quiet_after (Reload parent index slot era steps) post found = quiet_if (found == parent + 1) _ _ refl refl
-quiet_after (Clear index) post found = let e = quiet_along (cleared index (stands post index)) (reserves_index post index 0) refl in e ∙ quiet_cleared index (stands post index)
+quiet_after (Clear rows index) post found = let e = quiet_along (cleared index (stands post index)) (publishes_index rows post index 0) (quiet_shown rows post index 0) in e ∙ quiet_cleared index (stands post index)
 quiet_after Finish post found = refl
 quiet_after (Release index) post found = let e = quiet_along (cleared index (stands post index)) (reserves_span post None) refl in e ∙ quiet_cleared index (stands post index)
 quiet_after (Allocate at) post found = quiet_allocate at post found
@@ -166,7 +178,7 @@ settled_noted : (slots : ℕ) (l : Local) (t : CallTurn) → Counts (slots + 1) 
 settled_noted slots l t h =
     let e = noted_many t.desk.notes (told_by t) in
     let f = quiet_along t.told (told_end t.post t.outcome) (quiet_end t.post t.outcome) in
-    let a = h.0 in settled_by_noted slots l t.post (noting t.desk (told_by t)) (rounds_told l.rounds (told_by t)) t.outcome (omega arith) h.1
+    let a = h.0 in settled_by_noted slots l t.post (noting t.desk (told_by t)) (rounds_told (publishes_rows (scheme_of t.post)) l.rounds (told_by t)) t.outcome (omega arith) h.1
 
 scan_given : (config : Config) (desk : Desk) (at : ScanAt) → scan_lists config desk at → scan_goes at desk
 scan_given config desk (ReadGuard number) h = tt

@@ -1,10 +1,10 @@
 -- Each machine is ready at its step, and what it finds is plausible.
-use Rattle.std.proofs.Common.{refl, ℕ, ◌≡◌, ◌≤◌, ◌<◌, true, List, Option, Some, None, ap, sym, subst, ◌∙◌, arith}
+use Rattle.std.proofs.Common.{refl, ℕ, ◌≡◌, ◌≤◌, ◌<◌, Bool, true, false, List, Option, Some, None, ap, sym, subst, ◌∙◌, arith}
 use Rattle.std.proofs.lemmas.Bool.Decides.{nat_tests}
 use Rattle.std.proofs.lemmas.Option.{slice_get_within}
-use Rattle.std.specs.Prelude.{◌&&◌, nat_lt, nat_le, is_some, slice_get}
+use Rattle.std.specs.Prelude.{◌&&◌, nat_lt, nat_le, if◌then◌else◌, is_some, slice_get}
 use Rattle.wfe_core.specs.words.Place.{Place, is_valid}
-use Rattle.wfe_core.specs.words.Place.Place.{Clock, Tail, Row, Request as RequestOf}
+use Rattle.wfe_core.specs.words.Place.Place.{Clock, Index, Tail, Row, Request as RequestOf}
 use Rattle.wfe_core.specs.words.Packed.{read_request}
 use Rattle.wfe_core.specs.words.declared.config.SchemeKind.{SchemeKind}
 use Rattle.wfe_core.specs.words.declared.layout.Layout.{Layout}
@@ -21,27 +21,37 @@ use Rattle.wfe_core.specs.Posts.{tag_of, stands, lower, upper}
 use Rattle.wfe_core.specs.Valid.{SpanValid, StandsValid, IsValid}
 use Rattle.wfe_core.proofs.Ranges.{bounds_of}
 use Rattle.wfe_core.specs.WriteRow.{first_written, last_written}
-use Rattle.wfe_core.specs.Phases.{Tries, Endless, Failed, BeginAt, ProtectAt, AllocateAt, RetireAt, MoveAt, RowOf, MapRow, QueueRow, Base}
+use Rattle.wfe_core.specs.Phases.{Tries, Endless, Failed, BeginAt, HazardAt, ProtectAt, AllocateAt, RetireAt, MoveAt, RowOf, MapRow, QueueRow, Base}
 use Rattle.wfe_core.specs.Phases.BeginAt.{LoadLower, PublishSpan}
-use Rattle.wfe_core.specs.Phases.ProtectAt.{LoadClock, PublishEra, LoadLink, CheckClock, PublishRequest, LoadOwnClock, PublishHelper, LoadOwnLink, CheckOwnClock, AnswerOwn, LoadAnswer, TakeAnswer, WithdrawRequest, WithdrawHelper, LoadWithin, CheckUpper, RaiseUpper}
+use Rattle.wfe_core.specs.Phases.ProtectAt.{LoadClock, PublishEra, LoadLink, CheckClock, PublishRequest, LoadOwnClock, PublishHelper, LoadOwnLink, CheckOwnClock, AnswerOwn, LoadAnswer, TakeAnswer, WithdrawRequest, WithdrawHelper, LoadWithin, CheckUpper, RaiseUpper, ByHazard}
+use Rattle.wfe_core.specs.Phases.HazardAt.{FirstLink, PublishLink, CheckLink}
 use Rattle.wfe_core.specs.Phases.AllocateAt.{LoadBirth, ClaimSlot, StoreLife}
 use Rattle.wfe_core.specs.Phases.RetireAt.{LoadLife, LoadRetire, StoreRetired}
 use Rattle.wfe_core.specs.Phases.MoveAt.{LoadEra, LoadRequest, ShowEra, LoadAsked, CheckEra, AnswerAsked, LoadReserved, HandOver, HideEra, HideLate, ExchangeClock}
 use Rattle.wfe_core.specs.Phases.Base.{Begin, Protect, Reload, Clear, Finish, Release, Allocate, Write, GiveUp, Retire, Move}
 use Rattle.wfe_core.specs.Machine.{begin_move, protect_move, allocate_move, retire_move, move_move, base_move}
-use Rattle.wfe_core.specs.Ready.{EraFits, FailedFits, TryFits, RootFits, AskFits, AskedFits, RowFits, IsReady, Plausible, begin_ready, protect_ready, allocate_ready, retire_ready, move_ready, begin_plausible, protect_plausible, allocate_plausible, retire_plausible, move_plausible}
+use Rattle.wfe_core.specs.Ready.{EraFits, FailedFits, TryFits, RootFits, AskFits, AskedFits, RowFits, IsReady, Plausible, ShownFits, begin_ready, hazard_ready, protect_ready, allocate_ready, retire_ready, move_ready, begin_plausible, protect_plausible, allocate_plausible, retire_plausible, move_plausible}
 use Rattle.wfe_core.specs.Steps.{work_move, phase_move}
 use Rattle.wfe_core.specs.Calls.{ChangeKept, EnqueueKept, Task, Gets, Changes, Holds, Enqueues, Dequeues, AfterScan, Answered, Repeated, Counted, GetAt, FindVersion, FindCount, FindKey, FindValue, ChangeAt, LoadVersion, LoadCount, LoadKey, LoadValue, ExchangeRoot, EnqueueAt, LoadNumber, LoadNext, PassTail, ExchangeNext, ExchangeTail, DequeueAt, LoadTail, SwingTail, TakeNumber, TakeValue, ExchangeHead, Work, Getting, Changing, Enqueuing, Dequeuing, KeepAt, Loosens, LoadHeld, StoreHeld, Looks, Misses, HideSpan, MarkLeft, TakeList, MarkTaken, Keeping, ScanAt, ReadGuard, GiveBack, Why, Opens, FollowsHead, Fills, ClearsNext, Clears, Finishes, GivesUp, Retires, Tidies, Advances, Releases, Phase, Idle, Runs, Scans, Works}
-use Rattle.wfe_core.specs.CallReady.{TakenFits, TaskFits, FillFits, LaterFits, why_ready, get_ready, change_ready, enqueue_ready, dequeue_ready, keep_ready, work_ready, scan_ready, IsCallReady, get_plausible, change_plausible, enqueue_plausible, dequeue_plausible, keep_plausible, work_plausible, IsCallPlausible, BackFits, slots_of}
+use Rattle.wfe_core.specs.CallReady.{TakenFits, TaskFits, FillFits, LaterFits, why_ready, get_ready, change_ready, enqueue_ready, dequeue_ready, keep_ready, work_ready, scan_ready, IsCallReady, get_plausible, change_plausible, enqueue_plausible, dequeue_plausible, keep_plausible, scan_plausible, work_plausible, IsCallPlausible, BackFits, slots_of}
 use Rattle.wfe_core.specs.Desks.{Desk}
 use Rattle.wfe_core.specs.Enqueue.{enqueue_move}
 use Rattle.wfe_core.specs.Dequeue.{dequeue_move}
 use Rattle.wfe_core.specs.World.{World, gift_at}
 use Rattle.inv_shapes.specs.Frame.{SpanStands}
-use Rattle.wfe_core.specs.words.Schemes.{helps}
+use Rattle.wfe_core.specs.words.Schemes.{has_one_interval, helps, publishes_rows}
+use Rattle.wfe_core.specs.words.declared.config.SchemeKind.TheVariants.{He, Hp, Ibr, Wfe}
+use Rattle.wfe_core.proofs.words.Schemes.{interval_not_rows}
+use Rattle.wfe_core.specs.defs.declared.event.Guard.TheVariants.{Whole}
+use Rattle.wfe_core.specs.defs.declared.event.Guard.TheVariants as guards
+use Rattle.wfe_core.specs.Guards.{guard_by, guard_place, index_at}
+use Rattle.wfe_core.specs.Keep.{keep_move, own_place}
+use Rattle.wfe_core.specs.Rounds.{scheme_of}
+use Rattle.wfe_core.specs.Scan.{scan_move}
+use Rattle.inv_shapes.proofs.Indexes.{shown_link}
 use Rattle.inv_shapes.specs.Seats.{tries_fit, try_fits, protect_fits, allocate_fits, move_fits, Run, PostFits, PhaseFits, Seats, scan_fits}
-use Rattle.inv_shapes.specs.Eras.{SpanIn, AskIn, AskingIn, begin_eras, protect_eras, allocate_eras, retire_eras, move_eras, base_eras, PhaseEras, Eras}
-use Rattle.inv_shapes.specs.Slots.{ProtectIn, RetireIn, MovesIn, BaseIn, StandsIn, PostIn, PhaseIn, Slots, RowIn, TakenIn, TaskIn, FillIn, LaterIn, WhyIn, GetIn, ChangeAtIn, EnqueueAtIn, DequeueIn, WorkIn, ScanIn, get_finds, change_finds, enqueue_finds, dequeue_finds, work_finds, phase_finds, BackIn}
+use Rattle.inv_shapes.specs.Eras.{SpanIn, ShownIn, HeldIn, work_eras, AskIn, AskingIn, begin_eras, protect_eras, allocate_eras, retire_eras, move_eras, base_eras, PhaseEras, Eras}
+use Rattle.inv_shapes.specs.Slots.{HazardIn, ProtectIn, RetireIn, MovesIn, BaseIn, StandsIn, PostIn, PhaseIn, Slots, RowIn, TakenIn, TaskIn, FillIn, LaterIn, WhyIn, GetIn, ChangeAtIn, EnqueueAtIn, DequeueIn, WorkIn, ScanIn, get_finds, change_finds, enqueue_finds, dequeue_finds, work_finds, phase_finds, BackIn}
 use Rattle.inv_shapes.specs.Code.{protect_rises, base_rises, phase_rises, why_lists, scan_entry, phase_lists, CodeNeeds}
 use Rattle.wfe_core.specs.MayStep.{MayStep}
 use Rattle.inv_shapes.specs.Noted.{Noted}
@@ -70,6 +80,11 @@ lower_ready : (clock : ℕ) (span : Option Span) → is_some span ≡ true → S
 lower_ready clock None i s = absurd (cc)
 lower_ready clock (Some span) i s = (s.0, s.1)
 
+hazard_is_ready : (post : Post) (at : HazardAt) → HazardIn post.layout.config.slots at → hazard_ready at post
+hazard_is_ready post FirstLink h = tt
+hazard_is_ready post (PublishLink link) h = h.1
+hazard_is_ready post (CheckLink link) h = h.1
+
 protect_is_ready : (post : Post) (clock index : ℕ) (at : ProtectAt) → protect_fits post.layout.config.scheme post.layout.config.tries at ≡ true → SpanStands post → SpanIn clock post.span → protect_eras clock post at → ProtectIn post.layout.config.slots at → protect_rises at index post
     → protect_ready at index post
 protect_is_ready post clock index (LoadClock tries) f s p e h u = tries_ready post.layout.config.scheme post.layout.config.tries tries f
@@ -89,6 +104,7 @@ protect_is_ready post clock index (WithdrawHelper link era) f s p e h u = h
 protect_is_ready post clock index LoadWithin f s p e h u = tt
 protect_is_ready post clock index (CheckUpper link) f s p e h u = h
 protect_is_ready post clock index (RaiseUpper era) f s p e h u = let a = lower_ready clock post.span (s f) p in (a.0, let b = a.1 in let c = e.rises in omega arith)
+protect_is_ready post clock index (ByHazard at) f s p e h u = hazard_is_ready post at h
 
 allocate_is_ready : (post : Post) (clock : ℕ) (at : AllocateAt) → allocate_fits post.layout.config.slots at ≡ true → allocate_eras clock at → allocate_ready at post
 allocate_is_ready post clock LoadBirth f e = tt
@@ -126,7 +142,7 @@ base_is_ready post clock why (Begin at) v r p e y h u = begin_is_ready post cloc
 base_is_ready post clock why (Protect aim index root steps at) v r p e y h u = let b = bounds_of post.layout v in
     (index_below post.layout why index v y r.shape.at, root_there post.layout why root b.buckets.0 r.shape.of h.root_in, protect_is_ready post clock index at r.fits r.posted p e h.at_in u)
 base_is_ready post clock why (Reload parent index slot era steps) v r p e y h u = (index_below post.layout why index v y r.shape.at, h.1, h.0)
-base_is_ready post clock why (Clear index) v r p e y h u = index_below post.layout why index v y r.shape
+base_is_ready post clock why (Clear rows index) v r p e y h u = index_below post.layout why index v y r.shape
 base_is_ready post clock why Finish v r p e y h u = tt
 base_is_ready post clock why (Release index) v r p e y h u = index_below post.layout why index v y r.shape
 base_is_ready post clock why (Allocate at) v r p e y h u = allocate_is_ready post clock at r.fits e
@@ -169,6 +185,9 @@ protect_is_plausible post mem index root (WithdrawHelper link era) w = tt
 protect_is_plausible post mem index root LoadWithin w = link_found post.layout.config.slots (mem (link_place root)) root (w.links (link_place root))
 protect_is_plausible post mem index root (CheckUpper link) w = clock_plausible w.told
 protect_is_plausible post mem index root (RaiseUpper era) w = tt
+protect_is_plausible post mem index root (ByHazard FirstLink) w = link_found post.layout.config.slots (mem (link_place root)) root (w.links (link_place root))
+protect_is_plausible post mem index root (ByHazard (PublishLink link)) w = tt
+protect_is_plausible post mem index root (ByHazard (CheckLink link)) w = link_found post.layout.config.slots (mem (link_place root)) root (w.links (link_place root))
 
 begin_is_plausible : (post : Post) (mem : Place → ℕ) (at : BeginAt) → Linked post.layout mem → begin_plausible at (found (begin_move at post) (mem (place_in (begin_move at post))))
 begin_is_plausible post mem LoadLower w = clock_plausible w.told
@@ -201,7 +220,7 @@ pub base_is_plausible : (post : Post) (mem : Place → ℕ) (base : Base) → Li
 base_is_plausible post mem (Begin at) w = begin_is_plausible post mem at w
 base_is_plausible post mem (Protect aim index root steps at) w = protect_is_plausible post mem index root at w
 base_is_plausible post mem (Reload parent index slot era steps) w = tt
-base_is_plausible post mem (Clear index) w = tt
+base_is_plausible post mem (Clear rows index) w = tt
 base_is_plausible post mem Finish w = tt
 base_is_plausible post mem (Release index) w = tt
 base_is_plausible post mem (Allocate at) w = allocate_is_plausible post mem at w
@@ -296,23 +315,35 @@ dequeue_is_ready post (TakeNumber head next) h = h
 dequeue_is_ready post (TakeValue head next number) h = h
 dequeue_is_ready post (ExchangeHead head next number value) h = h
 
-keep_is_ready : (post : Post) (at : KeepAt) → WorkIn post.layout.config (Keeping at) → keep_ready at post
-keep_is_ready post (Loosens let_go) h = h.below
-keep_is_ready post (LoadHeld from index) h = (h.kept, h.rises, h.below)
-keep_is_ready post (StoreHeld from index era) h = (h.kept, h.rises, h.below)
-keep_is_ready post (Looks index key at) h = get_is_ready post at h.1
-keep_is_ready post (Misses index) h = h.below
-keep_is_ready post HideSpan h = tt
-keep_is_ready post MarkLeft h = tt
-keep_is_ready post (TakeList place) h = h
-keep_is_ready post (MarkTaken place count) h = h
+shown_ready : (rows : Bool) (post : Post) (clock word : ℕ) → ShownIn rows post.layout clock word → ShownFits rows post word
+shown_ready true post clock word h = h
+shown_ready false post clock word h = tt
 
-work_is_ready : (post : Post) (work : Work) → WorkIn post.layout.config work → work_ready work post
-work_is_ready post (Getting key at) h = get_is_ready post at h
-work_is_ready post (Changing kept at) h = (record { taken = taken_ready post kept.taken h.0.taken; link = h.0.link; version = h.0.version; pairs = h.0.pairs }, change_is_ready post kept at h.1)
-work_is_ready post (Enqueuing kept at) h = (record { taken = taken_ready post kept.taken h.0.taken; tail = h.0.tail; number = h.0.number }, enqueue_is_ready post kept at h.1)
-work_is_ready post (Dequeuing at) h = dequeue_is_ready post at h
-work_is_ready post (Keeping at) h = keep_is_ready post at h
+unshown : (rows : Bool) (post : Post) (word : ℕ) → rows ≡ false → ShownFits rows post word
+unshown true post word e = absurd (cc)
+unshown false post word e = tt
+
+held_ready : (rows : Bool) (post : Post) (clock number : ℕ) → HeldIn rows post.layout clock number → ShownFits rows post number
+held_ready true post clock number h = h
+held_ready false post clock number h = tt
+
+keep_is_ready : (post : Post) (clock : ℕ) (at : KeepAt) → work_eras post.layout clock (Keeping at) → WorkIn post.layout.config (Keeping at) → keep_ready at post
+keep_is_ready post clock (Loosens let_go) e h = h.below
+keep_is_ready post clock (LoadHeld from index) e h = (h.kept, h.rises, h.below)
+keep_is_ready post clock (StoreHeld from index era) e h = ((h.kept, h.rises, h.below), held_ready (publishes_rows (scheme_of post)) post clock era e)
+keep_is_ready post clock (Looks index key at) e h = get_is_ready post at h.1
+keep_is_ready post clock (Misses index) e h = h.below
+keep_is_ready post clock HideSpan e h = tt
+keep_is_ready post clock MarkLeft e h = tt
+keep_is_ready post clock (TakeList place) e h = h
+keep_is_ready post clock (MarkTaken place count) e h = h
+
+work_is_ready : (post : Post) (clock : ℕ) (work : Work) → work_eras post.layout clock work → WorkIn post.layout.config work → work_ready work post
+work_is_ready post clock (Getting key at) e h = get_is_ready post at h
+work_is_ready post clock (Changing kept at) e h = (record { taken = taken_ready post kept.taken h.0.taken; link = h.0.link; version = h.0.version; pairs = h.0.pairs }, change_is_ready post kept at h.1)
+work_is_ready post clock (Enqueuing kept at) e h = (record { taken = taken_ready post kept.taken h.0.taken; tail = h.0.tail; number = h.0.number }, enqueue_is_ready post kept at h.1)
+work_is_ready post clock (Dequeuing at) e h = dequeue_is_ready post at h
+work_is_ready post clock (Keeping at) e h = keep_is_ready post clock at e h
 
 back_ready : (post : Post) (desk : Desk) (place slot : ℕ) → BackIn post.layout.config.slots desk slot → slice_get (slots_of desk.list) place ≡ Some slot → BackFits post desk place slot
 back_ready post desk place slot h e = let a = slice_get_within (slots_of desk.list) place slot e in let b = slots_length desk.list in let c = h.room in record { entry = e; back = omega arith }
@@ -349,35 +380,54 @@ dequeue_is_plausible post mem (TakeNumber head next) w f = f
 dequeue_is_plausible post mem (TakeValue head next number) w f = tt
 dequeue_is_plausible post mem (ExchangeHead head next number value) w f = tt
 
-keep_is_plausible : (post : Post) (found : ℕ) (at : KeepAt) → work_finds post.layout.config (Keeping at) found → keep_plausible at post found
-keep_is_plausible post found (Loosens let_go) f = tt
-keep_is_plausible post found (LoadHeld from index) f = tt
-keep_is_plausible post found (StoreHeld from index era) f = tt
-keep_is_plausible post found (Looks index key at) f = get_is_plausible post found at f
-keep_is_plausible post found (Misses index) f = tt
-keep_is_plausible post found HideSpan f = tt
-keep_is_plausible post found MarkLeft f = tt
-keep_is_plausible post found (TakeList place) f = tt
-keep_is_plausible post found (MarkTaken place count) f = tt
+-- what a guard's word shows
+own_plausible : (post : Post) (mem : Place → ℕ) (from : ℕ) → Told post.layout mem → ShownFits (publishes_rows (scheme_of post)) post (mem (own_place post from))
+own_plausible post mem from w = by (has_one_interval (scheme_of post)) refl
+  where
+    by : (one : Bool) → has_one_interval (scheme_of post) ≡ one → ShownFits (publishes_rows (scheme_of post)) post (mem (guard_place (if one then Whole post.seat else guards.Index post.seat from)))
+    by true e = unshown (publishes_rows (scheme_of post)) post _ (interval_not_rows (scheme_of post) e)
+    by false e = shown_ready (publishes_rows (scheme_of post)) post (mem Clock) (mem (Index post.seat from)) (w.words (Index post.seat from))
+
+guard_plausible : (post : Post) (mem : Place → ℕ) (scheme : SchemeKind) (number : ℕ) → scheme_of post ≡ scheme → Told post.layout mem → ShownFits (publishes_rows scheme) post (mem (guard_place (guard_by scheme post.layout.config number)))
+guard_plausible post mem He number e w = tt
+guard_plausible post mem Ibr number e w = tt
+guard_plausible post mem Wfe number e w = tt
+guard_plausible post mem Hp number e w = let index = index_at post.layout.config number in
+    shown_link (publishes_rows (scheme_of post)) post.layout (mem Clock) (mem (guard_place index)) (ap publishes_rows e) (w.words (guard_place index))
+
+keep_is_plausible : (post : Post) (mem : Place → ℕ) (at : KeepAt) → Linked post.layout mem → work_finds post.layout.config (Keeping at) (found (keep_move at post) (mem (place_in (keep_move at post)))) → keep_plausible at post (found (keep_move at post) (mem (place_in (keep_move at post))))
+keep_is_plausible post mem (Loosens let_go) w f = tt
+keep_is_plausible post mem (LoadHeld from index) w f = own_plausible post mem from w.told
+keep_is_plausible post mem (StoreHeld from index era) w f = tt
+keep_is_plausible post mem (Looks index key at) w f = get_is_plausible post _ at f
+keep_is_plausible post mem (Misses index) w f = tt
+keep_is_plausible post mem HideSpan w f = tt
+keep_is_plausible post mem MarkLeft w f = tt
+keep_is_plausible post mem (TakeList place) w f = tt
+keep_is_plausible post mem (MarkTaken place count) w f = tt
 
 work_is_plausible : (post : Post) (mem : Place → ℕ) (work : Work) → Linked post.layout mem → work_finds post.layout.config work (found (work_move work post) (mem (place_in (work_move work post)))) → work_plausible work post (found (work_move work post) (mem (place_in (work_move work post))))
 work_is_plausible post mem (Getting key at) w f = get_is_plausible post _ at f
 work_is_plausible post mem (Changing kept at) w f = change_is_plausible post _ at f
 work_is_plausible post mem (Enqueuing kept at) w f = enqueue_is_plausible post mem kept at w f
 work_is_plausible post mem (Dequeuing at) w f = dequeue_is_plausible post mem at w f
-work_is_plausible post mem (Keeping at) w f = keep_is_plausible post _ at f
+work_is_plausible post mem (Keeping at) w f = keep_is_plausible post mem at w f
 
 phase_ready : (post : Post) (desk : Desk) (clock : ℕ) (phase : Phase) → is_valid post.layout ≡ true → PhaseFits post.layout post phase → SpanIn clock post.span → PhaseEras post.layout clock post phase → PhaseIn post.layout desk phase → phase_rises phase post → phase_lists phase desk
     → IsCallReady phase post desk
 phase_ready post desk clock Idle v r p e h u n = tt
 phase_ready post desk clock (Runs why base) v r p e h u n = (base_is_ready post clock why base v r p e h.0 h.1 u, why_is_ready post why base desk h.0 n)
 phase_ready post desk clock (Scans later at) v r p e h u n = (later_ready post later h.0, scan_is_ready post desk at r h.1 n)
-phase_ready post desk clock (Works work) v r p e h u n = work_is_ready post work h
+phase_ready post desk clock (Works work) v r p e h u n = work_is_ready post clock work e h
+
+scan_is_plausible : (post : Post) (mem : Place → ℕ) (at : ScanAt) → Linked post.layout mem → scan_plausible at post (found (scan_move at post) (mem (place_in (scan_move at post))))
+scan_is_plausible post mem (ReadGuard number) w = guard_plausible post mem (scheme_of post) number refl w.told
+scan_is_plausible post mem (GiveBack place slot) w = tt
 
 phase_plausible : (post : Post) (mem : Place → ℕ) (desk : Desk) (phase : Phase) → Linked post.layout mem → phase_finds post.layout.config desk phase (found (phase_move phase post) (mem (place_in (phase_move phase post)))) → IsCallPlausible phase post (found (phase_move phase post) (mem (place_in (phase_move phase post))))
 phase_plausible post mem desk Idle w f = tt
 phase_plausible post mem desk (Runs why base) w f = base_is_plausible post mem base w
-phase_plausible post mem desk (Scans later at) w f = tt
+phase_plausible post mem desk (Scans later at) w f = scan_is_plausible post mem at w
 phase_plausible post mem desk (Works work) w f = work_is_plausible post mem work w f.0
 
 -- a seat of a table with these words

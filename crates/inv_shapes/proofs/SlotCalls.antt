@@ -29,9 +29,10 @@ use Rattle.wfe_core.specs.declared.ends.FollowEnd.TheVariants as follow_ends
 use Rattle.wfe_core.specs.declared.ends.ProtectEnd.TheVariants as protect_ends
 use Rattle.wfe_core.specs.declared.post.Post.{Post}
 use Rattle.wfe_core.specs.Desks.{Desk, Report, with_life}
-use Rattle.wfe_core.specs.Guards.{guards, guard_at, eras_in, published}
-use Rattle.wfe_core.specs.Posts.{cleared, reserves_index, stands, standing_from, withdrawn}
-use Rattle.wfe_core.specs.words.Schemes.{has_one_interval}
+use Rattle.wfe_core.specs.Guards.{guards, guard_at, published}
+use Rattle.wfe_core.specs.Posts.{cleared, publishes_index, stands, standing_from, withdrawn}
+use Rattle.wfe_core.specs.words.Schemes.{has_one_interval, publishes_rows}
+use Rattle.wfe_core.specs.words.Schemes.{moves as moves_clock}
 use Rattle.wfe_core.specs.Locals.{may_begin}
 use Rattle.wfe_core.specs.Phases.{Ending, Base}
 use Rattle.wfe_core.specs.Phases.Ending.{Done, Protected, Followed, Allocated, Retired, Clocked}
@@ -46,7 +47,7 @@ use Rattle.wfe_core.specs.Steps as steps
 use Rattle.wfe_core.specs.Calls.{Task, Gets, Changes, Holds, Enqueues, Dequeues, Again, Answering, Retiring, AfterScan, Answered, Repeated, Counted, ChangeKept, EnqueueKept, GetAt, FindVersion, FindCount, FindKey, FindValue, ChangeAt, LoadVersion, LoadCount, LoadKey, LoadValue, ExchangeRoot, EnqueueAt, LoadNumber, LoadNext, PassTail, ExchangeNext, ExchangeTail, DequeueAt, LoadTail, SwingTail, TakeNumber, TakeValue, ExchangeHead, Work, Getting, Changing, Enqueuing, Dequeuing, LetGo, Released, Rehold, Dropped, Parting, KeepAt, Loosens, LoadHeld, StoreHeld, Looks, Misses, HideSpan, MarkLeft, TakeList, MarkTaken, Keeping, ScanAt, ReadGuard, GiveBack, Why, Opens, FollowsHead, Fills, ClearsNext, Clears, Finishes, GivesUp, Retires, Tidies, Advances, Releases, Runs}
 use Rattle.inv_shapes.specs.Slots.{AllocateEndIn, ChangeIn, EndIn, EnqueueIn, FillIn, FollowEndIn, GetIn, KeptIn, CopyIn, LaterIn, ListIn, NextIn, PhaseIn, PostIn, StandsIn, TakenIn, TaskIn, TurnSlots, WhyIn, WorkIn, change_finds, enqueue_finds, get_finds, work_finds, ScanIn, scan_lists}
 use Rattle.inv_shapes.proofs.Leaving.{next_stands}
-use Rattle.inv_shapes.proofs.SlotRounds.{at_first, row_slots, withdrawn_slots, opening_slots, round_slots, closed_slots, finishing_slots, clearing_slots, clearing_next_slots}
+use Rattle.inv_shapes.proofs.SlotRounds.{at_first, row_slots, withdrawn_slots, opening_slots, round_slots, tidy_slots, closed_slots, finishing_slots, clearing_slots, clearing_next_slots}
 use Rattle.wfe_core.proofs.Facts.{if_by}
 use Rattle.wfe_core.proofs.Schemes.{each_release}
 
@@ -231,7 +232,7 @@ standing_below : (layout : Layout) (x : Option ℕ) (index : ℕ) → is_some x 
 standing_below layout None index e s = absurd (cc)
 standing_below layout (Some slot) index e s = s.1
 
-parting_index_slots : (layout : Layout) (index : ℕ) (post : Post) (desk : Desk) (x : Option ℕ) → standing_from index (drop index post.standing) ≡ x → 2 ≤ index → PostIn layout post → PhaseIn layout desk (keeps.parting_index x)
+parting_index_slots : (layout : Layout) (index : ℕ) (post : Post) (desk : Desk) (x : Option ℕ) → standing_from index (drop index post.standing) ≡ x → 2 ≤ index → PostIn layout post → PhaseIn layout desk (keeps.parting_index (publishes_rows (scheme_of post)) x)
 parting_index_slots layout index post desk None e b q = tt
 parting_index_slots layout index post desk (Some next) e b q = let n = next_stands post index next e in let f = n.from in
     (record { kept = omega arith; below = standing_below layout (stands post next) next n.stood (q next) }, tt)
@@ -298,7 +299,7 @@ keep_slots : (layout : Layout) (at : KeepAt) (post : Post) (desk : Desk) (found 
 keep_slots layout (Loosens let_go) post desk found f w q l g =
     released_slots layout let_go (withdrawn post (let_index let_go)) desk (cleared (let_index let_go) (stands post (let_index let_go))) w (withdrawn_slots layout post (let_index let_go) q) l
 keep_slots layout (LoadHeld from index) post desk found f w q l g = load_held_slots layout from index post desk found (has_one_interval (scheme_of post)) w q l
-keep_slots layout (StoreHeld from index era) post desk found f w q l g = copied_slots layout from index post desk (reserves_index post index era) (stands post from) (q from) w.below q l
+keep_slots layout (StoreHeld from index era) post desk found f w q l g = copied_slots layout from index post desk (publishes_index (publishes_rows (scheme_of post)) post index era) (stands post from) (q from) w.below q l
 keep_slots layout (Looks index key at) post desk found f w q l g = look_slots layout index key at post desk found f w.0 w.1 q l
 keep_slots layout (Misses index) post desk found f w q l g = record { post = q; list = l; phase = tt }
 keep_slots layout HideSpan post desk found f w q l g = record { post = bare_slots layout; list = l; phase = tt }
@@ -377,8 +378,9 @@ pub scan_slots : (layout : Layout) (later : AfterScan) (at : ScanAt) (post : Pos
     → ListIn layout.config.slots desk.list
     → TurnSlots layout (scan.scan_turn later at post desk found)
 scan_slots layout later (ReadGuard number) post desk found f h t q l =
-    let seen : Seen = (guard_at post.layout.config number, published (guard_at post.layout.config number) found) in
-    guard_slots layout later number post (scan.with_read desk number seen) (events.Read seen.0 (eras_in seen.0 found) ∷ []) (nat_lt (number + 1) (guards post.layout.config))
+    let rows = publishes_rows (scheme_of post) in
+    let seen : Seen = (guard_at post.layout.config number, published rows (guard_at post.layout.config number) found) in
+    guard_slots layout later number post (scan.with_read desk number seen) (scan.reads_guard rows seen.0 found ∷ []) (nat_lt (number + 1) (guards post.layout.config))
     (one_seen (scan.read_before desk.report number) seen number h) (omega arith) t q l
 scan_slots layout later (GiveBack place slot) post desk found f h t q l =
     let r = removed_in layout.config.slots desk.list place l in
@@ -455,7 +457,7 @@ followed_by_slots layout head tail (Retired life) post desk told e t q l = close
 followed_by_slots layout head tail (Clocked clock) post desk told e t q l = closed_slots layout Dequeues Again post desk told tt tt q l
 
 tidying_slots : (layout : Layout) (answer : Answer) (post : Post) (desk : Desk) (told : List Event) (due : Bool) → PostIn layout post → ListIn layout.config.slots desk.list → TurnSlots layout (steps.tidying answer post desk told due)
-tidying_slots layout answer post desk told true q l = record { post = q; list = l; phase = (tt, tt) }
+tidying_slots layout answer post desk told true q l = record { post = q; list = l; phase = tidy_slots layout (Answered answer) (moves_clock (scheme_of post)) post desk tt }
 tidying_slots layout answer post desk told false q l = record { post = q; list = l; phase = tt }
 
 retired_by_slots : (layout : Layout) (answer : Answer) (ending : Ending) (post : Post) (desk : Desk) (told : List Event) → EndIn layout.config.slots ending → PostIn layout post → ListIn layout.config.slots desk.list → TurnSlots layout (steps.retired_by answer ending post desk told)

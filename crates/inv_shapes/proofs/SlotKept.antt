@@ -16,15 +16,16 @@ use Rattle.wfe_core.specs.declared.post.Post.{Post}
 use Rattle.wfe_core.specs.Desks.{Desk, noting}
 use Rattle.wfe_core.specs.Memory.{Move, Load, Store, Cas, Or, And, place_in, change, found, written}
 use Rattle.wfe_core.specs.Posts.{counted}
-use Rattle.wfe_core.specs.Phases.{BeginAt, ProtectAt, AllocateAt, RetireAt, MoveAt, RowOf, MapRow, QueueRow, Base, Outcome, Goes, Ends}
+use Rattle.wfe_core.specs.Phases.{BeginAt, HazardAt, ProtectAt, AllocateAt, RetireAt, MoveAt, RowOf, MapRow, QueueRow, Base, Outcome, Goes, Ends}
 use Rattle.wfe_core.specs.Phases.BeginAt.{LoadLower}
-use Rattle.wfe_core.specs.Phases.ProtectAt.{LoadClock}
+use Rattle.wfe_core.specs.Phases.ProtectAt.{LoadClock, ByHazard}
+use Rattle.wfe_core.specs.Phases.HazardAt.{FirstLink}
 use Rattle.wfe_core.specs.Phases.AllocateAt.{LoadBirth, ClaimSlot, StoreLife}
 use Rattle.wfe_core.specs.Phases.RetireAt.{LoadLife}
 use Rattle.wfe_core.specs.Phases.MoveAt.{LoadEra}
 use Rattle.wfe_core.specs.Phases.Base.{Begin, Protect, Reload, Clear, Finish, Release, Allocate, Write, GiveUp, Retire, Move as Moves}
 use Rattle.wfe_core.specs.WriteRow.{row_word, first_written, last_written}
-use Rattle.wfe_core.specs.Machine.{begin_move, protect_move, allocate_move, retire_move, move_move, base_move}
+use Rattle.wfe_core.specs.Machine.{begin_move, hazard_move, protect_move, allocate_move, retire_move, move_move, base_move}
 use Rattle.wfe_core.specs.Get.{get_move}
 use Rattle.wfe_core.specs.Change.{change_move}
 use Rattle.wfe_core.specs.Enqueue.{enqueue_move}
@@ -35,6 +36,8 @@ use Rattle.wfe_core.proofs.Ranges.{bounds_of}
 use Rattle.wfe_core.specs.Steps.{resumed, work_move, phase_move, phase_turn}
 use Rattle.wfe_core.specs.Locals.{Local, move, after, settled_by, settled, told_by, rounds_told, may_begin, begun_post, begun, fresh}
 use Rattle.wfe_core.specs.Calls.{ChangeKept, EnqueueKept, GetAt, FindVersion, ChangeAt, ExchangeRoot, EnqueueAt, LoadNumber, LoadNext, PassTail, ExchangeNext, ExchangeTail, DequeueAt, LoadTail, SwingTail, TakeNumber, TakeValue, ExchangeHead, KeepAt, Loosens, LoadHeld, StoreHeld, Looks, Misses, HideSpan, MarkLeft, TakeList, MarkTaken, Work, Getting, Changing, Enqueuing, Dequeuing, Keeping, ScanAt, ReadGuard, GiveBack, Why, Phase, Idle, Runs, Scans, Works, CallTurn, CallOutcome, GoesOn, Answers}
+use Rattle.wfe_core.specs.Rounds.{scheme_of}
+use Rattle.wfe_core.specs.words.Schemes.{publishes_rows}
 use Rattle.wfe_core.specs.World.{World, first_word, start, begin, step, gift_at, offered}
 use Rattle.inv_shapes.specs.Frame.{phase_left}
 use Rattle.inv_shapes.specs.Seats.{Run, PostFits, PhaseFits, Seats}
@@ -71,8 +74,13 @@ slots_written slots mem (Or at bits) h e place = slot_by slots mem at (change (O
 slots_written slots mem (And at bits) h e place = slot_by slots mem at (change (And at bits) (mem at)) place (same place at) refl (slot_change slots (And at bits) (mem at) h (e at)) (e place)
 
 -- what each operation writes
+hazard_writes : (slots index : ℕ) (root : Root) (at : HazardAt) (post : Post) → MoveSlots slots (hazard_move index root at post)
+hazard_writes slots index root FirstLink post = tt
+hazard_writes slots index root at post = tt
+
 protect_writes : (slots index : ℕ) (root : Root) (at : ProtectAt) (post : Post) → MoveSlots slots (protect_move index root at post)
 protect_writes slots index root (LoadClock tries) post = tt
+protect_writes slots index root (ByHazard at) post = hazard_writes slots index root at post
 protect_writes slots index root at post = tt
 
 begin_writes : (slots : ℕ) (at : BeginAt) (post : Post) → MoveSlots slots (begin_move at post)
@@ -101,7 +109,7 @@ base_writes : (layout : Layout) (why : Why) (base : Base) (post : Post) → Run 
 base_writes layout why (Begin at) post r = begin_writes layout.config.slots at post
 base_writes layout why (Protect aim index root steps at) post r = protect_writes layout.config.slots index root at post
 base_writes layout why (Reload parent index slot era steps) post r = tt
-base_writes layout why (Clear index) post r = tt
+base_writes layout why (Clear rows index) post r = tt
 base_writes layout why Finish post r = tt
 base_writes layout why (Release index) post r = tt
 base_writes layout why (Allocate at) post r = allocate_writes layout.config.slots at
@@ -201,7 +209,7 @@ noting_slots layout desk told (Scans later at) h = (h.0, noting_scan layout.conf
 noting_slots layout desk told (Works work) h = h
 
 settled_slots : (layout : Layout) (l : Local) (t : CallTurn) → TurnSlots layout t → SeatSlots layout (settled l t)
-settled_slots layout l t h = settled_by_slots layout l t.post (noting t.desk (told_by t)) (rounds_told l.rounds (told_by t)) t.outcome h.post h.list (noting_slots layout t.desk (told_by t) (phase_left t.outcome) h.phase)
+settled_slots layout l t h = settled_by_slots layout l t.post (noting t.desk (told_by t)) (rounds_told (publishes_rows (scheme_of t.post)) l.rounds (told_by t)) t.outcome h.post h.list (noting_slots layout t.desk (told_by t) (phase_left t.outcome) h.phase)
 
 -- the list that a seat may take over
 offered_scan : (slots : ℕ) (desk : Desk) (gift : List Lifetime) (at : ScanAt) → ScanIn slots desk at → ScanIn slots (record desk { gift = gift }) at

@@ -4,7 +4,7 @@ use Rattle.std.proofs.lemmas.Bool.Decides.{nat_tests}
 use Rattle.std.proofs.lemmas.List.{get_or-set_same, get_or-set_other, set_past}
 use Rattle.std.specs.Prelude.{◌==◌, nat_lt}
 use Rattle.wfe_core.specs.words.declared.config.SchemeKind.{SchemeKind}
-use Rattle.wfe_core.specs.words.declared.config.SchemeKind.TheVariants.{He, Ibr, Wfe}
+use Rattle.wfe_core.specs.words.declared.config.SchemeKind.TheVariants.{He, Hp, Ibr, Wfe}
 use Rattle.wfe_core.specs.words.declared.config.Config.{Config}
 use Rattle.wfe_core.specs.words.declared.layout.Layout.{Layout}
 use Rattle.wfe_core.specs.defs.declared.call.Answer.{Answer}
@@ -14,9 +14,10 @@ use Rattle.wfe_core.specs.declared.post.Post.{Post}
 use Rattle.wfe_core.specs.Desks.{Desk}
 use Rattle.wfe_core.specs.Posts.{withdrawn}
 use Rattle.wfe_core.specs.Phases.{Base}
-use Rattle.wfe_core.specs.Rounds.{scheme_of, index_of, taken_of, begin_span, begin_base, protect_at, clear_base, clear_post, finish_base, opening, round_by, round, given_up, closed, finishing_by, finishing, clearing_by, clearing, clearing_next_by, clearing_next}
-use Rattle.wfe_core.specs.Calls.{Task, Gets, Changes, Holds, Enqueues, Dequeues, Next, Again, MakeRoom, Answering, Retiring}
-use Rattle.inv_shapes.specs.Slots.{TakenIn, TaskIn, NextIn, ProtectIn, BaseIn, PhaseIn, StandsIn, PostIn, ListIn, TurnSlots}
+use Rattle.wfe_core.specs.Rounds.{scheme_of, index_of, taken_of, begin_span, begin_base, protect_at, clear_base, clear_post, finish_base, opening, round_by, round, tidy_by, given_up, closed, finishing_by, finishing, clearing_by, clearing, clearing_next_by, clearing_next}
+use Rattle.wfe_core.specs.Calls.{AfterScan, Repeated, Task, Gets, Changes, Holds, Enqueues, Dequeues, Next, Again, MakeRoom, Answering, Retiring}
+use Rattle.wfe_core.specs.words.Schemes.{moves}
+use Rattle.inv_shapes.specs.Slots.{TakenIn, TaskIn, LaterIn, NextIn, ProtectIn, BaseIn, PhaseIn, StandsIn, PostIn, ListIn, TurnSlots}
 use Rattle.inv_shapes.proofs.Growth.{finish_is, clear_is}
 use Rattle.wfe_core.proofs.Schemes.{each_begin, each_clear_post}
 
@@ -41,6 +42,7 @@ pub at_first : (s : SchemeKind) (slots : ℕ) → ProtectIn slots (protect_at s)
 at_first He slots = tt
 at_first Ibr slots = tt
 at_first Wfe slots = tt
+at_first Hp slots = tt
 
 pub opening_slots : (layout : Layout) (task : Task) (post : Post) (desk : Desk) → TaskIn layout.config task → PhaseIn layout desk (opening task post)
 opening_slots layout (Gets key) post desk t = (t, record { root_in = tt; at_in = at_first (scheme_of post) layout.config.slots })
@@ -74,9 +76,14 @@ given_up_slots : (layout : Layout) (answer : Answer) (post : Post) (desk : Desk)
 given_up_slots layout answer post desk told None t q l = record { post = q; list = l; phase = tt }
 given_up_slots layout answer post desk told (Some slot) t q l = record { post = q; list = l; phase = (tt, t) }
 
+-- the clock is to be moved, where retirements do that, and the list to be scanned
+pub tidy_slots : (layout : Layout) (later : AfterScan) (moving : Bool) (post : Post) (desk : Desk) → LaterIn layout.config later → PhaseIn layout desk (tidy_by moving later post)
+tidy_slots layout later true post desk t = (t, tt)
+tidy_slots layout later false post desk t = (t, refl)
+
 pub closed_slots : (layout : Layout) (task : Task) (next : Next) (post : Post) (desk : Desk) (told : List Event) → TaskIn layout.config task → NextIn layout.config.slots next → PostIn layout post → ListIn layout.config.slots desk.list → TurnSlots layout (closed task next post desk told)
 closed_slots layout task Again post desk told t n q l = record { post = q; list = l; phase = round_slots layout task post desk t }
-closed_slots layout task MakeRoom post desk told t n q l = record { post = q; list = l; phase = (t, tt) }
+closed_slots layout task MakeRoom post desk told t n q l = record { post = q; list = l; phase = tidy_slots layout (Repeated task) (moves (scheme_of post)) post desk t }
 closed_slots layout task (Answering answer) post desk told t n q l = given_up_slots layout answer post desk told (taken_of task) (task_taken layout.config task t) q l
 closed_slots layout task (Retiring slot answer) post desk told t n q l = record { post = q; list = l; phase = (tt, n) }
 

@@ -1,7 +1,7 @@
 -- Each step inside a machine keeps slots and links within the table.
 use Rattle.std.proofs.Common.{ℕ, ◌≡◌, ◌≤◌, ◌<◌, ◌+◌, ◌-◌, Bool, true, false, List, Option, Some, None, refl, sym, subst, arith}
 use Rattle.std.proofs.lemmas.Bool.Decides.{nat_tests}
-use Rattle.std.specs.Prelude.{◌==◌, nat_lt, nat_le, if◌then◌else◌}
+use Rattle.std.specs.Prelude.{◌==◌, ◌||◌, nat_lt, nat_le, if◌then◌else◌}
 use Rattle.wfe_core.specs.words.Place.{Place}
 use Rattle.wfe_core.specs.words.Place.Place.{Clock, Head, Index, Request as RequestOf}
 use Rattle.wfe_core.specs.words.Packed.{read_request, read_reservation, reservation_word}
@@ -18,9 +18,10 @@ use Rattle.wfe_core.specs.Memory.{place_in, found, bump}
 use Rattle.wfe_core.specs.Links.{link_place, parent_of, root_at}
 use Rattle.wfe_core.specs.Posts.{with_row, with_tag, tag_of, upper}
 use Rattle.wfe_core.proofs.Ranges.{bounds_of}
-use Rattle.wfe_core.specs.Phases.{Aim, Alone, Follows, Tries, Endless, Failed, BeginAt, ProtectAt, Walk, AllocateAt, RetireAt, MoveAt, Base, Turn}
+use Rattle.wfe_core.specs.Phases.{Aim, Alone, Follows, Tries, Endless, Failed, BeginAt, HazardAt, ProtectAt, Walk, AllocateAt, RetireAt, MoveAt, Base, Turn}
 use Rattle.wfe_core.specs.Phases.BeginAt.{LoadLower, PublishSpan}
-use Rattle.wfe_core.specs.Phases.ProtectAt.{LoadClock, PublishEra, LoadLink, CheckClock, PublishRequest, LoadOwnClock, PublishHelper, LoadOwnLink, CheckOwnClock, AnswerOwn, LoadAnswer, TakeAnswer, WithdrawRequest, WithdrawHelper, LoadWithin, CheckUpper, RaiseUpper}
+use Rattle.wfe_core.specs.Phases.ProtectAt.{LoadClock, PublishEra, LoadLink, CheckClock, PublishRequest, LoadOwnClock, PublishHelper, LoadOwnLink, CheckOwnClock, AnswerOwn, LoadAnswer, TakeAnswer, WithdrawRequest, WithdrawHelper, LoadWithin, CheckUpper, RaiseUpper, ByHazard}
+use Rattle.wfe_core.specs.Phases.HazardAt.{FirstLink, PublishLink, CheckLink}
 use Rattle.wfe_core.specs.Phases.AllocateAt.{LoadBirth, ClaimSlot, StoreLife}
 use Rattle.wfe_core.specs.Phases.RetireAt.{LoadLife, LoadRetire, StoreRetired}
 use Rattle.wfe_core.specs.Phases.MoveAt.{LoadEra, LoadRequest, ShowEra, LoadAsked, CheckEra, AnswerAsked, LoadReserved, HandOver, HideEra, HideLate, ExchangeClock}
@@ -30,11 +31,11 @@ use Rattle.wfe_core.specs.SlowPath.{own_request, answer_in, lost_turn, asking}
 use Rattle.wfe_core.specs.Allocate.{is_claimed, walk_past, walking}
 use Rattle.wfe_core.specs.WriteRow.{last_written}
 use Rattle.wfe_core.specs.MoveClock.{after_hand_over, all_met, next_request, helping, met, moving}
-use Rattle.wfe_core.specs.Machine.{protect_move, move_move, base_move, after, begin_turn, protect_turn, allocate_turn, retire_turn, move_turn}
+use Rattle.wfe_core.specs.Machine.{hazard_move, protect_move, move_move, base_move, after, begin_turn, hazard_turn, protect_turn, allocate_turn, retire_turn, move_turn}
 use Rattle.wfe_core.specs.Calls.{Why}
 use Rattle.inv_shapes.specs.Seats.{Run, index_by, kind_of, protects}
 use Rattle.inv_shapes.specs.Eras.{RootNeeds, AskingIn}
-use Rattle.inv_shapes.specs.Slots.{ProtectIn, ProtectsIn, RetireIn, MovesIn, BaseIn, ProtectEndIn, PostIn, MachineSlots, WordSlots}
+use Rattle.inv_shapes.specs.Slots.{HazardIn, ProtectIn, ProtectsIn, RetireIn, MovesIn, BaseIn, ProtectEndIn, PostIn, MachineSlots, WordSlots}
 use Rattle.inv_shapes.proofs.Finds.{request_read}
 use Rattle.inv_shapes.proofs.Machines.{post_if}
 use Rattle.inv_shapes.proofs.Steps.{Told}
@@ -50,6 +51,14 @@ pub record Linked (layout : Layout) (mem : Place → ℕ) : Type 0 where
 slots_if : (layout : Layout) (c : Bool) (t u : Turn) → MachineSlots layout t → MachineSlots layout u → MachineSlots layout (if c then t else u)
 slots_if layout true t u h g = h
 slots_if layout false t u h g = g
+
+machine_if : (layout : Layout) (c : Bool) (t u : Turn) → (c ≡ true → MachineSlots layout t) → (c ≡ false → MachineSlots layout u) → MachineSlots layout (if c then t else u)
+machine_if layout true t u h g = h refl
+machine_if layout false t u h g = g refl
+
+some_link : (link : ℕ) (same : Bool) → (same || link == 0) ≡ false → 1 ≤ link
+some_link link true e = absurd (cc)
+some_link link false e = grind (arith, nat_tests)
 
 -- what a root leads to
 pub link_found : (slots word : ℕ) (root : Root) → WordSlots slots (link_place root) word → word ≤ slots + 1
@@ -104,6 +113,18 @@ answer_slots : (layout : Layout) (mem : Place → ℕ) (seat : ℕ) → Told lay
 answer_slots layout mem seat w = let r = w.words (RequestOf seat) in
     subst (λ (x : Option Request). ProtectIn layout.config.slots (answer_in x)) (sym (request_read layout (mem Clock) (mem (RequestOf seat)) w.valid w.most r)) (answered_slots layout (mem Clock) r.request r.fits)
 
+hazard_slots : (layout : Layout) (mem : Place → ℕ) → Linked layout mem → (index : ℕ) → index < layout.config.indexes → (aim : Aim) (root : Root) (m : ℕ) (at : HazardAt) (post : Post) → RootNeeds layout root → HazardIn layout.config.slots at → PostIn layout post
+    → MachineSlots layout (hazard_turn aim index root m at post (found (hazard_move index root at post) (mem (place_in (hazard_move index root at post)))))
+hazard_slots layout mem w index i aim root m FirstLink post d e q = let link = mem (link_place root) in let l = link_found layout.config.slots link root (w.links (link_place root)) in
+    machine_if layout (link == 0) _ _
+    (λ t. concluded_slots layout aim index root m link 0 (held_post post index root link) (told_held index root link m) l d (held_slots layout post index root link l i q))
+    (λ t. record { post = q; outcome = record { root_in = d; at_in = (grind (arith, nat_tests), l) } })
+hazard_slots layout mem w index i aim root m (PublishLink link) post d e q = record { post = q; outcome = record { root_in = d; at_in = e } }
+hazard_slots layout mem w index i aim root m (CheckLink old) post d e q = let link = mem (link_place root) in let l = link_found layout.config.slots link root (w.links (link_place root)) in
+    machine_if layout (link == old || link == 0) _ _
+    (λ t. concluded_slots layout aim index root m link 0 (held_post post index root link) (told_held index root link m) l d (held_slots layout post index root link l i q))
+    (λ t. record { post = q; outcome = record { root_in = d; at_in = (some_link link (link == old) t, l) } })
+
 protect_slots : (layout : Layout) (mem : Place → ℕ) → Linked layout mem → (index : ℕ) → index < layout.config.indexes → (aim : Aim) (root : Root) (n m : ℕ) (at : ProtectAt) (post : Post) → ProtectsIn layout root at → PostIn layout post
     → MachineSlots layout (protect_turn aim index root m at post (found (protect_move index root at post) (mem (place_in (protect_move index root at post)))))
 protect_slots layout mem w index i aim root n m (LoadClock tries) post e q = record { post = q; outcome = record { root_in = e.root_in; at_in = tt } }
@@ -134,6 +155,7 @@ protect_slots layout mem w index i aim root n m (CheckUpper link) post e q =
     (concluded_slots layout aim index root m link (mem Clock) (held_post post index root link) (told_held index root link m) e.at_in e.root_in (held_slots layout post index root link e.at_in i q))
     (record { post = q; outcome = record { root_in = e.root_in; at_in = tt } })
 protect_slots layout mem w index i aim root n m (RaiseUpper era) post e q = record { post = q; outcome = record { root_in = e.root_in; at_in = tt } }
+protect_slots layout mem w index i aim root n m (ByHazard at) post e q = hazard_slots layout mem w index i aim root m at post e.root_in e.at_in q
 
 begin_slots : (layout : Layout) (at : BeginAt) (post : Post) (found : ℕ) → PostIn layout post → MachineSlots layout (begin_turn at post found)
 begin_slots layout LoadLower post found q = record { post = q; outcome = tt }
@@ -212,7 +234,7 @@ machine_slots layout mem w why (Protect aim index root steps at) post r e q = le
     protect_slots layout mem w index (few_index layout why index b.indexes.0 r.suited r.shape.at) aim root steps (bump steps) at post e q
 machine_slots layout mem w why (Reload parent index slot era steps) post r e q = let b = bounds_of layout w.told.valid in
     slots_if layout (mem Head == parent + 1) _ _ (record { post = row_slots layout post index slot e.1 (few_index layout why index b.indexes.0 (reloads_protect (kind_of why) r.suited) r.shape.at) q; outcome = e.1 }) (record { post = q; outcome = tt })
-machine_slots layout mem w why (Clear index) post r e q = record { post = withdrawn_slots layout post index q; outcome = tt }
+machine_slots layout mem w why (Clear rows index) post r e q = record { post = withdrawn_slots layout post index q; outcome = tt }
 machine_slots layout mem w why Finish post r e q = record { post = q; outcome = tt }
 machine_slots layout mem w why (Release index) post r e q = record { post = withdrawn_slots layout post index q; outcome = tt }
 machine_slots layout mem w why (Allocate at) post r e q = allocate_slots layout why at post _ r q

@@ -8,14 +8,15 @@ use Rattle.wfe_core.specs.defs.declared.event.Root.{Root}
 use Rattle.wfe_core.specs.declared.post.Post.{Post}
 use Rattle.wfe_core.specs.Memory.{written, put}
 use Rattle.wfe_core.specs.Posts.{withdrawn_all}
-use Rattle.wfe_core.specs.Phases.{BeginAt, ProtectAt, AllocateAt, RetireAt, MoveAt, Base}
+use Rattle.wfe_core.specs.Phases.{BeginAt, HazardAt, ProtectAt, AllocateAt, RetireAt, MoveAt, Base}
 use Rattle.wfe_core.specs.Phases.BeginAt.{LoadLower, PublishSpan}
-use Rattle.wfe_core.specs.Phases.ProtectAt.{RaiseUpper}
+use Rattle.wfe_core.specs.Phases.ProtectAt.{RaiseUpper, ByHazard}
+use Rattle.wfe_core.specs.Phases.HazardAt.{FirstLink}
 use Rattle.wfe_core.specs.Phases.AllocateAt.{LoadBirth}
 use Rattle.wfe_core.specs.Phases.RetireAt.{LoadLife}
 use Rattle.wfe_core.specs.Phases.MoveAt.{LoadEra}
 use Rattle.wfe_core.specs.Phases.Base.{Begin, Protect, Reload, Clear, Finish, Release, Allocate, Write, GiveUp, Retire, Move as Moves}
-use Rattle.wfe_core.specs.Machine.{begin_move, protect_move, allocate_move, retire_move, move_move, base_move}
+use Rattle.wfe_core.specs.Machine.{begin_move, hazard_move, protect_move, allocate_move, retire_move, move_move, base_move}
 use Rattle.wfe_core.specs.Get.{get_move}
 use Rattle.wfe_core.specs.Change.{change_move}
 use Rattle.wfe_core.specs.Enqueue.{enqueue_move}
@@ -37,8 +38,13 @@ begin_span : (mem : Place → ℕ) (k : ℕ) (at : BeginAt) (post : Post) → (k
 begin_span mem k LoadLower post e = refl
 begin_span mem k (PublishSpan era) post e = other_span mem post.seat k _ e
 
+hazard_span : (mem : Place → ℕ) (k index : ℕ) (root : Root) (at : HazardAt) (post : Post) → written mem (hazard_move index root at post) (Interval k) ≡ mem (Interval k)
+hazard_span mem k index root FirstLink post = refl
+hazard_span mem k index root at post = refl
+
 protect_span : (mem : Place → ℕ) (k index : ℕ) (root : Root) (at : ProtectAt) (post : Post) → (k == post.seat) ≡ false → written mem (protect_move index root at post) (Interval k) ≡ mem (Interval k)
 protect_span mem k index root (RaiseUpper era) post e = other_span mem post.seat k _ e
+protect_span mem k index root (ByHazard at) post e = hazard_span mem k index root at post
 protect_span mem k index root at post e = refl
 
 allocate_span : (mem : Place → ℕ) (k : ℕ) (at : AllocateAt) → written mem (allocate_move at) (Interval k) ≡ mem (Interval k)
@@ -57,7 +63,7 @@ base_span : (mem : Place → ℕ) (k : ℕ) (base : Base) (post : Post) → (k =
 base_span mem k (Begin at) post e = begin_span mem k at post e
 base_span mem k (Protect aim index root steps at) post e = protect_span mem k index root at post e
 base_span mem k (Reload parent index slot era steps) post e = refl
-base_span mem k (Clear index) post e = refl
+base_span mem k (Clear rows index) post e = refl
 base_span mem k Finish post e = other_span mem post.seat k 0 e
 base_span mem k (Release index) post e = other_span mem post.seat k 0 e
 base_span mem k (Allocate at) post e = allocate_span mem k at

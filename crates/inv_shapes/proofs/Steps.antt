@@ -1,7 +1,7 @@
 -- Each step inside a machine keeps the eras of its seat at most the clock.
 use Rattle.std.proofs.Common.{ℕ, ◌≡◌, ◌≤◌, ◌+◌, Bool, true, false, Option, Some, None, ap, sym, subst, arith}
 use Rattle.std.proofs.lemmas.Bool.Decides.{nat_tests}
-use Rattle.std.specs.Prelude.{◌==◌, nat_lt, nat_le, if◌then◌else◌, is_some}
+use Rattle.std.specs.Prelude.{◌==◌, ◌||◌, nat_lt, nat_le, if◌then◌else◌, is_some}
 use Rattle.wfe_core.specs.words.Place.{Place, has, is_valid, claim_word}
 use Rattle.wfe_core.specs.words.Place.Place.{Clock, Head, Claim, Index, Interval, Life, Request as RequestOf}
 use Rattle.wfe_core.specs.words.Packed.{read_request, read_reservation, reservation_word}
@@ -20,9 +20,10 @@ use Rattle.wfe_core.proofs.Roots.{root_at_link}
 use Rattle.wfe_core.specs.Posts.{with_row, with_tag, tag_of, withdrawn, lower, upper}
 use Rattle.wfe_core.proofs.Ranges.{bounds_of}
 use Rattle.wfe_core.specs.Rounds.{scheme_of}
-use Rattle.wfe_core.specs.Phases.{Aim, Tries, Endless, Failed, BeginAt, ProtectAt, Walk, AllocateAt, RetireAt, MoveAt, RowOf, Base}
+use Rattle.wfe_core.specs.Phases.{Aim, Tries, Endless, Failed, BeginAt, HazardAt, ProtectAt, Walk, AllocateAt, RetireAt, MoveAt, RowOf, Base}
 use Rattle.wfe_core.specs.Phases.BeginAt.{LoadLower, PublishSpan}
-use Rattle.wfe_core.specs.Phases.ProtectAt.{LoadClock, PublishEra, LoadLink, CheckClock, PublishRequest, LoadOwnClock, PublishHelper, LoadOwnLink, CheckOwnClock, AnswerOwn, LoadAnswer, TakeAnswer, WithdrawRequest, WithdrawHelper, LoadWithin, CheckUpper, RaiseUpper}
+use Rattle.wfe_core.specs.Phases.ProtectAt.{LoadClock, PublishEra, LoadLink, CheckClock, PublishRequest, LoadOwnClock, PublishHelper, LoadOwnLink, CheckOwnClock, AnswerOwn, LoadAnswer, TakeAnswer, WithdrawRequest, WithdrawHelper, LoadWithin, CheckUpper, RaiseUpper, ByHazard}
+use Rattle.wfe_core.specs.Phases.HazardAt.{FirstLink, PublishLink, CheckLink}
 use Rattle.wfe_core.specs.Phases.AllocateAt.{LoadBirth, ClaimSlot, StoreLife}
 use Rattle.wfe_core.specs.Phases.RetireAt.{LoadLife, LoadRetire, StoreRetired}
 use Rattle.wfe_core.specs.Phases.MoveAt.{LoadEra, LoadRequest, ShowEra, LoadAsked, CheckEra, AnswerAsked, LoadReserved, HandOver, HideEra, HideLate, ExchangeClock}
@@ -33,16 +34,18 @@ use Rattle.wfe_core.specs.Spans.{eras_word}
 use Rattle.wfe_core.specs.Allocate.{is_claimed, next_slot, walk_past, walking}
 use Rattle.wfe_core.specs.WriteRow.{last_written, after_write}
 use Rattle.wfe_core.specs.MoveClock.{after_hand_over, all_met, next_request, helping, met, moving}
-use Rattle.wfe_core.specs.Machine.{begin_move, protect_move, allocate_move, retire_move, move_move, base_move, after, begin_turn, protect_turn, allocate_turn, retire_turn, move_turn}
+use Rattle.wfe_core.specs.Machine.{begin_move, hazard_move, protect_move, allocate_move, retire_move, move_move, base_move, after, begin_turn, hazard_turn, protect_turn, allocate_turn, retire_turn, move_turn}
 use Rattle.wfe_core.specs.Calls.{Why}
-use Rattle.wfe_core.specs.words.Schemes.{has_one_interval}
+use Rattle.wfe_core.specs.words.Schemes.{has_one_interval, publishes_rows}
 use Rattle.inv_shapes.specs.Frame.{StepsOn}
-use Rattle.inv_shapes.specs.Seats.{Run}
+use Rattle.inv_shapes.specs.Seats.{Run, move_fits}
 use Rattle.inv_shapes.specs.Eras.{EraIn, SpanIn, AskIn, AskedIn, AskingIn, RequestIn, WordIn, TurnIn, MoverIn, HelpsIn, protect_eras, begin_eras, allocate_eras, retire_eras, retire_needs, move_eras, base_eras, base_needs, PhaseEras, PostEras}
 use Rattle.inv_shapes.proofs.Finds.{request_read, index_read, birth_read}
 use Rattle.inv_shapes.proofs.Inside.{row_fits, tag_fits, span_fits, withdrawn_fits, walks_of, next_in}
 use Rattle.inv_shapes.proofs.Machines.{steps_if, held_post_keeps, concluded_steps}
 use Rattle.inv_shapes.proofs.Spans.{own_span}
+use Rattle.inv_shapes.proofs.Indexes.{shown_eras}
+use Rattle.inv_shapes.proofs.Tries.{helps_plain}
 
 -- the words that a step finds
 pub record Told (layout : Layout) (mem : Place → ℕ) : Type 0 where
@@ -97,6 +100,18 @@ answered_eras layout c post (requests.Answered link era) a = a.era_in.most
 answer_eras : (layout : Layout) (c word : ℕ) (post : Post) → is_valid layout ≡ true → c ≤ layout.config.last_era → RequestIn layout c word → protect_eras c post (answer_in (read_request word))
 answer_eras layout c word post v m r = subst (λ (x : Option Request). protect_eras c post (answer_in x)) (sym (request_read layout c word v m r)) (answered_eras layout c post r.request r.fits)
 
+hazard_steps : (layout : Layout) (k : ℕ) (mem : Place → ℕ) (why : Why) (aim : Aim) (index : ℕ) (root : Root) (m : ℕ) (at : HazardAt) (post : Post) → PostEras layout k (mem Clock) (mem (Interval k)) post
+    → StepsOn (PostEras layout k (mem Clock) (written mem (hazard_move index root at post) (Interval k))) (PhaseEras layout (mem Clock)) why (hazard_turn aim index root m at post (found (hazard_move index root at post) (mem (place_in (hazard_move index root at post)))))
+hazard_steps layout k mem why aim index root m FirstLink post q = let link = mem (link_place root) in
+    steps_if why (link == 0) _ _
+    (λ t. concluded_steps why aim index root m link 0 (held_post post index root link) (told_held index root link m) (held_keeps layout k (mem Clock) (mem (Interval k)) post index root link q) (λ u. omega arith))
+    (λ t. record { post = q; phase = tt })
+hazard_steps layout k mem why aim index root m (PublishLink link) post q = record { post = q; phase = tt }
+hazard_steps layout k mem why aim index root m (CheckLink old) post q = let link = mem (link_place root) in
+    steps_if why (link == old || link == 0) _ _
+    (λ t. concluded_steps why aim index root m link 0 (held_post post index root link) (told_held index root link m) (held_keeps layout k (mem Clock) (mem (Interval k)) post index root link q) (λ u. omega arith))
+    (λ t. record { post = q; phase = tt })
+
 protect_steps : (layout : Layout) (k : ℕ) (mem : Place → ℕ) → Told layout mem → (why : Why) (aim : Aim) (index : ℕ) (root : Root) (n m : ℕ) (at : ProtectAt) (post : Post)
     → PostEras layout k (mem Clock) (mem (Interval k)) post → Run layout why (Protect aim index root n at) post → protect_eras (mem Clock) post at
     → StepsOn (PostEras layout k (mem Clock) (written mem (protect_move index root at post) (Interval k))) (PhaseEras layout (mem Clock)) why (protect_turn aim index root m at post (found (protect_move index root at post) (mem (place_in (protect_move index root at post)))))
@@ -139,6 +154,7 @@ protect_steps layout k mem w why aim index root n m (RaiseUpper era) post q r e 
       };
       phase = tt;
     }
+protect_steps layout k mem w why aim index root n m (ByHazard at) post q r e = hazard_steps layout k mem why aim index root m at post q
 
 begin_steps : (layout : Layout) (k : ℕ) (mem : Place → ℕ) → Told layout mem → (why : Why) (at : BeginAt) (post : Post)
     → PostEras layout k (mem Clock) (mem (Interval k)) post → begin_eras (mem Clock) at
@@ -225,9 +241,9 @@ handed_steps layout k c word why era seat tag index old post true q e = record {
 handed_steps layout k c word why era seat tag index old post false q e = record { post = q; phase = next_eras layout c post era seat true e }
 
 move_steps : (layout : Layout) (k : ℕ) (mem : Place → ℕ) → Told layout mem → (why : Why) (at : MoveAt) (post : Post)
-    → PostEras layout k (mem Clock) (mem (Interval k)) post → move_eras layout (mem Clock) at
+    → PostEras layout k (mem Clock) (mem (Interval k)) post → move_fits layout.config.scheme layout.config.seats at ≡ true → move_eras layout (mem Clock) at
     → StepsOn (PostEras layout k (mem Clock) (written mem (move_move at post) (Interval k))) (PhaseEras layout (mem Clock)) why (move_turn at post (found (move_move at post) (mem (place_in (move_move at post)))))
-move_steps layout k mem w why (LoadEra helps) post q e =
+move_steps layout k mem w why (LoadEra helps) post q g e =
     steps_if why (mem Clock == post.layout.config.last_era) _ _
     (λ t. record { post = q; phase = tt })
     (λ t. record {
@@ -238,23 +254,23 @@ move_steps layout k mem w why (LoadEra helps) post q e =
             let s : (mem Clock == layout.config.last_era) ≡ false = subst (λ (x : Layout). (mem Clock == x.config.last_era) ≡ false) q.fits.layout t in let m = w.most in grind (arith, nat_tests);
       });
     })
-move_steps layout k mem w why (LoadRequest era seat shows) post q e =
+move_steps layout k mem w why (LoadRequest era seat shows) post q g e =
     record { post = q; phase = met_eras layout (mem Clock) (mem (RequestOf seat)) post era seat shows w.valid w.most q.fits.layout (w.words (RequestOf seat)) e }
-move_steps layout k mem w why (ShowEra era seat tag index root) post q e = record { post = q; phase = e }
-move_steps layout k mem w why (LoadAsked era seat tag index root) post q e = record { post = q; phase = e }
-move_steps layout k mem w why (CheckEra era seat tag index root link) post q e =
+move_steps layout k mem w why (ShowEra era seat tag index root) post q g e = record { post = q; phase = e }
+move_steps layout k mem w why (LoadAsked era seat tag index root) post q g e = record { post = q; phase = e }
+move_steps layout k mem w why (CheckEra era seat tag index root link) post q g e =
     steps_if why (mem Clock == era) _ _ (λ t. record { post = q; phase = e }) (λ t. record { post = q; phase = now_in w })
-move_steps layout k mem w why (AnswerAsked era seat tag index root link) post q e =
+move_steps layout k mem w why (AnswerAsked era seat tag index root link) post q g e =
     steps_if why (mem (RequestOf seat) == asking post.layout tag index root) _ _ (λ t. record { post = q; phase = e }) (λ t. record { post = q; phase = next_eras layout (mem Clock) post era seat true e.mover })
-move_steps layout k mem w why (LoadReserved era seat tag index root link) post q e =
+move_steps layout k mem w why (LoadReserved era seat tag index root link) post q g e =
     steps_if why ((read_reservation (mem (Index seat index))).tag == tag) _ _
-    (λ t. record { post = q; phase = record { helps = e; before = let x = w.words (Index seat index) in subst (λ (y : ℕ). y ≤ mem Clock) (sym (ap (λ (r : Reservation). r.era) (index_read (mem Clock) (mem (Index seat index)) x))) x.most } })
+    (λ t. record { post = q; phase = record { helps = e; before = let x = shown_eras (publishes_rows layout.config.scheme) layout (mem Clock) (mem (Index seat index)) (helps_plain layout.config.scheme (nat_lt seat layout.config.seats) g) (w.words (Index seat index)) in subst (λ (y : ℕ). y ≤ mem Clock) (sym (ap (λ (r : Reservation). r.era) (index_read (mem Clock) (mem (Index seat index)) x))) x.most } })
     (λ t. record { post = q; phase = next_eras layout (mem Clock) post era seat true e.mover })
-move_steps layout k mem w why (HandOver era seat tag index root link old) post q e =
+move_steps layout k mem w why (HandOver era seat tag index root link old) post q g e =
     handed_steps layout k (mem Clock) (mem (Interval k)) why era seat tag index old post (mem (Index seat index) == reservation_word (record { era = old; tag = tag })) q e.helps.mover
-move_steps layout k mem w why (HideEra era) post q e = record { post = q; phase = e }
-move_steps layout k mem w why (HideLate seen) post q e = record { post = q; phase = tt }
-move_steps layout k mem w why (ExchangeClock era) post q e =
+move_steps layout k mem w why (HideEra era) post q g e = record { post = q; phase = e }
+move_steps layout k mem w why (HideLate seen) post q g e = record { post = q; phase = tt }
+move_steps layout k mem w why (ExchangeClock era) post q g e =
     steps_if why (mem Clock == era) _ _ (λ t. record { post = q; phase = tt }) (λ t. record { post = q; phase = tt })
 
 write_steps : (layout : Layout) (k c word : ℕ) (why : Why) (slot : ℕ) (row : RowOf) (place : ℕ) (post : Post) → PostEras layout k c word post → StepsOn (PostEras layout k c word) (PhaseEras layout c) why (after_write slot row place post)
@@ -268,7 +284,7 @@ era_steps layout k mem w why (Begin at) post q r e d = begin_steps layout k mem 
 era_steps layout k mem w why (Protect aim index root steps at) post q r e d = protect_steps layout k mem w why aim index root steps (bump steps) at post q r e
 era_steps layout k mem w why (Reload parent index slot era steps) post q r e d =
     steps_if why (mem Head == parent + 1) _ _ (λ t. record { post = row_keeps layout k (mem Clock) (mem (Interval k)) post index slot q; phase = tt }) (λ t. record { post = q; phase = tt })
-era_steps layout k mem w why (Clear index) post q r e d = record { post = withdrawn_keeps layout k (mem Clock) (mem (Interval k)) post index q; phase = tt }
+era_steps layout k mem w why (Clear rows index) post q r e d = record { post = withdrawn_keeps layout k (mem Clock) (mem (Interval k)) post index q; phase = tt }
 era_steps layout k mem w why Finish post q r e d = record { post = record { fits = span_fits layout k post None q.fits; span = tt; shown = own_span mem post.seat k 0 q.fits.seat }; phase = tt }
 era_steps layout k mem w why (Release index) post q r e d =
     record { post = record { fits = span_fits layout k (withdrawn post index) None (withdrawn_fits layout k post index q.fits); span = tt; shown = own_span mem post.seat k 0 q.fits.seat }; phase = tt }
@@ -276,4 +292,4 @@ era_steps layout k mem w why (Allocate at) post q r e d = allocate_steps layout 
 era_steps layout k mem w why (Write slot row place) post q r e d = write_steps layout k (mem Clock) (mem (Interval k)) why slot row place post q
 era_steps layout k mem w why (GiveUp slot) post q r e d = record { post = q; phase = tt }
 era_steps layout k mem w why (Retire at) post q r e d = retire_steps layout k mem w why at post q e d
-era_steps layout k mem w why (Move at) post q r e d = move_steps layout k mem w why at post q e
+era_steps layout k mem w why (Move at) post q r e d = move_steps layout k mem w why at post q r.fits e

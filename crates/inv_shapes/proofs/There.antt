@@ -6,7 +6,7 @@ use Rattle.std.specs.Prelude.{◌&&◌, nat_lt, nat_le, if◌then◌else◌}
 use Rattle.wfe_core.specs.words.Place.{has, is_valid, claim_word}
 use Rattle.wfe_core.specs.words.Place.Place.{Clock, Index, Bucket, Claim, Life, Row}
 use Rattle.wfe_core.specs.words.declared.config.SchemeKind.{SchemeKind}
-use Rattle.wfe_core.specs.words.declared.config.SchemeKind.TheVariants.{He, Ibr, Wfe}
+use Rattle.wfe_core.specs.words.declared.config.SchemeKind.TheVariants.{He, Hp, Ibr, Wfe}
 use Rattle.wfe_core.specs.words.declared.layout.Layout.{Layout}
 use Rattle.wfe_core.specs.defs.declared.event.Guard.{Guard}
 use Rattle.wfe_core.specs.defs.declared.event.Guard.TheVariants as guard_names
@@ -21,7 +21,8 @@ use Rattle.wfe_core.specs.Rounds.{key_of, scheme_of}
 use Rattle.wfe_core.specs.WriteRow.{first_written, last_written}
 use Rattle.wfe_core.specs.Phases.{Aim, BeginAt, ProtectAt, AllocateAt, RetireAt, MoveAt, RowOf, MapRow, QueueRow, Base}
 use Rattle.wfe_core.specs.Phases.BeginAt.{LoadLower, PublishSpan}
-use Rattle.wfe_core.specs.Phases.ProtectAt.{LoadClock, PublishEra, LoadLink, CheckClock, PublishRequest, LoadOwnClock, PublishHelper, LoadOwnLink, CheckOwnClock, AnswerOwn, LoadAnswer, TakeAnswer, WithdrawRequest, WithdrawHelper, LoadWithin, CheckUpper, RaiseUpper}
+use Rattle.wfe_core.specs.Phases.ProtectAt.{LoadClock, PublishEra, LoadLink, CheckClock, PublishRequest, LoadOwnClock, PublishHelper, LoadOwnLink, CheckOwnClock, AnswerOwn, LoadAnswer, TakeAnswer, WithdrawRequest, WithdrawHelper, LoadWithin, CheckUpper, RaiseUpper, ByHazard}
+use Rattle.wfe_core.specs.Phases.HazardAt.{FirstLink, PublishLink, CheckLink}
 use Rattle.wfe_core.specs.Phases.AllocateAt.{LoadBirth, ClaimSlot, StoreLife}
 use Rattle.wfe_core.specs.Phases.RetireAt.{LoadLife, LoadRetire, StoreRetired}
 use Rattle.wfe_core.specs.Phases.MoveAt.{LoadEra, LoadRequest, ShowEra, LoadAsked, CheckEra, AnswerAsked, LoadReserved, HandOver, HideEra, HideLate, ExchangeClock}
@@ -97,6 +98,9 @@ protect_there layout why aim index root n at post s r y d = by at
     by LoadWithin = link
     by (CheckUpper found) = refl
     by (RaiseUpper era) = here
+    by (ByHazard FirstLink) = link
+    by (ByHazard (PublishLink found)) = own
+    by (ByHazard (CheckLink found)) = link
 
 begin_there : (layout : Layout) (at : BeginAt) (post : Post) → Seated layout post → has layout (place_in (begin_move at post)) ≡ true
 begin_there layout LoadLower post s = refl
@@ -137,7 +141,7 @@ base_there : (layout : Layout) (clock : ℕ) (why : Why) (base : Base) (post : P
 base_there layout clock why (Begin at) post s r e y h = begin_there layout at post s
 base_there layout clock why (Protect aim index root steps at) post s r e y h = protect_there layout why aim index root steps at post s r y h.root_in
 base_there layout clock why (Reload parent index slot era steps) post s r e y h = refl
-base_there layout clock why (Clear index) post s r e y h = index_there layout post.seat index s.below (index_below layout why index s.valid y r.shape)
+base_there layout clock why (Clear rows index) post s r e y h = index_there layout post.seat index s.below (index_below layout why index s.valid y r.shape)
 base_there layout clock why Finish post s r e y h = lt_test post.seat layout.config.seats s.below
 base_there layout clock why (Release index) post s r e y h = lt_test post.seat layout.config.seats s.below
 base_there layout clock why (Allocate at) post s r e y h = allocate_there layout at r.fits
@@ -153,6 +157,7 @@ index_at_there layout k b h = index_there layout (k / layout.config.indexes) (k 
 guard_there : (layout : Layout) (k : ℕ) (s : SchemeKind) → 1 ≤ layout.config.indexes → k < guards_by s layout.config → has layout (guard_place (guard_by s layout.config k)) ≡ true
 guard_there layout k He b h = index_at_there layout k b h
 guard_there layout k Ibr b h = lt_test k layout.config.seats h
+guard_there layout k Hp b h = index_at_there layout k b h
 guard_there layout k Wfe b h = by (nat_lt k layout.config.seats) refl
   where
     by : (x : Bool) → nat_lt k layout.config.seats ≡ x → has layout (guard_place (if x then guard_names.Helper k else index_at layout.config (k - layout.config.seats))) ≡ true

@@ -18,12 +18,12 @@ use Rattle.wfe_core.specs.declared.ends.FollowEnd.TheVariants as follow_ends
 use Rattle.wfe_core.specs.declared.ends.ProtectEnd.TheVariants as protect_ends
 use Rattle.wfe_core.specs.declared.post.Post.{Post}
 use Rattle.wfe_core.specs.Desks.{Desk, with_life}
-use Rattle.wfe_core.specs.Guards.{guards, guard_at, eras_in, published}
-use Rattle.wfe_core.specs.Posts.{cleared, reserves_index, stands, with_row, withdrawn, withdrawn_all}
+use Rattle.wfe_core.specs.Guards.{guards, guard_at, published}
+use Rattle.wfe_core.specs.Posts.{cleared, publishes_index, stands, with_row, withdrawn, withdrawn_all}
 use Rattle.wfe_core.specs.Phases.{Ending}
 use Rattle.wfe_core.specs.Phases.Ending.{Done, Protected, Followed, Allocated, Retired, Clocked}
 use Rattle.wfe_core.specs.Rounds.{bucket_of, let_index, scheme_of}
-use Rattle.wfe_core.specs.words.Schemes.{has_one_interval}
+use Rattle.wfe_core.specs.words.Schemes.{has_one_interval, publishes_rows}
 use Rattle.wfe_core.specs.Get as gets
 use Rattle.wfe_core.specs.Change as alters
 use Rattle.wfe_core.specs.Enqueue as enqueues
@@ -33,7 +33,7 @@ use Rattle.wfe_core.specs.Scan as scan
 use Rattle.wfe_core.specs.Steps as steps
 use Rattle.wfe_core.specs.Calls.{Task, Gets, Changes, Holds, Enqueues, Dequeues, Again, Answering, Retiring, AfterScan, Answered, Repeated, Counted, Why, Phase, ChangeKept, EnqueueKept, GetAt, FindVersion, FindCount, FindKey, FindValue, ChangeAt, LoadVersion, LoadCount, LoadKey, LoadValue, ExchangeRoot, EnqueueAt, LoadNumber, LoadNext, PassTail, ExchangeNext, ExchangeTail, DequeueAt, LoadTail, SwingTail, TakeNumber, TakeValue, ExchangeHead, Work, Getting, Changing, Enqueuing, Dequeuing, LetGo, Released, Rehold, Dropped, Parting, KeepAt, Loosens, LoadHeld, StoreHeld, Looks, Misses, HideSpan, MarkLeft, TakeList, MarkTaken, Keeping, ScanAt, ReadGuard, GiveBack, Opens, FollowsHead, Fills, ClearsNext, Clears, Finishes, GivesUp, Retires, Tidies, Advances, Releases}
 use Rattle.inv_shapes.specs.Frame.{Left, SpanStands, KeepFits, WorkFits, Parts, read_slot, bared, Resumes, Grows, Stores}
-use Rattle.inv_shapes.proofs.Growth.{bare_parts, round_grows, letting_grows, parting_grows, leaving_grows, closed_left, finishing_left, clearing_left, clearing_next_left}
+use Rattle.inv_shapes.proofs.Growth.{bare_parts, round_grows, tidying_grows, letting_grows, parting_grows, leaving_grows, closed_left, finishing_left, clearing_left, clearing_next_left}
 
 got_left : {Q : Post → Type 0} {P : Post → Phase → Type 0} (g : Grows Q P) (key version : ℕ) (value : Option ℕ) (post : Post) (desk : Desk) (told : List Event) → Q post → Left Q P (gets.got key version value post desk told)
 got_left g key version value post desk told q =
@@ -163,7 +163,7 @@ keep_left : {Q : Post → Type 0} {P : Post → Phase → Type 0} (g : Grows Q P
 keep_left g (Loosens let_go) post desk found f n q =
     released_left g let_go (withdrawn post (let_index let_go)) desk (cleared (let_index let_go) (stands post (let_index let_go))) (bare_parts let_go (withdrawn post (let_index let_go)) f.apart) (g.withdraws post (let_index let_go) f.interval q)
 keep_left g (LoadHeld from index) post desk found f n q = load_held_left g from index post desk found (has_one_interval (scheme_of post)) refl n q
-keep_left g (StoreHeld from index era) post desk found f n q = copied_left g from index post desk (reserves_index post index era) (stands post from) q
+keep_left g (StoreHeld from index era) post desk found f n q = copied_left g from index post desk (publishes_index (publishes_rows (scheme_of post)) post index era) (stands post from) q
 keep_left g (Looks index key at) post desk found f n q = look_left g index key at post desk found f q
 keep_left g (Misses index) post desk found f n q = record { post = q; phase = g.idle post q }
 keep_left g HideSpan post desk found f n q = record { post = q; phase = g.works (withdrawn_all post) (Keeping MarkLeft) refl (λ h. refl) q }
@@ -195,7 +195,9 @@ guard_left g later number post desk told false e q = giving_back_left g later po
 -- a step of a scan
 pub scan_left : {Q : Post → Type 0} {P : Post → Phase → Type 0} (g : Grows Q P) (later : AfterScan) (at : ScanAt) (post : Post) (desk : Desk) (found : ℕ) → Q post → Left Q P (scan.scan_turn later at post desk found)
 scan_left g later (ReadGuard number) post desk found q =
-    guard_left g later number post (scan.with_read desk number (guard_at post.layout.config number, published (guard_at post.layout.config number) found)) (events.Read (guard_at post.layout.config number) (eras_in (guard_at post.layout.config number) found) ∷ []) (nat_lt (number + 1) (guards post.layout.config)) refl q
+    let rows = publishes_rows (scheme_of post) in
+    let guard = guard_at post.layout.config number in
+    guard_left g later number post (scan.with_read desk number (guard, published rows guard found)) (scan.reads_guard rows guard found ∷ []) (nat_lt (number + 1) (guards post.layout.config)) refl q
 scan_left g later (GiveBack place slot) post desk found q =
     giving_back_left g later post (scan.with_back desk place) (events.Back slot ∷ []) (scan.unmet_from (scan.with_back desk place) place) q
 
@@ -257,7 +259,7 @@ followed_by_left g head tail (Retired life) post desk told s q = closed_left g D
 followed_by_left g head tail (Clocked clock) post desk told s q = closed_left g Dequeues Again post desk told q
 
 tidying_left : {Q : Post → Type 0} {P : Post → Phase → Type 0} (g : Grows Q P) (answer : Answer) (post : Post) (desk : Desk) (told : List Event) (due : Bool) → Q post → Left Q P (steps.tidying answer post desk told due)
-tidying_left g answer post desk told true q = record { post = q; phase = g.tidies post (Answered answer) q }
+tidying_left g answer post desk told true q = record { post = q; phase = tidying_grows g (Answered answer) post q }
 tidying_left g answer post desk told false q = record { post = q; phase = g.idle post q }
 
 retired_by_left : {Q : Post → Type 0} {P : Post → Phase → Type 0} (g : Grows Q P) (answer : Answer) (ending : Ending) (post : Post) (desk : Desk) (told : List Event) → Q post → Left Q P (steps.retired_by answer ending post desk told)

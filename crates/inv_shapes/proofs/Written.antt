@@ -1,7 +1,7 @@
 -- What an operation writes decodes, and the clock rises by at most one.
 use Rattle.std.proofs.Common.{ℕ, ◌≡◌, ◌≤◌, ◌<◌, ◌+◌, ◌%◌, Bool, true, false, refl, ap, sym, subst, arith}
 use Rattle.std.proofs.lemmas.Bool.Decides.{nat_tests}
-use Rattle.std.specs.Prelude.{◌==◌, if◌then◌else◌}
+use Rattle.std.specs.Prelude.{◌==◌, nat_lt, if◌then◌else◌}
 use Rattle.wfe_core.specs.words.Place.{Place, same, has, is_valid}
 use Rattle.wfe_core.specs.words.Place.Place.{Clock, Bucket, Row}
 use Rattle.wfe_core.specs.words.Packed.{halves, request_word}
@@ -13,17 +13,22 @@ use Rattle.wfe_core.specs.declared.post.Post.{Post}
 use Rattle.wfe_core.proofs.Ranges.{bounds_of}
 use Rattle.wfe_core.specs.Links.{link_place, link_number}
 use Rattle.wfe_core.specs.Memory.{Move, Load, Store, Cas, Or, And, place_in, change, written}
-use Rattle.wfe_core.specs.Posts.{helper_word, tag_of}
-use Rattle.wfe_core.specs.Rounds.{index_of, key_of}
+use Rattle.wfe_core.specs.Posts.{helper_word, shown_word, tag_of}
+use Rattle.wfe_core.specs.Rounds.{index_of, key_of, scheme_of}
+use Rattle.wfe_core.specs.words.Schemes.{publishes_rows}
+use Rattle.wfe_core.proofs.words.Schemes.{helps_not_rows}
+use Rattle.inv_shapes.proofs.Indexes.{eras_shown, link_shown, nothing_held, number_shown}
+use Rattle.inv_shapes.proofs.Tries.{clear_rows, helps_plain, tries_plain}
 use Rattle.wfe_core.specs.words.declared.config.Config.{Config}
-use Rattle.wfe_core.specs.Phases.{Aim, BeginAt, ProtectAt, AllocateAt, RetireAt, MoveAt, Base}
+use Rattle.wfe_core.specs.Phases.{Aim, BeginAt, HazardAt, ProtectAt, AllocateAt, RetireAt, MoveAt, Base}
 use Rattle.wfe_core.specs.Phases.BeginAt.{LoadLower, PublishSpan}
-use Rattle.wfe_core.specs.Phases.ProtectAt.{LoadClock, PublishEra, LoadLink, CheckClock, PublishRequest, LoadOwnClock, PublishHelper, LoadOwnLink, CheckOwnClock, AnswerOwn, LoadAnswer, TakeAnswer, WithdrawRequest, WithdrawHelper}
+use Rattle.wfe_core.specs.Phases.ProtectAt.{LoadClock, PublishEra, LoadLink, CheckClock, PublishRequest, LoadOwnClock, PublishHelper, LoadOwnLink, CheckOwnClock, AnswerOwn, LoadAnswer, TakeAnswer, WithdrawRequest, WithdrawHelper, ByHazard}
+use Rattle.wfe_core.specs.Phases.HazardAt.{FirstLink, PublishLink, CheckLink}
 use Rattle.wfe_core.specs.Phases.AllocateAt.{LoadBirth, ClaimSlot, StoreLife}
 use Rattle.wfe_core.specs.Phases.RetireAt.{LoadLife, LoadRetire, StoreRetired}
 use Rattle.wfe_core.specs.Phases.MoveAt.{LoadEra, LoadRequest, ShowEra, LoadAsked, CheckEra, AnswerAsked, LoadReserved, HandOver, HideEra, HideLate, ExchangeClock}
 use Rattle.wfe_core.specs.Phases.Base.{Begin, Protect, Reload, Clear, Finish, Release, Allocate, Write, GiveUp, Retire, Move as Moves}
-use Rattle.wfe_core.specs.Machine.{begin_move, protect_move, allocate_move, retire_move, move_move, base_move}
+use Rattle.wfe_core.specs.Machine.{begin_move, hazard_move, protect_move, allocate_move, retire_move, move_move, base_move}
 use Rattle.wfe_core.specs.Get.{get_move}
 use Rattle.wfe_core.specs.Change.{change_move}
 use Rattle.wfe_core.specs.Enqueue.{enqueue_move}
@@ -32,9 +37,9 @@ use Rattle.wfe_core.specs.Keep.{keep_move}
 use Rattle.wfe_core.specs.Scan.{scan_move}
 use Rattle.wfe_core.specs.Steps.{work_move, phase_move}
 use Rattle.wfe_core.specs.Calls.{Task, Gets, Changes, Holds, Enqueues, Dequeues, ChangeKept, EnqueueKept, GetAt, FindVersion, ChangeAt, LoadVersion, EnqueueAt, LoadNumber, DequeueAt, LoadTail, KeepAt, Loosens, LoadHeld, StoreHeld, Looks, Misses, HideSpan, MarkLeft, TakeList, MarkTaken, Work, Getting, Changing, Enqueuing, Dequeuing, Keeping, ScanAt, ReadGuard, GiveBack, Why, Opens, FollowsHead, Clears, Releases, Phase, Idle, Runs, Scans, Works}
-use Rattle.inv_shapes.specs.Seats.{index_by, task_root, root_by, Kind, ToFollow, kind_of, protects, reloads, Run, PhaseFits}
+use Rattle.inv_shapes.specs.Seats.{index_by, move_fits, task_root, root_by, Kind, ToFollow, kind_of, protects, reloads, Run, PhaseFits}
 use Rattle.inv_shapes.specs.Slots.{WhyIn}
-use Rattle.inv_shapes.specs.Eras.{EraIn, LinkIn, HelperIn, IndexIn, RequestIn, Lives, WordIn, MoveIn, ClockIn, base_eras, work_eras, PhaseEras, protect_eras, allocate_eras, retire_eras, move_eras, RootNeeds, protect_needs, move_needs, base_needs, phase_needs}
+use Rattle.inv_shapes.specs.Eras.{EraIn, LinkIn, HeldIn, HelperIn, IndexIn, ShownIn, hazard_needs, RequestIn, Lives, WordIn, MoveIn, ClockIn, base_eras, work_eras, PhaseEras, protect_eras, allocate_eras, retire_eras, move_eras, RootNeeds, protect_needs, move_needs, base_needs, phase_needs}
 
 -- the operation's word after it
 word_change : (layout : Layout) (clock : ℕ) (m : Move) (word : ℕ) → MoveIn layout clock m → WordIn layout clock (place_in m) word → WordIn layout clock (place_in m) (change m word)
@@ -124,10 +129,16 @@ answer_in_word layout clock link era l e = record { request = requests.Answered 
 pub index_in : (clock era tag word : ℕ) → word ≡ halves era tag → era ≤ clock → tag < 4294967296 → IndexIn clock word
 index_in clock era tag word e m f = record { era = era; tag = tag; is = e; most = m; few = f }
 
+hazard_in : (layout : Layout) (clock index : ℕ) (root : Root) (at : HazardAt) (post : Post) → publishes_rows layout.config.scheme ≡ true → hazard_needs at layout → MoveIn layout clock (hazard_move index root at post)
+hazard_in layout clock index root FirstLink post f d = tt
+hazard_in layout clock index root (PublishLink link) post f d = link_shown (publishes_rows layout.config.scheme) layout clock link f d
+hazard_in layout clock index root (CheckLink link) post f d = tt
+
 protect_in : (layout : Layout) (clock : ℕ) (v : is_valid layout ≡ true) (why : Why) (aim : Aim) (index : ℕ) (root : Root) (n : ℕ) (at : ProtectAt) (post : Post) → post.layout ≡ layout → tag_of post index < 4294967295
     → Run layout why (Protect aim index root n at) post → protect_eras clock post at → protect_needs at layout root → MoveIn layout clock (protect_move index root at post)
 protect_in layout clock v why aim index root n (LoadClock tries) post l t r e d = tt
-protect_in layout clock v why aim index root n (PublishEra era tries) post l t r e d = index_in clock era (tag_of post index) _ refl e.most (omega arith)
+protect_in layout clock v why aim index root n (PublishEra era tries) post l t r e d =
+    eras_shown (publishes_rows layout.config.scheme) layout clock _ (tries_plain layout.config.scheme layout.config.tries tries r.fits) (index_in clock era (tag_of post index) _ refl e.most (omega arith))
 protect_in layout clock v why aim index root n (LoadLink era tries) post l t r e d = tt
 protect_in layout clock v why aim index root n (CheckClock era tries link) post l t r e d = tt
 protect_in layout clock v why aim index root n PublishRequest post l t r e d = let b = bounds_of layout v in let i = b.indexes.0 in let f = index_few why r.suited in let a = r.shape.at in
@@ -138,23 +149,26 @@ protect_in layout clock v why aim index root n (LoadOwnLink first era last) post
 protect_in layout clock v why aim index root n (CheckOwnClock first era last link) post l t r e d = tt
 protect_in layout clock v why aim index root n (AnswerOwn first era link) post l t r e d = let b = e.began in let s = e.rises in answer_in_word layout clock link era d (record { some = omega arith; most = e.most })
 protect_in layout clock v why aim index root n (LoadAnswer first) post l t r e d = tt
-protect_in layout clock v why aim index root n (TakeAnswer link era) post l t r e d = index_in clock era (tag_of post index + 1) _ refl e (omega arith)
+protect_in layout clock v why aim index root n (TakeAnswer link era) post l t r e d =
+    eras_shown (publishes_rows layout.config.scheme) layout clock _ (helps_not_rows layout.config.scheme r.fits) (index_in clock era (tag_of post index + 1) _ refl e (omega arith))
 protect_in layout clock v why aim index root n (WithdrawRequest link era) post l t r e d = nothing_asked layout clock
 protect_in layout clock v why aim index root n (WithdrawHelper link era) post l t r e d = nothing_shown clock
+protect_in layout clock v why aim index root n (ByHazard at) post l t r e d = hazard_in layout clock index root at post r.fits d
 protect_in layout clock v why aim index root n at post l t r e d = tt
 
-move_in : (layout : Layout) (clock : ℕ) (at : MoveAt) (post : Post) → move_eras layout clock at → move_needs at layout → MoveIn layout clock (move_move at post)
-move_in layout clock (LoadEra helps) post e d = tt
-move_in layout clock (LoadRequest era seat shows) post e d = tt
-move_in layout clock (ShowEra era seat tag index root) post e d = helper_in clock era e.mover.era_in.most
-move_in layout clock (LoadAsked era seat tag index root) post e d = tt
-move_in layout clock (CheckEra era seat tag index root link) post e d = tt
-move_in layout clock (AnswerAsked era seat tag index root link) post e d = answer_in_word layout clock link era d e.mover.era_in
-move_in layout clock (LoadReserved era seat tag index root link) post e d = tt
-move_in layout clock (HandOver era seat tag index root link old) post e d = let f = e.helps.asked.few in index_in clock era (tag + 1) _ refl e.helps.mover.era_in.most (omega arith)
-move_in layout clock (HideEra era) post e d = nothing_shown clock
-move_in layout clock (HideLate seen) post e d = nothing_shown clock
-move_in layout clock (ExchangeClock era) post e d = tt
+move_in : (layout : Layout) (clock : ℕ) (at : MoveAt) (post : Post) → move_fits layout.config.scheme layout.config.seats at ≡ true → move_eras layout clock at → move_needs at layout → MoveIn layout clock (move_move at post)
+move_in layout clock (LoadEra helps) post g e d = tt
+move_in layout clock (LoadRequest era seat shows) post g e d = tt
+move_in layout clock (ShowEra era seat tag index root) post g e d = helper_in clock era e.mover.era_in.most
+move_in layout clock (LoadAsked era seat tag index root) post g e d = tt
+move_in layout clock (CheckEra era seat tag index root link) post g e d = tt
+move_in layout clock (AnswerAsked era seat tag index root link) post g e d = answer_in_word layout clock link era d e.mover.era_in
+move_in layout clock (LoadReserved era seat tag index root link) post g e d = tt
+move_in layout clock (HandOver era seat tag index root link old) post g e d = let f = e.helps.asked.few in
+    eras_shown (publishes_rows layout.config.scheme) layout clock _ (helps_plain layout.config.scheme (nat_lt seat layout.config.seats) g) (index_in clock era (tag + 1) _ refl e.helps.mover.era_in.most (omega arith))
+move_in layout clock (HideEra era) post g e d = nothing_shown clock
+move_in layout clock (HideLate seen) post g e d = nothing_shown clock
+move_in layout clock (ExchangeClock era) post g e d = tt
 
 begin_in : (layout : Layout) (clock : ℕ) (at : BeginAt) (post : Post) → MoveIn layout clock (begin_move at post)
 begin_in layout clock LoadLower post = tt
@@ -171,19 +185,28 @@ retire_in layout clock (LoadRetire slot birth) e = tt
 retire_in layout clock (StoreRetired slot birth retire) e = let a = e.later in let b = e.most in
     Lives birth retire refl (record { born = record { some = e.born; most = omega arith }; over = e.most; later = λ h. e.later })
 
+clear_in : (layout : Layout) (clock : ℕ) (rows : Bool) (index : ℕ) (post : Post) → rows ≡ publishes_rows layout.config.scheme → tag_of post index < 4294967295 → ShownIn (publishes_rows layout.config.scheme) layout clock (shown_word rows post index 0)
+clear_in layout clock rows index post e t =
+    subst (λ (b : Bool). ShownIn b layout clock (shown_word rows post index 0)) e (number_shown rows layout clock post index 0 t (nothing_held rows layout clock))
+
 base_in : (layout : Layout) (clock : ℕ) (v : is_valid layout ≡ true) (mem : Place → ℕ) (why : Why) (base : Base) (post : Post) → post.layout ≡ layout → ((index : ℕ) → tag_of post index < 4294967295)
     → Run layout why base post → base_eras layout clock post base → base_needs base layout mem → MoveIn layout clock (base_move base post)
 base_in layout clock v mem why (Begin at) post l t r e d = begin_in layout clock at post
 base_in layout clock v mem why (Protect aim index root steps at) post l t r e d = protect_in layout clock v why aim index root steps at post l (t index) r e d
 base_in layout clock v mem why (Reload parent index slot era steps) post l t r e d = tt
-base_in layout clock v mem why (Clear index) post l t r e d = let f = t index in index_in clock 0 (tag_of post index) _ refl (omega arith) (omega arith)
+base_in layout clock v mem why (Clear rows index) post l t r e d = clear_in layout clock rows index post (clear_rows layout.config.scheme rows r.fits) (t index)
 base_in layout clock v mem why Finish post l t r e d = tt
 base_in layout clock v mem why (Release index) post l t r e d = tt
 base_in layout clock v mem why (Allocate at) post l t r e d = allocate_in layout clock at e
 base_in layout clock v mem why (Write slot row place) post l t r e d = tt
 base_in layout clock v mem why (GiveUp slot) post l t r e d = λ word. tt
 base_in layout clock v mem why (Retire at) post l t r e d = retire_in layout clock at e
-base_in layout clock v mem why (Moves at) post l t r e d = move_in layout clock at post e d
+base_in layout clock v mem why (Moves at) post l t r e d = move_in layout clock at post r.fits e d
+
+held_in : (layout : Layout) (clock index number : ℕ) (post : Post) → post.layout ≡ layout → tag_of post index < 4294967295 → HeldIn (publishes_rows layout.config.scheme) layout clock number
+    → ShownIn (publishes_rows layout.config.scheme) layout clock (shown_word (publishes_rows (scheme_of post)) post index number)
+held_in layout clock index number post l t h =
+    subst (λ (s : Layout). ShownIn (publishes_rows layout.config.scheme) layout clock (shown_word (publishes_rows s.config.scheme) post index number)) (sym l) (number_shown (publishes_rows layout.config.scheme) layout clock post index number t h)
 
 get_in : (layout : Layout) (clock : ℕ) (at : GetAt) → MoveIn layout clock (get_move at)
 get_in layout clock (FindVersion slot) = tt
@@ -201,23 +224,23 @@ dequeue_in : (layout : Layout) (clock : ℕ) (at : DequeueAt) → MoveIn layout 
 dequeue_in layout clock (LoadTail head) = tt
 dequeue_in layout clock at = tt
 
-keep_in : (layout : Layout) (clock : ℕ) (at : KeepAt) (post : Post) → ((index : ℕ) → tag_of post index < 4294967295) → work_eras clock (Keeping at) → MoveIn layout clock (keep_move at post)
-keep_in layout clock (Loosens let_go) post t e = tt
-keep_in layout clock (LoadHeld from index) post t e = tt
-keep_in layout clock (StoreHeld from index era) post t e = let f = t index in index_in clock era (tag_of post index) _ refl e (omega arith)
-keep_in layout clock (Looks index key at) post t e = get_in layout clock at
-keep_in layout clock (Misses index) post t e = tt
-keep_in layout clock HideSpan post t e = tt
-keep_in layout clock MarkLeft post t e = tt
-keep_in layout clock (TakeList place) post t e = tt
-keep_in layout clock (MarkTaken place count) post t e = tt
+keep_in : (layout : Layout) (clock : ℕ) (at : KeepAt) (post : Post) → post.layout ≡ layout → ((index : ℕ) → tag_of post index < 4294967295) → work_eras layout clock (Keeping at) → MoveIn layout clock (keep_move at post)
+keep_in layout clock (Loosens let_go) post l t e = tt
+keep_in layout clock (LoadHeld from index) post l t e = tt
+keep_in layout clock (StoreHeld from index era) post l t e = held_in layout clock index era post l (t index) e
+keep_in layout clock (Looks index key at) post l t e = get_in layout clock at
+keep_in layout clock (Misses index) post l t e = tt
+keep_in layout clock HideSpan post l t e = tt
+keep_in layout clock MarkLeft post l t e = tt
+keep_in layout clock (TakeList place) post l t e = tt
+keep_in layout clock (MarkTaken place count) post l t e = tt
 
-work_in : (layout : Layout) (clock : ℕ) (work : Work) (post : Post) → ((index : ℕ) → tag_of post index < 4294967295) → work_eras clock work → MoveIn layout clock (work_move work post)
-work_in layout clock (Getting key at) post t e = get_in layout clock at
-work_in layout clock (Changing kept at) post t e = change_in layout clock kept at post
-work_in layout clock (Enqueuing kept at) post t e = enqueue_in layout clock kept at
-work_in layout clock (Dequeuing at) post t e = dequeue_in layout clock at
-work_in layout clock (Keeping at) post t e = keep_in layout clock at post t e
+work_in : (layout : Layout) (clock : ℕ) (work : Work) (post : Post) → post.layout ≡ layout → ((index : ℕ) → tag_of post index < 4294967295) → work_eras layout clock work → MoveIn layout clock (work_move work post)
+work_in layout clock (Getting key at) post l t e = get_in layout clock at
+work_in layout clock (Changing kept at) post l t e = change_in layout clock kept at post
+work_in layout clock (Enqueuing kept at) post l t e = enqueue_in layout clock kept at
+work_in layout clock (Dequeuing at) post l t e = dequeue_in layout clock at
+work_in layout clock (Keeping at) post l t e = keep_in layout clock at post l t e
 
 scan_in : (layout : Layout) (clock : ℕ) (at : ScanAt) (post : Post) → MoveIn layout clock (scan_move at post)
 scan_in layout clock (ReadGuard number) post = tt
@@ -229,7 +252,7 @@ pub phase_in : (layout : Layout) (clock : ℕ) (v : is_valid layout ≡ true) (m
 phase_in layout clock v mem Idle post l t r e d = tt
 phase_in layout clock v mem (Runs why base) post l t r e d = base_in layout clock v mem why base post l t r e d
 phase_in layout clock v mem (Scans later at) post l t r e d = scan_in layout clock at post
-phase_in layout clock v mem (Works work) post l t r e d = work_in layout clock work post t e
+phase_in layout clock v mem (Works work) post l t r e d = work_in layout clock work post l t e
 
 -- the clock
 clock_stays : (last clock : ℕ) → clock ≤ last → ClockIn last clock clock
@@ -242,8 +265,13 @@ clock_exchanged last clock era m l = by (clock == era) refl
     by true e = record { rises = grind (arith, nat_tests); most = omega arith }
     by false e = clock_stays last clock m
 
+hazard_clock : (last : ℕ) (mem : Place → ℕ) (index : ℕ) (root : Root) (at : HazardAt) (post : Post) → mem Clock ≤ last → ClockIn last (mem Clock) (written mem (hazard_move index root at post) Clock)
+hazard_clock last mem index root FirstLink post m = clock_stays last (mem Clock) m
+hazard_clock last mem index root at post m = clock_stays last (mem Clock) m
+
 protect_clock : (last : ℕ) (mem : Place → ℕ) (index : ℕ) (root : Root) (at : ProtectAt) (post : Post) → mem Clock ≤ last → ClockIn last (mem Clock) (written mem (protect_move index root at post) Clock)
 protect_clock last mem index root (LoadClock tries) post m = clock_stays last (mem Clock) m
+protect_clock last mem index root (ByHazard at) post m = hazard_clock last mem index root at post m
 protect_clock last mem index root at post m = clock_stays last (mem Clock) m
 
 begin_clock : (last : ℕ) (mem : Place → ℕ) (at : BeginAt) (post : Post) → mem Clock ≤ last → ClockIn last (mem Clock) (written mem (begin_move at post) Clock)
@@ -266,7 +294,7 @@ base_clock : (layout : Layout) (mem : Place → ℕ) (base : Base) (post : Post)
 base_clock layout mem (Begin at) post m e = begin_clock layout.config.last_era mem at post m
 base_clock layout mem (Protect aim index root steps at) post m e = protect_clock layout.config.last_era mem index root at post m
 base_clock layout mem (Reload parent index slot era steps) post m e = clock_stays layout.config.last_era (mem Clock) m
-base_clock layout mem (Clear index) post m e = clock_stays layout.config.last_era (mem Clock) m
+base_clock layout mem (Clear rows index) post m e = clock_stays layout.config.last_era (mem Clock) m
 base_clock layout mem Finish post m e = clock_stays layout.config.last_era (mem Clock) m
 base_clock layout mem (Release index) post m e = clock_stays layout.config.last_era (mem Clock) m
 base_clock layout mem (Allocate at) post m e = allocate_clock layout.config.last_era mem at m

@@ -1,8 +1,9 @@
 -- Each word decodes, and each era in a word or a phase is at most the clock.
-use Rattle.std.specs.Prelude.{ℕ, ◌≡◌, ◌≤◌, ◌<◌, ◌+◌, true, Option, Some, None}
+use Rattle.std.specs.Prelude.{ℕ, ◌≡◌, ◌≤◌, ◌<◌, ◌+◌, Bool, false, true, Option, Some, None}
 use Rattle.wfe_core.specs.words.Place.{Place, has}
 use Rattle.wfe_core.specs.words.Place.Place.{Clock, Helper, Index, Interval, Request, Bucket, Head, Tail, Claim, Life, Row, PlaceOf}
 use Rattle.wfe_core.specs.words.Packed.{life_word, reservation_word, request_word}
+use Rattle.wfe_core.specs.words.Schemes.{publishes_rows}
 use Rattle.wfe_core.specs.words.declared.layout.Layout.{Layout}
 use Rattle.wfe_core.specs.words.declared.packed.Request.{Request as Asking}
 use Rattle.wfe_core.specs.words.declared.packed.Request.TheVariants as requests
@@ -14,9 +15,10 @@ use Rattle.wfe_core.specs.Links.{link_place, link_number}
 use Rattle.wfe_core.specs.Memory.{Move, Load, Store, Cas, Or, And}
 use Rattle.wfe_core.specs.Posts.{helper_word, tag_of, upper}
 use Rattle.wfe_core.specs.Spans.{eras_word}
-use Rattle.wfe_core.specs.Phases.{BeginAt, ProtectAt, AllocateAt, RetireAt, MoveAt, Base}
+use Rattle.wfe_core.specs.Phases.{BeginAt, HazardAt, ProtectAt, AllocateAt, RetireAt, MoveAt, Base}
 use Rattle.wfe_core.specs.Phases.BeginAt.{LoadLower, PublishSpan}
-use Rattle.wfe_core.specs.Phases.ProtectAt.{LoadClock, PublishEra, LoadLink, CheckClock, PublishRequest, LoadOwnClock, PublishHelper, LoadOwnLink, CheckOwnClock, AnswerOwn, LoadAnswer, TakeAnswer, WithdrawRequest, WithdrawHelper, LoadWithin, CheckUpper, RaiseUpper}
+use Rattle.wfe_core.specs.Phases.ProtectAt.{LoadClock, PublishEra, LoadLink, CheckClock, PublishRequest, LoadOwnClock, PublishHelper, LoadOwnLink, CheckOwnClock, AnswerOwn, LoadAnswer, TakeAnswer, WithdrawRequest, WithdrawHelper, LoadWithin, CheckUpper, RaiseUpper, ByHazard}
+use Rattle.wfe_core.specs.Phases.HazardAt.{PublishLink}
 use Rattle.wfe_core.specs.Phases.AllocateAt.{LoadBirth, ClaimSlot, StoreLife}
 use Rattle.wfe_core.specs.Phases.RetireAt.{LoadLife, LoadRetire, StoreRetired}
 use Rattle.wfe_core.specs.Phases.MoveAt.{LoadEra, LoadRequest, ShowEra, LoadAsked, CheckEra, AnswerAsked, LoadReserved, HandOver, HideEra, HideLate, ExchangeClock}
@@ -55,15 +57,20 @@ pub record IndexIn (clock word : ℕ) : Type 0 where
   pub most : era ≤ clock
   pub few : tag < 4294967296
 
+-- a link is null or leads to a row
+abbrev pub LinkIn : Layout → ℕ → Type 0
+LinkIn layout link = link ≤ layout.config.slots + 1
+
+-- an index word has an era under its tag, or where rows are published a link
+abbrev pub ShownIn : (rows : Bool) → Layout → ℕ → ℕ → Type 0
+ShownIn false layout clock word = IndexIn clock word
+ShownIn true layout clock word = LinkIn layout word
+
 -- a request is for a link of the table, at an index of a seat, under a tag that can rise
 pub record AskIn (layout : Layout) (tag index : ℕ) (root : Root) : Type 0 where
   pub few : tag < 4294967295
   pub at : index < layout.config.indexes
   pub there : has layout (link_place root) ≡ true
-
--- a link is null or leads to a row
-abbrev pub LinkIn : Layout → ℕ → Type 0
-LinkIn layout link = link ≤ layout.config.slots + 1
 
 pub record AskedIn (layout : Layout) (tag index number : ℕ) : Type 0 where
   pub root : Root
@@ -100,7 +107,7 @@ pub data LifeIn (clock word : ℕ) : Type 0 where
 abbrev pub WordIn : Layout → ℕ → Place → ℕ → Type 0
 WordIn layout clock Clock word = Unit {0}
 WordIn layout clock (Helper seat) word = HelperIn clock word
-WordIn layout clock (Index seat index) word = IndexIn clock word
+WordIn layout clock (Index seat index) word = ShownIn (publishes_rows layout.config.scheme) layout clock word
 WordIn layout clock (Interval seat) word = Unit {0}
 WordIn layout clock (Request seat) word = RequestIn layout clock word
 WordIn layout clock (Bucket bucket) word = Unit {0}
@@ -157,6 +164,7 @@ protect_eras clock post (WithdrawHelper link era) = era ≤ clock
 protect_eras clock post LoadWithin = Unit {0}
 protect_eras clock post (CheckUpper link) = Unit {0}
 protect_eras clock post (RaiseUpper era) = RaiseIn clock post era
+protect_eras clock post (ByHazard at) = Unit {0}
 
 abbrev pub allocate_eras : ℕ → AllocateAt → Type 0
 allocate_eras clock LoadBirth = Unit {0}
@@ -207,7 +215,7 @@ abbrev pub base_eras : Layout → ℕ → Post → Base → Type 0
 base_eras layout clock post (Begin at) = begin_eras clock at
 base_eras layout clock post (Protect aim index root steps at) = protect_eras clock post at
 base_eras layout clock post (Reload parent index slot era steps) = era ≤ clock
-base_eras layout clock post (Clear index) = Unit {0}
+base_eras layout clock post (Clear rows index) = Unit {0}
 base_eras layout clock post Finish = Unit {0}
 base_eras layout clock post (Release index) = Unit {0}
 base_eras layout clock post (Allocate at) = allocate_eras clock at
@@ -216,16 +224,20 @@ base_eras layout clock post (GiveUp slot) = Unit {0}
 base_eras layout clock post (Retire at) = retire_eras clock at
 base_eras layout clock post (Moves at) = move_eras layout clock at
 
--- the era that a copy has found
-abbrev pub work_eras : ℕ → Work → Type 0
-work_eras clock (Keeping (StoreHeld from index era)) = era ≤ clock
-work_eras clock work = Unit {0}
+-- what a copy has found: an era, or where rows are published a link
+abbrev pub HeldIn : (rows : Bool) → Layout → ℕ → ℕ → Type 0
+HeldIn false layout clock number = number ≤ clock
+HeldIn true layout clock number = LinkIn layout number
+
+abbrev pub work_eras : Layout → ℕ → Work → Type 0
+work_eras layout clock (Keeping (StoreHeld from index number)) = HeldIn (publishes_rows layout.config.scheme) layout clock number
+work_eras layout clock work = Unit {0}
 
 abbrev pub PhaseEras : Layout → ℕ → Post → Phase → Type 0
 PhaseEras layout clock post Idle = Unit {0}
 PhaseEras layout clock post (Runs why base) = base_eras layout clock post base
 PhaseEras layout clock post (Scans later at) = Unit {0}
-PhaseEras layout clock post (Works work) = work_eras clock work
+PhaseEras layout clock post (Works work) = work_eras layout clock work
 
 -- the post's interval is what the seat's interval word shows
 pub record PostEras (layout : Layout) (seat clock word : ℕ) (post : Post) : Type 0 where
@@ -247,9 +259,14 @@ RootNeeds layout roots.Head = Unit {0}
 RootNeeds layout roots.Tail = Unit {0}
 RootNeeds layout (roots.Next slot) = slot ≤ layout.config.slots
 
+abbrev pub hazard_needs : HazardAt → Layout → Type 0
+hazard_needs (PublishLink link) layout = LinkIn layout link
+hazard_needs at layout = Unit {0}
+
 abbrev pub protect_needs : ProtectAt → Layout → Root → Type 0
 protect_needs PublishRequest layout root = RootNeeds layout root
 protect_needs (AnswerOwn first era link) layout root = LinkIn layout link
+protect_needs (ByHazard at) layout root = hazard_needs at layout
 protect_needs at layout root = Unit {0}
 
 abbrev pub retire_needs : RetireAt → (Place → ℕ) → Type 0

@@ -1,10 +1,9 @@
 -- How a property of one seat, which looks at its post and its phase, is carried over the steps of that seat.
-use Rattle.wfe_core.specs.Calls.{Answers, CallOutcome, GoesOn, Idle, Phase, CallTurn, Advances, Clears, ClearsNext, Fills, Finishes, FollowsHead, GivesUp, Opens, Releases, Retires, Why, AfterScan, GiveBack, Next, ReadGuard, Runs, Scans, Task, Work, Works, LetGo, Released, Rehold, Dropped, Parting, GetAt, FindVersion, FindCount, FindKey, FindValue, KeepAt, Loosens, LoadHeld, StoreHeld, Looks, Misses, HideSpan, MarkLeft, TakeList, MarkTaken, Keeping}
+use Rattle.wfe_core.specs.Calls.{Answers, CallOutcome, GoesOn, Idle, Phase, CallTurn, Advances, Clears, ClearsNext, Fills, Finishes, FollowsHead, GivesUp, Opens, Releases, Retires, Tidies, Why, AfterScan, GiveBack, Next, ReadGuard, Runs, Scans, Task, Work, Works, LetGo, Released, Rehold, Dropped, Parting, GetAt, FindVersion, FindCount, FindKey, FindValue, KeepAt, Loosens, LoadHeld, StoreHeld, Looks, Misses, HideSpan, MarkLeft, TakeList, MarkTaken, Keeping}
 use Rattle.wfe_core.specs.declared.post.Post.{Post}
 use Rattle.std.specs.Prelude.{is_some, true, ◌≡◌, None, Some, Bool, false, ℕ, ◌<◌}
-use Rattle.wfe_core.specs.Rounds.{scheme_of, first_tidy, index_of, kept_row, let_index, move_base, opening}
-use Rattle.wfe_core.specs.words.Packed.{read_reservation}
-use Rattle.wfe_core.specs.words.Schemes.{has_one_interval}
+use Rattle.wfe_core.specs.Rounds.{scheme_of, index_of, kept_row, let_index, move_base, opening}
+use Rattle.wfe_core.specs.words.Schemes.{has_one_interval, moves, publishes_rows}
 use Rattle.wfe_core.specs.Phases.Base.{Allocate, Begin, Clear, Finish, GiveUp, Release, Retire}
 use Rattle.wfe_core.specs.defs.declared.call.Answer.{Answer}
 use Rattle.wfe_core.specs.Phases.AllocateAt.{LoadBirth}
@@ -12,6 +11,7 @@ use Rattle.wfe_core.specs.Phases.RetireAt.{LoadLife}
 use Rattle.wfe_core.specs.Phases.BeginAt.{LoadLower}
 use Rattle.wfe_core.specs.Phases.{RowOf, Ends, Goes, Outcome, Turn}
 use Rattle.wfe_core.specs.Dequeue.{follow_base}
+use Rattle.wfe_core.specs.Keep.{held_number}
 use Rattle.wfe_core.specs.Guards.{guards}
 use Rattle.wfe_core.specs.Posts.{stands, with_row, withdrawn, withdrawn_all}
 use Rattle.wfe_core.specs.WriteRow.{writing}
@@ -125,14 +125,14 @@ pub record Grows (Q : Post → Type 0) (P : Post → Phase → Type 0) : Type 0 
   pub follows : (post : Post) (head tail : ℕ) → SpanStands post → Q post → P post (Runs (FollowsHead head tail) (follow_base (scheme_of post) head))
   pub allocates : (post : Post) (task : Task) → SpanStands post → Q post → P post (Runs (Fills task) (Allocate LoadBirth))
   pub writes : (post : Post) (task : Task) (slot : ℕ) (row : RowOf) → SpanStands post → Q post → P post (Runs (Fills task) (writing slot row))
-  pub clears : (post : Post) (task : Task) (next : Next) → has_one_interval (scheme_of post) ≡ false → Q post → P post (Runs (Clears task next) (Clear (index_of task)))
-  pub clears_next : (post : Post) (next : Next) → has_one_interval (scheme_of post) ≡ false → Q post → P post (Runs (ClearsNext next) (Clear 1))
+  pub clears : (post : Post) (task : Task) (next : Next) → has_one_interval (scheme_of post) ≡ false → Q post → P post (Runs (Clears task next) (Clear (publishes_rows (scheme_of post)) (index_of task)))
+  pub clears_next : (post : Post) (next : Next) → has_one_interval (scheme_of post) ≡ false → Q post → P post (Runs (ClearsNext next) (Clear (publishes_rows (scheme_of post)) 1))
   pub finishes : (post : Post) (task : Task) (next : Next) → has_one_interval (scheme_of post) ≡ true → kept_row post ≡ None → Q post → P post (Runs (Finishes task next) Finish)
   pub gives_up : (post : Post) (answer : Answer) (slot : ℕ) → Q post → P post (Runs (GivesUp answer) (GiveUp slot))
   pub retires : (post : Post) (answer : Answer) (slot : ℕ) → Q post → P post (Runs (Retires answer) (Retire (LoadLife slot)))
-  pub tidies : (post : Post) (later : AfterScan) → Q post → P post (first_tidy later post)
+  pub tidies : (post : Post) (later : AfterScan) → moves (scheme_of post) ≡ true → Q post → P post (Runs (Tidies later) (move_base (scheme_of post)))
   pub advances : (post : Post) → Q post → P post (Runs Advances (move_base (scheme_of post)))
-  pub clears_kept : (post : Post) (let_go : LetGo) → has_one_interval (scheme_of post) ≡ false → Q post → P post (Runs (Releases let_go) (Clear (let_index let_go)))
+  pub clears_kept : (post : Post) (let_go : LetGo) → has_one_interval (scheme_of post) ≡ false → Q post → P post (Runs (Releases let_go) (Clear (publishes_rows (scheme_of post)) (let_index let_go)))
   pub releases : (post : Post) (let_go : LetGo) → has_one_interval (scheme_of post) ≡ true → Barely let_go post → Q post → P post (Runs (Releases let_go) (Release (let_index let_go)))
   pub scans : (post : Post) (later : AfterScan) (number : ℕ) → number < guards post.layout.config → Q post → P post (Scans later (ReadGuard number))
   pub gives_back : (post : Post) (later : AfterScan) (place slot : ℕ) → Q post → P post (Scans later (GiveBack place slot))
@@ -153,10 +153,10 @@ pub record Moves (Q : Post → Type 0) (P : Post → Phase → Type 0) (why : Wh
   pub post : Q t.post
   pub phase : Passed P why t.post t.outcome
 
--- where each index publishes by itself, a copy that has found an era goes on to publish it
+-- where each index publishes by itself, a copy that has found an era or a link goes on to publish it
 abbrev pub Stores : (Post → Phase → Type 0) → Post → ℕ → Work → Type 0
 Stores P post found (Keeping (LoadHeld from index)) =
-    has_one_interval (scheme_of post) ≡ false → P post (Works (Keeping (StoreHeld from index (read_reservation found).era)))
+    has_one_interval (scheme_of post) ≡ false → P post (Works (Keeping (StoreHeld from index (held_number (publishes_rows (scheme_of post)) found))))
 Stores P post found work = Unit {0}
 
 -- at a call's own step: Q holds of the post once it has let go of what it does, and what the step says of the post before

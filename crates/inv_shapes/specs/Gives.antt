@@ -1,5 +1,5 @@
 -- What the shape of seats, the eras and the links give to other parts, phase by phase.
-use Rattle.std.specs.Prelude.{ℕ, ◌≡◌, ◌≤◌, ◌<◌, ◌+◌, true}
+use Rattle.std.specs.Prelude.{ℕ, ◌≡◌, ◌≤◌, ◌<◌, ◌+◌, Bool, true}
 use Rattle.wfe_core.specs.words.Place.{has}
 use Rattle.wfe_core.specs.words.Place.Place.{Clock}
 use Rattle.wfe_core.specs.defs.declared.event.Root.{Root}
@@ -23,7 +23,7 @@ GivesGuards w =
 
 -- so is the index that is cleared
 abbrev pub GivesClears : World → Type 0
-GivesClears w = (k : ℕ) (why : Why) (index : ℕ) → (w.seat k).phase ≡ Runs why (Clear index) → index < w.layout.config.indexes
+GivesClears w = (k : ℕ) (why : Why) (rows : Bool) (index : ℕ) → (w.seat k).phase ≡ Runs why (Clear rows index) → index < w.layout.config.indexes
 
 -- a walk is within the table, and a birth era is one of the clock's
 abbrev pub GivesWalks : World → Type 0

@@ -7,8 +7,9 @@ use Rattle.wfe_core.specs.defs.declared.event.Root.{Root}
 use Rattle.wfe_core.specs.defs.declared.event.Root.TheVariants as roots
 use Rattle.wfe_core.specs.Phases.Base.{Allocate, Begin, Clear, Finish, GiveUp, Move, Protect, Release, Reload, Retire, Write}
 use Rattle.wfe_core.specs.words.declared.config.SchemeKind.{SchemeKind}
-use Rattle.wfe_core.specs.words.Schemes.{counts_tries, has_one_interval, helps, tries_by_clock}
-use Rattle.wfe_core.specs.Phases.ProtectAt.{AnswerOwn, CheckClock, CheckOwnClock, CheckUpper, LoadAnswer, LoadClock, LoadLink, LoadOwnClock, LoadOwnLink, LoadWithin, PublishEra, PublishHelper, PublishRequest, RaiseUpper, TakeAnswer, WithdrawHelper, WithdrawRequest}
+use Rattle.wfe_core.specs.words.Schemes.{counts_tries, has_one_interval, helps, publishes_rows, tries_by_clock}
+use Rattle.wfe_core.specs.words.Schemes.{moves as moves_clock}
+use Rattle.wfe_core.specs.Phases.ProtectAt.{AnswerOwn, ByHazard, CheckClock, CheckOwnClock, CheckUpper, LoadAnswer, LoadClock, LoadLink, LoadOwnClock, LoadOwnLink, LoadWithin, PublishEra, PublishHelper, PublishRequest, RaiseUpper, TakeAnswer, WithdrawHelper, WithdrawRequest}
 use Rattle.wfe_core.specs.Phases.MoveAt.{AnswerAsked, CheckEra, ExchangeClock, HandOver, HideEra, HideLate, LoadAsked, LoadEra, LoadRequest, LoadReserved, ShowEra}
 use Rattle.wfe_core.specs.Phases.AllocateAt.{ClaimSlot, LoadBirth, StoreLife}
 use Rattle.wfe_core.specs.words.declared.config.Config.{Config}
@@ -142,7 +143,7 @@ abbrev pub suits : Base → Kind → Bool
 suits (Begin at) kind = begins kind
 suits (Protect aim index root steps at) kind = protects kind
 suits (Reload parent index slot era steps) kind = reloads kind
-suits (Clear index) kind = clears kind
+suits (Clear rows index) kind = clears kind
 suits Finish kind = finishes kind
 suits (Release index) kind = releases kind
 suits (Allocate at) kind = fills kind
@@ -180,8 +181,9 @@ protect_fits scheme most (WithdrawHelper link era) = helps scheme
 protect_fits scheme most LoadWithin = has_one_interval scheme
 protect_fits scheme most (CheckUpper link) = has_one_interval scheme
 protect_fits scheme most (RaiseUpper era) = has_one_interval scheme
+protect_fits scheme most (ByHazard at) = publishes_rows scheme
 
--- a mover helps exactly where the scheme does
+-- two tests have one result
 abbrev pub agree : Bool → Bool → Bool
 agree true b = b
 agree false b = not b
@@ -211,7 +213,7 @@ abbrev pub base_fits : Config → Base → Bool
 base_fits config (Begin at) = has_one_interval config.scheme
 base_fits config (Protect aim index root steps at) = protect_fits config.scheme config.tries at
 base_fits config (Reload parent index slot era steps) = true
-base_fits config (Clear index) = not (has_one_interval config.scheme)
+base_fits config (Clear rows index) = not (has_one_interval config.scheme) && agree rows (publishes_rows config.scheme)
 base_fits config Finish = has_one_interval config.scheme
 base_fits config (Release index) = has_one_interval config.scheme
 base_fits config (Allocate at) = allocate_fits config.slots at
@@ -235,7 +237,7 @@ abbrev pub Shaped : ℕ → Why → Base → Type 0
 Shaped buckets why (Begin at) = Unit {0}
 Shaped buckets why (Protect aim index root steps at) = Aimed buckets why aim index root
 Shaped buckets why (Reload parent index slot era steps) = Reloads buckets why parent index
-Shaped buckets why (Clear index) = index ≡ index_by why
+Shaped buckets why (Clear rows index) = index ≡ index_by why
 Shaped buckets why (Release index) = index ≡ index_by why
 Shaped buckets why base = Unit {0}
 
@@ -245,17 +247,23 @@ abbrev pub Posted : Base → Post → Type 0
 Posted (Begin at) post = post.span ≡ None
 Posted (Protect aim index root steps at) post = SpanStands post
 Posted (Reload parent index slot era steps) post = SpanStands post
-Posted (Clear index) post = Unit {0}
+Posted (Clear rows index) post = Unit {0}
 Posted Finish post = kept_row post ≡ None
 Posted (Release index) post = kept_row (withdrawn post index) ≡ None
 Posted (Allocate at) post = SpanStands post
 Posted (Write slot row place) post = SpanStands post
 Posted base post = Unit {0}
 
+-- a retirement moves the clock only where the scheme does
+abbrev pub Tidied : SchemeKind → Why → Type 0
+Tidied scheme (Tidies later) = moves_clock scheme ≡ true
+Tidied scheme why = Unit {0}
+
 -- a seat that leaves lets no interval go with one row
-abbrev pub Parted : Base → Why → Type 0
-Parted (Release index) (Releases let_go) = parts let_go ≡ false
-Parted base why = Unit {0}
+abbrev pub Parted : SchemeKind → Base → Why → Type 0
+Parted scheme (Release index) (Releases let_go) = parts let_go ≡ false
+Parted scheme (Move at) why = Tidied scheme why
+Parted scheme base why = Unit {0}
 
 -- a machine's phase
 pub record Run (layout : Layout) (why : Why) (base : Base) (post : Post) : Type 0 where
@@ -263,7 +271,7 @@ pub record Run (layout : Layout) (why : Why) (base : Base) (post : Post) : Type 
   pub fits : base_fits layout.config base ≡ true
   pub shape : Shaped layout.config.buckets why base
   pub posted : Posted base post
-  pub parted : Parted base why
+  pub parted : Parted layout.config.scheme base why
 
 abbrev pub scan_fits : Config → ScanAt → Bool
 scan_fits config (ReadGuard number) = nat_lt number (guards config)

@@ -19,8 +19,9 @@ use Rattle.wfe_core.specs.Memory.{Move, Load, Store, Cas, Or, And}
 use Rattle.wfe_core.specs.Desks.{Desk}
 use Rattle.wfe_core.specs.Scan.{read_before}
 use Rattle.wfe_core.specs.Posts.{stands}
-use Rattle.wfe_core.specs.Phases.{ProtectAt, RetireAt, MoveAt, Base, Ending, Outcome, Goes, Ends, Turn, RowOf, MapRow, QueueRow}
-use Rattle.wfe_core.specs.Phases.ProtectAt.{CheckClock, CheckOwnClock, AnswerOwn, TakeAnswer, WithdrawRequest, WithdrawHelper, CheckUpper}
+use Rattle.wfe_core.specs.Phases.{HazardAt, ProtectAt, RetireAt, MoveAt, Base, Ending, Outcome, Goes, Ends, Turn, RowOf, MapRow, QueueRow}
+use Rattle.wfe_core.specs.Phases.ProtectAt.{CheckClock, CheckOwnClock, AnswerOwn, TakeAnswer, WithdrawRequest, WithdrawHelper, CheckUpper, ByHazard}
+use Rattle.wfe_core.specs.Phases.HazardAt.{FirstLink, PublishLink, CheckLink}
 use Rattle.wfe_core.specs.Phases.RetireAt.{LoadLife, LoadRetire, StoreRetired}
 use Rattle.wfe_core.specs.Phases.MoveAt.{CheckEra, AnswerAsked, LoadReserved, HandOver}
 use Rattle.wfe_core.specs.Phases.Base.{Begin, Protect, Reload, Clear, Finish, Release, Allocate, Write, GiveUp, Retire, Move as Moves}
@@ -95,6 +96,12 @@ WhyIn config (Tidies later) = LaterIn config later
 WhyIn config Advances = Unit {0}
 WhyIn config (Releases let_go) = KeptIn config (let_index let_go)
 
+-- the link that is published leads to a row
+abbrev pub HazardIn : ℕ → HazardAt → Type 0
+HazardIn slots FirstLink = Unit {0}
+HazardIn slots (PublishLink link) = (1 ≤ link) × (link ≤ slots + 1)
+HazardIn slots (CheckLink link) = (1 ≤ link) × (link ≤ slots + 1)
+
 -- the link that a protection has loaded
 abbrev pub ProtectIn : ℕ → ProtectAt → Type 0
 ProtectIn slots (CheckClock era tries link) = link ≤ slots + 1
@@ -104,6 +111,7 @@ ProtectIn slots (TakeAnswer link era) = link ≤ slots + 1
 ProtectIn slots (WithdrawRequest link era) = link ≤ slots + 1
 ProtectIn slots (WithdrawHelper link era) = link ≤ slots + 1
 ProtectIn slots (CheckUpper link) = link ≤ slots + 1
+ProtectIn slots (ByHazard at) = HazardIn slots at
 ProtectIn slots at = Unit {0}
 
 abbrev pub RetireIn : ℕ → RetireAt → Type 0
@@ -133,7 +141,7 @@ abbrev pub BaseIn : Layout → Base → Type 0
 BaseIn layout (Begin at) = Unit {0}
 BaseIn layout (Protect aim index root steps at) = ProtectsIn layout root at
 BaseIn layout (Reload parent index slot era steps) = (parent ≤ layout.config.slots) × (slot ≤ layout.config.slots)
-BaseIn layout (Clear index) = Unit {0}
+BaseIn layout (Clear rows index) = Unit {0}
 BaseIn layout Finish = Unit {0}
 BaseIn layout (Release index) = Unit {0}
 BaseIn layout (Allocate at) = Unit {0}

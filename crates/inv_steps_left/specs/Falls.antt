@@ -4,14 +4,21 @@ use Rattle.inv_covers.specs.words.Place.{is_valid}
 use Rattle.inv_covers.specs.words.Place.Place.{Clock}
 use Rattle.inv_covers.specs.words.declared.layout.Layout.{Layout}
 use Rattle.inv_covers.specs.defs.declared.call.Call.{Call}
+use Rattle.inv_covers.specs.defs.declared.event.Root.{Root}
+use Rattle.inv_covers.specs.model.Calls.{FollowsHead, Runs}
+use Rattle.inv_covers.specs.model.Phases.{Aim}
+use Rattle.inv_covers.specs.model.Phases.Base.{Protect}
+use Rattle.inv_covers.specs.model.Phases.HazardAt.{CheckLink}
+use Rattle.inv_covers.specs.model.Phases.ProtectAt.{ByHazard}
 use Rattle.inv_covers.specs.model.Rest.{rest}
-use Rattle.inv_covers.specs.model.World.{World, start, begin, step, is_busy}
+use Rattle.inv_covers.specs.model.World.{World, start, begin, step, is_busy, finds}
 use Rattle.inv_covers.specs.shapes.Seats.{Seats}
 use Rattle.inv_covers.specs.shapes.Eras.{Eras}
 use Rattle.inv_covers.specs.shapes.Slots.{Slots, SlotsNeeds}
 use Rattle.inv_steps_left.specs.Losses.{Losses, LossNeeds}
 
--- what the other parts give: shape, eras and ranges before and after the step, and what a scan finds of its list
+-- what the other parts give: shape, eras and ranges before and after the step, what a scan finds of its list, and that where
+-- rows are published the next link of the head's row is the same at both loads
 pub record RestNeeds (w : World) (i : ℕ) : Type 0 where
   pub seats : Seats w
   pub eras : Eras w
@@ -20,6 +27,7 @@ pub record RestNeeds (w : World) (i : ℕ) : Type 0 where
   pub eras_next : Eras (step w i)
   pub slots_next : Slots (step w i)
   pub losses : Losses w
+  pub follows : (head tail : ℕ) (aim : Aim) (index : ℕ) (root : Root) (steps link : ℕ) → (w.seat i).phase ≡ Runs (FollowsHead head tail) (Protect aim index root steps (ByHazard (CheckLink link))) → (finds w i == link) ≡ true
 
 -- a step that does not end its call leaves fewer steps
 abbrev pub RestFalls : Type 0

@@ -1,16 +1,25 @@
 -- How many rounds a call has lost, by where it stands: no more than its task may lose.
-use Rattle.std.specs.Prelude.{ℕ, ◌≡◌, ◌≤◌, ◌+◌, ◌==◌, Bool, true, false, None}
+use Rattle.std.specs.Prelude.{ℕ, ◌≡◌, ◌≤◌, ◌+◌, ◌==◌, Bool, true, false, List, None}
 use Rattle.inv_covers.specs.words.declared.config.Config.{Config}
 use Rattle.inv_covers.specs.model.declared.ends.ProtectEnd.TheVariants as protect_ends
 use Rattle.inv_covers.specs.model.Rest.{rounds_most, is_told, has_walked}
+use Rattle.inv_covers.specs.defs.declared.event.Event.{Event}
+use Rattle.inv_covers.specs.defs.declared.event.Root.{Root}
+use Rattle.inv_covers.specs.model.Locals.{rounds_told}
 use Rattle.inv_covers.specs.model.Machine as machine
 use Rattle.inv_covers.specs.model.Posts.{counted}
-use Rattle.inv_covers.specs.model.Phases.{Base, Walk, Ends, Protected}
+use Rattle.inv_covers.specs.model.Phases.{Aim, Base, Walk, Ends, Protected}
+use Rattle.inv_covers.specs.model.Phases.HazardAt.{CheckLink}
+use Rattle.inv_covers.specs.model.Phases.ProtectAt.{ByHazard}
 use Rattle.inv_covers.specs.model.Phases.AllocateAt.{ClaimSlot}
-use Rattle.inv_covers.specs.model.Phases.Base.{Allocate, Reload}
+use Rattle.inv_covers.specs.model.Phases.Base.{Allocate, Protect, Reload}
 use Rattle.inv_covers.specs.model.Calls.{ChangeKept, EnqueueKept, Task, Gets, Changes, Holds, Enqueues, Dequeues, Next, Again, MakeRoom, Answering, Retiring, AfterScan, Answered, Repeated, Counted, Why, Opens, FollowsHead, Fills, ClearsNext, Clears, Finishes, GivesUp, Retires, Tidies, Advances, Releases, ExchangeRoot, PassTail, ExchangeNext, SwingTail, ExchangeHead, Work, Getting, Changing, Enqueuing, Dequeuing, Keeping, Phase, Idle, Runs, Scans, Works}
 use Rattle.inv_covers.specs.model.World.{World, finds}
-use Rattle.inv_covers.specs.words.Schemes.{has_one_interval}
+use Rattle.inv_covers.specs.words.Schemes.{has_one_interval, publishes_rows}
+
+-- the rounds that have found their root, once so many had and a step has told this
+abbrev pub rounds_in : Config → ℕ → List Event → ℕ
+rounds_in c rounds told = rounds_told (publishes_rows c.scheme) rounds told
 
 -- a round has found its root, and those before it are no more than may be lost
 pub record InRound (most rounds : ℕ) : Type 0 where
@@ -35,11 +44,15 @@ abbrev pub tells_fit : ℕ → ℕ → (told : Bool) → Type 0
 tells_fit most rounds false = rounds ≤ most
 tells_fit most rounds true = InRound most rounds
 
--- a hold has one round, which index 2 does not tell
+-- a hold has one round, which index 2 does not tell; but where rows are published it is one as others are
+abbrev pub hold_fit : (rows : Bool) → ℕ → ℕ → (told : Bool) → Type 0
+hold_fit false most rounds told = rounds ≡ 0
+hold_fit true most rounds told = tells_fit most rounds told
+
 abbrev pub opens_fit : Config → ℕ → Task → (told : Bool) → Type 0
 opens_fit c rounds (Gets key) told = tells_fit (rounds_most c (Gets key)) rounds told
 opens_fit c rounds (Changes kept) told = tells_fit (rounds_most c (Changes kept)) rounds told
-opens_fit c rounds (Holds key) told = rounds ≡ 0
+opens_fit c rounds (Holds key) told = hold_fit (publishes_rows c.scheme) (rounds_most c (Holds key)) rounds told
 opens_fit c rounds (Enqueues kept) told = tells_fit (rounds_most c (Enqueues kept)) rounds told
 opens_fit c rounds Dequeues told = tells_fit (rounds_most c Dequeues) rounds told
 
@@ -117,6 +130,8 @@ pub record LossNeeds (w : World) (i : ℕ) : Type 0 where
   pub dequeues : (head next number value : ℕ) → (w.seat i).phase ≡ Works (Dequeuing (ExchangeHead head next number value)) → (finds w i == head + 1) ≡ false → (w.seat i).rounds ≤ rounds_most w.layout.config Dequeues
   -- the one walk that room is made for has failed
   pub walks : (task : Task) (birth : ℕ) (walk : Walk) → (w.seat i).phase ≡ Runs (Fills task) (Allocate (ClaimSlot birth walk)) → has_walked task ≡ false → (w.seat i).rounds ≤ rounds_most w.layout.config task
+  -- where rows are published: the root was exchanged between a protection's two loads
+  pub hazards : (task : Task) (aim : Aim) (index : ℕ) (root : Root) (steps link : ℕ) → (w.seat i).phase ≡ Runs (Opens task) (Protect aim index root steps (ByHazard (CheckLink link))) → (finds w i == link) ≡ false → (w.seat i).rounds ≤ rounds_most w.layout.config task
   -- the tail and the head are never null
   pub roots : (task : Task) (base : Base) → (w.seat i).phase ≡ Runs (Opens task) base → is_queue task ≡ true → ((machine.after base (counted (w.seat i).post) (finds w i)).outcome ≡ Ends (Protected protect_ends.Null)) → false ≡ true
 

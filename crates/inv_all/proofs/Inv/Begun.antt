@@ -17,6 +17,7 @@ use Rattle.inv_ends.proofs.shapes.Decode.{eras_start, eras_begin}
 use Rattle.inv_ends.proofs.shapes.Kept.{seats_start, seats_begin}
 use Rattle.inv_ends.proofs.shapes.Quiet.{noted_start, noted_begin}
 use Rattle.inv_ends.proofs.shapes.SlotKept.{slots_start, slots_begin}
+use Rattle.inv_ends.proofs.requests.Hazards.{hazards_start, hazards_begin}
 use Rattle.inv_ends.proofs.requests.Kept.{requests_start, requests_begin}
 use Rattle.inv_ends.proofs.requests.Paced.{paces_start, paces_begin}
 use Rattle.inv_ends.proofs.requests.Parents.{parents_start, parents_begin}
@@ -48,6 +49,7 @@ known_start layout z d q e = record {
   noted = noted_start layout;
   paces = paces_start layout;
   parents = parents_start layout;
+  hazards = hazards_start layout;
   requests = q;
   whole = whole_start layout d;
   scans = scans_start layout;
@@ -81,6 +83,7 @@ begun_known w i call v l z next b h m k q e = record {
   noted = noted_begin w i call (here_few w i v k.whole.both.rows h) k.noted;
   paces = paces_begin w i call k.valid k.seats k.paces;
   parents = parents_begin w i call k.parents;
+  hazards = hazards_begin w i call k.valid k.seats k.hazards;
   requests = q;
   whole = whole_begin w i call v l b h k.whole;
   scans = scans_begin w i call k.scans;

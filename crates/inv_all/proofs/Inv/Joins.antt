@@ -437,6 +437,7 @@ known_joined w from to v l z b c o f t k =
       noted = noted_joined w from to b c o (listing_joined w from to (made to v (Adopts from)) o t whole.both.rows) k.noted;
       paces = record { paced = k.paces.paced };
       parents = record { stand = k.parents.stand };
+      hazards = record { shows = k.hazards.shows };
       requests = requests_joined w from to z k.requests;
       whole = whole;
       scans = scans_joined w from to b c o k.scans;

@@ -1,9 +1,24 @@
 -- Each step keeps all that is known.
-use Rattle.std.proofs.Common.{ℕ, ◌≡◌, ◌<◌, Bool, true, false, refl, sym, subst}
-use Rattle.inv_ends.specs.model.World.{World, step}
+use Rattle.std.proofs.Common.{ℕ, ◌∙◌, ◌≡◌, ◌≤◌, ◌<◌, Bool, true, false, arith, refl, sym, subst}
+use Rattle.std.proofs.lemmas.Bool.Decides.{nat_tests}
+use Rattle.std.specs.Prelude.{◌==◌}
+use Rattle.inv_ends.specs.model.World.{World, finds, step}
+use Rattle.inv_ends.specs.model.words.Place.Place.{Row}
+use Rattle.inv_ends.specs.model.defs.declared.event.Root.{Root}
+use Rattle.inv_ends.specs.model.defs.declared.event.Root.TheVariants as roots
+use Rattle.inv_ends.specs.model.Calls.{FollowsHead, Phase, Runs}
+use Rattle.inv_ends.specs.model.Links.{link_place}
+use Rattle.inv_ends.specs.model.Phases.{Aim, Base}
+use Rattle.inv_ends.specs.model.Phases.Base.{Protect}
+use Rattle.inv_ends.specs.model.Phases.HazardAt.{CheckLink}
+use Rattle.inv_ends.specs.model.Phases.ProtectAt.{ByHazard}
+use Rattle.inv_ends.specs.shapes.Seats.{PhaseFits, Run}
+use Rattle.inv_ends.proofs.shapes.Frame.{finds_at}
+use Rattle.inv_ends.proofs.model.Facts.{same_number}
+use Rattle.inv_steps_left.specs.rows.Follow.{Loads}
 use Rattle.inv_ends.specs.shapes.Eras.{Eras}
 use Rattle.inv_ends.specs.model.words.Schemes.{is_wfe}
-use Rattle.inv_ends.specs.shapes.Slots.{Slots, SlotsNeeds}
+use Rattle.inv_ends.specs.shapes.Slots.{BaseIn, PhaseIn, Slots, SlotsNeeds, WhyIn}
 use Rattle.inv_ends.proofs.shapes.Decode.{eras_step}
 use Rattle.inv_ends.proofs.shapes.Kept.{seats_step}
 use Rattle.inv_ends.proofs.shapes.Quiet.{noted_step}
@@ -14,6 +29,7 @@ use Rattle.inv_ends.specs.requests.Standing.{Requests}
 use Rattle.inv_ends.specs.requests.Turns.{StandsAfter}
 use Rattle.inv_ends.specs.requests.Views.{Deal, View as Asked}
 use Rattle.inv_ends.proofs.requests.Falling.{needs_of}
+use Rattle.inv_ends.proofs.requests.Hazards.{hazards_step}
 use Rattle.inv_ends.proofs.requests.Kept.{requests_step}
 use Rattle.inv_ends.proofs.requests.Paced.{paces_step}
 use Rattle.inv_ends.proofs.requests.Parents.{parents_step}
@@ -52,7 +68,7 @@ eras_of w i v l z a = eras_step w i a.valid a.seats a.slots a.eras (eras_need w 
 
 held_by : (w : World) (i : ℕ) (v : View) (l : Line) (z : Asked) (wfe : Bool) → is_wfe w.layout.config.scheme ≡ wfe → i < w.layout.config.seats → Known w v l z → Held (step w i) (rows_after w i v)
 held_by w i v l z true f b a = let h = handover_kept w i v z f (handover_need w i v l z b a) a.held (a.helped f) in h.0
-held_by w i v l z false f b a = held_kept w i v f (held_need w i v l z b a.valid a.seats a.eras a.slots a.whole.both a.requests a.parents a.scans a.rests (eras_of w i v l z a)) a.held
+held_by w i v l z false f b a = held_kept w i v f (held_need w i v l z b a.valid a.seats a.eras a.slots a.whole.both a.requests a.parents a.hazards a.scans a.rests (eras_of w i v l z a)) a.held
 
 helped_by : (w : World) (i : ℕ) (v : View) (l : Line) (z next : Asked) → is_wfe w.layout.config.scheme ≡ true → i < w.layout.config.seats → Known w v l z → next.deal ≡ next_deals w i z.deal → Helped (step w i) (rows_after w i v) next.deal
 helped_by w i v l z next f b a d =
@@ -61,6 +77,21 @@ helped_by w i v l z next f b a d =
 
 slots_next : (w : World) (i : ℕ) (v : View) (l : Line) (z : Asked) → Known w v l z → Slots (step w i)
 slots_next w i v l z a = slots_step w i a.valid a.seats a.eras a.slots (slots_of w i v l z a)
+
+-- where rows are published the next link of the head's row is at the reload what it was at the load
+follow_again : (w : World) (i : ℕ) (v : View) (l : Line) (z : Asked) (head tail : ℕ) (aim : Aim) (index : ℕ) (root : Root) (steps link : ℕ) → Known w v l z → (w.seat i).phase ≡ Runs (FollowsHead head tail) (Protect aim index root steps (ByHazard (CheckLink link))) → (finds w i == link) ≡ true
+follow_again w i v l z head tail aim index root steps link a e =
+    let base : Base = Protect aim index root steps (ByHazard (CheckLink link)) in
+    let phase : Phase = Runs (FollowsHead head tail) base in
+    let r : Run w.layout (FollowsHead head tail) base (w.seat i).post = subst (λ (p : Phase). PhaseFits w.layout (w.seat i).post p) e (a.seats.fits i).phase in
+    let d : WhyIn w.layout.config (FollowsHead head tail) × BaseIn w.layout base = subst (λ (p : Phase). PhaseIn w.layout (w.seat i).desk p) e (a.slots.seats i).phase in
+    let o : 1 ≤ link = d.1.at_in.0 in
+    let x : Loads phase (λ s. w.mem (Row s 0)) = subst (λ (p : Phase). Loads p (λ s. w.mem (Row s 0))) e (a.whole.both.queue.walks i).loads in
+    let same : w.mem (Row head 0) ≡ link = x.loaded link (grind (arith, nat_tests, o)) in
+    let found : finds w i ≡ w.mem (link_place root) = finds_at w i phase e in
+    let next : root ≡ roots.Next head = r.shape.of in
+    let there : finds w i ≡ w.mem (Row head 0) = subst (λ (q : Root). finds w i ≡ w.mem (link_place q)) next found in
+    rw (there ∙ same) (same_number link)
 
 pub rest_need : (w : World) (i : ℕ) (v : View) (l : Line) (z : Asked) → Known w v l z → RestNeeds w i
 rest_need w i v l z a = record {
@@ -71,10 +102,11 @@ rest_need w i v l z a = record {
   eras_next = eras_of w i v l z a;
   slots_next = slots_next w i v l z a;
   losses = a.losses;
+  follows = λ head tail aim index root steps link e. follow_again w i v l z head tail aim index root steps link a e;
 }
 
 pub rounds_need : (w : World) (i : ℕ) (v : View) (l : Line) (z : Asked) → i < w.layout.config.seats → Known w v l z → RoundsNeeds w i v l z
-rounds_need w i v l z b a = record { origins = origins_need w i v l z b a; both = a.whole.both; items = a.items; bounded = a.bounded; losses = a.losses }
+rounds_need w i v l z b a = record { origins = origins_need w i v l z b a; both = a.whole.both; items = a.items; bounded = a.bounded; losses = a.losses; slots = a.slots }
 
 pub known_kept : (w : World) (i : ℕ) (v : View) (l : Line) (z next : Asked) → i < w.layout.config.seats → Known w v l z → Requests (step w i) next → next.deal ≡ next_deals w i z.deal → Known (step w i) (rows_after w i v) (line_after w i l) next
 known_kept w i v l z next b a q d = record {
@@ -85,6 +117,7 @@ known_kept w i v l z next b a q d = record {
   noted = noted_step w i (slots_of w i v l z a) a.noted;
   paces = paces_step w i a.valid a.seats a.paces;
   parents = parents_step w i a.seats a.parents;
+  hazards = hazards_step w i a.valid a.seats a.hazards;
   requests = q;
   whole = whole_kept w i v l (whole_need w i v l z b a) a.whole;
   scans = scans_kept w i a.scans;

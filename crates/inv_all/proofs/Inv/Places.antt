@@ -29,7 +29,8 @@ use Rattle.inv_ends.specs.model.Phases.AllocateAt.{LoadBirth}
 use Rattle.inv_ends.specs.model.Phases.Base.{Allocate, Begin, Move, Protect, Retire}
 use Rattle.inv_ends.specs.model.Phases.BeginAt.{LoadLower}
 use Rattle.inv_ends.specs.model.Phases.MoveAt.{LoadEra}
-use Rattle.inv_ends.specs.model.Phases.ProtectAt.{LoadClock}
+use Rattle.inv_ends.specs.model.Phases.HazardAt.{CheckLink, FirstLink, PublishLink}
+use Rattle.inv_ends.specs.model.Phases.ProtectAt.{ByHazard, LoadClock}
 use Rattle.inv_ends.specs.model.Phases.RetireAt.{LoadLife}
 use Rattle.inv_ends.specs.model.Posts.{counted}
 use Rattle.inv_ends.specs.model.Scan.{scan_move}
@@ -71,6 +72,9 @@ inv_places w k a =
 -- no step writes a place word but one that leaves a list, takes one over or marks it
 protect_unplaced : (index : ℕ) (root : Root) (at : ProtectAt) (post : Post) → is_placing (protect_move index root at post) ≡ false
 protect_unplaced index root (LoadClock tries) post = refl
+protect_unplaced index root (ByHazard FirstLink) post = refl
+protect_unplaced index root (ByHazard (PublishLink link)) post = refl
+protect_unplaced index root (ByHazard (CheckLink link)) post = refl
 protect_unplaced index root at post = refl
 
 begin_unplaced : (at : BeginAt) (post : Post) → is_placing (begin_move at post) ≡ false

@@ -43,7 +43,7 @@ some_index layout v = let b = (bounds_of layout v).indexes in omega (arith, b.0)
 pub index_in : (layout : Layout) (why : Why) (base : Base) (post : Post) → is_valid layout ≡ true → WhyIn layout.config why → Run layout why base post → index_base base < layout.config.indexes
 index_in layout why (Protect aim index root steps at) post v y r = index_below layout why index v y r.shape.at
 index_in layout why (Reload parent index slot era steps) post v y r = index_below layout why index v y r.shape.at
-index_in layout why (Clear index) post v y r = index_below layout why index v y r.shape
+index_in layout why (Clear rows index) post v y r = index_below layout why index v y r.shape
 index_in layout why base post v y r = some_index layout v
 
 -- a protection that is followed is of a next link

@@ -11,10 +11,13 @@ use Rattle.inv_ends.specs.model.defs.declared.event.Guard.{Guard}
 use Rattle.inv_ends.specs.model.defs.declared.event.Guard.TheVariants.{Helper, Index, Whole}
 use Rattle.inv_ends.specs.model.defs.declared.lifetime.Interval.{Interval}
 use Rattle.inv_ends.specs.model.defs.Shown as values
-use Rattle.inv_ends.specs.model.Guards.{one_era, from_to, interval_in}
+use Rattle.inv_ends.specs.model.defs.declared.shown.Shown.{Shown}
+use Rattle.inv_ends.specs.model.words.Schemes.{publishes_rows}
+use Rattle.inv_ends.proofs.covers.Words.{eras_are_shown, rows_are_shown}
+use Rattle.inv_ends.specs.model.Guards.{guard_place, one_era, from_to, interval_in, linked_row}
 use Rattle.inv_ends.proofs.model.Ranges.{bounds_of}
 use Rattle.inv_ends.specs.model.World.{World}
-use Rattle.inv_ends.specs.shapes.Eras.{SpanIn, span_shown, HelperIn, IndexIn, Eras}
+use Rattle.inv_ends.specs.shapes.Eras.{SpanIn, span_shown, HelperIn, IndexIn, ShownIn, Eras}
 use Rattle.inv_ends.specs.covers.Covers.{NotBefore, eras_shown, shown}
 
 -- the clock's last era has 32 bits
@@ -53,8 +56,21 @@ span_before : (clock : ℕ) (span : Option Interval) → SpanIn clock span → N
 span_before clock None s slot birth h = h
 span_before clock (Some span) s slot birth h = let a = s.1 in let b = s.2 in grind (arith, nat_tests, a, b)
 
+-- eras keep a life that is over now as before
+eras_after : (w : World) (guard : Guard) → is_valid w.layout ≡ true → Eras w → publishes_rows w.layout.config.scheme ≡ false → NotBefore (values.shown (eras_shown w guard)) (w.mem Clock)
+eras_after w (Helper seat) v a f = helper_before seat (w.mem (HelperOf seat)) (w.mem Clock) (a.words (HelperOf seat))
+eras_after w (Index seat index) v a f = index_before (w.mem (IndexOf seat index)) (w.mem Clock) (subst (λ (rows : Bool). ShownIn rows w.layout (w.mem Clock) (w.mem (IndexOf seat index))) f (a.words (IndexOf seat index)))
+eras_after w (Whole seat) v a f = let P : Option Interval → Type 0 = λ x. NotBefore (values.shown x) (w.mem Clock) in subst P (sym (shown_span w seat v a)) (span_before (w.mem Clock) (w.seat seat).post.span (a.seats seat).post.span)
+
+-- and so do rows
+row_after : (row : Option ℕ) (clock : ℕ) → NotBefore (values.shown_row row) clock
+row_after None clock slot birth h = h
+row_after (Some row) clock slot birth h = h
+
 -- a life that is over now is kept as before
 pub none_after : (w : World) (guard : Guard) → is_valid w.layout ≡ true → Eras w → NotBefore (shown w guard) (w.mem Clock)
-none_after w (Helper seat) v a = helper_before seat (w.mem (HelperOf seat)) (w.mem Clock) (a.words (HelperOf seat))
-none_after w (Index seat index) v a = index_before (w.mem (IndexOf seat index)) (w.mem Clock) (a.words (IndexOf seat index))
-none_after w (Whole seat) v a = let P : Option Interval → Type 0 = λ x. NotBefore (values.shown x) (w.mem Clock) in subst P (sym (shown_span w seat v a)) (span_before (w.mem Clock) (w.seat seat).post.span (a.seats seat).post.span)
+none_after w guard v a = by_rows (publishes_rows w.layout.config.scheme) refl
+  where
+    by_rows : (rows : Bool) → publishes_rows w.layout.config.scheme ≡ rows → NotBefore (shown w guard) (w.mem Clock)
+    by_rows true f = subst (λ (x : Shown). NotBefore x (w.mem Clock)) (sym (rows_are_shown w guard f)) (row_after (linked_row (w.mem (guard_place guard))) (w.mem Clock))
+    by_rows false f = subst (λ (x : Shown). NotBefore x (w.mem Clock)) (sym (eras_are_shown w guard f)) (eras_after w guard v a f)

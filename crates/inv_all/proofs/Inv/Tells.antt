@@ -1,7 +1,7 @@
 -- What the invariant says of a step: what it tells is right, and it leaves the rows that stand.
-use Rattle.std.proofs.Common.{ap}
 use Rattle.inv_ends.specs.model.Calls.{StoreHeld}
-use Rattle.inv_ends.specs.model.Guards.{one_era}
+use Rattle.inv_ends.specs.model.words.Place.Place.{Index}
+use Rattle.inv_ends.specs.model.words.Schemes.{publishes_rows}
 use Rattle.inv_ends.proofs.covers.Begun.{standing_stays}
 use Rattle.inv_ends.proofs.requests.Known.{copying}
 use Rattle.inv_contents.proofs.Contents.Kept.{contents_looked, contents_told}
@@ -12,6 +12,7 @@ use Rattle.inv_ends.proofs.requests.Pending.{pending}
 use Rattle.inv_contents.proofs.Contents.Buckets.{buckets_show}
 use Rattle.inv_all.specs.Shows.{InvTimes, InvShows}
 use Rattle.inv_all.specs.Inv.{InvCopies, InvTells, InvStays}
+use Rattle.inv_all.proofs.Inv.Guards.{copied_shows}
 use Rattle.inv_all.proofs.Inv.Rows.{rows_need}
 use Rattle.inv_all.proofs.Inv.Shapes.{keep_fits}
 use Rattle.inv_all.proofs.Inv.Whole.{covers_of, contents_need}
@@ -29,7 +30,7 @@ pub inv_copies : InvCopies
 inv_copies w k from index era a e =
     let t = a.known in
     let f = keep_fits w k (StoreHeld from index era) t.seats e in
-    record { publishes = ap one_era ((copying w a.asked k t.valid t.requests).publishes from index era e); stands = f.kept }
+    record { publishes = copied_shows (publishes_rows w.layout.config.scheme) k from (w.mem (Index k from)) era ((copying w a.asked k t.valid t.requests t.hazards).publishes from index era e); stands = f.kept }
 
 pub inv_stays : InvStays
 inv_stays w i k j s a e =

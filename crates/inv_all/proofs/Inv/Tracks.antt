@@ -100,15 +100,15 @@ asked_base X layout (Move at) d x h a f = absurd (asked_move layout at d x h a)
 asked_base X layout base d x h a f = absurd (quiet_word d x h a)
 
 -- a call's own step has no request
-work_quiet : (work : Work) (d : Deal) → fits (work_role work) d ≡ true → is_quiet d ≡ true
-work_quiet work d h = each_work_role work (λ (r : Role). fits r d ≡ true → is_quiet d ≡ true) (λ q. q) (λ from era q. q) h
+work_quiet : (layout : Layout) (work : Work) (d : Deal) → fits (work_role layout work) d ≡ true → is_quiet d ≡ true
+work_quiet layout work d h = each_work_role layout work (λ (r : Role). fits r d ≡ true → is_quiet d ≡ true) (λ q. q) (λ from era q. q) h
 
 asked_phase : (X : Type 0) (layout : Layout) (phase : Phase) (d : Deal) (x : ℕ) → fits (role_of layout phase) d ≡ true → asks_word d x ≡ true
     → ((why : Why) (aim : Aim) (index : ℕ) (root : Root) (steps : ℕ) (at : ProtectAt) → phase ≡ Runs why (Protect aim index root steps at) → link_number layout root ≡ x → X) → X
 asked_phase X layout Idle d x h a f = absurd (quiet_word d x h a)
 asked_phase X layout (Runs why base) d x h a f = asked_base X layout base d x h a (λ aim index root steps at e n. f why aim index root steps at (ap (Runs why) e) n)
 asked_phase X layout (Scans later at) d x h a f = absurd (quiet_word d x h a)
-asked_phase X layout (Works work) d x h a f = absurd (quiet_word d x (work_quiet work d h) a)
+asked_phase X layout (Works work) d x h a f = absurd (quiet_word d x (work_quiet layout work d h) a)
 
 fits_at : (w : World) (k : ℕ) (z : Asked) → Requests w z → fits (role_of w.layout (w.seat k).phase) (z.deal k) ≡ true
 fits_at w k z q = subst (λ (r : Role). fits r (z.deal k) ≡ true) (sym (q.locals.roles k)) (q.parts.fit k)
@@ -137,7 +137,7 @@ taken_phase X layout clock status post Idle t j w l e s h k u f = absurd (cc)
 taken_phase X layout clock status post (Runs why (Protect aim index root steps at)) t j w l e s h k u f = taken_protect X layout clock status post aim index root steps at t j w l e s h k u (f why (Protect aim index root steps at) refl)
 taken_phase X layout clock status post (Runs why (Begin at)) t j w l e s h k u f = absurd (cc)
 taken_phase X layout clock status post (Runs why (Reload parent index slot era steps)) t j w l e s h k u f = absurd (cc)
-taken_phase X layout clock status post (Runs why (Clear index)) t j w l e s h k u f = absurd (cc)
+taken_phase X layout clock status post (Runs why (Clear rows index)) t j w l e s h k u f = absurd (cc)
 taken_phase X layout clock status post (Runs why Finish) t j w l e s h k u f = absurd (cc)
 taken_phase X layout clock status post (Runs why (Release index)) t j w l e s h k u f = absurd (cc)
 taken_phase X layout clock status post (Runs why (Allocate at)) t j w l e s h k u f = absurd (cc)
@@ -146,7 +146,7 @@ taken_phase X layout clock status post (Runs why (GiveUp slot)) t j w l e s h k 
 taken_phase X layout clock status post (Runs why (Retire at)) t j w l e s h k u f = absurd (cc)
 taken_phase X layout clock status post (Runs why (Move at)) t j w l e s h k u f = absurd (taken_move layout at t j w l e h)
 taken_phase X layout clock status post (Scans later at) t j w l e s h k u f = absurd (cc)
-taken_phase X layout clock status post (Works work) t j w l e s h k u f = let q = work_quiet work (Taken t j w l e) h in absurd (cc)
+taken_phase X layout clock status post (Works work) t j w l e s h k u f = let q = work_quiet layout work (Taken t j w l e) h in absurd (cc)
 
 under_asked : (w : World) (k : ℕ) (v : View) (z : Asked) (x : ℕ) → is_valid w.layout ≡ true → Seats w → Slots w → Requests w z → asks_word (z.deal k) x ≡ true → under v.status (root_in w k) ≡ true → under v.status (root_at w.layout x) ≡ true
 under_asked w k v z x d s t q a u = subst (λ (r : Root). under v.status r ≡ true) (sym (asked_root w k z x d s t q a)) u
@@ -205,7 +205,7 @@ carried_phase X layout clock status deal d post Idle s h c u f g a = absurd (cc)
 carried_phase X layout clock status deal d post (Runs why (Protect aim index root steps at)) s h c u f g a = carried_protect X layout clock status deal d post aim index root steps at s h c u (f why (Protect aim index root steps at) refl) (g why (Protect aim index root steps at) refl) a
 carried_phase X layout clock status deal d post (Runs why (Reload parent index slot era steps)) s h c u f g a = f why (Reload parent index slot era steps) refl (reload_same slot s (in_queue (status parent)) c u)
 carried_phase X layout clock status deal d post (Runs why (Begin at)) s h c u f g a = absurd (cc)
-carried_phase X layout clock status deal d post (Runs why (Clear index)) s h c u f g a = absurd (cc)
+carried_phase X layout clock status deal d post (Runs why (Clear rows index)) s h c u f g a = absurd (cc)
 carried_phase X layout clock status deal d post (Runs why Finish) s h c u f g a = absurd (cc)
 carried_phase X layout clock status deal d post (Runs why (Release index)) s h c u f g a = absurd (cc)
 carried_phase X layout clock status deal d post (Runs why (Allocate at)) s h c u f g a = absurd (cc)
@@ -272,7 +272,7 @@ helped_left w i k m s v z Idle d b a t q r e h u = absurd (cc)
 helped_left w i k m s v z (Runs why (Begin at)) d b a t q r e h u = absurd (cc)
 helped_left w i k m s v z (Runs why (Protect aim index root steps at)) d b a t q r e h u = absurd (cc)
 helped_left w i k m s v z (Runs why (Reload parent index slot era steps)) d b a t q r e h u = absurd (cc)
-helped_left w i k m s v z (Runs why (Clear index)) d b a t q r e h u = absurd (cc)
+helped_left w i k m s v z (Runs why (Clear rows index)) d b a t q r e h u = absurd (cc)
 helped_left w i k m s v z (Runs why Finish) d b a t q r e h u = absurd (cc)
 helped_left w i k m s v z (Runs why (Release index)) d b a t q r e h u = absurd (cc)
 helped_left w i k m s v z (Runs why (Allocate at)) d b a t q r e h u = absurd (cc)

@@ -64,7 +64,7 @@ pub origins_need : (w : World) (i : ℕ) (v : View) (l : Line) (z : Asked) → i
 origins_need w i v l z b a = record { valid = a.valid; below = b; seats = a.seats; eras = a.eras; needs = needs_of w a.slots; requests = a.requests }
 
 pub links_show : (w : World) (i : ℕ) (v : View) (l : Line) (z : Asked) → i < w.layout.config.seats → Known w v l z → LinksShow w i v l
-links_show w i v l z b a = links_give w i v l z (origins_need w i v l z b a) a.links
+links_show w i v l z b a = links_give w i v l z (origins_need w i v l z b a) a.whole.both (λ s bucket e. a.contents.rows.root s bucket e) a.links
 
 pub whole_need : (w : World) (i : ℕ) (v : View) (l : Line) (z : Asked) → i < w.layout.config.seats → Known w v l z → WholeNeeds w i v l
 whole_need w i v l z b a =

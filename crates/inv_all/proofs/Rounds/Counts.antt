@@ -14,15 +14,18 @@ use Rattle.inv_contents.specs.defs.declared.fold.Change.{Change}
 use Rattle.inv_all.proofs.Rounds.Grows.{Grows}
 use Rattle.inv_all.specs.Tallies.{Tally}
 use Rattle.inv_contents.specs.rows.Queue.{Line}
+use Rattle.inv_contents.specs.words.Schemes.{publishes_rows}
+use Rattle.inv_contents.specs.words.declared.config.Config.{Config}
 use Rattle.std.specs.Prelude.{List, ◌++◌, length, nat_le, if◌then◌else◌, ◌==◌}
 use Rattle.inv_contents.proofs.rows.Words.{put_other}
 use Rattle.inv_contents.proofs.model.Facts.{same_or}
 
 -- the counts of these words, this book and this line
-abbrev pub tally_of : ℕ → (Place → ℕ) → Book → Line → Tally
-tally_of buckets mem book l =
+abbrev pub tally_of : Config → (Place → ℕ) → Book → Line → Tally
+tally_of c mem book l =
     record {
-      buckets = buckets;
+      rows = publishes_rows c.scheme;
+      buckets = c.buckets;
       root = λ b. mem (Bucket b);
       tail = mem Tail;
       head = mem Head;
@@ -145,7 +148,7 @@ untouched mem (Or place bits) q h k = put_other mem place q (bit_or (mem place) 
 untouched mem (And place bits) q h k = put_other mem place q (bit_and (mem place) bits) (apart q place h k)
 
 -- a step that writes none of them
-pub calm_grows : (c : ℕ) (mem : Place → ℕ) (m : Memory) (book : Book) (told : List Event) (l u : Line) → touches m ≡ false → ((s : ℕ) → u.number s ≡ l.number s) → Grows (tally_of c mem book l) (tally_of c (written mem m) (booked_all book told) u)
+pub calm_grows : (c : Config) (mem : Place → ℕ) (m : Memory) (book : Book) (told : List Event) (l u : Line) → touches m ≡ false → ((s : ℕ) → u.number s ≡ l.number s) → Grows (tally_of c mem book l) (tally_of c (written mem m) (booked_all book told) u)
 calm_grows c mem m book told l u h n =
     let g = book_grows told book in
     let gq = g.queued in let gt = g.taken in

@@ -33,18 +33,18 @@ use Rattle.inv_contents.specs.defs.declared.event.Root.{Root}
 use Rattle.inv_links.proofs.shapes.Frame.{seat_stays, seat_steps, begin_begins, begin_stays}
 use Rattle.inv_links.specs.shapes.Seats.{PhaseFits, Run, root_by, task_root}
 use Rattle.inv_links.proofs.Origins.Kept.{origins_kept, origins_begin, origins_start}
-use Rattle.inv_links.specs.Origins.{loads_asked, loads_link}
+use Rattle.inv_links.specs.Origins.{loads_asked, loads_at, loads_link}
 use Rattle.inv_links.specs.Tracked.{Tracked, root_for, root_in}
 use Rattle.inv_links.specs.requests.Roles.{shows}
 use Rattle.inv_links.specs.requests.Standing.{Requests}
 use Rattle.inv_all.proofs.Rounds.Fresh.{Loads, goes_loaded, has_loaded, loads_at_step, phase_fresh, seat_own}
 use Rattle.inv_all.proofs.Rounds.Grows.{phase_grows}
 use Rattle.inv_all.proofs.Rounds.Kept.{step_counts, lost_now, own_bucket, swung}
-use Rattle.inv_all.proofs.Rounds.Lasting.{own_paced, settled_good, stays_at, step_is}
+use Rattle.inv_all.proofs.Rounds.Lasting.{GoodAfter, loads_good, own_paced, settled_good, stays_at, step_is}
 use Rattle.inv_all.proofs.Rounds.Paced.{round_paced, parts_paced}
 use Rattle.inv_all.proofs.Rounds.Protects.{is_protecting, none_tracked}
 use Rattle.inv_all.specs.Rounds.{RoundsKept, RoundsNeeds, Rounds, RoundsBegin, RoundsGive, RoundsStart}
-use Rattle.inv_all.specs.Tallies.{Tally, good_link, phase_good, phase_paced, tally, fills_paced, once, task_good}
+use Rattle.inv_all.specs.Tallies.{Tally, good_link, root_test, task_most, phase_good, phase_paced, tally, fills_paced, once, task_good}
 use Rattle.inv_contents.specs.rows.Chain.{line_after, first_line}
 use Rattle.inv_contents.specs.rows.Queue.{Line, follows_in}
 use Rattle.std.specs.Prelude.{Option, Some, None, ◌==◌, ◌%◌}
@@ -60,15 +60,18 @@ use Rattle.inv_contents.specs.model.Phases.Ending.{Protected}
 use Rattle.inv_contents.specs.model.Phases.Outcome.{Ends}
 use Rattle.inv_contents.specs.model.Rest.{has_walked, is_told, lost_by, rounds_most}
 use Rattle.inv_contents.proofs.Items.Gives.{items_count}
-use Rattle.inv_steps_left.proofs.Rest.Falling.{fit_clock}
+use Rattle.inv_steps_left.proofs.Rest.Kept.{turn_rows}
+use Rattle.inv_steps_left.proofs.Rest.Told.{by_rows, lost_after}
+use Rattle.inv_contents.specs.model.Phases.HazardAt.{CheckLink}
+use Rattle.inv_contents.specs.model.Phases.ProtectAt.{ByHazard}
 use Rattle.inv_steps_left.proofs.Rest.Seats.{follows_alone}
 use Rattle.inv_steps_left.specs.Losses.{is_queue}
-use Rattle.inv_all.proofs.Rounds.Machines.{EndGood, carried_good, never_null, protect_carries}
+use Rattle.inv_all.proofs.Rounds.Machines.{EndGood, never_null, own_opened}
 use Rattle.inv_all.proofs.Rounds.Worlds.{next_number}
 use Rattle.inv_links.proofs.covers.Held.{finds_at}
 use Rattle.inv_contents.proofs.model.Facts.{same_both, if_by}
 use Rattle.inv_contents.specs.defs.declared.lifetime.Interval.{Interval}
-use Rattle.inv_contents.specs.words.Schemes.{has_one_interval}
+use Rattle.inv_contents.specs.words.Schemes.{has_one_interval, publishes_rows}
 
 -- what is in a root that the step loads is good
 
@@ -80,10 +83,10 @@ stood_root w i v l z k n h e =
 
 -- the seat that loads for its own protection
 loaded_good : (u : Tally) (mem : Place → ℕ) (rounds : ℕ) (l : Local) (t : CallTurn) (why : Why) (aim : Aim) (index : ℕ) (root : Root) → has_loaded why aim index root t → ((n : ℕ) (at : ProtectAt) → Loads u mem (Runs why (Protect aim index root n at)) root)
-    → phase_good u (rounds_told rounds t.told) (stands_at t.outcome) root (mem (link_place root)) ≡ true
+    → phase_good u (rounds_told u.rows rounds t.told) (stands_at t.outcome) root (mem (link_place root)) ≡ true
 loaded_good u mem rounds l t why aim index root g h =
     let e : stands_at t.outcome ≡ Runs why (Protect aim index root g.0 g.1) = ap stands_at g.2 in
-    subst (λ (p : Phase). phase_good u (rounds_told rounds t.told) p root (mem (link_place root)) ≡ true) (sym e) (phase_fresh u mem (rounds_told rounds t.told) (Runs why (Protect aim index root g.0 g.1)) root (h g.0 g.1))
+    subst (λ (p : Phase). phase_good u (rounds_told u.rows rounds t.told) p root (mem (link_place root)) ≡ true) (sym e) (phase_fresh u mem (rounds_told u.rows rounds t.told) (Runs why (Protect aim index root g.0 g.1)) root (h g.0 g.1))
 
 runs_bucket : (why : Why) (aim : Aim) (index : ℕ) (root : Root) (n : ℕ) (at : ProtectAt) (kept : ChangeKept) (base : Base) → Runs why (Protect aim index root n at) ≡ Runs (Opens (Changes kept)) base → why ≡ Opens (Changes kept)
 runs_bucket why aim index root n at kept base e = ap why_of e
@@ -94,35 +97,43 @@ runs_bucket why aim index root n at kept base e = ap why_of e
     why_of (Scans later at) = why
     why_of (Works work) = why
 
-own_loads : (w : World) (i : ℕ) (v : View) (l : Line) (z : Asking) → RoundsNeeds w i v l z → (phase : Phase) → (w.seat i).phase ≡ phase → loads_link phase ≡ true
-    → phase_good (tally (step w i) (line_after w i l)) (rounds_told (w.seat i).rounds (steps.phase_turn phase (counted (w.seat i).post) (offered w i).desk (finds w i)).told) (stands_at (steps.phase_turn phase (counted (w.seat i).post) (offered w i).desk (finds w i)).outcome) (root_for phase) (w.mem (link_place (root_for phase))) ≡ true
-own_loads w i v l z n Idle e h = absurd (cc)
-own_loads w i v l z n (Scans later at) e h = absurd (cc)
-own_loads w i v l z n (Works work) e h = absurd (cc)
-own_loads w i v l z n (Runs why (Protect aim index root m at)) e h =
+bucket_is : (a b : ℕ) → roots.Bucket a ≡ roots.Bucket b → a ≡ b
+bucket_is a b e = cc
+
+protect_loads : (w : World) (i : ℕ) (v : View) (l : Line) (z : Asking) → RoundsNeeds w i v l z → (why : Why) (aim : Aim) (index : ℕ) (root : Root) (m : ℕ) (at : ProtectAt) → (w.seat i).phase ≡ Runs why (Protect aim index root m at) → loads_at at ≡ true → by_rows at ≡ false
+    → GoodAfter w i (tally (step w i) (line_after w i l)) (Runs why (Protect aim index root m at)) root (w.mem (link_place root))
+protect_loads w i v l z n why aim index root m at e h d =
     let r : Run w.layout why (Protect aim index root m at) (w.seat i).post = subst (λ (p : Phase). PhaseFits w.layout (w.seat i).post p) e (n.origins.seats.fits i).phase in
     loaded_good (tally (step w i) (line_after w i l)) w.mem (w.seat i).rounds (w.seat i) (steps.phase_turn (Runs why (Protect aim index root m at)) (counted (w.seat i).post) (offered w i).desk (finds w i)) why aim index root
-    (goes_loaded why aim index root m at (counted (w.seat i).post) (offered w i).desk (finds w i) h)
+    (goes_loaded why aim index root m at (counted (w.seat i).post) (offered w i).desk (finds w i) h d)
     (λ a b. loads_at_step w i v l z (Runs why (Protect aim index root a b)) root n (rw e h) (λ kept base c p q.
     let x : why ≡ Opens (Changes kept) = runs_bucket why aim index root a b kept base p in
     let y : root ≡ roots.Bucket (key_of kept.change % w.layout.config.buckets) = r.shape.of ∙ ap (λ (o : Why). root_by w.layout.config.buckets o) x in
     bucket_is c (key_of kept.change % w.layout.config.buckets) (sym q ∙ y)))
+
+own_loads : (w : World) (i : ℕ) (v : View) (l : Line) (z : Asking) → RoundsNeeds w i v l z → Rounds w l z → (phase : Phase) → (w.seat i).phase ≡ phase → loads_link phase ≡ true
+    → phase_good (tally (step w i) (line_after w i l)) (rounds_told (publishes_rows w.layout.config.scheme) (w.seat i).rounds (steps.phase_turn phase (counted (w.seat i).post) (offered w i).desk (finds w i)).told) (stands_at (steps.phase_turn phase (counted (w.seat i).post) (offered w i).desk (finds w i)).outcome) (root_for phase) (w.mem (link_place (root_for phase))) ≡ true
+own_loads w i v l z n o Idle e h = absurd (cc)
+own_loads w i v l z n o (Scans later at) e h = absurd (cc)
+own_loads w i v l z n o (Works work) e h = absurd (cc)
+own_loads w i v l z n o (Runs why (Protect aim index root m at)) e h = by_hazard (by_rows at) refl
   where
-    bucket_is : (a b : ℕ) → roots.Bucket a ≡ roots.Bucket b → a ≡ b
-    bucket_is a b e = cc
-own_loads w i v l z n (Runs why (Begin at)) e h = absurd (cc)
-own_loads w i v l z n (Runs why (Reload parent index slot era m)) e h = absurd (cc)
-own_loads w i v l z n (Runs why (Clear index)) e h = absurd (cc)
-own_loads w i v l z n (Runs why Finish) e h = absurd (cc)
-own_loads w i v l z n (Runs why (Release index)) e h = absurd (cc)
-own_loads w i v l z n (Runs why (Allocate at)) e h = absurd (cc)
-own_loads w i v l z n (Runs why (Write slot row place)) e h = absurd (cc)
-own_loads w i v l z n (Runs why (GiveUp slot)) e h = absurd (cc)
-own_loads w i v l z n (Runs why (Retire at)) e h = absurd (cc)
-own_loads w i v l z n (Runs why (Move at)) e h = move_loads why at h e
+    by_hazard : (b : Bool) → by_rows at ≡ b → GoodAfter w i (tally (step w i) (line_after w i l)) (Runs why (Protect aim index root m at)) root (w.mem (link_place root))
+    by_hazard true b = loads_good w i v l z n o why aim index root m at e b h
+    by_hazard false b = protect_loads w i v l z n why aim index root m at e h b
+own_loads w i v l z n o (Runs why (Begin at)) e h = absurd (cc)
+own_loads w i v l z n o (Runs why (Reload parent index slot era m)) e h = absurd (cc)
+own_loads w i v l z n o (Runs why (Clear rows index)) e h = absurd (cc)
+own_loads w i v l z n o (Runs why Finish) e h = absurd (cc)
+own_loads w i v l z n o (Runs why (Release index)) e h = absurd (cc)
+own_loads w i v l z n o (Runs why (Allocate at)) e h = absurd (cc)
+own_loads w i v l z n o (Runs why (Write slot row place)) e h = absurd (cc)
+own_loads w i v l z n o (Runs why (GiveUp slot)) e h = absurd (cc)
+own_loads w i v l z n o (Runs why (Retire at)) e h = absurd (cc)
+own_loads w i v l z n o (Runs why (Move at)) e h = move_loads why at h e
   where
     move_loads : (why : Why) (at : MoveAt) → loads_asked at ≡ true → (w.seat i).phase ≡ Runs why (Move at)
-        → phase_good (tally (step w i) (line_after w i l)) (rounds_told (w.seat i).rounds (steps.phase_turn (Runs why (Move at)) (counted (w.seat i).post) (offered w i).desk (finds w i)).told) (stands_at (steps.phase_turn (Runs why (Move at)) (counted (w.seat i).post) (offered w i).desk (finds w i)).outcome) roots.Head (w.mem Head) ≡ true
+        → phase_good (tally (step w i) (line_after w i l)) (rounds_told (publishes_rows w.layout.config.scheme) (w.seat i).rounds (steps.phase_turn (Runs why (Move at)) (counted (w.seat i).post) (offered w i).desk (finds w i)).told) (stands_at (steps.phase_turn (Runs why (Move at)) (counted (w.seat i).post) (offered w i).desk (finds w i)).outcome) roots.Head (w.mem Head) ≡ true
     move_loads why (LoadAsked era seat tag index root) h e = asked why era seat tag index root e
       where
         asked : (why : Why) (era seat tag index : ℕ) (root : Root) → (w.seat i).phase ≡ Runs why (Move (LoadAsked era seat tag index root)) → phase_good (tally (step w i) (line_after w i l)) (w.seat i).rounds (Runs why (Move (CheckEra era seat tag index root (finds w i)))) roots.Head (w.mem Head) ≡ true
@@ -138,17 +149,17 @@ own_loads w i v l z n (Runs why (Move at)) e h = move_loads why at h e
     move_loads why (HideLate seen) h e = absurd (cc)
     move_loads why (ExchangeClock era) h e = absurd (cc)
 
-own_root_good : (w : World) (i : ℕ) (v : View) (l : Line) (z : Asking) → RoundsNeeds w i v l z → loads_link (w.seat i).phase ≡ true → good_link (step w i) (line_after w i l) i (root_in w i) (w.mem (link_place (root_in w i))) ≡ true
-own_root_good w i v l z n h =
+own_root_good : (w : World) (i : ℕ) (v : View) (l : Line) (z : Asking) → RoundsNeeds w i v l z → Rounds w l z → loads_link (w.seat i).phase ≡ true → good_link (step w i) (line_after w i l) i (root_in w i) (w.mem (link_place (root_in w i))) ≡ true
+own_root_good w i v l z n o h =
     let c : CallTurn = turn (offered w i) (finds w i) in
-    let f = settled_good (tally (step w i) (line_after w i l)) (w.seat i) c.post c.desk c.told c.outcome (root_in w i) (w.mem (link_place (root_in w i))) (own_loads w i v l z n (w.seat i).phase refl h) in
+    let f = settled_good (tally (step w i) (line_after w i l)) (w.seat i) c.post c.desk c.told c.outcome (root_in w i) (w.mem (link_place (root_in w i))) (own_loads w i v l z n o (w.seat i).phase refl h) (turn_rows w i n.origins.valid n.origins.seats) in
     subst (λ (m : Local). phase_good (tally (step w i) (line_after w i l)) m.rounds m.phase (root_in w i) (w.mem (link_place (root_in w i))) ≡ true) (sym (seat_steps w i)) f
 
-fresh_at : (w : World) (i : ℕ) (v : View) (l : Line) (z : Asking) → RoundsNeeds w i v l z → loads_link (w.seat i).phase ≡ true → (k : ℕ) (own : Bool) → (k == i) ≡ own → good_link (step w i) (line_after w i l) k (root_in w k) (w.mem (link_place (root_in w k))) ≡ true
-fresh_at w i v l z n h k false e = stood_root w i v l z k n h e
-fresh_at w i v l z n h k true e =
+fresh_at : (w : World) (i : ℕ) (v : View) (l : Line) (z : Asking) → RoundsNeeds w i v l z → Rounds w l z → loads_link (w.seat i).phase ≡ true → (k : ℕ) (own : Bool) → (k == i) ≡ own → good_link (step w i) (line_after w i l) k (root_in w k) (w.mem (link_place (root_in w k))) ≡ true
+fresh_at w i v l z n o h k false e = stood_root w i v l z k n h e
+fresh_at w i v l z n o h k true e =
     let y : i ≡ k = (let q : k ≡ i = grind (arith, nat_tests, e) in sym q) in
-    subst (λ (m : ℕ). good_link (step w i) (line_after w i l) m (root_in w m) (w.mem (link_place (root_in w m))) ≡ true) y (own_root_good w i v l z n h)
+    subst (λ (m : ℕ). good_link (step w i) (line_after w i l) m (root_in w m) (w.mem (link_place (root_in w m))) ≡ true) y (own_root_good w i v l z n o h)
 
 pub rounds_kept : RoundsKept
 rounds_kept w i v l z next n d h = record {
@@ -156,7 +167,7 @@ rounds_kept w i v l z next n d h = record {
       (λ m. phase_grows (tally w l) (tally (step w i) (line_after w i l)) (w.seat m).rounds (w.seat m).phase (step_counts w i v l z n) (h.paced m))
       (seat_stays w i) (own_paced w i v l z n h) k;
   links = origins_kept (good_link w l) (good_link (step w i) (line_after w i l)) w i z next n.origins d
-      (record { fresh = λ k f. fresh_at w i v l z n f k (k == i) refl; stays = λ k x t g. stays_at w i v l z n h k x (k == i) refl t g })
+      (record { fresh = λ k f t. fresh_at w i v l z n h f k (k == i) refl; stays = λ k x t g. stays_at w i v l z n h k x (k == i) refl t g })
       h.links;
 }
 
@@ -170,7 +181,7 @@ letting_paced : (u : Tally) (let_go : LetGo) (post : Post) → phase_paced u 0 (
 letting_paced u let_go post = letting_by_paced u let_go (release_base (scheme_of post) post (let_index let_go))
 
 holding_paced : (u : Tally) (key : ℕ) (post : Post) (stood : Option ℕ) → phase_paced u 0 (steps.holding key post stood)
-holding_paced u key post None = round_paced u 0 (Holds key) post tt
+holding_paced u key post None = round_paced u 0 (Holds key) post (omega arith)
 holding_paced u key post (Some slot) = letting_paced u (Rehold key) post
 
 copying_paced : (u : Tally) (from index : ℕ) (stood : Option ℕ) → phase_paced u 0 (steps.copying from index stood)
@@ -189,7 +200,7 @@ leaving_paced : (u : Tally) (post : Post) → phase_paced u 0 (keeps.parting pos
 leaving_paced u post = if_by (has_one_interval (scheme_of post)) (keeps.parting_span post.span) (keeps.parting_from 2 post) (λ (p : Phase). phase_paced u 0 p) (λ e. leaves_span u post.span) (λ e. parts_paced u 0 2 post)
 
 first_paced : (u : Tally) (call : Call) (post : Post) → phase_paced u 0 (steps.first_phase call post)
-first_paced u (names.Get key) post = round_paced u 0 (Gets key) post tt
+first_paced u (names.Get key) post = round_paced u 0 (Gets key) post (omega arith)
 first_paced u (names.Put key value) post = round_paced u 0 (steps.changing (changes.Put key value) None) post (omega arith)
 first_paced u (names.Remove key) post = round_paced u 0 (steps.changing (changes.Removed key) None) post (omega arith)
 first_paced u (names.Enqueue value) post = round_paced u 0 (Enqueues (record { value = value; taken = None; walked = false; tail = 0; number = 0 })) post (omega arith)
@@ -278,24 +289,20 @@ walk_few w i v l z (Enqueues kept) n p h =
 walk_few w i v l z Dequeues n p h = absurd (cc)
 
 -- a root of the queue is never null
-null_never : (u : Tally) (task : Task) (lost : ℕ) (root : Root) (outcome : Outcome) → EndGood u task lost root outcome → outcome ≡ Ends (Protected protect_ends.Null) → root ≡ task_root u.buckets task → is_queue task ≡ true → false ≡ true
-null_never u task lost root outcome g e r q =
-    let x : EndGood u task lost root (Ends (Protected protect_ends.Null)) = subst (λ (o : Outcome). EndGood u task lost root o) e g in
-    never_null u task lost q (subst (λ (a : Root). task_good u task lost a 0 ≡ true) r x)
+null_never : (u : Tally) (task : Task) (lost : ℕ) (outcome : Outcome) → EndGood u task lost (task_root u.buckets task) outcome → outcome ≡ Ends (Protected protect_ends.Null) → is_queue task ≡ true → false ≡ true
+null_never u task lost outcome g e q = never_null u task lost q (subst (λ (o : Outcome). EndGood u task lost (task_root u.buckets task) o) e g)
 
 roots_few : (w : World) (i : ℕ) (v : View) (l : Line) (z : Asking) → RoundsNeeds w i v l z → Rounds w l z → (task : Task) (base : Base) → (w.seat i).phase ≡ Runs (Opens task) base → is_queue task ≡ true → (machine.after base (counted (w.seat i).post) (finds w i)).outcome ≡ Ends (Protected protect_ends.Null) → false ≡ true
 roots_few w i v l z n h task (Protect Alone index root m at) e q o =
-    let s = step_is w i v l z n h (Opens task) (Protect Alone index root m at) e in
     let u : Tally = tally (step w i) (line_after w i l) in
-    let c = protect_carries (w.mem Clock) index root (bump m) at (counted (w.seat i).post) (finds w i) (fit_clock w i (Opens task) Alone index root m at e) in
-    let lost : ℕ = lost_by (w.seat i).rounds (is_told (Protect Alone index root m at)) in
-    let g = carried_good (w.mem Clock) (upper (w.seat i).post.span) at u task lost root (machine.after (Protect Alone index root m at) (counted (w.seat i).post) (finds w i)).outcome s.good c in
-    null_never u task lost root (machine.after (Protect Alone index root m at) (counted (w.seat i).post) (finds w i)).outcome g o s.run.shape.of q
+    let lost : ℕ = lost_after at (finds w i) (lost_by (w.seat i).rounds (is_told (Protect Alone index root m at))) in
+    let g = (own_opened w i u task index root m at (step_is w i v l z n h (Opens task) (Protect Alone index root m at) e)).good in
+    null_never u task lost (machine.after (Protect Alone index root m at) (counted (w.seat i).post) (finds w i)).outcome g o q
 roots_few w i v l z n h task (Protect Follows index root m at) e q o = let s = step_is w i v l z n h (Opens task) (Protect Follows index root m at) e in follows_alone s.run.shape.aimed
 roots_few w i v l z n h task (Begin LoadLower) e q o = absurd (cc)
 roots_few w i v l z n h task (Begin (PublishSpan era)) e q o = absurd (cc)
 roots_few w i v l z n h task (Reload parent index slot era m) e q o = let s = (step_is w i v l z n h (Opens task) (Reload parent index slot era m) e).run.suited in cc
-roots_few w i v l z n h task (Clear index) e q o = let s = (step_is w i v l z n h (Opens task) (Clear index) e).run.suited in cc
+roots_few w i v l z n h task (Clear rows index) e q o = let s = (step_is w i v l z n h (Opens task) (Clear rows index) e).run.suited in cc
 roots_few w i v l z n h task Finish e q o = let s = (step_is w i v l z n h (Opens task) Finish e).run.suited in cc
 roots_few w i v l z n h task (Release index) e q o = let s = (step_is w i v l z n h (Opens task) (Release index) e).run.suited in cc
 roots_few w i v l z n h task (Allocate at) e q o = let s = (step_is w i v l z n h (Opens task) (Allocate at) e).run.suited in cc
@@ -303,6 +310,21 @@ roots_few w i v l z n h task (Write slot row place) e q o = let s = (step_is w i
 roots_few w i v l z n h task (GiveUp slot) e q o = let s = (step_is w i v l z n h (Opens task) (GiveUp slot) e).run.suited in cc
 roots_few w i v l z n h task (Retire at) e q o = let s = (step_is w i v l z n h (Opens task) (Retire at) e).run.suited in cc
 roots_few w i v l z n h task (Move at) e q o = let s = (step_is w i v l z n h (Opens task) (Move at) e).run.suited in cc
+
+-- where rows are published each attempt that fails has seen another link
+most_few : (w : World) (i : ℕ) (v : View) (l : Line) (z : Asking) (task : Task) → RoundsNeeds w i v l z → publishes_rows w.layout.config.scheme ≡ true → task_most (tally w l) task ≤ rounds_most w.layout.config task
+most_few w i v l z (Gets key) n r = let c = n.bounded.versions (key % w.layout.config.buckets) in rw r (omega (arith, c))
+most_few w i v l z (Changes kept) n r = let c = n.bounded.versions (key_of kept.change % w.layout.config.buckets) in let o = once_few kept.walked in omega (arith, c, o)
+most_few w i v l z (Holds key) n r = let c = n.bounded.versions (key % w.layout.config.buckets) in rw r (omega (arith, c))
+most_few w i v l z (Enqueues kept) n r = let c = (queue_few w i v l z n).passes in let o = once_few kept.walked in omega (arith, c, o)
+most_few w i v l z Dequeues n r = let c = (queue_few w i v l z n).takes in omega (arith, c)
+
+root_moved : (w : World) (i : ℕ) (l : Line) (task : Task) (root : Root) (link : ℕ) → root ≡ task_root w.layout.config.buckets task → finds w i ≡ w.mem (link_place root) → (finds w i == link) ≡ false → root_test (tally w l) task link ≡ false
+root_moved w i l (Gets key) root link r f d = let q : finds w i ≡ w.mem (link_place (roots.Bucket (key % w.layout.config.buckets))) = subst (λ (p : Root). finds w i ≡ w.mem (link_place p)) r f in subst (λ (x : ℕ). (x == link) ≡ false) q d
+root_moved w i l (Changes kept) root link r f d = let q : finds w i ≡ w.mem (link_place (roots.Bucket (key_of kept.change % w.layout.config.buckets))) = subst (λ (p : Root). finds w i ≡ w.mem (link_place p)) r f in subst (λ (x : ℕ). (x == link) ≡ false) q d
+root_moved w i l (Holds key) root link r f d = let q : finds w i ≡ w.mem (link_place (roots.Bucket (key % w.layout.config.buckets))) = subst (λ (p : Root). finds w i ≡ w.mem (link_place p)) r f in subst (λ (x : ℕ). (x == link) ≡ false) q d
+root_moved w i l (Enqueues kept) root link r f d = let q : finds w i ≡ w.mem (link_place roots.Tail) = subst (λ (p : Root). finds w i ≡ w.mem (link_place p)) r f in subst (λ (x : ℕ). (x == link) ≡ false) q d
+root_moved w i l Dequeues root link r f d = let q : finds w i ≡ w.mem (link_place roots.Head) = subst (λ (p : Root). finds w i ≡ w.mem (link_place p)) r f in subst (λ (x : ℕ). (x == link) ≡ false) q d
 
 pub rounds_give : RoundsGive
 rounds_give w i v l z n h = record {
@@ -340,5 +362,10 @@ rounds_give w i v l z n h = record {
       let f : finds w i ≡ w.mem Head = finds_at w i (Works (Dequeuing (ExchangeHead head next number value))) e in
       lost_now (w.seat i).rounds (tally w l).takes (rounds_most w.layout.config Dequeues) (w.mem Head == head + 1) (rw (← f) d) p (omega (arith, c));
   walks = λ task birth walk e m. walk_few w i v l z task n (paced_at w i l z (Runs (Fills task) (Allocate (ClaimSlot birth walk))) h e) m;
+  hazards = λ task aim index root steps link e d.
+      let base : Base = Protect aim index root steps (ByHazard (CheckLink link)) in
+      let p = paced_at w i l z (Runs (Opens task) base) h e in
+      let r : Run w.layout (Opens task) base (w.seat i).post = subst (λ (q : Phase). PhaseFits w.layout (w.seat i).post q) e (n.origins.seats.fits i).phase in
+      lost_now (w.seat i).rounds (task_most (tally w l) task) (rounds_most w.layout.config task) (root_test (tally w l) task link) (root_moved w i l task root link r.shape.of (finds_at w i (Runs (Opens task) base) e) d) p (most_few w i v l z task n r.fits);
   roots = λ task base e q o. roots_few w i v l z n h task base e q o;
 }

@@ -9,6 +9,7 @@ use Rattle.inv_contents.specs.defs.declared.event.Event.{Event}
 use Rattle.inv_all.proofs.Rounds.Counts.{book_grows, tally_of}
 use Rattle.inv_all.proofs.Rounds.Grows.{Grows}
 use Rattle.inv_contents.specs.rows.Queue.{Line}
+use Rattle.inv_contents.specs.words.declared.config.Config.{Config}
 use Rattle.std.specs.Prelude.{List, length, nat_le, if◌then◌else◌, ◌==◌, ◌||◌}
 use Rattle.inv_contents.proofs.model.Facts.{same_or, number_is, or_more}
 
@@ -16,7 +17,7 @@ above : (n m : ℕ) → n + 1 ≤ m → nat_le (n + 1) m ≡ true
 above n m h = grind (arith, nat_tests, h)
 
 -- the tail moves on to the row after it
-pub swing_grows : (c : ℕ) (mem : Place → ℕ) (book : Book) (told : List Event) (l : Line) (t link : ℕ) → (mem Tail ≡ t + 1 → l.number (link - 1) ≡ l.number t + 1) → Grows (tally_of c mem book l) (tally_of c (written mem (Cas Tail (t + 1) link)) (booked_all book told) l)
+pub swing_grows : (c : Config) (mem : Place → ℕ) (book : Book) (told : List Event) (l : Line) (t link : ℕ) → (mem Tail ≡ t + 1 → l.number (link - 1) ≡ l.number t + 1) → Grows (tally_of c mem book l) (tally_of c (written mem (Cas Tail (t + 1) link)) (booked_all book told) l)
 swing_grows c mem book told l t link h = by_same (mem Tail == t + 1) refl
   where
     by_same : (b : Bool) → (mem Tail == t + 1) ≡ b → Grows (tally_of c mem book l) (tally_of c (put mem Tail (if mem Tail == t + 1 then link else mem Tail)) (booked_all book told) l)
@@ -53,7 +54,7 @@ swing_grows c mem book told l t link h = by_same (mem Tail == t + 1) refl
         })
 
 -- the head moves on, and a row is taken
-pub pop_grows : (c : ℕ) (mem : Place → ℕ) (book : Book) (told : List Event) (l : Line) (h next : ℕ) → ((mem Head == h + 1) ≡ true → book.taken + 1 ≤ (booked_all book told).taken) → Grows (tally_of c mem book l) (tally_of c (written mem (Cas Head (h + 1) next)) (booked_all book told) l)
+pub pop_grows : (c : Config) (mem : Place → ℕ) (book : Book) (told : List Event) (l : Line) (h next : ℕ) → ((mem Head == h + 1) ≡ true → book.taken + 1 ≤ (booked_all book told).taken) → Grows (tally_of c mem book l) (tally_of c (written mem (Cas Head (h + 1) next)) (booked_all book told) l)
 pop_grows c mem book told l h next k = by_same (mem Head == h + 1) refl
   where
     by_same : (b : Bool) → (mem Head == h + 1) ≡ b → Grows (tally_of c mem book l) (tally_of c (put mem Head (if mem Head == h + 1 then next else mem Head)) (booked_all book told) l)
@@ -87,7 +88,7 @@ pop_grows c mem book told l h next k = by_same (mem Head == h + 1) refl
         })
 
 -- a bucket's root is exchanged, and it is changed once more
-pub exchange_grows : (c : ℕ) (mem : Place → ℕ) (book : Book) (told : List Event) (l : Line) (b old new : ℕ) → ((mem (Bucket b) == old) ≡ true → length (book.changes b) + 1 ≤ length ((booked_all book told).changes b)) → Grows (tally_of c mem book l) (tally_of c (written mem (Cas (Bucket b) old new)) (booked_all book told) l)
+pub exchange_grows : (c : Config) (mem : Place → ℕ) (book : Book) (told : List Event) (l : Line) (b old new : ℕ) → ((mem (Bucket b) == old) ≡ true → length (book.changes b) + 1 ≤ length ((booked_all book told).changes b)) → Grows (tally_of c mem book l) (tally_of c (written mem (Cas (Bucket b) old new)) (booked_all book told) l)
 exchange_grows c mem book told l b old new k =
     let g = book_grows told book in
     let gq = g.queued in let gt = g.taken in
@@ -113,7 +114,7 @@ exchange_grows c mem book told l b old new k =
         rw (e, f, z) (same_or (mem (Bucket b)) (nat_le (length (book.changes b) + 1) (length ((booked_all book told).changes b))))
 
 -- a row is linked behind the last, and a value is queued
-pub join_grows : (c : ℕ) (mem : Place → ℕ) (book : Book) (told : List Event) (l u : Line) (t slot : ℕ) → u.number (mem Tail - 1) ≡ l.number (mem Tail - 1) → ((mem (Row t 0) == 0) ≡ true → length book.queued + 1 ≤ length (booked_all book told).queued) → Grows (tally_of c mem book l) (tally_of c (written mem (Cas (Row t 0) 0 (slot + 1))) (booked_all book told) u)
+pub join_grows : (c : Config) (mem : Place → ℕ) (book : Book) (told : List Event) (l u : Line) (t slot : ℕ) → u.number (mem Tail - 1) ≡ l.number (mem Tail - 1) → ((mem (Row t 0) == 0) ≡ true → length book.queued + 1 ≤ length (booked_all book told).queued) → Grows (tally_of c mem book l) (tally_of c (written mem (Cas (Row t 0) 0 (slot + 1))) (booked_all book told) u)
 join_grows c mem book told l u t slot n k =
     let g = book_grows told book in
     let gq = g.queued in let gt = g.taken in
@@ -142,7 +143,7 @@ join_grows c mem book told l u t slot n k =
         absurd (cc)
 
 -- a row of a seat's own is written: its next link becomes null
-pub write_grows : (c : ℕ) (mem : Place → ℕ) (book : Book) (told : List Event) (l : Line) (slot place word : ℕ) → ((place == 0) ≡ true → word ≡ 0) → Grows (tally_of c mem book l) (tally_of c (written mem (Store (Row slot place) word)) (booked_all book told) l)
+pub write_grows : (c : Config) (mem : Place → ℕ) (book : Book) (told : List Event) (l : Line) (slot place word : ℕ) → ((place == 0) ≡ true → word ≡ 0) → Grows (tally_of c mem book l) (tally_of c (written mem (Store (Row slot place) word)) (booked_all book told) l)
 write_grows c mem book told l slot place word k =
     let g = book_grows told book in
     let gq = g.queued in let gt = g.taken in

@@ -19,7 +19,9 @@ use Rattle.inv_contents.specs.model.Desks.{Desk}
 use Rattle.inv_contents.specs.model.Links.{link_place}
 use Rattle.inv_contents.specs.model.Phases.{Aim, Base, MoveAt, ProtectAt}
 use Rattle.inv_contents.specs.model.Phases.MoveAt.{LoadAsked, LoadEra, LoadRequest, ShowEra}
-use Rattle.inv_contents.specs.model.Phases.ProtectAt.{AnswerOwn, CheckClock, CheckOwnClock, CheckUpper, LoadAnswer, LoadClock, LoadLink, LoadOwnClock, LoadOwnLink, LoadWithin, PublishEra, PublishHelper, PublishRequest, RaiseUpper, TakeAnswer, WithdrawHelper, WithdrawRequest}
+use Rattle.inv_contents.specs.model.Phases.ProtectAt.{AnswerOwn, ByHazard, CheckClock, CheckOwnClock, CheckUpper, LoadAnswer, LoadClock, LoadLink, LoadOwnClock, LoadOwnLink, LoadWithin, PublishEra, PublishHelper, PublishRequest, RaiseUpper, TakeAnswer, WithdrawHelper, WithdrawRequest}
+use Rattle.inv_contents.specs.model.Phases.HazardAt.{CheckLink, FirstLink, PublishLink}
+use Rattle.inv_steps_left.proofs.Rest.Told.{by_rows}
 use Rattle.inv_contents.specs.model.Rest.{is_told, lost_by}
 use Rattle.inv_contents.specs.model.Rounds.{key_of}
 use Rattle.inv_contents.specs.model.World.{World, step}
@@ -108,6 +110,9 @@ protect_loads mem index root (WithdrawHelper link era) post place h = absurd (cc
 protect_loads mem index root LoadWithin post place h = refl
 protect_loads mem index root (CheckUpper link) post place h = absurd (cc)
 protect_loads mem index root (RaiseUpper era) post place h = absurd (cc)
+protect_loads mem index root (ByHazard FirstLink) post place h = absurd (cc)
+protect_loads mem index root (ByHazard (PublishLink link)) post place h = absurd (cc)
+protect_loads mem index root (ByHazard (CheckLink link)) post place h = refl
 
 move_loads : (mem : Place → ℕ) (at : MoveAt) (post : Post) (place : Place) → loads_asked at ≡ true → written mem (machine.move_move at post) place ≡ mem place
 move_loads mem (LoadEra helps) post place h = absurd (cc)
@@ -121,7 +126,7 @@ loads_stay mem Idle post place h = refl
 loads_stay mem (Runs why (Begin at)) post place h = absurd (cc)
 loads_stay mem (Runs why (Protect aim index root n at)) post place h = protect_loads mem index root at post place h
 loads_stay mem (Runs why (Reload parent index slot era n)) post place h = absurd (cc)
-loads_stay mem (Runs why (Clear index)) post place h = absurd (cc)
+loads_stay mem (Runs why (Clear rows index)) post place h = absurd (cc)
 loads_stay mem (Runs why Finish) post place h = absurd (cc)
 loads_stay mem (Runs why (Release index)) post place h = absurd (cc)
 loads_stay mem (Runs why (Allocate at)) post place h = absurd (cc)
@@ -136,24 +141,25 @@ loads_stay mem (Works work) post place h = absurd (cc)
 abbrev pub has_loaded : Why → Aim → ℕ → Root → CallTurn → Type 0
 has_loaded why aim index root t = (n : ℕ) × (at : ProtectAt) × (t.outcome ≡ GoesOn (Runs why (Protect aim index root n at)))
 
-pub goes_loaded : (why : Why) (aim : Aim) (index : ℕ) (root : Root) (n : ℕ) (at : ProtectAt) (post : Post) (desk : Desk) (found : ℕ) → loads_at at ≡ true → has_loaded why aim index root (steps.phase_turn (Runs why (Protect aim index root n at)) post desk found)
-goes_loaded why aim index root n (LoadClock tries) post desk found h = absurd (cc)
-goes_loaded why aim index root n (PublishEra era tries) post desk found h = absurd (cc)
-goes_loaded why aim index root n (LoadLink era tries) post desk found h = (bump n, CheckClock era tries found, refl)
-goes_loaded why aim index root n (CheckClock era tries link) post desk found h = absurd (cc)
-goes_loaded why aim index root n PublishRequest post desk found h = absurd (cc)
-goes_loaded why aim index root n LoadOwnClock post desk found h = absurd (cc)
-goes_loaded why aim index root n (PublishHelper first era last) post desk found h = absurd (cc)
-goes_loaded why aim index root n (LoadOwnLink first era last) post desk found h = (bump n, CheckOwnClock first era last found, refl)
-goes_loaded why aim index root n (CheckOwnClock first era last link) post desk found h = absurd (cc)
-goes_loaded why aim index root n (AnswerOwn first era link) post desk found h = absurd (cc)
-goes_loaded why aim index root n (LoadAnswer first) post desk found h = absurd (cc)
-goes_loaded why aim index root n (TakeAnswer link era) post desk found h = absurd (cc)
-goes_loaded why aim index root n (WithdrawRequest link era) post desk found h = absurd (cc)
-goes_loaded why aim index root n (WithdrawHelper link era) post desk found h = absurd (cc)
-goes_loaded why aim index root n LoadWithin post desk found h = (bump n, CheckUpper found, refl)
-goes_loaded why aim index root n (CheckUpper link) post desk found h = absurd (cc)
-goes_loaded why aim index root n (RaiseUpper era) post desk found h = absurd (cc)
+pub goes_loaded : (why : Why) (aim : Aim) (index : ℕ) (root : Root) (n : ℕ) (at : ProtectAt) (post : Post) (desk : Desk) (found : ℕ) → loads_at at ≡ true → by_rows at ≡ false → has_loaded why aim index root (steps.phase_turn (Runs why (Protect aim index root n at)) post desk found)
+goes_loaded why aim index root n (LoadClock tries) post desk found h b = absurd (cc)
+goes_loaded why aim index root n (PublishEra era tries) post desk found h b = absurd (cc)
+goes_loaded why aim index root n (LoadLink era tries) post desk found h b = (bump n, CheckClock era tries found, refl)
+goes_loaded why aim index root n (CheckClock era tries link) post desk found h b = absurd (cc)
+goes_loaded why aim index root n PublishRequest post desk found h b = absurd (cc)
+goes_loaded why aim index root n LoadOwnClock post desk found h b = absurd (cc)
+goes_loaded why aim index root n (PublishHelper first era last) post desk found h b = absurd (cc)
+goes_loaded why aim index root n (LoadOwnLink first era last) post desk found h b = (bump n, CheckOwnClock first era last found, refl)
+goes_loaded why aim index root n (CheckOwnClock first era last link) post desk found h b = absurd (cc)
+goes_loaded why aim index root n (AnswerOwn first era link) post desk found h b = absurd (cc)
+goes_loaded why aim index root n (LoadAnswer first) post desk found h b = absurd (cc)
+goes_loaded why aim index root n (TakeAnswer link era) post desk found h b = absurd (cc)
+goes_loaded why aim index root n (WithdrawRequest link era) post desk found h b = absurd (cc)
+goes_loaded why aim index root n (WithdrawHelper link era) post desk found h b = absurd (cc)
+goes_loaded why aim index root n LoadWithin post desk found h b = (bump n, CheckUpper found, refl)
+goes_loaded why aim index root n (CheckUpper link) post desk found h b = absurd (cc)
+goes_loaded why aim index root n (RaiseUpper era) post desk found h b = absurd (cc)
+goes_loaded why aim index root n (ByHazard at) post desk found h b = absurd (cc)
 
 -- the root of a change's protection
 shape_own : (w : World) (k : ℕ) (base : Base) (kept : ChangeKept) (b : ℕ) → Run w.layout (Opens (Changes kept)) base (w.seat k).post → root_base base ≡ roots.Bucket b → b ≡ key_of kept.change % w.layout.config.buckets

@@ -10,10 +10,13 @@ use Rattle.inv_contents.specs.model.Calls.Phase.{Idle, Runs, Scans, Works}
 use Rattle.inv_contents.specs.model.Calls.Task.{Changes, Dequeues, Enqueues, Gets, Holds}
 use Rattle.inv_contents.specs.model.Calls.Why.{Advances, Clears, ClearsNext, Fills, Finishes, FollowsHead, GivesUp, Opens, Releases, Retires, Tidies}
 use Rattle.inv_contents.specs.model.Calls.Work.{Changing, Dequeuing, Enqueuing, Getting, Keeping}
-use Rattle.inv_contents.specs.model.Phases.{Base}
+use Rattle.inv_contents.specs.model.Phases.{Base, HazardAt, ProtectAt}
+use Rattle.inv_contents.specs.model.Phases.Base.{Protect}
+use Rattle.inv_contents.specs.model.Phases.HazardAt.{CheckLink, FirstLink, PublishLink}
+use Rattle.inv_contents.specs.model.Phases.ProtectAt.{ByHazard}
 use Rattle.inv_contents.specs.model.Rest.{is_told, lost_by}
 use Rattle.inv_contents.specs.model.Rounds.{key_of}
-use Rattle.inv_all.specs.Tallies.{Since, Tally, bucket_good, dequeue_paced, enqueue_paced, fills_paced, head_since, lag_since, later_paced, next_paced, next_since, once, phase_paced, root_since, since_test, tail_since, task_paced, why_paced, work_paced, head_good, passes_so_far, phase_good, tail_good, task_good, why_good}
+use Rattle.inv_all.specs.Tallies.{Since, Tally, at_paced, bucket_good, dequeue_paced, enqueue_paced, fills_paced, hazard_paced, head_since, lag_since, later_paced, next_paced, next_since, once, open_paced, phase_paced, published_since, root_since, since_test, tail_since, task_most, task_paced, why_paced, work_paced, head_good, passes_so_far, phase_good, tail_good, task_good, why_good}
 use Rattle.std.specs.Prelude.{nat_le, ◌==◌, ◌||◌, ◌%◌, not}
 use Rattle.inv_contents.specs.defs.declared.event.Root.TheVariants as roots
 use Rattle.inv_contents.specs.defs.declared.event.Root.{Root}
@@ -57,18 +60,32 @@ more_on : (b : Bool) (n m extra : ℕ) → (b || nat_le (n + 1) m) ≡ true → 
 more_on true n m extra h = refl
 more_on false n m extra h = grind (arith, nat_tests, h)
 
-root_grows : (t u : Tally) (kept : ChangeKept) (lost : ℕ) → Grows t u → root_since t kept lost → root_since u kept lost
-root_grows t u kept lost g s =
+-- a root that a task has loaded
+published_grows : (t u : Tally) (task : Task) (x lost : ℕ) → Grows t u → published_since t task x lost → published_since u task x lost
+published_grows t u (Gets key) x lost g s =
+    let b : ℕ = key % t.buckets in
+    let c = g.count b in
+    rw g.buckets (since_grows (t.root b == x) (u.root b == x) lost (t.count b) (u.count b) c (λ e. same_on (t.root b) (u.root b) x (t.count b) (u.count b) (g.root b) e) s)
+published_grows t u (Changes kept) x lost g s =
     let b : ℕ = key_of kept.change % t.buckets in
     let c = g.count b in
-    rw g.buckets (since_grows (t.root b == kept.link) (u.root b == kept.link) lost (t.count b + once kept.walked) (u.count b + once kept.walked) (omega (arith, c))
-    (λ e. more_on (u.root b == kept.link) (t.count b) (u.count b) (once kept.walked) (same_on (t.root b) (u.root b) kept.link (t.count b) (u.count b) (g.root b) e)) s)
+    rw g.buckets (since_grows (t.root b == x) (u.root b == x) lost (t.count b + once kept.walked) (u.count b + once kept.walked) (omega (arith, c))
+    (λ e. more_on (u.root b == x) (t.count b) (u.count b) (once kept.walked) (same_on (t.root b) (u.root b) x (t.count b) (u.count b) (g.root b) e)) s)
+published_grows t u (Holds key) x lost g s =
+    let b : ℕ = key % t.buckets in
+    let c = g.count b in
+    rw g.buckets (since_grows (t.root b == x) (u.root b == x) lost (t.count b) (u.count b) c (λ e. same_on (t.root b) (u.root b) x (t.count b) (u.count b) (g.root b) e) s)
+published_grows t u (Enqueues kept) x lost g s =
+    let c = g.passes in
+    since_grows (t.tail == x) (u.tail == x) lost (t.passes + once kept.walked) (u.passes + once kept.walked) (omega (arith, c))
+    (λ e. more_on (u.tail == x) t.passes u.passes (once kept.walked) (same_on t.tail u.tail x t.passes u.passes g.tail e)) s
+published_grows t u Dequeues x lost g s = since_grows (t.head == x) (u.head == x) lost t.takes u.takes g.takes (λ e. same_on t.head u.head x t.takes u.takes g.head e) s
+
+root_grows : (t u : Tally) (kept : ChangeKept) (lost : ℕ) → Grows t u → root_since t kept lost → root_since u kept lost
+root_grows t u kept lost g s = published_grows t u (Changes kept) kept.link lost g s
 
 tail_grows : (t u : Tally) (kept : EnqueueKept) (lost : ℕ) → Grows t u → tail_since t kept lost → tail_since u kept lost
-tail_grows t u kept lost g s =
-    let c = g.passes in
-    since_grows (t.tail == kept.tail + 1) (u.tail == kept.tail + 1) lost (t.passes + once kept.walked) (u.passes + once kept.walked) (omega (arith, c))
-    (λ e. more_on (u.tail == kept.tail + 1) t.passes u.passes (once kept.walked) (same_on t.tail u.tail (kept.tail + 1) t.passes u.passes g.tail e)) s
+tail_grows t u kept lost g s = published_grows t u (Enqueues kept) (kept.tail + 1) lost g s
 
 link_grows : (t u : Tally) (kept : EnqueueKept) (lost : ℕ) → Grows t u → next_since t kept lost → next_since u kept lost
 link_grows t u kept lost g s =
@@ -77,18 +94,56 @@ link_grows t u kept lost g s =
     (λ e. more_on (u.next kept.tail == 0) t.passes u.passes (once kept.walked) (g.next kept.tail e)) s
 
 head_grows : (t u : Tally) (head lost : ℕ) → Grows t u → head_since t head lost → head_since u head lost
-head_grows t u head lost g s = since_grows (t.head == head + 1) (u.head == head + 1) lost t.takes u.takes g.takes (λ e. same_on t.head u.head (head + 1) t.takes u.takes g.head e) s
+head_grows t u head lost g s = published_grows t u Dequeues (head + 1) lost g s
 
 lag_grows : (t u : Tally) (head : ℕ) (lags : Bool) (lost : ℕ) → Grows t u → lag_since t head lags lost → lag_since u head lags lost
 lag_grows t u head true lost g s = since_grows (t.tail == head + 1) (u.tail == head + 1) lost t.takes u.takes g.takes (λ e. same_on t.tail u.tail (head + 1) t.takes u.takes g.lag e) s
 lag_grows t u head false lost g s = tt
 
 pub task_grows : (t u : Tally) (task : Task) (lost : ℕ) → Grows t u → task_paced t task lost → task_paced u task lost
-task_grows t u (Gets key) lost g p = tt
+task_grows t u (Gets key) lost g p = let c = g.count (key % t.buckets) in rw g.buckets (omega (arith, c, p))
 task_grows t u (Changes kept) lost g p = let c = g.count (key_of kept.change % t.buckets) in rw g.buckets (omega (arith, c, p))
-task_grows t u (Holds key) lost g p = tt
+task_grows t u (Holds key) lost g p = let c = g.count (key % t.buckets) in rw g.buckets (omega (arith, c, p))
 task_grows t u (Enqueues kept) lost g p = let c = g.passes in omega (arith, c, p)
 task_grows t u Dequeues lost g p = let c = g.takes in omega (arith, c, p)
+
+hazards_grow : (t u : Tally) (task : Task) (at : HazardAt) (lost : ℕ) → Grows t u → hazard_paced t task at lost → hazard_paced u task at lost
+hazards_grow t u task FirstLink lost g p = task_grows t u task lost g p
+hazards_grow t u task (PublishLink link) lost g p = published_grows t u task link lost g p
+hazards_grow t u task (CheckLink link) lost g p = published_grows t u task link lost g p
+
+ats_grow : (t u : Tally) (task : Task) (at : ProtectAt) (lost : ℕ) → Grows t u → at_paced t task at lost → at_paced u task at lost
+ats_grow t u task (ByHazard at) lost g p = hazards_grow t u task at lost g p
+ats_grow t u task at lost g p = task_grows t u task lost g p
+
+opens_grow : (t u : Tally) (task : Task) (base : Base) (lost : ℕ) → Grows t u → open_paced t task base lost → open_paced u task base lost
+opens_grow t u task (Protect aim index root steps at) lost g p = ats_grow t u task at lost g p
+opens_grow t u task base lost g p = task_grows t u task lost g p
+
+-- what a published link was loaded for has lost no more rounds either
+pub paced_of : (t : Tally) (task : Task) (lost : ℕ) → lost ≤ task_most t task → task_paced t task lost
+paced_of t (Gets key) lost h = h
+paced_of t (Changes kept) lost h = h
+paced_of t (Holds key) lost h = h
+paced_of t (Enqueues kept) lost h = h
+paced_of t Dequeues lost h = h
+
+pub most_of : (t : Tally) (task : Task) (lost : ℕ) → task_paced t task lost → lost ≤ task_most t task
+most_of t (Gets key) lost h = h
+most_of t (Changes kept) lost h = h
+most_of t (Holds key) lost h = h
+most_of t (Enqueues kept) lost h = h
+most_of t Dequeues lost h = h
+
+at_task : (t : Tally) (task : Task) (at : ProtectAt) (lost : ℕ) → at_paced t task at lost → task_paced t task lost
+at_task t task (ByHazard FirstLink) lost p = p
+at_task t task (ByHazard (PublishLink link)) lost p = paced_of t task lost p.lost_few
+at_task t task (ByHazard (CheckLink link)) lost p = paced_of t task lost p.lost_few
+at_task t task at lost p = p
+
+pub open_task : (t : Tally) (task : Task) (base : Base) (lost : ℕ) → open_paced t task base lost → task_paced t task lost
+open_task t task (Protect aim index root steps at) lost p = at_task t task at lost p
+open_task t task base lost p = p
 
 fills_grow : (t u : Tally) (task : Task) (lost : ℕ) → Grows t u → fills_paced t task lost → fills_paced u task lost
 fills_grow t u (Gets key) lost g p = tt
@@ -109,7 +164,7 @@ later_grows t u (Repeated task) lost g p = task_grows t u task lost g p
 later_grows t u Counted lost g p = tt
 
 why_grows : (t u : Tally) (rounds : ℕ) (base : Base) (why : Why) → Grows t u → why_paced t rounds base why → why_paced u rounds base why
-why_grows t u rounds base (Opens task) g p = task_grows t u task (lost_by rounds (is_told base)) g p
+why_grows t u rounds base (Opens task) g p = opens_grow t u task base (lost_by rounds (is_told base)) g p
 why_grows t u rounds base (FollowsHead head tail) g p = (head_grows t u head (rounds - 1) g p.0, lag_grows t u head (tail == head + 1) (rounds - 1) g p.1)
 why_grows t u rounds base (Fills task) g p = fills_grow t u task (rounds - 1) g p
 why_grows t u rounds base (ClearsNext next) g p = nexts_grow t u Dequeues next rounds g p
@@ -191,7 +246,7 @@ task_stays t u task lost roots.Head x g l h = heads_good t u task lost x g l h
 task_stays t u task lost (roots.Next parent) x g l h = refl
 
 why_stays : (t u : Tally) (rounds : ℕ) (base : Base) (why : Why) (root : Root) (x : ℕ) → Grows t u → why_paced t rounds base why → why_good t rounds base why root x ≡ true → why_good u rounds base why root x ≡ true
-why_stays t u rounds base (Opens task) root x g l h = task_stays t u task (lost_by rounds (is_told base)) root x g l h
+why_stays t u rounds base (Opens task) root x g l h = task_stays t u task (lost_by rounds (is_told base)) root x g (open_task t task base (lost_by rounds (is_told base)) l) h
 why_stays t u rounds base why root x g l h = refl
 
 pub phase_stays : (t u : Tally) (rounds : ℕ) (phase : Phase) (root : Root) (x : ℕ) → Grows t u → phase_paced t rounds phase → phase_good t rounds phase root x ≡ true → phase_good u rounds phase root x ≡ true

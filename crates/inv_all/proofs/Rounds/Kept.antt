@@ -41,9 +41,13 @@ use Rattle.inv_contents.proofs.model.Facts.{first_of, same_both, number_is, le_o
 use Rattle.inv_contents.proofs.rows.Kept.{busy_plays}
 use Rattle.inv_contents.specs.model.Locals.{busy_in}
 
-or_false : (a b : Bool) → (a || b) ≡ true → a ≡ false → b ≡ true
+pub or_false : (a b : Bool) → (a || b) ≡ true → a ≡ false → b ≡ true
 or_false true b h e = absurd (cc)
 or_false false b h e = h
+
+-- a link that is another by now: one round more may be lost
+pub lost_more : (same : Bool) (lost most : ℕ) → same ≡ false → Since same lost most → lost + 1 ≤ most
+lost_more same lost most e s = le_of_test (lost + 1) most (or_false same (nat_le (lost + 1) most) s.moved e)
 
 -- the counts before and after
 
@@ -56,7 +60,7 @@ writes_fit layout post Idle f = tt
 writes_fit layout post (Runs why (Begin at)) f = tt
 writes_fit layout post (Runs why (Protect aim index root n at)) f = tt
 writes_fit layout post (Runs why (Reload parent index slot era n)) f = tt
-writes_fit layout post (Runs why (Clear index)) f = tt
+writes_fit layout post (Runs why (Clear rows index)) f = tt
 writes_fit layout post (Runs why Finish) f = tt
 writes_fit layout post (Runs why (Release index)) f = tt
 writes_fit layout post (Runs why (Allocate at)) f = tt
@@ -76,7 +80,7 @@ joins_fit w i v l b kept slot e =
 
 pub step_counts : (w : World) (i : ℕ) (v : View) (l : Line) (z : Asking) → RoundsNeeds w i v l z → Grows (tally w l) (tally (step w i) (line_after w i l))
 step_counts w i v l z n =
-    phase_counts w.layout.config.buckets w.mem w.book v l (w.seat i).phase (w.seat i).post (offered w i).desk
+    phase_counts w.layout.config w.mem w.book v l (w.seat i).phase (w.seat i).post (offered w i).desk
     (record {
       line = n.both.queue.line;
       walks = n.both.queue.walks i;
@@ -84,7 +88,7 @@ step_counts w i v l z n =
       joins = joins_fit w i v l n.both;
     })
 
-mem_after : (w : World) (i : ℕ) (phase : Phase) (place : Place) → (w.seat i).phase ≡ phase → (step w i).mem place ≡ written w.mem (steps.phase_move phase (w.seat i).post) place
+pub mem_after : (w : World) (i : ℕ) (phase : Phase) (place : Place) → (w.seat i).phase ≡ phase → (step w i).mem place ≡ written w.mem (steps.phase_move phase (w.seat i).post) place
 mem_after w i phase place e = ap (λ (p : Phase). written w.mem (steps.phase_move p (w.seat i).post) place) e
 
 pub lost_now : (rounds most more : ℕ) (same : Bool) → same ≡ false → Since same (rounds - 1) most → most ≤ more → rounds ≤ more

@@ -1,12 +1,16 @@
 -- What comes after a machine or a step of a call's own has lost no more rounds than has changed.
-use Rattle.std.proofs.Common.{ℕ, ◌≡◌, ◌≤◌, ◌+◌, ◌-◌, Bool, true, false, [], ◌∷◌, arith, refl, sym, subst}
+use Rattle.std.proofs.Common.{ℕ, ◌∙◌, ◌≡◌, ◌≤◌, ◌+◌, ◌-◌, Bool, true, false, [], ◌∷◌, arith, refl, sym, subst}
 use Rattle.inv_contents.specs.model.Change as alters
 use Rattle.inv_contents.specs.model.Enqueue as enqueues
 use Rattle.inv_contents.specs.model.Dequeue as dequeues
 use Rattle.inv_contents.specs.model.Get as gets
 use Rattle.inv_contents.specs.model.Keep as keeps
 use Rattle.inv_contents.specs.model.Steps as steps
-use Rattle.inv_contents.specs.words.Schemes.{has_one_interval}
+use Rattle.inv_contents.specs.words.Schemes.{has_one_interval, publishes_rows}
+use Rattle.inv_contents.specs.words.Schemes.{moves as moves_clock}
+use Rattle.inv_contents.specs.words.declared.config.Config.{Config}
+use Rattle.inv_contents.specs.words.declared.config.SchemeKind.TheVariants.{He, Hp, Ibr, Wfe}
+use Rattle.inv_contents.specs.defs.declared.event.Guard.{Guard}
 use Rattle.inv_contents.specs.model.Scan as scan
 use Rattle.inv_contents.specs.defs.declared.event.Event.TheVariants as events
 use Rattle.inv_contents.specs.defs.declared.event.Root.TheVariants as roots
@@ -28,12 +32,12 @@ use Rattle.inv_contents.specs.model.Calls.ScanAt.{GiveBack, ReadGuard}
 use Rattle.inv_contents.specs.model.Calls.Task.{Changes, Dequeues, Enqueues, Gets, Holds}
 use Rattle.inv_contents.specs.model.Calls.Work.{Changing, Dequeuing, Enqueuing, Getting, Keeping}
 use Rattle.inv_contents.specs.model.Desks.{Desk, with_life}
-use Rattle.inv_contents.specs.model.Guards.{guard_at, guards, eras_in, published}
+use Rattle.inv_contents.specs.model.Guards.{guard_at, guards, eras_in, linked_row, published}
 use Rattle.inv_contents.specs.model.Locals.{rounds_told}
 use Rattle.inv_contents.specs.model.Phases.{Ending, Base}
 use Rattle.inv_contents.specs.model.Phases.Ending.{Allocated, Clocked, Done, Followed, Protected, Retired}
-use Rattle.inv_contents.specs.model.Posts.{stands, cleared, reserves_index, withdrawn, standing_from}
-use Rattle.inv_contents.specs.model.Rounds.{begin_base, begin_span, bucket_of, clear_base, clear_post, clear_told, clearing, clearing_by, clearing_next, clearing_next_by, closed, finish_base, finish_span, finishing, finishing_by, given_up, index_of, key_of, opening, root_of, round, round_by, scheme_of, taken_of, kept_row, let_index}
+use Rattle.inv_contents.specs.model.Posts.{stands, cleared, publishes_index, withdrawn, standing_from}
+use Rattle.inv_contents.specs.model.Rounds.{begin_base, begin_span, bucket_of, clear_base, clear_post, clear_told, clearing, clearing_by, clearing_next, clearing_next_by, closed, finish_base, finish_span, finishing, finishing_by, given_up, index_of, key_of, opening, root_of, round, round_by, scheme_of, taken_of, kept_row, let_index, protect_at, tidy_by}
 use Rattle.inv_contents.specs.model.declared.ends.AllocateEnd.{AllocateEnd}
 use Rattle.inv_contents.specs.model.declared.ends.FollowEnd.{FollowEnd}
 use Rattle.inv_contents.specs.model.declared.post.Post.{Post}
@@ -42,10 +46,10 @@ use Rattle.inv_contents.specs.defs.declared.call.Answer.{Answer}
 use Rattle.inv_contents.specs.defs.declared.call.ClockMove.{ClockMove}
 use Rattle.inv_contents.specs.defs.declared.event.Event.{Event}
 use Rattle.inv_contents.specs.defs.declared.lifetime.Interval.{Interval}
-use Rattle.inv_steps_left.proofs.Rest.Closings.{cleared_told, opened_untold}
+use Rattle.inv_steps_left.proofs.Rest.Closings.{cleared_rounds, cleared_told, opened_untold}
 use Rattle.inv_steps_left.proofs.Rest.Works.{link_told}
-use Rattle.inv_steps_left.specs.Losses.{is_queue}
-use Rattle.inv_all.specs.Tallies.{Since, Tally, changes_so_far, dequeue_paced, enqueue_paced, fills_paced, head_since, lag_since, later_paced, next_paced, next_since, once, passes_so_far, phase_paced, root_since, tail_since, task_paced, work_paced}
+use Rattle.inv_steps_left.specs.Losses.{is_queue, work_fit}
+use Rattle.inv_all.specs.Tallies.{Since, Tally, at_paced, changes_so_far, dequeue_paced, enqueue_paced, fills_paced, head_since, lag_since, later_paced, next_paced, next_since, once, passes_so_far, phase_paced, root_since, tail_since, task_paced, work_paced}
 use Rattle.inv_contents.specs.words.declared.config.SchemeKind.{SchemeKind}
 use Rattle.std.specs.Prelude.{List, ◌++◌, length, Option, Some, None, nat_lt, nat_le, ◌==◌, ◌%◌, drop}
 use Rattle.inv_contents.proofs.model.Facts.{or_left_true, one_before, if_by}
@@ -57,10 +61,16 @@ outcome_paced u rounds (Answers answer) = Unit {0}
 
 -- what a turn leaves
 abbrev pub TurnPaced : Tally → ℕ → CallTurn → Type 0
-TurnPaced u rounds t = outcome_paced u (rounds_told rounds t.told) t.outcome
+TurnPaced u rounds t = outcome_paced u (rounds_told u.rows rounds t.told) t.outcome
+
+opened_paced : (u : Tally) (task : Task) (scheme : SchemeKind) (lost : ℕ) → task_paced u task lost → at_paced u task (protect_at scheme) lost
+opened_paced u task He lost p = p
+opened_paced u task Ibr lost p = p
+opened_paced u task Wfe lost p = p
+opened_paced u task Hp lost p = p
 
 pub opening_paced : (u : Tally) (rounds : ℕ) (task : Task) (post : Post) → task_paced u task rounds → phase_paced u rounds (opening task post)
-opening_paced u rounds task post o = rw (opened_untold (scheme_of post) (index_of task) (root_of task post)) o
+opening_paced u rounds task post o = rw (opened_untold (scheme_of post) (index_of task) (root_of task post)) (opened_paced u task (scheme_of post) rounds o)
 
 span_round : (u : Tally) (rounds : ℕ) (task : Task) (post : Post) (span : Option Interval) → task_paced u task rounds → phase_paced u rounds (round_by task post (begin_span span))
 span_round u rounds task post None o = o
@@ -79,52 +89,56 @@ given_paced : (u : Tally) (rounds : ℕ) (answer : Answer) (post : Post) (desk :
 given_paced u rounds answer post desk told None = tt
 given_paced u rounds answer post desk told (Some slot) = tt
 
-pub closed_paced : (u : Tally) (rounds : ℕ) (task : Task) (next : Next) (post : Post) (desk : Desk) (told : List Event) → next_paced u task next (rounds_told rounds told) → TurnPaced u rounds (closed task next post desk told)
-closed_paced u rounds task Again post desk told n = round_paced u (rounds_told rounds told) task post n
-closed_paced u rounds task MakeRoom post desk told n = n
+tidy_paced : (u : Tally) (rounds : ℕ) (later : AfterScan) (post : Post) (moving : Bool) → later_paced u later rounds → phase_paced u rounds (tidy_by moving later post)
+tidy_paced u rounds later post true l = l
+tidy_paced u rounds later post false l = l
+
+pub closed_paced : (u : Tally) (rounds : ℕ) (task : Task) (next : Next) (post : Post) (desk : Desk) (told : List Event) → next_paced u task next (rounds_told u.rows rounds told) → TurnPaced u rounds (closed task next post desk told)
+closed_paced u rounds task Again post desk told n = round_paced u (rounds_told u.rows rounds told) task post n
+closed_paced u rounds task MakeRoom post desk told n = tidy_paced u (rounds_told u.rows rounds told) (Repeated task) post (moves_clock (scheme_of post)) n
 closed_paced u rounds task (Answering answer) post desk told n = given_paced u rounds answer post desk told (taken_of task)
 closed_paced u rounds task (Retiring slot answer) post desk told n = tt
 
-span_finish : (u : Tally) (rounds : ℕ) (task : Task) (next : Next) (post : Post) (desk : Desk) (told : List Event) (stood : Option ℕ) → next_paced u task next (rounds_told rounds told) → TurnPaced u rounds (finishing_by task next post desk told (finish_span stood))
+span_finish : (u : Tally) (rounds : ℕ) (task : Task) (next : Next) (post : Post) (desk : Desk) (told : List Event) (stood : Option ℕ) → next_paced u task next (rounds_told u.rows rounds told) → TurnPaced u rounds (finishing_by task next post desk told (finish_span stood))
 span_finish u rounds task next post desk told None n = n
 span_finish u rounds task next post desk told (Some slot) n = closed_paced u rounds task next post desk told n
 
-scheme_finish : (u : Tally) (rounds : ℕ) (task : Task) (next : Next) (post : Post) (desk : Desk) (told : List Event) (scheme : SchemeKind) → next_paced u task next (rounds_told rounds told) → TurnPaced u rounds (finishing_by task next post desk told (finish_base scheme post))
+scheme_finish : (u : Tally) (rounds : ℕ) (task : Task) (next : Next) (post : Post) (desk : Desk) (told : List Event) (scheme : SchemeKind) → next_paced u task next (rounds_told u.rows rounds told) → TurnPaced u rounds (finishing_by task next post desk told (finish_base scheme post))
 scheme_finish u rounds task next post desk told scheme n =
     each_finish scheme post (λ (base : Option Base). TurnPaced u rounds (finishing_by task next post desk told base))
     (closed_paced u rounds task next post desk told n)
     (span_finish u rounds task next post desk told (kept_row post) n)
 
-pub finishing_paced : (u : Tally) (rounds : ℕ) (task : Task) (next : Next) (post : Post) (desk : Desk) (told : List Event) → next_paced u task next (rounds_told rounds told) → TurnPaced u rounds (finishing task next post desk told)
+pub finishing_paced : (u : Tally) (rounds : ℕ) (task : Task) (next : Next) (post : Post) (desk : Desk) (told : List Event) → next_paced u task next (rounds_told u.rows rounds told) → TurnPaced u rounds (finishing task next post desk told)
 finishing_paced u rounds task Again post desk told n = closed_paced u rounds task Again post desk told n
 finishing_paced u rounds task MakeRoom post desk told n = scheme_finish u rounds task MakeRoom post desk told (scheme_of post) n
 finishing_paced u rounds task (Answering answer) post desk told n = scheme_finish u rounds task (Answering answer) post desk told (scheme_of post) n
 finishing_paced u rounds task (Retiring slot answer) post desk told n = scheme_finish u rounds task (Retiring slot answer) post desk told (scheme_of post) n
 
-cleared_finish : (u : Tally) (rounds : ℕ) (task : Task) (next : Next) (post left : Post) (index : ℕ) (desk : Desk) (told : List Event) → next_paced u task next (rounds_told rounds told) → TurnPaced u rounds (finishing task next left desk (told ++ clear_told (scheme_of post) post index))
+cleared_finish : (u : Tally) (rounds : ℕ) (task : Task) (next : Next) (post left : Post) (index : ℕ) (desk : Desk) (told : List Event) → next_paced u task next (rounds_told u.rows rounds told) → TurnPaced u rounds (finishing task next left desk (told ++ clear_told (scheme_of post) post index))
 cleared_finish u rounds task next post left index desk told n =
-    finishing_paced u rounds task next left desk (told ++ clear_told (scheme_of post) post index) (subst (λ (r : ℕ). next_paced u task next r) (sym (cleared_told rounds index told post)) n)
+    finishing_paced u rounds task next left desk (told ++ clear_told (scheme_of post) post index) (subst (λ (r : ℕ). next_paced u task next r) (sym (cleared_told u.rows rounds index told post)) n)
 
-clearing_by_paced : (u : Tally) (rounds : ℕ) (task : Task) (next : Next) (post : Post) (desk : Desk) (told : List Event) (scheme : SchemeKind) → next_paced u task next (rounds_told rounds told) → TurnPaced u rounds (clearing_by task next post desk told (clear_base scheme (index_of task)))
+clearing_by_paced : (u : Tally) (rounds : ℕ) (task : Task) (next : Next) (post : Post) (desk : Desk) (told : List Event) (scheme : SchemeKind) → next_paced u task next (rounds_told u.rows rounds told) → TurnPaced u rounds (clearing_by task next post desk told (clear_base scheme (index_of task)))
 clearing_by_paced u rounds task next post desk told scheme n =
     each_clear scheme (index_of task) (λ (base : Option Base). TurnPaced u rounds (clearing_by task next post desk told base))
     n
     (cleared_finish u rounds task next post (clear_post (scheme_of post) post (index_of task)) (index_of task) desk told n)
 
-pub clearing_paced : (u : Tally) (rounds : ℕ) (task : Task) (next : Next) (post : Post) (desk : Desk) (told : List Event) → next_paced u task next (rounds_told rounds told) → TurnPaced u rounds (clearing task next post desk told)
+pub clearing_paced : (u : Tally) (rounds : ℕ) (task : Task) (next : Next) (post : Post) (desk : Desk) (told : List Event) → next_paced u task next (rounds_told u.rows rounds told) → TurnPaced u rounds (clearing task next post desk told)
 clearing_paced u rounds task next post desk told n = clearing_by_paced u rounds task next post desk told (scheme_of post) n
 
-cleared_clear : (u : Tally) (rounds : ℕ) (next : Next) (post left : Post) (desk : Desk) (told : List Event) → next_paced u Dequeues next (rounds_told rounds told) → TurnPaced u rounds (clearing Dequeues next left desk (told ++ clear_told (scheme_of post) post 1))
+cleared_clear : (u : Tally) (rounds : ℕ) (next : Next) (post left : Post) (desk : Desk) (told : List Event) → next_paced u Dequeues next (rounds_told u.rows rounds told) → TurnPaced u rounds (clearing Dequeues next left desk (told ++ clear_told (scheme_of post) post 1))
 cleared_clear u rounds next post left desk told n =
-    clearing_paced u rounds Dequeues next left desk (told ++ clear_told (scheme_of post) post 1) (subst (λ (r : ℕ). next_paced u Dequeues next r) (sym (cleared_told rounds 1 told post)) n)
+    clearing_paced u rounds Dequeues next left desk (told ++ clear_told (scheme_of post) post 1) (subst (λ (r : ℕ). next_paced u Dequeues next r) (sym (cleared_told u.rows rounds 1 told post)) n)
 
-clearing_next_by_paced : (u : Tally) (rounds : ℕ) (next : Next) (post : Post) (desk : Desk) (told : List Event) (scheme : SchemeKind) → next_paced u Dequeues next (rounds_told rounds told) → TurnPaced u rounds (clearing_next_by next post desk told (clear_base scheme 1))
+clearing_next_by_paced : (u : Tally) (rounds : ℕ) (next : Next) (post : Post) (desk : Desk) (told : List Event) (scheme : SchemeKind) → next_paced u Dequeues next (rounds_told u.rows rounds told) → TurnPaced u rounds (clearing_next_by next post desk told (clear_base scheme 1))
 clearing_next_by_paced u rounds next post desk told scheme n =
     each_clear scheme 1 (λ (base : Option Base). TurnPaced u rounds (clearing_next_by next post desk told base))
     n
     (cleared_clear u rounds next post (clear_post (scheme_of post) post 1) desk told n)
 
-pub clearing_next_paced : (u : Tally) (rounds : ℕ) (next : Next) (post : Post) (desk : Desk) (told : List Event) → next_paced u Dequeues next (rounds_told rounds told) → TurnPaced u rounds (clearing_next next post desk told)
+pub clearing_next_paced : (u : Tally) (rounds : ℕ) (next : Next) (post : Post) (desk : Desk) (told : List Event) → next_paced u Dequeues next (rounds_told u.rows rounds told) → TurnPaced u rounds (clearing_next next post desk told)
 clearing_next_paced u rounds next post desk told n = clearing_next_by_paced u rounds next post desk told (scheme_of post) n
 
 -- a root was found, with this link
@@ -136,30 +150,30 @@ link_since u (Holds key) x lost = Unit {0}
 link_since u (Enqueues kept) x lost = Since (u.tail == x) lost (passes_so_far u kept)
 link_since u Dequeues x lost = Since (u.head == x) lost u.takes
 
-pub opened_row_paced : (u : Tally) (rounds : ℕ) (task : Task) (slot : ℕ) (post : Post) (desk : Desk) (told : List Event) (lost : ℕ) → rounds_told rounds told ≡ lost + 1 → link_since u task (slot + 1) lost → TurnPaced u rounds (steps.opened_row task slot post desk told)
+pub opened_row_paced : (u : Tally) (rounds : ℕ) (task : Task) (slot : ℕ) (post : Post) (desk : Desk) (told : List Event) (lost : ℕ) → rounds_told u.rows rounds told ≡ lost + 1 → link_since u task (slot + 1) lost → TurnPaced u rounds (steps.opened_row task slot post desk told)
 opened_row_paced u rounds (Gets key) slot post desk told lost e h = tt
-opened_row_paced u rounds (Changes kept) slot post desk told lost e h = rw (one_before (rounds_told rounds told) lost e) h
+opened_row_paced u rounds (Changes kept) slot post desk told lost e h = rw (one_before (rounds_told u.rows rounds told) lost e) h
 opened_row_paced u rounds (Holds key) slot post desk told lost e h = tt
-opened_row_paced u rounds (Enqueues kept) slot post desk told lost e h = rw (one_before (rounds_told rounds told) lost e) h
-opened_row_paced u rounds Dequeues slot post desk told lost e h = rw (one_before (rounds_told rounds told) lost e) h
+opened_row_paced u rounds (Enqueues kept) slot post desk told lost e h = rw (one_before (rounds_told u.rows rounds told) lost e) h
+opened_row_paced u rounds Dequeues slot post desk told lost e h = rw (one_before (rounds_told u.rows rounds told) lost e) h
 
-deciding_by_paced : (u : Tally) (rounds : ℕ) (kept : ChangeKept) (post : Post) (desk : Desk) (told : List Event) (refused : Option Answer) → root_since u kept (rounds_told rounds told - 1) → TurnPaced u rounds (alters.deciding_by kept post desk told refused)
+deciding_by_paced : (u : Tally) (rounds : ℕ) (kept : ChangeKept) (post : Post) (desk : Desk) (told : List Event) (refused : Option Answer) → root_since u kept (rounds_told u.rows rounds told - 1) → TurnPaced u rounds (alters.deciding_by kept post desk told refused)
 deciding_by_paced u rounds kept post desk told (Some answer) i = clearing_paced u rounds (Changes kept) (Answering answer) post desk told tt
 deciding_by_paced u rounds kept post desk told None i = i
 
-pub deciding_paced : (u : Tally) (rounds : ℕ) (kept : ChangeKept) (post : Post) (desk : Desk) (told : List Event) → root_since u kept (rounds_told rounds told - 1) → TurnPaced u rounds (alters.deciding kept post desk told)
+pub deciding_paced : (u : Tally) (rounds : ℕ) (kept : ChangeKept) (post : Post) (desk : Desk) (told : List Event) → root_since u kept (rounds_told u.rows rounds told - 1) → TurnPaced u rounds (alters.deciding kept post desk told)
 deciding_paced u rounds kept post desk told i = deciding_by_paced u rounds kept post desk told (alters.refused post.layout.config kept) i
 
-pub opened_null_paced : (u : Tally) (rounds : ℕ) (task : Task) (post : Post) (desk : Desk) (told : List Event) (lost : ℕ) → is_queue task ≡ false → rounds_told rounds told ≡ lost + 1 → link_since u task 0 lost → TurnPaced u rounds (steps.opened_null task post desk told)
+pub opened_null_paced : (u : Tally) (rounds : ℕ) (task : Task) (post : Post) (desk : Desk) (told : List Event) (lost : ℕ) → is_queue task ≡ false → rounds_told u.rows rounds told ≡ lost + 1 → link_since u task 0 lost → TurnPaced u rounds (steps.opened_null task post desk told)
 opened_null_paced u rounds (Gets key) post desk told lost q e h = clearing_paced u rounds (Gets key) (Answering (answers.Got 0 None)) post desk (told ++ events.Got (bucket_of post key) 0 key None ∷ []) tt
-opened_null_paced u rounds (Changes kept) post desk told lost q e h = deciding_paced u rounds (alters.at_link kept 0) post desk told (rw (one_before (rounds_told rounds told) lost e) h)
+opened_null_paced u rounds (Changes kept) post desk told lost q e h = deciding_paced u rounds (alters.at_link kept 0) post desk told (rw (one_before (rounds_told u.rows rounds told) lost e) h)
 opened_null_paced u rounds (Holds key) post desk told lost q e h = clearing_paced u rounds (Holds key) (Answering answers.Nothing) post desk told tt
 opened_null_paced u rounds (Enqueues kept) post desk told lost q e h = absurd (cc)
 opened_null_paced u rounds Dequeues post desk told lost q e h = absurd (cc)
 
 -- a follow
 
-row_paced : (u : Tally) (rounds head next : ℕ) (post : Post) (desk : Desk) (told : List Event) (lags : Bool) → head_since u head (rounds_told rounds told - 1) → lag_since u head lags (rounds_told rounds told - 1) → TurnPaced u rounds (dequeues.followed_row head next post desk told lags)
+row_paced : (u : Tally) (rounds head next : ℕ) (post : Post) (desk : Desk) (told : List Event) (lags : Bool) → head_since u head (rounds_told u.rows rounds told - 1) → lag_since u head lags (rounds_told u.rows rounds told - 1) → TurnPaced u rounds (dequeues.followed_row head next post desk told lags)
 row_paced u rounds head next post desk told true i l = l
 row_paced u rounds head next post desk told false i l = i
 
@@ -169,14 +183,14 @@ MovedPaced u rounds (follow_ends.Followed slot) = Unit {0}
 MovedPaced u rounds follow_ends.NoNext = Unit {0}
 MovedPaced u rounds (follow_ends.RootMoved seen) = rounds ≤ u.takes
 
-pub followed_paced : (u : Tally) (rounds head tail : ℕ) (ending : FollowEnd) (post : Post) (desk : Desk) (told : List Event) → head_since u head (rounds - 1) → lag_since u head (tail == head + 1) (rounds - 1) → rounds_told rounds told ≡ rounds → MovedPaced u rounds ending → TurnPaced u rounds (dequeues.followed head tail ending post desk told)
+pub followed_paced : (u : Tally) (rounds head tail : ℕ) (ending : FollowEnd) (post : Post) (desk : Desk) (told : List Event) → head_since u head (rounds - 1) → lag_since u head (tail == head + 1) (rounds - 1) → rounds_told u.rows rounds told ≡ rounds → MovedPaced u rounds ending → TurnPaced u rounds (dequeues.followed head tail ending post desk told)
 followed_paced u rounds head tail (follow_ends.Followed slot) post desk told i l e m = row_paced u rounds head slot post desk told (tail == head + 1) (rw e i) (rw e l)
 followed_paced u rounds head tail follow_ends.NoNext post desk told i l e m = clearing_next_paced u rounds (Answering answers.Empty) post desk told tt
 followed_paced u rounds head tail (follow_ends.RootMoved seen) post desk told i l e m = clearing_next_paced u rounds Again post desk told (rw e m)
 
 -- a row is filled
 
-no_room_paced : (u : Tally) (rounds : ℕ) (task : Task) (walked : Bool) (post : Post) (desk : Desk) (told : List Event) → (walked ≡ false → task_paced u task (rounds_told rounds told)) → TurnPaced u rounds (clearing task (alters.no_room walked) post desk told)
+no_room_paced : (u : Tally) (rounds : ℕ) (task : Task) (walked : Bool) (post : Post) (desk : Desk) (told : List Event) → (walked ≡ false → task_paced u task (rounds_told u.rows rounds told)) → TurnPaced u rounds (clearing task (alters.no_room walked) post desk told)
 no_room_paced u rounds task true post desk told l = clearing_paced u rounds task (Answering answers.Full) post desk told tt
 no_room_paced u rounds task false post desk told l = clearing_paced u rounds task MakeRoom post desk told (l refl)
 
@@ -191,7 +205,7 @@ fills_something (Holds key) = false
 fills_something (Enqueues kept) = true
 fills_something Dequeues = false
 
-pub filled_by_paced : (u : Tally) (rounds : ℕ) (task : Task) (ending : AllocateEnd) (post : Post) (desk : Desk) (told : List Event) → fills_paced u task (rounds - 1) → fills_something task ≡ true → rounds_told rounds told ≡ rounds → TurnPaced u rounds (steps.filled_by task ending post desk told)
+pub filled_by_paced : (u : Tally) (rounds : ℕ) (task : Task) (ending : AllocateEnd) (post : Post) (desk : Desk) (told : List Event) → fills_paced u task (rounds - 1) → fills_something task ≡ true → rounds_told u.rows rounds told ≡ rounds → TurnPaced u rounds (steps.filled_by task ending post desk told)
 filled_by_paced u rounds (Gets key) ending post desk told f s e = absurd (cc)
 filled_by_paced u rounds (Holds key) ending post desk told f s e = absurd (cc)
 filled_by_paced u rounds Dequeues ending post desk told f s e = absurd (cc)
@@ -202,7 +216,7 @@ filled_by_paced u rounds (Enqueues kept) (allocate_ends.Given slot birth) post d
 filled_by_paced u rounds (Enqueues kept) allocate_ends.Full post desk told f s e =
     no_room_paced u rounds (Enqueues (enqueues.item_walked kept)) kept.walked post desk told (λ w. rw e (once_more rounds u.passes kept.walked w f.lost_few))
 
-pub written_paced : (u : Tally) (rounds : ℕ) (task : Task) (post : Post) (desk : Desk) (told : List Event) → fills_paced u task (rounds - 1) → fills_something task ≡ true → rounds_told rounds told ≡ rounds → TurnPaced u rounds (steps.written_row task post desk told)
+pub written_paced : (u : Tally) (rounds : ℕ) (task : Task) (post : Post) (desk : Desk) (told : List Event) → fills_paced u task (rounds - 1) → fills_something task ≡ true → rounds_told u.rows rounds told ≡ rounds → TurnPaced u rounds (steps.written_row task post desk told)
 written_paced u rounds (Gets key) post desk told f s e = absurd (cc)
 written_paced u rounds (Holds key) post desk told f s e = absurd (cc)
 written_paced u rounds Dequeues post desk told f s e = absurd (cc)
@@ -212,7 +226,7 @@ written_paced u rounds (Enqueues kept) post desk told f s e = rw e f
 -- what comes once in a call
 
 tidying_paced : (u : Tally) (rounds : ℕ) (answer : Answer) (post : Post) (desk : Desk) (told : List Event) (due : Bool) → TurnPaced u rounds (steps.tidying answer post desk told due)
-tidying_paced u rounds answer post desk told true = tt
+tidying_paced u rounds answer post desk told true = tidy_paced u (rounds_told u.rows rounds told) (Answered answer) post (moves_clock (scheme_of post)) tt
 tidying_paced u rounds answer post desk told false = tt
 
 pub retired_paced : (u : Tally) (rounds : ℕ) (answer : Answer) (ending : Ending) (post : Post) (desk : Desk) (told : List Event) → TurnPaced u rounds (steps.retired_by answer ending post desk told)
@@ -228,7 +242,7 @@ moved_paced u rounds (Answered answer) clock l = tt
 moved_paced u rounds (Repeated task) clock l = l
 moved_paced u rounds Counted clock l = tt
 
-pub tidied_paced : (u : Tally) (rounds : ℕ) (later : AfterScan) (ending : Ending) (post : Post) (desk : Desk) (told : List Event) → rounds_told rounds told ≡ rounds → later_paced u later rounds → TurnPaced u rounds (steps.tidied later ending post desk told)
+pub tidied_paced : (u : Tally) (rounds : ℕ) (later : AfterScan) (ending : Ending) (post : Post) (desk : Desk) (told : List Event) → rounds_told u.rows rounds told ≡ rounds → later_paced u later rounds → TurnPaced u rounds (steps.tidied later ending post desk told)
 tidied_paced u rounds later (Clocked clock) post desk told e l = rw e (moved_paced u rounds later clock l)
 tidied_paced u rounds later Done post desk told e l = rw e l
 tidied_paced u rounds later (Protected ending) post desk told e l = rw e l
@@ -244,37 +258,40 @@ advanced_paced u rounds (Followed ending) post desk told = tt
 advanced_paced u rounds (Allocated ending) post desk told = tt
 advanced_paced u rounds (Retired life) post desk told = tt
 
-parting_paced : (u : Tally) (rounds : ℕ) (x : Option ℕ) → phase_paced u rounds (keeps.parting_index x)
-parting_paced u rounds None = tt
-parting_paced u rounds (Some index) = tt
+parting_paced : (u : Tally) (rounds : ℕ) (rows : Bool) (x : Option ℕ) → phase_paced u rounds (keeps.parting_index rows x)
+parting_paced u rounds rows None = tt
+parting_paced u rounds rows (Some index) = tt
 
 pub parts_paced : (u : Tally) (rounds index : ℕ) (post : Post) → phase_paced u rounds (keeps.parting_from index post)
-parts_paced u rounds index post = parting_paced u rounds (standing_from index (drop index post.standing))
+parts_paced u rounds index post = parting_paced u rounds (publishes_rows (scheme_of post)) (standing_from index (drop index post.standing))
 
-pub released_paced : (u : Tally) (rounds : ℕ) (let_go : LetGo) (post : Post) (desk : Desk) (told : List Event) → TurnPaced u rounds (keeps.released let_go post desk told)
-released_paced u rounds Released post desk told = tt
-released_paced u rounds (Rehold key) post desk told = round_paced u (rounds_told rounds told) (Holds key) post tt
-released_paced u rounds (Dropped index) post desk told = tt
-released_paced u rounds (Parting index) post desk told = parts_paced u (rounds_told rounds told) (index + 1) post
+pub released_paced : (u : Tally) (rounds : ℕ) (let_go : LetGo) (post : Post) (desk : Desk) (told : List Event) → rounds_told u.rows rounds told ≡ 0 → TurnPaced u rounds (keeps.released let_go post desk told)
+released_paced u rounds Released post desk told e = tt
+released_paced u rounds (Rehold key) post desk told e = round_paced u (rounds_told u.rows rounds told) (Holds key) post (omega (arith, e))
+released_paced u rounds (Dropped index) post desk told e = tt
+released_paced u rounds (Parting index) post desk told e = parts_paced u (rounds_told u.rows rounds told) (index + 1) post
 
 -- a scan
 
-scanned_paced : (u : Tally) (rounds : ℕ) (later : AfterScan) (post : Post) (desk : Desk) (told : List Event) → later_paced u later (rounds_told rounds told) → TurnPaced u rounds (scan.scanned later post desk told)
+scanned_paced : (u : Tally) (rounds : ℕ) (later : AfterScan) (post : Post) (desk : Desk) (told : List Event) → later_paced u later (rounds_told u.rows rounds told) → TurnPaced u rounds (scan.scanned later post desk told)
 scanned_paced u rounds (Answered answer) post desk told l = tt
-scanned_paced u rounds (Repeated task) post desk told l = round_paced u (rounds_told rounds told) task post l
+scanned_paced u rounds (Repeated task) post desk told l = round_paced u (rounds_told u.rows rounds told) task post l
 scanned_paced u rounds Counted post desk told l = tt
 
-gives_paced : (u : Tally) (rounds : ℕ) (later : AfterScan) (post : Post) (desk : Desk) (told : List Event) (x : Option scan.Entry) → later_paced u later (rounds_told rounds told) → TurnPaced u rounds (scan.giving_back later post desk told x)
+gives_paced : (u : Tally) (rounds : ℕ) (later : AfterScan) (post : Post) (desk : Desk) (told : List Event) (x : Option scan.Entry) → later_paced u later (rounds_told u.rows rounds told) → TurnPaced u rounds (scan.giving_back later post desk told x)
 gives_paced u rounds later post desk told None l = scanned_paced u rounds later post (scan.with_kept desk) told l
 gives_paced u rounds later post desk told (Some entry) l = l
 
-reads_paced : (u : Tally) (rounds : ℕ) (later : AfterScan) (number : ℕ) (post : Post) (desk : Desk) (told : List Event) (more : Bool) → later_paced u later (rounds_told rounds told) → TurnPaced u rounds (scan.reading later number post desk told more)
+reads_paced : (u : Tally) (rounds : ℕ) (later : AfterScan) (number : ℕ) (post : Post) (desk : Desk) (told : List Event) (more : Bool) → later_paced u later (rounds_told u.rows rounds told) → TurnPaced u rounds (scan.reading later number post desk told more)
 reads_paced u rounds later number post desk told true l = l
 reads_paced u rounds later number post desk told false l = gives_paced u rounds later post desk told (scan.unmet_from desk 0) l
 
+read_paced : (u : Tally) (rounds : ℕ) (later : AfterScan) (number : ℕ) (post : Post) (desk : Desk) (rows : Bool) (guard : Guard) (word : ℕ) → later_paced u later rounds → TurnPaced u rounds (scan.read_guard later number post desk rows guard word)
+read_paced u rounds later number post desk false guard word l = reads_paced u rounds later number post (scan.with_read desk number (guard, published false guard word)) (events.Read guard (eras_in guard word) ∷ []) (nat_lt (number + 1) (guards post.layout.config)) l
+read_paced u rounds later number post desk true guard word l = reads_paced u rounds later number post (scan.with_read desk number (guard, published true guard word)) (events.Saw guard (linked_row word) ∷ []) (nat_lt (number + 1) (guards post.layout.config)) l
+
 pub scan_paced : (u : Tally) (rounds : ℕ) (later : AfterScan) (at : ScanAt) (post : Post) (desk : Desk) (found : ℕ) → later_paced u later rounds → TurnPaced u rounds (scan.scan_turn later at post desk found)
-scan_paced u rounds later (ReadGuard number) post desk found l =
-    reads_paced u rounds later number post (scan.with_read desk number (guard_at post.layout.config number, published (guard_at post.layout.config number) found)) (events.Read (guard_at post.layout.config number) (eras_in (guard_at post.layout.config number) found) ∷ []) (nat_lt (number + 1) (guards post.layout.config)) l
+scan_paced u rounds later (ReadGuard number) post desk found l = read_paced u rounds later number post desk (publishes_rows post.layout.config.scheme) (guard_at post.layout.config number) found l
 scan_paced u rounds later (GiveBack place slot) post desk found l = gives_paced u rounds later post (scan.with_back desk place) (events.Back slot ∷ []) (scan.unmet_from (scan.with_back desk place) place) l
 
 -- a call's own steps
@@ -326,7 +343,7 @@ done_paced u rounds version link task =
 
 exchanged_paced : (u : Tally) (rounds : ℕ) (kept : ChangeKept) (slot : ℕ) (post : Post) (desk : Desk) (same : Bool) → (same ≡ false → rounds ≤ changes_so_far u kept) → TurnPaced u rounds (alters.exchanged kept slot post desk same)
 exchanged_paced u rounds kept slot post desk true l =
-    clearing_paced u rounds (Changes (record kept { taken = None })) (alters.answer_done (kept.version + 1) kept.link) post desk (alters.told_linked kept slot post) (done_paced u (rounds_told rounds (alters.told_linked kept slot post)) (kept.version + 1) kept.link (Changes (record kept { taken = None })))
+    clearing_paced u rounds (Changes (record kept { taken = None })) (alters.answer_done (kept.version + 1) kept.link) post desk (alters.told_linked kept slot post) (done_paced u (rounds_told u.rows rounds (alters.told_linked kept slot post)) (kept.version + 1) kept.link (Changes (record kept { taken = None })))
 exchanged_paced u rounds kept slot post desk false l = clearing_paced u rounds (Changes kept) Again post desk [] (l refl)
 
 change_paced : (u : Tally) (rounds : ℕ) (kept : ChangeKept) (at : ChangeAt) (post : Post) (desk : Desk) (found : ℕ) → root_since u kept (rounds - 1) → WorkNow u rounds (Changing kept at) found → TurnPaced u rounds (alters.change_turn kept at post desk found)
@@ -349,7 +366,7 @@ appended_paced : (u : Tally) (rounds : ℕ) (kept : EnqueueKept) (slot : ℕ) (p
 appended_paced u rounds kept slot post desk true l = tt
 appended_paced u rounds kept slot post desk false l = clearing_paced u rounds (Enqueues kept) Again post desk [] (l refl)
 
-told_same : (u : Tally) (rounds : ℕ) (task : Task) (told : List Event) → rounds_told rounds told ≡ rounds → task_paced u task rounds → task_paced u task (rounds_told rounds told)
+told_same : (u : Tally) (rounds : ℕ) (task : Task) (told : List Event) → rounds_told u.rows rounds told ≡ rounds → task_paced u task rounds → task_paced u task (rounds_told u.rows rounds told)
 told_same u rounds task told e l = rw e l
 
 enqueue_turn_paced : (u : Tally) (rounds : ℕ) (kept : EnqueueKept) (at : EnqueueAt) (post : Post) (desk : Desk) (found : ℕ) → enqueue_paced u kept at (rounds - 1) → WorkNow u rounds (Enqueuing kept at) found → TurnPaced u rounds (enqueues.enqueue_turn kept at post desk found)
@@ -357,7 +374,7 @@ enqueue_turn_paced u rounds kept LoadNumber post desk found i l = i
 enqueue_turn_paced u rounds kept LoadNext post desk found i l = at_next_paced u rounds kept found post desk (found == 0) i l
 enqueue_turn_paced u rounds kept (PassTail next) post desk found i l =
     let told : List Event = enqueues.told_link roots.Tail (next - 1) (found == kept.tail + 1) in
-    clearing_paced u rounds (Enqueues kept) Again post desk told (told_same u rounds (Enqueues kept) told (link_told rounds roots.Tail (next - 1) (found == kept.tail + 1)) l)
+    clearing_paced u rounds (Enqueues kept) Again post desk told (told_same u rounds (Enqueues kept) told (link_told u.rows rounds roots.Tail (next - 1) (found == kept.tail + 1)) l)
 enqueue_turn_paced u rounds kept (ExchangeNext slot) post desk found i l = appended_paced u rounds kept slot post desk (found == 0) l
 enqueue_turn_paced u rounds kept (ExchangeTail slot) post desk found i l = clearing_paced u rounds (Enqueues kept) (Answering (answers.Queued (kept.number + 1))) post desk (enqueues.told_link roots.Tail slot (found == kept.tail + 1)) tt
 
@@ -374,7 +391,7 @@ dequeue_turn_paced : (u : Tally) (rounds : ℕ) (at : DequeueAt) (post : Post) (
 dequeue_turn_paced u rounds (LoadTail head) post desk found i l = (i, lag_now u head (rounds - 1) (found == head + 1) i l)
 dequeue_turn_paced u rounds (SwingTail head next) post desk found i l =
     let told : List Event = enqueues.told_link roots.Tail next (found == head + 1) in
-    clearing_next_paced u rounds Again post desk told (told_same u rounds Dequeues told (link_told rounds roots.Tail next (found == head + 1)) l)
+    clearing_next_paced u rounds Again post desk told (told_same u rounds Dequeues told (link_told u.rows rounds roots.Tail next (found == head + 1)) l)
 dequeue_turn_paced u rounds (TakeNumber head next) post desk found i l = i
 dequeue_turn_paced u rounds (TakeValue head next number) post desk found i l = i
 dequeue_turn_paced u rounds (ExchangeHead head next number value) post desk found i l = taken_paced u rounds head next number value post desk (found == head + 1) l
@@ -405,20 +422,20 @@ taking_paced : (u : Tally) (rounds place : ℕ) (post : Post) (desk : Desk) (lef
 taking_paced u rounds place post desk true found = tt
 taking_paced u rounds place post desk false found = tt
 
-keep_paced : (u : Tally) (rounds : ℕ) (at : KeepAt) (post : Post) (desk : Desk) (found : ℕ) → TurnPaced u rounds (keeps.keep_turn at post desk found)
-keep_paced u rounds (Loosens let_go) post desk found = released_paced u rounds let_go (withdrawn post (let_index let_go)) desk (cleared (let_index let_go) (stands post (let_index let_go)))
-keep_paced u rounds (LoadHeld from index) post desk found = held_paced u rounds from index post desk found (has_one_interval (scheme_of post))
-keep_paced u rounds (StoreHeld from index era) post desk found = copied_paced u rounds from index post desk (reserves_index post index era) (stands post from)
-keep_paced u rounds (Looks index key at) post desk found = look_paced u rounds index key at post desk found
-keep_paced u rounds (Misses index) post desk found = tt
-keep_paced u rounds HideSpan post desk found = tt
-keep_paced u rounds MarkLeft post desk found = tt
-keep_paced u rounds (TakeList place) post desk found = taking_paced u rounds place post desk (found == 1) found
-keep_paced u rounds (MarkTaken place count) post desk found = tt
+keep_paced : (u : Tally) (rounds : ℕ) (at : KeepAt) (post : Post) (desk : Desk) (found : ℕ) → rounds ≡ 0 → TurnPaced u rounds (keeps.keep_turn at post desk found)
+keep_paced u rounds (Loosens let_go) post desk found z = released_paced u rounds let_go (withdrawn post (let_index let_go)) desk (cleared (let_index let_go) (stands post (let_index let_go))) (cleared_rounds u.rows rounds (let_index let_go) (stands post (let_index let_go)) ∙ z)
+keep_paced u rounds (LoadHeld from index) post desk found z = held_paced u rounds from index post desk found (has_one_interval (scheme_of post))
+keep_paced u rounds (StoreHeld from index era) post desk found z = copied_paced u rounds from index post desk (publishes_index (publishes_rows (scheme_of post)) post index era) (stands post from)
+keep_paced u rounds (Looks index key at) post desk found z = look_paced u rounds index key at post desk found
+keep_paced u rounds (Misses index) post desk found z = tt
+keep_paced u rounds HideSpan post desk found z = tt
+keep_paced u rounds MarkLeft post desk found z = tt
+keep_paced u rounds (TakeList place) post desk found z = taking_paced u rounds place post desk (found == 1) found
+keep_paced u rounds (MarkTaken place count) post desk found z = tt
 
-pub work_turn_paced : (u : Tally) (rounds : ℕ) (work : Work) (post : Post) (desk : Desk) (found : ℕ) → work_paced u work (rounds - 1) → WorkNow u rounds work found → TurnPaced u rounds (steps.work_turn work post desk found)
-work_turn_paced u rounds (Getting key at) post desk found i l = get_paced u rounds key at post desk found
-work_turn_paced u rounds (Changing kept at) post desk found i l = change_paced u rounds kept at post desk found i l
-work_turn_paced u rounds (Enqueuing kept at) post desk found i l = enqueue_turn_paced u rounds kept at post desk found i l
-work_turn_paced u rounds (Dequeuing at) post desk found i l = dequeue_turn_paced u rounds at post desk found i l
-work_turn_paced u rounds (Keeping at) post desk found i l = keep_paced u rounds at post desk found
+pub work_turn_paced : (u : Tally) (c : Config) (rounds : ℕ) (work : Work) (post : Post) (desk : Desk) (found : ℕ) → work_paced u work (rounds - 1) → work_fit c rounds work → WorkNow u rounds work found → TurnPaced u rounds (steps.work_turn work post desk found)
+work_turn_paced u c rounds (Getting key at) post desk found i f l = get_paced u rounds key at post desk found
+work_turn_paced u c rounds (Changing kept at) post desk found i f l = change_paced u rounds kept at post desk found i l
+work_turn_paced u c rounds (Enqueuing kept at) post desk found i f l = enqueue_turn_paced u rounds kept at post desk found i l
+work_turn_paced u c rounds (Dequeuing at) post desk found i f l = dequeue_turn_paced u rounds at post desk found i l
+work_turn_paced u c rounds (Keeping at) post desk found i f l = keep_paced u rounds at post desk found f

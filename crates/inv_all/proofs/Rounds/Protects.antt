@@ -1,4 +1,4 @@
--- A link is tracked only for a seat that protects one.
+-- A link is tracked only for a seat that protects one, and none where rows are published.
 use Rattle.std.proofs.Common.{ℕ, ◌∙◌, ◌≡◌, Bool, true, false, refl, sym, subst}
 use Rattle.inv_contents.specs.words.Place.Place.{Clock}
 use Rattle.inv_contents.specs.model.Phases.Base.{Move, Allocate, Begin, Clear, Finish, GiveUp, Protect, Release, Reload, Retire, Write}
@@ -19,11 +19,13 @@ use Rattle.inv_links.specs.Tracked.Tracked.{Carried, Given, Helped}
 use Rattle.inv_links.specs.requests.Roles.{shows}
 use Rattle.inv_links.proofs.requests.Turns.{each_work_role}
 use Rattle.inv_contents.specs.words.declared.layout.Layout.{Layout}
-use Rattle.std.specs.Prelude.{◌==◌, ◌&&◌}
+use Rattle.inv_contents.specs.model.Phases.ProtectAt.{ByHazard}
+use Rattle.inv_steps_left.proofs.Rest.Told.{by_rows}
+use Rattle.std.specs.Prelude.{◌==◌, ◌&&◌, not}
 
 abbrev pub is_protecting : Phase → Bool
 is_protecting Idle = false
-is_protecting (Runs why (Protect aim index root n at)) = true
+is_protecting (Runs why (Protect aim index root n at)) = not (by_rows at)
 is_protecting (Runs why (Reload parent index slot era n)) = true
 is_protecting phase = false
 
@@ -91,9 +93,10 @@ move_asks layout (ExchangeClock era) = refl
 phase_asks : (layout : Layout) (phase : Phase) → is_protecting phase ≡ false → asks_role (role_of layout phase) ≡ false
 phase_asks layout Idle p = refl
 phase_asks layout (Runs why (Begin at)) p = refl
+phase_asks layout (Runs why (Protect aim index root n (ByHazard at))) p = refl
 phase_asks layout (Runs why (Protect aim index root n at)) p = absurd (cc)
 phase_asks layout (Runs why (Reload parent index slot era n)) p = absurd (cc)
-phase_asks layout (Runs why (Clear index)) p = refl
+phase_asks layout (Runs why (Clear rows index)) p = refl
 phase_asks layout (Runs why Finish) p = refl
 phase_asks layout (Runs why (Release index)) p = refl
 phase_asks layout (Runs why (Allocate at)) p = refl
@@ -102,14 +105,15 @@ phase_asks layout (Runs why (GiveUp slot)) p = refl
 phase_asks layout (Runs why (Retire at)) p = refl
 phase_asks layout (Runs why (Move at)) p = move_asks layout at
 phase_asks layout (Scans later at) p = refl
-phase_asks layout (Works work) p = each_work_role work (λ (r : Role). asks_role r ≡ false) refl (λ from era. refl)
+phase_asks layout (Works work) p = each_work_role layout work (λ (r : Role). asks_role r ≡ false) refl (λ from era. refl)
 
 carries_not : (clock upto : ℕ) (phase : Phase) (x : ℕ) → is_protecting phase ≡ false → carries_in clock upto phase x ≡ false
 carries_not clock upto Idle x p = refl
 carries_not clock upto (Runs why (Begin at)) x p = refl
+carries_not clock upto (Runs why (Protect aim index root n (ByHazard at))) x p = refl
 carries_not clock upto (Runs why (Protect aim index root n at)) x p = absurd (cc)
 carries_not clock upto (Runs why (Reload parent index slot era n)) x p = absurd (cc)
-carries_not clock upto (Runs why (Clear index)) x p = refl
+carries_not clock upto (Runs why (Clear rows index)) x p = refl
 carries_not clock upto (Runs why Finish) x p = refl
 carries_not clock upto (Runs why (Release index)) x p = refl
 carries_not clock upto (Runs why (Allocate at)) x p = refl
@@ -165,7 +169,7 @@ helps_not layout clock k Idle d x q h = h
 helps_not layout clock k (Runs why (Begin at)) d x q h = h
 helps_not layout clock k (Runs why (Protect aim index root n at)) d x q h = h
 helps_not layout clock k (Runs why (Reload parent index slot era n)) d x q h = h
-helps_not layout clock k (Runs why (Clear index)) d x q h = h
+helps_not layout clock k (Runs why (Clear rows index)) d x q h = h
 helps_not layout clock k (Runs why Finish) d x q h = h
 helps_not layout clock k (Runs why (Release index)) d x q h = h
 helps_not layout clock k (Runs why (Allocate at)) d x q h = h

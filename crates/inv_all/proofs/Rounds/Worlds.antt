@@ -32,7 +32,8 @@ use Rattle.inv_contents.specs.model.Phases.{Base, MoveAt, ProtectAt}
 use Rattle.inv_contents.specs.model.Phases.AllocateAt.{ClaimSlot, LoadBirth, StoreLife}
 use Rattle.inv_contents.specs.model.Phases.BeginAt.{LoadLower, PublishSpan}
 use Rattle.inv_contents.specs.model.Phases.MoveAt.{AnswerAsked, CheckEra, ExchangeClock, HandOver, HideEra, HideLate, LoadAsked, LoadEra, LoadRequest, LoadReserved, ShowEra}
-use Rattle.inv_contents.specs.model.Phases.ProtectAt.{AnswerOwn, CheckClock, CheckOwnClock, CheckUpper, LoadAnswer, LoadClock, LoadLink, LoadOwnClock, LoadOwnLink, LoadWithin, PublishEra, PublishHelper, PublishRequest, RaiseUpper, TakeAnswer, WithdrawHelper, WithdrawRequest}
+use Rattle.inv_contents.specs.model.Phases.ProtectAt.{AnswerOwn, ByHazard, CheckClock, CheckOwnClock, CheckUpper, LoadAnswer, LoadClock, LoadLink, LoadOwnClock, LoadOwnLink, LoadWithin, PublishEra, PublishHelper, PublishRequest, RaiseUpper, TakeAnswer, WithdrawHelper, WithdrawRequest}
+use Rattle.inv_contents.specs.model.Phases.HazardAt.{CheckLink, FirstLink, PublishLink}
 use Rattle.inv_contents.specs.model.Phases.RetireAt.{LoadLife, LoadRetire, StoreRetired}
 use Rattle.inv_contents.specs.model.Posts.{counted}
 use Rattle.inv_contents.specs.model.WriteRow.{row_word}
@@ -47,6 +48,7 @@ use Rattle.inv_all.proofs.Rounds.Exchanges.{exchange_grows, join_grows, swing_gr
 use Rattle.inv_all.proofs.Rounds.Grows.{Grows}
 use Rattle.inv_contents.specs.rows.Queue.{Line, follows_in, line_move, moved_line, enqueue_line, head_of, scan_line}
 use Rattle.inv_contents.specs.rows.Queue.LineMove.{Joins, Keeps}
+use Rattle.inv_contents.specs.words.declared.config.Config.{Config}
 use Rattle.std.specs.Prelude.{List, ◌++◌, length, None, if◌then◌else◌, ◌==◌}
 use Rattle.inv_contents.proofs.Contents.Rounds.{Adds, clearing_adds, clearing_next_adds}
 use Rattle.inv_contents.proofs.Contents.Shelves.{exchanged_book, linked_booked}
@@ -79,6 +81,9 @@ protect_calm index root (WithdrawHelper link era) post = refl
 protect_calm index root LoadWithin post = refl
 protect_calm index root (CheckUpper link) post = refl
 protect_calm index root (RaiseUpper era) post = refl
+protect_calm index root (ByHazard FirstLink) post = refl
+protect_calm index root (ByHazard (PublishLink link)) post = refl
+protect_calm index root (ByHazard (CheckLink link)) post = refl
 
 move_calm : (at : MoveAt) (post : Post) → touches (machine.move_move at post) ≡ false
 move_calm (LoadEra helps) post = refl
@@ -99,12 +104,12 @@ write_right Idle = Unit {0}
 write_right (Runs why (Write slot row place)) = (place == 0) ≡ true → row_word row place ≡ 0
 write_right phase = Unit {0}
 
-run_grows : (c : ℕ) (mem : Place → ℕ) (book : Book) (told : List Event) (l : Line) (why : Why) (base : Base) (post : Post) → write_right (Runs why base) → Grows (tally_of c mem book l) (tally_of c (written mem (machine.base_move base post)) (booked_all book told) l)
+run_grows : (c : Config) (mem : Place → ℕ) (book : Book) (told : List Event) (l : Line) (why : Why) (base : Base) (post : Post) → write_right (Runs why base) → Grows (tally_of c mem book l) (tally_of c (written mem (machine.base_move base post)) (booked_all book told) l)
 run_grows c mem book told l why (Begin LoadLower) post h = calm_grows c mem (machine.base_move (Begin LoadLower) post) book told l l refl (λ s. refl)
 run_grows c mem book told l why (Begin (PublishSpan era)) post h = calm_grows c mem (machine.base_move (Begin (PublishSpan era)) post) book told l l refl (λ s. refl)
 run_grows c mem book told l why (Protect aim index root n at) post h = calm_grows c mem (machine.base_move (Protect aim index root n at) post) book told l l (protect_calm index root at post) (λ s. refl)
 run_grows c mem book told l why (Reload parent index slot era n) post h = calm_grows c mem (machine.base_move (Reload parent index slot era n) post) book told l l refl (λ s. refl)
-run_grows c mem book told l why (Clear index) post h = calm_grows c mem (machine.base_move (Clear index) post) book told l l refl (λ s. refl)
+run_grows c mem book told l why (Clear rows index) post h = calm_grows c mem (machine.base_move (Clear rows index) post) book told l l refl (λ s. refl)
 run_grows c mem book told l why Finish post h = calm_grows c mem (machine.base_move Finish post) book told l l refl (λ s. refl)
 run_grows c mem book told l why (Release index) post h = calm_grows c mem (machine.base_move (Release index) post) book told l l refl (λ s. refl)
 run_grows c mem book told l why (Allocate LoadBirth) post h = calm_grows c mem (machine.base_move (Allocate LoadBirth) post) book told l l refl (λ s. refl)
@@ -159,7 +164,7 @@ take_counts book head next number value post desk true e =
     let g = (book_grows (adds.more ++ told_end t.post t.outcome) (booked_all book told)).taken in
     rw book2 (omega (arith, g))
 
-change_grows : (c : ℕ) (mem : Place → ℕ) (book : Book) (told : List Event) (l : Line) (kept : ChangeKept) (at : ChangeAt) (post : Post) → ((slot : ℕ) → at ≡ ExchangeRoot slot → (mem (Bucket (alters.changed_bucket kept post)) == kept.link) ≡ true → length (book.changes (alters.changed_bucket kept post)) + 1 ≤ length ((booked_all book told).changes (alters.changed_bucket kept post)))
+change_grows : (c : Config) (mem : Place → ℕ) (book : Book) (told : List Event) (l : Line) (kept : ChangeKept) (at : ChangeAt) (post : Post) → ((slot : ℕ) → at ≡ ExchangeRoot slot → (mem (Bucket (alters.changed_bucket kept post)) == kept.link) ≡ true → length (book.changes (alters.changed_bucket kept post)) + 1 ≤ length ((booked_all book told).changes (alters.changed_bucket kept post)))
     → Grows (tally_of c mem book l) (tally_of c (written mem (alters.change_move kept at post)) (booked_all book told) l)
 change_grows c mem book told l kept (LoadVersion slot) post k = calm_grows c mem (alters.change_move kept (LoadVersion slot) post) book told l l refl (λ s. refl)
 change_grows c mem book told l kept (LoadCount slot) post k = calm_grows c mem (alters.change_move kept (LoadCount slot) post) book told l l refl (λ s. refl)
@@ -184,7 +189,7 @@ tail_apart v l mem slot a u = by_slot (mem Tail - 1 == slot) refl
         absurd (cc)
     by_slot false e = refl
 
-enqueue_grows : (c : ℕ) (mem : Place → ℕ) (book : Book) (told : List Event) (v : View) (l : Line) (kept : EnqueueKept) (at : EnqueueAt) → LineIn v l mem → WalksIn (Works (Enqueuing kept at)) v l mem → ((slot : ℕ) → at ≡ ExchangeNext slot → l.lined slot ≡ false)
+enqueue_grows : (c : Config) (mem : Place → ℕ) (book : Book) (told : List Event) (v : View) (l : Line) (kept : EnqueueKept) (at : EnqueueAt) → LineIn v l mem → WalksIn (Works (Enqueuing kept at)) v l mem → ((slot : ℕ) → at ≡ ExchangeNext slot → l.lined slot ≡ false)
     → ((slot : ℕ) → at ≡ ExchangeNext slot → (mem (Row kept.tail 0) == 0) ≡ true → length book.queued + 1 ≤ length (booked_all book told).queued)
     → Grows (tally_of c mem book l) (tally_of c (written mem (enqueues.enqueue_move kept at)) (booked_all book told) (moved_line l (enqueue_line kept at (found (enqueues.enqueue_move kept at) (mem (place_in (enqueues.enqueue_move kept at)))))))
 enqueue_grows c mem book told v l kept LoadNumber a b u k = calm_grows c mem (enqueues.enqueue_move kept LoadNumber) book told l l refl (λ s. refl)
@@ -194,7 +199,7 @@ enqueue_grows c mem book told v l kept (ExchangeNext slot) a b u k =
     join_grows c mem book told l (moved_line l (if mem (Row kept.tail 0) == 0 then Joins kept.tail slot else Keeps)) kept.tail slot (other_number l kept.tail slot (mem Tail - 1) (mem (Row kept.tail 0) == 0) (tail_apart v l mem slot a (u slot refl))) (k slot refl)
 enqueue_grows c mem book told v l kept (ExchangeTail slot) a b u k = swing_grows c mem book told l kept.tail (slot + 1) (next_number v l mem (Works (Enqueuing kept (ExchangeTail slot))) kept.tail (slot + 1) a b (same_both kept.tail (slot + 1)))
 
-dequeue_grows : (c : ℕ) (mem : Place → ℕ) (book : Book) (told : List Event) (v : View) (l : Line) (at : DequeueAt) → LineIn v l mem → WalksIn (Works (Dequeuing at)) v l mem
+dequeue_grows : (c : Config) (mem : Place → ℕ) (book : Book) (told : List Event) (v : View) (l : Line) (at : DequeueAt) → LineIn v l mem → WalksIn (Works (Dequeuing at)) v l mem
     → ((head next number value : ℕ) → at ≡ ExchangeHead head next number value → (mem Head == head + 1) ≡ true → book.taken + 1 ≤ (booked_all book told).taken)
     → Grows (tally_of c mem book l) (tally_of c (written mem (dequeues.dequeue_move at)) (booked_all book told) l)
 dequeue_grows c mem book told v l (LoadTail head) a b k = calm_grows c mem (dequeues.dequeue_move (LoadTail head)) book told l l refl (λ s. refl)
@@ -203,13 +208,13 @@ dequeue_grows c mem book told v l (TakeNumber head next) a b k = calm_grows c me
 dequeue_grows c mem book told v l (TakeValue head next number) a b k = calm_grows c mem (dequeues.dequeue_move (TakeValue head next number)) book told l l refl (λ s. refl)
 dequeue_grows c mem book told v l (ExchangeHead head next number value) a b k = pop_grows c mem book told l head (next + 1) (k head next number value refl)
 
-get_grows : (c : ℕ) (mem : Place → ℕ) (book : Book) (told : List Event) (l : Line) (at : GetAt) → Grows (tally_of c mem book l) (tally_of c (written mem (gets.get_move at)) (booked_all book told) l)
+get_grows : (c : Config) (mem : Place → ℕ) (book : Book) (told : List Event) (l : Line) (at : GetAt) → Grows (tally_of c mem book l) (tally_of c (written mem (gets.get_move at)) (booked_all book told) l)
 get_grows c mem book told l (FindVersion slot) = calm_grows c mem (gets.get_move (FindVersion slot)) book told l l refl (λ s. refl)
 get_grows c mem book told l (FindCount slot version) = calm_grows c mem (gets.get_move (FindCount slot version)) book told l l refl (λ s. refl)
 get_grows c mem book told l (FindKey slot version count pair) = calm_grows c mem (gets.get_move (FindKey slot version count pair)) book told l l refl (λ s. refl)
 get_grows c mem book told l (FindValue slot version pair) = calm_grows c mem (gets.get_move (FindValue slot version pair)) book told l l refl (λ s. refl)
 
-keep_grows : (c : ℕ) (mem : Place → ℕ) (book : Book) (told : List Event) (l : Line) (at : KeepAt) (post : Post) → Grows (tally_of c mem book l) (tally_of c (written mem (keeps.keep_move at post)) (booked_all book told) l)
+keep_grows : (c : Config) (mem : Place → ℕ) (book : Book) (told : List Event) (l : Line) (at : KeepAt) (post : Post) → Grows (tally_of c mem book l) (tally_of c (written mem (keeps.keep_move at post)) (booked_all book told) l)
 keep_grows c mem book told l (Loosens let_go) post = calm_grows c mem (keeps.keep_move (Loosens let_go) post) book told l l refl (λ s. refl)
 keep_grows c mem book told l (LoadHeld from index) post = calm_grows c mem (keeps.keep_move (LoadHeld from index) post) book told l l refl (λ s. refl)
 keep_grows c mem book told l (StoreHeld from index era) post = calm_grows c mem (keeps.keep_move (StoreHeld from index era) post) book told l l refl (λ s. refl)
@@ -235,7 +240,7 @@ pub record Known (mem : Place → ℕ) (v : View) (l : Line) (phase : Phase) : T
   pub writes : write_right phase
   pub joins : (kept : EnqueueKept) (slot : ℕ) → phase ≡ Works (Enqueuing kept (ExchangeNext slot)) → l.lined slot ≡ false
 
-pub phase_counts : (c : ℕ) (mem : Place → ℕ) (book : Book) (v : View) (l : Line) (phase : Phase) (post : Post) (desk : Desk) → Known mem v l phase
+pub phase_counts : (c : Config) (mem : Place → ℕ) (book : Book) (v : View) (l : Line) (phase : Phase) (post : Post) (desk : Desk) → Known mem v l phase
     → Grows (tally_of c mem book l) (tally_of c (written mem (steps.phase_move phase post)) (booked_all book (told_by (steps.phase_turn phase (counted post) desk (found (steps.phase_move phase post) (mem (place_in (steps.phase_move phase post))))))) (moved_line l (line_move phase (found (steps.phase_move phase post) (mem (place_in (steps.phase_move phase post)))))))
 phase_counts c mem book v l Idle post desk f = calm_grows c mem (Load Clock) book (told_by (steps.phase_turn Idle (counted post) desk (mem Clock))) l l refl (λ s. refl)
 phase_counts c mem book v l (Runs why base) post desk f =

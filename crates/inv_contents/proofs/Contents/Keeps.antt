@@ -1,8 +1,8 @@
 -- What stands at an index from 2 on is a row of a bucket: it stood there before a step, or at the index that is copied, or the step takes
 -- it from the bucket's root.
 use Rattle.std.proofs.Common.{ℕ, ◌≡◌, ◌≤◌, ◌<◌, ◌+◌, Bool, true, false, ◌&&◌, ◌⊎◌, inl, inr, arith, refl, sym, subst, ◌∙◌, List, [], length}
-use Rattle.std.specs.Prelude.{◌==◌, if◌then◌else◌, Option, Some, None}
-use Rattle.inv_covers.specs.words.Schemes.{has_one_interval}
+use Rattle.std.specs.Prelude.{◌==◌, ◌||◌, if◌then◌else◌, Option, Some, None}
+use Rattle.inv_covers.specs.words.Schemes.{has_one_interval, publishes_rows}
 use Rattle.inv_covers.specs.words.declared.config.Config.{Config}
 use Rattle.inv_covers.specs.words.declared.layout.Layout.{Layout}
 use Rattle.inv_covers.specs.defs.declared.event.Event.{Event}
@@ -13,9 +13,10 @@ use Rattle.inv_covers.specs.model.Keep as keeps
 use Rattle.inv_covers.specs.model.Machine as machine
 use Rattle.inv_covers.specs.model.Memory.{bump}
 use Rattle.inv_covers.specs.model.Phases.{Aim, ProtectAt, Base, Outcome, Goes, Ends, Turn}
-use Rattle.inv_covers.specs.model.Phases.ProtectAt.{LoadClock, PublishEra, LoadLink, CheckClock, PublishRequest, LoadOwnClock, PublishHelper, LoadOwnLink, CheckOwnClock, AnswerOwn, LoadAnswer, TakeAnswer, WithdrawRequest, WithdrawHelper, LoadWithin, CheckUpper, RaiseUpper}
+use Rattle.inv_covers.specs.model.Phases.ProtectAt.{LoadClock, PublishEra, LoadLink, CheckClock, PublishRequest, LoadOwnClock, PublishHelper, LoadOwnLink, CheckOwnClock, AnswerOwn, LoadAnswer, TakeAnswer, WithdrawRequest, WithdrawHelper, LoadWithin, CheckUpper, RaiseUpper, ByHazard}
+use Rattle.inv_covers.specs.model.Phases.HazardAt.{FirstLink, PublishLink, CheckLink}
 use Rattle.inv_covers.specs.model.Phases.Base.{Begin, Protect, Reload, Clear, Finish, Release, Allocate, Write, GiveUp, Retire, Move}
-use Rattle.inv_covers.specs.model.Posts.{counted, stands, with_row, with_tag, tag_of, upper, reserves_helper, reserves_index}
+use Rattle.inv_covers.specs.model.Posts.{counted, stands, with_row, with_tag, tag_of, upper, reserves_helper, publishes_index}
 use Rattle.inv_covers.specs.model.Protect.{held_post, protected}
 use Rattle.inv_covers.specs.model.Rounds.{scheme_of}
 use Rattle.inv_covers.specs.model.SlowPath.{own_request}
@@ -29,11 +30,13 @@ use Rattle.inv_requests.proofs.shapes.Written.{index_few, reloads_protect}
 use Rattle.inv_covers.specs.rows.Rows.{Status}
 use Rattle.inv_covers.specs.rows.Rows.Status.{InQueue}
 use Rattle.inv_covers.proofs.Stands.{withdrawn_shrinks, with_row_apart, with_row_is}
-use Rattle.inv_covers.proofs.Stood.{held_rises, protected_post, same_stands, own_stood, answer_stood, concluded_stood, reload_stood, allocate_stood, write_stood, retire_stood, move_stood, begin_stood}
+use Rattle.inv_covers.proofs.Stood.{held_rises, first_stood, again_stood, protected_post, same_stands, own_stood, answer_stood, concluded_stood, reload_stood, allocate_stood, write_stood, retire_stood, move_stood, begin_stood}
 use Rattle.inv_covers.proofs.Scans.{scan_shrinks}
 use Rattle.inv_covers.proofs.Fresh.{work_fresh, resume_fresh}
 use Rattle.inv_contents.specs.Shelf.{Shelf, OfBucket}
 use Rattle.inv_contents.specs.Contents.{KeptRows}
+use Rattle.std.proofs.lemmas.Bool.Decides.{nat_tests}
+use Rattle.inv_covers.specs.Held.{under}
 
 -- a row that stands after a protection's step stood before, or is the one to which its link leads
 
@@ -62,6 +65,11 @@ tried_rose aim index root n link era post t found known j s true e q b h = found
     found_by (inr x) = inr (x.0, rw (e, x.1) refl)
 tried_rose aim index root n link era post t found known j s false e q b h = inl (same_stands t.post post j s q h)
 
+-- a link is loaded again
+again_rose : (post : Post) (index : ℕ) (root : Root) (link found j s : ℕ) → (stands post j ≡ Some s) ⊎ ((j ≡ index) × (((found == s + 1) && (found == link && under any root)) ≡ true)) → (stands post j ≡ Some s) ⊎ ((j ≡ index) × (((found == link) && (link == s + 1)) ≡ true))
+again_rose post index root link found j s (inl x) = inl x
+again_rose post index root link found j s (inr x) = inr (x.0, (let y = x.1 in grind (arith, nat_tests)))
+
 protect_rose : (aim : Aim) (index : ℕ) (root : Root) (n : ℕ) (at : ProtectAt) (post : Post) (found j s : ℕ) → index < length post.standing → stands (machine.protect_turn aim index root n at post found).post j ≡ Some s → Rose post index at found j s
 protect_rose aim index root n (LoadClock tries) post found j s b h = inl h
 protect_rose aim index root n (PublishEra era tries) post found j s b h = inl h
@@ -80,6 +88,9 @@ protect_rose aim index root n (WithdrawHelper link era) post found j s b h = inl
 protect_rose aim index root n LoadWithin post found j s b h = inl h
 protect_rose aim index root n (CheckUpper link) post found j s b h = tried_rose aim index root n link found post _ found (upper post.span) j s (found == upper post.span) refl refl b h
 protect_rose aim index root n (RaiseUpper era) post found j s b h = inl h
+protect_rose aim index root n (ByHazard FirstLink) post found j s b h = inl (first_stood any aim index root n found post j s (found == 0) refl b h)
+protect_rose aim index root n (ByHazard (PublishLink link)) post found j s b h = inl h
+protect_rose aim index root n (ByHazard (CheckLink link)) post found j s b h = again_rose post index root link found j s (again_stood any aim index root n link found post j s (found == link || found == 0) refl b h)
 
 pub rises_counted : (post : Post) (at : ProtectAt) (found s : ℕ) → rises_at (counted post) at found s ≡ rises_at post at found s
 rises_counted post (CheckUpper link) found s = refl
@@ -96,7 +107,7 @@ base_stood : (base : Base) (post : Post) (found j s : ℕ) → takes base ≡ fa
 base_stood (Begin at) post found j s n h = begin_stood at found post j s h
 base_stood (Protect aim index root steps at) post found j s n h = absurd (cc)
 base_stood (Reload parent index slot era steps) post found j s n h = absurd (cc)
-base_stood (Clear index) post found j s n h = withdrawn_shrinks post index j s h
+base_stood (Clear rows index) post found j s n h = withdrawn_shrinks post index j s h
 base_stood Finish post found j s n h = h
 base_stood (Release index) post found j s n h = withdrawn_shrinks post index j s h
 base_stood (Allocate at) post found j s n h = allocate_stood at found post j s h
@@ -164,7 +175,7 @@ load_held_kept a from index post desk found false f b h = h
 
 work_kept : (a : Shelf) (config : Config) (work : Work) (post : Post) (desk : Desk) (found : ℕ) → config.indexes ≤ length post.standing → WorkIn config work → KeptRows a post → KeptRows a (work_turn work post desk found).post
 work_kept a config (Keeping (LoadHeld from index)) post desk found b y h = load_held_kept a from index post desk found (has_one_interval (scheme_of post)) y.kept (omega (arith, y.below)) h
-work_kept a config (Keeping (StoreHeld from index era)) post desk found b y h = copied_kept a from index post desk (reserves_index post index era) (stands post from) refl y.kept (omega (arith, y.below)) h
+work_kept a config (Keeping (StoreHeld from index era)) post desk found b y h = copied_kept a from index post desk (publishes_index (publishes_rows (scheme_of post)) post index era) (stands post from) refl y.kept (omega (arith, y.below)) h
 work_kept a config work post desk found b y h = λ j s low e. h j s low ((work_fresh work post desk found refl).shrinks j s e)
 
 pub turn_kept : (a : Shelf) (layout : Layout) (k : ℕ) (phase : Phase) (post : Post) (desk list : Desk) (found : ℕ) → layout.config.indexes ≤ 8 → PostFits layout k post → PhaseFits layout post phase → PhaseIn layout list phase

@@ -50,6 +50,8 @@ use Rattle.inv_covers.proofs.rows.Runs.{taken_slot}
 use Rattle.inv_requests.proofs.shapes.Frame.{settled_phase, settled_seated, finds_at}
 use Rattle.inv_requests.proofs.shapes.Kept.{counted_fits, run_counted, work_counted}
 use Rattle.inv_requests.specs.shapes.Seats.{PhaseFits}
+use Rattle.inv_covers.specs.words.Schemes.{publishes_rows}
+use Rattle.inv_covers.specs.model.Rounds.{scheme_of}
 
 -- what a step leaves: what rows show, what the seat itself knows, and that rows that stood show the same
 pub record Did (n : ℕ) (a b : Book) (v u : View) (after : Place → ℕ) (left : Phase) (told : List Event) : Type 0 where
@@ -316,7 +318,7 @@ contents_kept w i v needs owed agree c =
           (k == i)
           refl
           (λ e. knows_lasts n (shelf_of w.book) (shelf_of (step w i).book) w.mem (step w i).mem (w.seat k).phase (λ s y. d.far s (owed.held k s y)) (λ s q y low. rows_stay w.mem l.phase l.post s q (owned_stays slots v i k l.phase (w.seat k).phase (list_in w i) (list_in w k) s e agree.good (agree.plays i) (agree.plays k) y) low) (c.seats k))
-          (subst (λ (phase : Phase). Knows (on n (shelf_of (step w i).book) (step w i).mem) phase) (sym (settled_phase l t.post (noting t.desk (told_by t)) (rounds_told l.rounds (told_by t)) t.outcome)) d.own);
+          (subst (λ (phase : Phase). Knows (on n (shelf_of (step w i).book) (step w i).mem) phase) (sym (settled_phase l t.post (noting t.desk (told_by t)) (rounds_told (publishes_rows (scheme_of t.post)) l.rounds (told_by t)) t.outcome)) d.own);
     }
 
 -- a look answers what its row shows

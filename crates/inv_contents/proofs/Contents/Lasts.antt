@@ -65,7 +65,7 @@ fill_lasts : (n : ℕ) (a b : Shelf) (m k : Place → ℕ) (kept : ChangeKept) (
 fill_lasts n a b m k kept (Begin at) e o h = decided_lasts n a b m k kept e h
 fill_lasts n a b m k kept (Protect aim index root steps at) e o h = decided_lasts n a b m k kept e h
 fill_lasts n a b m k kept (Reload parent index slot era steps) e o h = decided_lasts n a b m k kept e h
-fill_lasts n a b m k kept (Clear index) e o h = decided_lasts n a b m k kept e h
+fill_lasts n a b m k kept (Clear rows index) e o h = decided_lasts n a b m k kept e h
 fill_lasts n a b m k kept Finish e o h = decided_lasts n a b m k kept e h
 fill_lasts n a b m k kept (Release index) e o h = decided_lasts n a b m k kept e h
 fill_lasts n a b m k kept (Allocate at) e o h = decided_lasts n a b m k kept e h
@@ -79,7 +79,7 @@ item_lasts : (n : ℕ) (a b : Shelf) (m k : Place → ℕ) (kept : EnqueueKept) 
 item_lasts n a b m k kept (Begin at) o h = tt
 item_lasts n a b m k kept (Protect aim index root steps at) o h = tt
 item_lasts n a b m k kept (Reload parent index slot era steps) o h = tt
-item_lasts n a b m k kept (Clear index) o h = tt
+item_lasts n a b m k kept (Clear rows index) o h = tt
 item_lasts n a b m k kept Finish o h = tt
 item_lasts n a b m k kept (Release index) o h = tt
 item_lasts n a b m k kept (Allocate at) o h = tt

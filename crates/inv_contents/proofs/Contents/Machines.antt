@@ -16,10 +16,11 @@ use Rattle.inv_covers.specs.model.Memory as memory
 use Rattle.inv_covers.specs.model.Memory.{bump, written}
 use Rattle.inv_covers.specs.model.MoveClock as movers
 use Rattle.inv_covers.specs.model.Protect as protects
-use Rattle.inv_covers.specs.model.Posts.{stands, cleared, reserves_index, reserves_helper, reserves_span}
+use Rattle.inv_covers.specs.model.Posts.{stands, cleared, reserves_index, reserves_helper, reserves_span, publishes_index}
 use Rattle.inv_covers.specs.model.Phases.{Aim, Alone, Follows, BeginAt, ProtectAt, AllocateAt, RetireAt, MoveAt, Walk, Base, Turn}
 use Rattle.inv_covers.specs.model.Phases.BeginAt.{LoadLower, PublishSpan}
-use Rattle.inv_covers.specs.model.Phases.ProtectAt.{LoadClock, PublishEra, LoadLink, CheckClock, PublishRequest, LoadOwnClock, PublishHelper, LoadOwnLink, CheckOwnClock, AnswerOwn, LoadAnswer, TakeAnswer, WithdrawRequest, WithdrawHelper, LoadWithin, CheckUpper, RaiseUpper}
+use Rattle.inv_covers.specs.model.Phases.ProtectAt.{LoadClock, PublishEra, LoadLink, CheckClock, PublishRequest, LoadOwnClock, PublishHelper, LoadOwnLink, CheckOwnClock, AnswerOwn, LoadAnswer, TakeAnswer, WithdrawRequest, WithdrawHelper, LoadWithin, CheckUpper, RaiseUpper, ByHazard}
+use Rattle.inv_covers.specs.model.Phases.HazardAt.{FirstLink, PublishLink, CheckLink}
 use Rattle.inv_covers.specs.model.Phases.AllocateAt.{LoadBirth, ClaimSlot, StoreLife}
 use Rattle.inv_covers.specs.model.Phases.RetireAt.{LoadLife, LoadRetire, StoreRetired}
 use Rattle.inv_covers.specs.model.Phases.MoveAt.{LoadEra, LoadRequest, ShowEra, LoadAsked, CheckEra, AnswerAsked, LoadReserved, HandOver, HideEra, HideLate, ExchangeClock}
@@ -70,6 +71,9 @@ protect_calm aim index root n (WithdrawHelper link era) post found = concluded_c
 protect_calm aim index root n LoadWithin post found = refl
 protect_calm aim index root n (CheckUpper link) post found = grind (arith, protected_calm aim index root n link found post)
 protect_calm aim index root n (RaiseUpper era) post found = refl
+protect_calm aim index root n (ByHazard FirstLink) post found = grind (arith, protected_calm aim index root n found 0 post)
+protect_calm aim index root n (ByHazard (PublishLink link)) post found = refl
+protect_calm aim index root n (ByHazard (CheckLink link)) post found = grind (arith, protected_calm aim index root n found 0 post)
 
 move_calm : (at : MoveAt) (post : Post) (found : ℕ) → Tells (machine.move_turn at post found)
 move_calm (LoadEra helps) post found = grind arith
@@ -114,11 +118,15 @@ pub cleared_calm : (index : ℕ) (x : Option ℕ) → all_calm (cleared index x)
 cleared_calm index None = refl
 cleared_calm index (Some slot) = refl
 
+pub shown_calm : (rows : Bool) (post : Post) (index number : ℕ) → all_calm (publishes_index rows post index number) ≡ true
+shown_calm true post index number = refl
+shown_calm false post index number = refl
+
 pub base_calm : (base : Base) (post : Post) (found : ℕ) → Tells (machine.after base post found)
 base_calm (Begin at) post found = begin_calm at post found
 base_calm (Protect aim index root steps at) post found = protect_calm aim index root (bump steps) at post found
 base_calm (Reload parent index slot era steps) post found = grind arith
-base_calm (Clear index) post found = calm_append (cleared index (stands post index)) (reserves_index post index 0) (cleared_calm index (stands post index)) refl
+base_calm (Clear rows index) post found = calm_append (cleared index (stands post index)) (publishes_index rows post index 0) (cleared_calm index (stands post index)) (shown_calm rows post index 0)
 base_calm Finish post found = refl
 base_calm (Release index) post found = calm_append (cleared index (stands post index)) (reserves_span post None) (cleared_calm index (stands post index)) refl
 base_calm (Allocate at) post found = allocate_calm at post found
@@ -153,6 +161,8 @@ row_word_stays mem (memory.And place bits) s q h = rw (row_apart s q place h) re
 
 protect_writes : (index : ℕ) (root : Root) (at : ProtectAt) (post : Post) → writes_row (machine.protect_move index root at post) ≡ false
 protect_writes index root (LoadClock tries) post = refl
+protect_writes index root (ByHazard FirstLink) post = refl
+protect_writes index root (ByHazard at) post = refl
 protect_writes index root at post = refl
 
 move_writes : (at : MoveAt) (post : Post) → writes_row (machine.move_move at post) ≡ false
@@ -178,7 +188,7 @@ base_row_stays : (mem : Place → ℕ) (base : Base) (post : Post) (s q : ℕ) �
 base_row_stays mem (Begin at) post s q h = row_word_stays mem (machine.begin_move at post) s q (begin_writes at post)
 base_row_stays mem (Protect aim index root steps at) post s q h = row_word_stays mem (machine.protect_move index root at post) s q (protect_writes index root at post)
 base_row_stays mem (Reload parent index slot era steps) post s q h = refl
-base_row_stays mem (Clear index) post s q h = refl
+base_row_stays mem (Clear rows index) post s q h = refl
 base_row_stays mem Finish post s q h = refl
 base_row_stays mem (Release index) post s q h = refl
 base_row_stays mem (Allocate at) post s q h = row_word_stays mem (machine.allocate_move at) s q (allocate_writes at)

@@ -7,8 +7,6 @@ use Rattle.inv_covers.specs.defs.declared.call.Answer.TheVariants as the_answers
 use Rattle.inv_covers.specs.defs.declared.event.Event.TheVariants as events
 use Rattle.inv_covers.specs.defs.declared.event.Event.{Event}
 use Rattle.inv_covers.specs.defs.declared.event.Guard.{Guard}
-use Rattle.inv_covers.specs.defs.declared.lifetime.Interval.{Interval}
-use Rattle.inv_covers.specs.defs.Shown.{shown}
 use Rattle.inv_covers.specs.words.declared.config.SchemeKind.{SchemeKind}
 use Rattle.inv_covers.specs.model.declared.post.Post.{Post}
 use Rattle.inv_covers.specs.model.Desks.{Desk}
@@ -26,6 +24,7 @@ use Rattle.inv_contents.specs.Knows.{Ground, Knows}
 use Rattle.inv_contents.proofs.Contents.Told.{all_calm, calm_append, Claimed, GotFrom, calm_claimed, claimed_append}
 use Rattle.inv_contents.proofs.Contents.Machines.{cleared_calm}
 use Rattle.inv_covers.proofs.model.Schemes.{each_clear_told}
+use Rattle.inv_covers.specs.words.Schemes.{moves, publishes_rows}
 
 abbrev pub task_plain : Task → Bool
 task_plain (Gets key) = true
@@ -139,13 +138,18 @@ round_by_plain task post (Some base) = refl
 pub round_plain : (task : Task) (post : Post) → is_plain (round task post) ≡ true
 round_plain task post = round_by_plain task post (begin_base (scheme_of post) post)
 
+-- a list is tidied
+tidy_plain : (later : AfterScan) (moving : Bool) (post : Post) → is_plain (rounds.tidy_by moving later post) ≡ true
+tidy_plain later true post = refl
+tidy_plain later false post = refl
+
 given_up_adds : (answer : Answer) (post : Post) (desk : Desk) (told : List Event) (x : Option ℕ) → Adds told (given_up answer post desk told x)
 given_up_adds answer post desk told None = adds_none told (given_up answer post desk told None) refl refl
 given_up_adds answer post desk told (Some slot) = adds_none told (given_up answer post desk told (Some slot)) refl refl
 
 pub closed_adds : (task : Task) (next : Next) (post : Post) (desk : Desk) (told : List Event) → Adds told (closed task next post desk told)
 closed_adds task Again post desk told = adds_none told (closed task Again post desk told) refl (round_plain task post)
-closed_adds task MakeRoom post desk told = adds_none told (closed task MakeRoom post desk told) refl refl
+closed_adds task MakeRoom post desk told = adds_none told (closed task MakeRoom post desk told) refl (tidy_plain (Repeated task) (moves (scheme_of post)) post)
 closed_adds task (Answering answer) post desk told = given_up_adds answer post desk told (taken_of task)
 closed_adds task (Retiring slot answer) post desk told = adds_none told (closed task (Retiring slot answer) post desk told) refl refl
 
@@ -202,17 +206,21 @@ reading_adds : (later : AfterScan) (number : ℕ) (post : Post) (desk : Desk) (t
 reading_adds later number post desk told true = adds_none told (scan.reading later number post desk told true) refl refl
 reading_adds later number post desk told false = giving_back_adds later post desk told (scan.unmet_from desk 0)
 
-read_guard_turns : (g : Ground) (later : AfterScan) (number : ℕ) (post : Post) (desk : Desk) (guard : Guard) (span : Option Interval) → Turns g (scan.read_guard later number post desk guard span)
-read_guard_turns g later number post desk guard span =
-    turns_adds g (events.Read guard span ∷ []) (scan.read_guard later number post desk guard span) refl (reading_adds later number post (scan.with_read desk number (guard, shown span)) (events.Read guard span ∷ []) (nat_lt (number + 1) (the_guards.guards post.layout.config)))
+reads_calm : (rows : Bool) (guard : Guard) (word : ℕ) → all_calm (scan.reads_guard rows guard word ∷ []) ≡ true
+reads_calm true guard word = refl
+reads_calm false guard word = refl
+
+read_guard_turns : (g : Ground) (later : AfterScan) (number : ℕ) (post : Post) (desk : Desk) (rows : Bool) (guard : Guard) (word : ℕ) → Turns g (scan.read_guard later number post desk rows guard word)
+read_guard_turns g later number post desk rows guard word =
+    turns_adds g (scan.reads_guard rows guard word ∷ []) (scan.read_guard later number post desk rows guard word) (reads_calm rows guard word) (reading_adds later number post (scan.with_read desk number (guard, the_guards.published rows guard word)) (scan.reads_guard rows guard word ∷ []) (nat_lt (number + 1) (the_guards.guards post.layout.config)))
 
 pub scan_turns : (g : Ground) (later : AfterScan) (at : ScanAt) (post : Post) (desk : Desk) (found : ℕ) → Turns g (scan.scan_turn later at post desk found)
 scan_turns g later (ReadGuard number) post desk found =
-    read_guard_turns g later number post desk (the_guards.guard_at post.layout.config number) (the_guards.eras_in (the_guards.guard_at post.layout.config number) found)
+    read_guard_turns g later number post desk (publishes_rows (scheme_of post)) (the_guards.guard_at post.layout.config number) found
 scan_turns g later (GiveBack place slot) post desk found =
     turns_adds g (events.Back slot ∷ []) (scan.scan_turn later (GiveBack place slot) post desk found) refl (giving_back_adds later post (scan.with_back desk place) (events.Back slot ∷ []) (scan.unmet_from (scan.with_back desk place) place))
 
 -- after a retirement, a move of the clock, and a release
 pub tidying_adds : (answer : Answer) (post : Post) (desk : Desk) (told : List Event) (due : Bool) → Adds told (steps.tidying answer post desk told due)
-tidying_adds answer post desk told true = adds_none told (steps.tidying answer post desk told true) refl refl
+tidying_adds answer post desk told true = adds_none told (steps.tidying answer post desk told true) refl (tidy_plain (Answered answer) (moves (scheme_of post)) post)
 tidying_adds answer post desk told false = adds_none told (steps.tidying answer post desk told false) refl refl

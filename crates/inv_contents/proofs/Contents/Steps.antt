@@ -25,8 +25,8 @@ use Rattle.inv_covers.specs.model.Phases.{RowOf, Base, Walk, AllocateAt, Ending,
 use Rattle.inv_covers.specs.model.Phases.Ending.{Done, Protected, Followed, Allocated, Retired, Clocked}
 use Rattle.inv_covers.specs.model.Phases.AllocateAt.{LoadBirth, ClaimSlot, StoreLife}
 use Rattle.inv_covers.specs.model.Phases.Base.{Begin, Protect, Reload, Clear, Finish, Release, Allocate, Write, GiveUp, Retire, Move}
-use Rattle.inv_covers.specs.words.Schemes.{has_one_interval}
-use Rattle.inv_covers.specs.model.Posts.{cleared, cleared_from, reserves_index, reserves_span, stands, withdrawn}
+use Rattle.inv_covers.specs.words.Schemes.{has_one_interval, publishes_rows}
+use Rattle.inv_covers.specs.model.Posts.{cleared, cleared_from, reserves_span, stands, withdrawn, publishes_index}
 use Rattle.inv_covers.specs.model.Rounds.{clearing_next, let_index, opening, scheme_of}
 use Rattle.inv_covers.specs.model.Change as alters
 use Rattle.inv_covers.specs.model.Enqueue as enqueues
@@ -40,7 +40,7 @@ use Rattle.inv_contents.specs.Shelf.{Shelf, Filled}
 use Rattle.inv_contents.specs.Knows.{ItemKnows, WritingItem, Ground, FillKnows, Decided, Writing, changes_in}
 use Rattle.inv_contents.proofs.Contents.Told.{all_calm, calm_append, calm_claimed, FromNone}
 use Rattle.inv_contents.proofs.Contents.Lasts.{on}
-use Rattle.inv_contents.proofs.Contents.Machines.{cleared_calm, base_calm}
+use Rattle.inv_contents.proofs.Contents.Machines.{cleared_calm, shown_calm, base_calm}
 use Rattle.inv_contents.proofs.Contents.Begun.{free_plain}
 use Rattle.inv_contents.proofs.Stands.Rounds.{parting_from_free}
 use Rattle.inv_contents.proofs.Contents.Reading.{filled_next}
@@ -231,7 +231,7 @@ keep_turns g (Loosens let_go) post desk word h =
     let told : List Event = cleared (let_index let_go) (stands post (let_index let_go)) in
     turns_adds g told (keeps.keep_turn (Loosens let_go) post desk word) (cleared_calm (let_index let_go) (stands post (let_index let_go))) (released_adds let_go (withdrawn post (let_index let_go)) desk told)
 keep_turns g (LoadHeld from index) post desk word h = load_held_turns g from index post desk word (has_one_interval (scheme_of post))
-keep_turns g (StoreHeld from index era) post desk word h = copied_turns g from index post desk (reserves_index post index era) (stands post from) refl
+keep_turns g (StoreHeld from index era) post desk word h = copied_turns g from index post desk (publishes_index (publishes_rows (scheme_of post)) post index era) (stands post from) (shown_calm (publishes_rows (scheme_of post)) post index era)
 keep_turns g (Looks index key at) post desk word h = absurd (cc)
 keep_turns g (Misses index) post desk word h = record { calm = tt; knows = tt }
 keep_turns g HideSpan post desk word h = record {
@@ -361,7 +361,7 @@ fill_turns n a mem kept (Write slot row place) post next desk r h = write_turns 
 fill_turns n a mem kept (Begin at) post next desk r h = absurd (no_truth r)
 fill_turns n a mem kept (Protect aim index root count at) post next desk r h = absurd (no_truth r)
 fill_turns n a mem kept (Reload parent index slot era count) post next desk r h = absurd (no_truth r)
-fill_turns n a mem kept (Clear index) post next desk r h = absurd (no_truth r)
+fill_turns n a mem kept (Clear rows index) post next desk r h = absurd (no_truth r)
 fill_turns n a mem kept Finish post next desk r h = absurd (no_truth r)
 fill_turns n a mem kept (Release index) post next desk r h = absurd (no_truth r)
 fill_turns n a mem kept (GiveUp slot) post next desk r h = absurd (no_truth r)
@@ -411,7 +411,7 @@ item_turns n a mem kept (Write slot row place) post next desk r h = item_writes 
 item_turns n a mem kept (Begin at) post next desk r h = absurd (no_truth r)
 item_turns n a mem kept (Protect aim index root count at) post next desk r h = absurd (no_truth r)
 item_turns n a mem kept (Reload parent index slot era count) post next desk r h = absurd (no_truth r)
-item_turns n a mem kept (Clear index) post next desk r h = absurd (no_truth r)
+item_turns n a mem kept (Clear rows index) post next desk r h = absurd (no_truth r)
 item_turns n a mem kept Finish post next desk r h = absurd (no_truth r)
 item_turns n a mem kept (Release index) post next desk r h = absurd (no_truth r)
 item_turns n a mem kept (GiveUp slot) post next desk r h = absurd (no_truth r)

@@ -32,7 +32,7 @@ base_taken : (base : Base) (s : ℕ) → base_owns base s ≡ true → hand_base
 base_taken (Begin at) s h = absurd (cc)
 base_taken (Protect aim index root steps at) s h = absurd (cc)
 base_taken (Reload parent index slot era steps) s h = absurd (cc)
-base_taken (Clear index) s h = absurd (cc)
+base_taken (Clear rows index) s h = absurd (cc)
 base_taken Finish s h = absurd (cc)
 base_taken (Release index) s h = absurd (cc)
 base_taken (Allocate at) s h = absurd (cc)
@@ -43,7 +43,7 @@ plain_owns : (base : Base) (s : ℕ) → is_plain base ≡ true → base_owns ba
 plain_owns (Begin at) s p h = cc
 plain_owns (Protect aim index root steps at) s p h = cc
 plain_owns (Reload parent index slot era steps) s p h = cc
-plain_owns (Clear index) s p h = cc
+plain_owns (Clear rows index) s p h = cc
 plain_owns Finish s p h = cc
 plain_owns (Release index) s p h = cc
 plain_owns (Allocate at) s p h = cc
@@ -211,7 +211,7 @@ base_unlinks : (base : Base) (word : ℕ) → is_settling (base_row base word) �
 base_unlinks (Begin at) word = refl
 base_unlinks (Protect aim index root steps at) word = refl
 base_unlinks (Reload parent index slot era steps) word = refl
-base_unlinks (Clear index) word = refl
+base_unlinks (Clear rows index) word = refl
 base_unlinks Finish word = refl
 base_unlinks (Release index) word = refl
 base_unlinks (Allocate at) word = allocate_unlinks at word

@@ -71,7 +71,7 @@ follow_ends_right : (v : View) (l : Line) (mem : Place → ℕ) (h : ℕ) (base 
 follow_ends_right v l mem h (Protect aim index root steps at) post next c g o = protect_right l h aim index root steps at (mem (Row h 0)) next (found (base_move (Protect aim index root steps at) post) (mem (place_in (base_move (Protect aim index root steps at) post)))) o
 follow_ends_right v l mem h (Reload parent index slot era steps) post next c g o = reload_right v l mem h parent index slot era steps next c g o
 follow_ends_right v l mem h (Begin at) post next c g o = absurd (let x = o.right in cc)
-follow_ends_right v l mem h (Clear index) post next c g o = absurd (let x = o.right in cc)
+follow_ends_right v l mem h (Clear rows index) post next c g o = absurd (let x = o.right in cc)
 follow_ends_right v l mem h Finish post next c g o = absurd (let x = o.right in cc)
 follow_ends_right v l mem h (Release index) post next c g o = absurd (let x = o.right in cc)
 follow_ends_right v l mem h (Allocate at) post next c g o = absurd (let x = o.right in cc)

@@ -78,7 +78,7 @@ base_mild : (base : Base) (found : ℕ) → is_mild (base_row base found) ≡ tr
 base_mild (Begin at) found = refl
 base_mild (Protect aim index root steps at) found = refl
 base_mild (Reload parent index slot era steps) found = refl
-base_mild (Clear index) found = refl
+base_mild (Clear rows index) found = refl
 base_mild Finish found = refl
 base_mild (Release index) found = refl
 base_mild (Allocate at) found = allocate_mild at found

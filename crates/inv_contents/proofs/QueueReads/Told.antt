@@ -12,10 +12,11 @@ use Rattle.inv_covers.specs.model.Machine.{base_move}
 use Rattle.inv_covers.specs.model.Memory.{bump}
 use Rattle.inv_covers.specs.model.MoveClock as movers
 use Rattle.inv_covers.specs.model.Protect as protects
-use Rattle.inv_covers.specs.model.Posts.{stands, cleared, reserves_index, reserves_helper, reserves_span}
+use Rattle.inv_covers.specs.model.Posts.{stands, cleared, reserves_index, reserves_helper, reserves_span, publishes_index}
 use Rattle.inv_covers.specs.model.Phases.{Aim, Alone, Follows, BeginAt, ProtectAt, AllocateAt, RetireAt, MoveAt, Walk, Base, Turn}
 use Rattle.inv_covers.specs.model.Phases.BeginAt.{LoadLower, PublishSpan}
-use Rattle.inv_covers.specs.model.Phases.ProtectAt.{LoadClock, PublishEra, LoadLink, CheckClock, PublishRequest, LoadOwnClock, PublishHelper, LoadOwnLink, CheckOwnClock, AnswerOwn, LoadAnswer, TakeAnswer, WithdrawRequest, WithdrawHelper, LoadWithin, CheckUpper, RaiseUpper}
+use Rattle.inv_covers.specs.model.Phases.ProtectAt.{LoadClock, PublishEra, LoadLink, CheckClock, PublishRequest, LoadOwnClock, PublishHelper, LoadOwnLink, CheckOwnClock, AnswerOwn, LoadAnswer, TakeAnswer, WithdrawRequest, WithdrawHelper, LoadWithin, CheckUpper, RaiseUpper, ByHazard}
+use Rattle.inv_covers.specs.model.Phases.HazardAt.{FirstLink, PublishLink, CheckLink}
 use Rattle.inv_covers.specs.model.Phases.AllocateAt.{LoadBirth, ClaimSlot, StoreLife}
 use Rattle.inv_covers.specs.model.Phases.RetireAt.{LoadLife, LoadRetire, StoreRetired}
 use Rattle.inv_covers.specs.model.Phases.MoveAt.{LoadEra, LoadRequest, ShowEra, LoadAsked, CheckEra, AnswerAsked, LoadReserved, HandOver, HideEra, HideLate, ExchangeClock}
@@ -61,6 +62,9 @@ protect_mute aim index root n (WithdrawHelper link era) post found = concluded_m
 protect_mute aim index root n LoadWithin post found = refl
 protect_mute aim index root n (CheckUpper link) post found = grind (arith, protected_mute aim index root n link found post)
 protect_mute aim index root n (RaiseUpper era) post found = refl
+protect_mute aim index root n (ByHazard FirstLink) post found = grind (arith, protected_mute aim index root n found 0 post)
+protect_mute aim index root n (ByHazard (PublishLink link)) post found = refl
+protect_mute aim index root n (ByHazard (CheckLink link)) post found = grind (arith, protected_mute aim index root n found 0 post)
 
 move_mute : (at : MoveAt) (post : Post) (found : ℕ) → Tells (machine.move_turn at post found)
 move_mute (LoadEra helps) post found = grind arith
@@ -105,11 +109,15 @@ pub cleared_mute : (index : ℕ) (x : Option ℕ) → all_mute (cleared index x)
 cleared_mute index None = refl
 cleared_mute index (Some slot) = refl
 
+pub shown_mute : (rows : Bool) (post : Post) (index number : ℕ) → all_mute (publishes_index rows post index number) ≡ true
+shown_mute true post index number = refl
+shown_mute false post index number = refl
+
 pub base_mute : (base : Base) (post : Post) (found : ℕ) → Tells (machine.after base post found)
 base_mute (Begin at) post found = begin_mute at post found
 base_mute (Protect aim index root steps at) post found = protect_mute aim index root (bump steps) at post found
 base_mute (Reload parent index slot era steps) post found = grind arith
-base_mute (Clear index) post found = mute_append (cleared index (stands post index)) (reserves_index post index 0) (cleared_mute index (stands post index)) refl
+base_mute (Clear rows index) post found = mute_append (cleared index (stands post index)) (publishes_index rows post index 0) (cleared_mute index (stands post index)) (shown_mute rows post index 0)
 base_mute Finish post found = refl
 base_mute (Release index) post found = mute_append (cleared index (stands post index)) (reserves_span post None) (cleared_mute index (stands post index)) refl
 base_mute (Allocate at) post found = allocate_mute at post found

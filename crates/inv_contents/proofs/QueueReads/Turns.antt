@@ -19,8 +19,8 @@ use Rattle.inv_covers.specs.model.Desks.{Desk}
 use Rattle.inv_covers.specs.model.Machine as machine
 use Rattle.inv_covers.specs.model.Phases.{Base, Ending, Outcome, Goes, Ends, Turn}
 use Rattle.inv_covers.specs.model.Phases.Ending.{Done, Protected, Followed, Allocated, Retired, Clocked}
-use Rattle.inv_covers.specs.words.Schemes.{has_one_interval}
-use Rattle.inv_covers.specs.model.Posts.{cleared, cleared_from, reserves_index, reserves_span, stands, withdrawn}
+use Rattle.inv_covers.specs.words.Schemes.{has_one_interval, publishes_rows}
+use Rattle.inv_covers.specs.model.Posts.{cleared, cleared_from, reserves_span, stands, withdrawn, publishes_index}
 use Rattle.inv_covers.specs.model.Rounds.{bucket_of, let_index, scheme_of, clearing, clearing_next, closed}
 use Rattle.inv_covers.specs.model.Get as gets
 use Rattle.inv_covers.specs.model.Change as alters
@@ -36,11 +36,13 @@ use Rattle.inv_covers.specs.rows.Queue.{Line}
 use Rattle.inv_contents.proofs.Stands.Rounds.{why_free, is_free, Adds, clearing_adds, clearing_next_adds, closed_adds, scan_told, scan_adds, why_ends, ends_free, resume_adds, released_adds, each_first}
 use Rattle.inv_contents.specs.Reads.{value_under, Reads}
 use Rattle.inv_contents.proofs.QueueReads.Events.{mute_append, clear_mute}
-use Rattle.inv_contents.proofs.QueueReads.Told.{cleared_mute, base_mute}
+use Rattle.inv_contents.proofs.QueueReads.Told.{cleared_mute, shown_mute, base_mute}
 use Rattle.inv_contents.specs.Turns.{all_mute, change_hits, enqueue_hits, dequeue_hits, work_hits, NextRight, follow_right, ending_right, outcome_right, why_right, enqueue_right, dequeue_right, work_right, Turns, CallsBegin, CallsRead}
 use Rattle.inv_contents.proofs.Contents.Rounds.{task_plain}
 use Rattle.inv_covers.proofs.rows.Quiet.{quiet_task}
 use Rattle.inv_covers.proofs.model.Facts.{value_there}
+use Rattle.inv_covers.specs.defs.declared.event.Guard.{Guard}
+use Rattle.inv_covers.specs.model.Guards.{guard_at}
 
 abbrev pub why_bare : Why → Bool
 why_bare (Opens task) = true
@@ -305,7 +307,7 @@ keep_turns l queued (Loosens let_go) post desk found =
     let told : List Event = cleared (let_index let_go) (stands post (let_index let_go)) in
     adds_turns l queued told (keeps.keep_turn (Loosens let_go) post desk found) (cleared_mute (let_index let_go) (stands post (let_index let_go))) (released_adds let_go (withdrawn post (let_index let_go)) desk told)
 keep_turns l queued (LoadHeld from index) post desk found = load_held_turns l queued from index post desk found (has_one_interval (scheme_of post))
-keep_turns l queued (StoreHeld from index era) post desk found = copied_turns l queued from index post desk (reserves_index post index era) (stands post from) refl
+keep_turns l queued (StoreHeld from index era) post desk found = copied_turns l queued from index post desk (publishes_index (publishes_rows (scheme_of post)) post index era) (stands post from) (shown_mute (publishes_rows (scheme_of post)) post index era)
 keep_turns l queued (Looks index key at) post desk found = look_turns l queued index key at post desk found
 keep_turns l queued (Misses index) post desk found = record { mute = refl; reads = bare_reads Idle l queued refl }
 keep_turns l queued HideSpan post desk found = record {
@@ -457,8 +459,12 @@ run_by l queued (Tidies later) base desk t c r h = ends_turns l queued (Tidies l
 run_by l queued Advances base desk t c r h = ends_turns l queued Advances desk t.post t.told t.outcome c refl
 run_by l queued (Releases let_go) base desk t c r h = ends_turns l queued (Releases let_go) desk t.post t.told t.outcome c refl
 
+read_mute : (rows : Bool) (guard : Guard) (word : ℕ) → all_mute (scan.reads_guard rows guard word ∷ []) ≡ true
+read_mute true guard word = refl
+read_mute false guard word = refl
+
 scan_mute : (at : ScanAt) (post : Post) (found : ℕ) → all_mute (scan_told at post found) ≡ true
-scan_mute (ReadGuard number) post found = refl
+scan_mute (ReadGuard number) post found = read_mute (publishes_rows (scheme_of post)) (guard_at post.layout.config number) found
 scan_mute (GiveBack place slot) post found = refl
 
 pub phase_turns : CallsRead

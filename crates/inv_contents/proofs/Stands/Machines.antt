@@ -2,7 +2,7 @@
 use Rattle.std.proofs.Common.{ℕ, ◌≡◌, ◌+◌, true, arith, refl, sym, ap, subst, ◌∙◌, List, [], ◌∷◌, length, Bool, false}
 use Rattle.std.proofs.lemmas.Bool.Decides.{nat_tests}
 use Rattle.std.proofs.lemmas.List.{get_or-set_same}
-use Rattle.std.specs.Prelude.{◌==◌, ◌-◌, Option, Some, None}
+use Rattle.std.specs.Prelude.{◌==◌, ◌||◌, ◌-◌, Option, Some, None}
 use Rattle.inv_covers.specs.words.Packed.{read_request}
 use Rattle.inv_covers.specs.words.declared.layout.Layout.{Layout}
 use Rattle.inv_covers.specs.defs.declared.event.Event.{Event}
@@ -20,7 +20,8 @@ use Rattle.inv_covers.specs.model.Protect.{held_post, told_held, concluded, prot
 use Rattle.inv_covers.specs.model.SlowPath.{answer_in, lost_turn, own_request}
 use Rattle.inv_covers.specs.model.WriteRow.{last_written}
 use Rattle.inv_covers.specs.model.Phases.{Aim, Follows, Walk, AllocateAt, ProtectAt, Base, Outcome, Goes, Ends, Turn, goes, ends, Ending}
-use Rattle.inv_covers.specs.model.Phases.ProtectAt.{LoadClock, PublishEra, LoadLink, CheckClock, PublishRequest, LoadOwnClock, PublishHelper, LoadOwnLink, CheckOwnClock, AnswerOwn, LoadAnswer, TakeAnswer, WithdrawRequest, WithdrawHelper, LoadWithin, CheckUpper, RaiseUpper}
+use Rattle.inv_covers.specs.model.Phases.ProtectAt.{LoadClock, PublishEra, LoadLink, CheckClock, PublishRequest, LoadOwnClock, PublishHelper, LoadOwnLink, CheckOwnClock, AnswerOwn, LoadAnswer, TakeAnswer, WithdrawRequest, WithdrawHelper, LoadWithin, CheckUpper, RaiseUpper, ByHazard}
+use Rattle.inv_covers.specs.model.Phases.HazardAt.{FirstLink, PublishLink, CheckLink}
 use Rattle.inv_covers.specs.model.Phases.AllocateAt.{LoadBirth, ClaimSlot, StoreLife}
 use Rattle.inv_covers.specs.model.Phases.Base.{Begin, Protect, Reload, Clear, Finish, Release, Allocate, Write, GiveUp, Retire, Move}
 use Rattle.inv_covers.specs.model.Phases.Ending.{Done, Protected, Followed, Allocated, Retired, Clocked}
@@ -96,6 +97,11 @@ protect_lands index root n LoadWithin post found = refl
 protect_lands index root n (CheckUpper link) post found =
     if_by (found == upper post.span) (protected Follows index root n link found post) (goes post [] (Protect Follows index root n (RaiseUpper found))) Unlanded (λ e. protected_lands index root n link found post) (λ e. refl)
 protect_lands index root n (RaiseUpper era) post found = refl
+protect_lands index root n (ByHazard FirstLink) post found =
+    if_by (found == 0) (protected Follows index root n found 0 post) (goes post [] (Protect Follows index root n (ByHazard (PublishLink found)))) Unlanded (λ e. protected_lands index root n found 0 post) (λ e. refl)
+protect_lands index root n (ByHazard (PublishLink link)) post found = refl
+protect_lands index root n (ByHazard (CheckLink link)) post found =
+    if_by (found == link || found == 0) (protected Follows index root n found 0 post) (goes post [] (Protect Follows index root n (ByHazard (PublishLink found)))) Unlanded (λ e. protected_lands index root n found 0 post) (λ e. refl)
 
 follow_unlanded : (ending : FollowEnd) (post : Post) → follow_lands ending ≡ false → ending_nexts (Followed ending) post
 follow_unlanded (follow_ends.Followed slot) post h = absurd (cc)
@@ -124,7 +130,7 @@ follow_nexts layout k head tail (Protect aim index root steps at) post found q r
 follow_nexts layout k head tail (Reload parent index slot era steps) post found q r =
     if_by (found == parent + 1) (ends (with_row post index slot) (events.Held index slot (bump steps) ∷ []) (Followed (follow_ends.Followed slot))) (ends post [] (Followed (follow_ends.RootMoved found))) MachineNexts
     (λ e. row_stands post index slot r.shape.at q.standing) (λ e. tt)
-follow_nexts layout k head tail (Clear index) post found q r = absurd (let x = r.suited in cc)
+follow_nexts layout k head tail (Clear rows index) post found q r = absurd (let x = r.suited in cc)
 follow_nexts layout k head tail Finish post found q r = absurd (let x = r.suited in cc)
 follow_nexts layout k head tail (Release index) post found q r = absurd (let x = r.suited in cc)
 follow_nexts layout k head tail (Allocate at) post found q r = absurd (let x = r.suited in cc)
@@ -153,7 +159,7 @@ fill_keeps : (base : Base) (post : Post) (found : ℕ) → suits base ToFill ≡
 fill_keeps (Begin at) post found r = absurd (cc)
 fill_keeps (Protect aim index root steps at) post found r = absurd (cc)
 fill_keeps (Reload parent index slot era steps) post found r = absurd (cc)
-fill_keeps (Clear index) post found r = absurd (cc)
+fill_keeps (Clear rows index) post found r = absurd (cc)
 fill_keeps Finish post found r = absurd (cc)
 fill_keeps (Release index) post found r = absurd (cc)
 fill_keeps (Allocate at) post found r = allocate_keeps at post found

@@ -2,7 +2,7 @@
 use Rattle.std.proofs.Common.{ℕ, ◌≡◌, ◌+◌, ◌%◌, ◌&&◌, Bool, true, false, refl, ◌∙◌, sym, List, [], ◌∷◌, ◌++◌}
 use Rattle.std.proofs.lemmas.List.{append-nil, append_assoc}
 use Rattle.std.specs.Prelude.{◌==◌, nat_lt, Option, Some, None, drop}
-use Rattle.inv_covers.specs.words.Schemes.{has_one_interval}
+use Rattle.inv_covers.specs.words.Schemes.{has_one_interval, moves, publishes_rows}
 use Rattle.inv_covers.specs.defs.declared.call.Answer.{Answer}
 use Rattle.inv_covers.specs.defs.declared.call.Call.{Call}
 use Rattle.inv_covers.specs.defs.declared.call.Call.TheVariants as names
@@ -10,7 +10,6 @@ use Rattle.inv_covers.specs.defs.declared.event.Event.TheVariants as events
 use Rattle.inv_covers.specs.defs.declared.event.Event.{Event}
 use Rattle.inv_covers.specs.defs.declared.event.Guard.{Guard}
 use Rattle.inv_covers.specs.defs.declared.lifetime.Interval.{Interval}
-use Rattle.inv_covers.specs.defs.Shown.{shown}
 use Rattle.inv_covers.specs.words.declared.config.SchemeKind.{SchemeKind}
 use Rattle.inv_covers.specs.model.declared.post.Post.{Post}
 use Rattle.inv_covers.specs.model.Desks.{Desk, with_life}
@@ -18,7 +17,7 @@ use Rattle.inv_covers.specs.model.Posts.{stands, standing_from, cleared}
 use Rattle.inv_covers.specs.model.Phases.{Base, Ending}
 use Rattle.inv_covers.specs.model.Phases.Ending.{Done, Protected, Followed, Allocated, Retired, Clocked}
 use Rattle.inv_covers.specs.model.Guards as the_guards
-use Rattle.inv_covers.specs.model.Rounds.{scheme_of, taken_of, round, round_by, begin_base, finish_base, clear_base, clear_post, clear_told, index_of, closed, given_up, finishing, finishing_by, clearing, clearing_by, clearing_next, clearing_next_by, let_index, letting_by, letting, release_base}
+use Rattle.inv_covers.specs.model.Rounds.{scheme_of, taken_of, round, round_by, begin_base, finish_base, clear_base, clear_post, clear_told, index_of, closed, given_up, finishing, finishing_by, clearing, clearing_by, clearing_next, clearing_next_by, let_index, letting_by, letting, release_base, tidy_by}
 use Rattle.inv_covers.specs.model.Keep as keeps
 use Rattle.inv_covers.specs.model.Scan as scan
 use Rattle.inv_covers.specs.model.Steps as steps
@@ -123,13 +122,18 @@ round_by_free task post (Some base) = refl
 pub round_free : (task : Task) (post : Post) → is_free (round task post) ≡ true
 round_free task post = round_by_free task post (begin_base (scheme_of post) post)
 
+-- a list is tidied
+tidy_free : (later : AfterScan) (moving : Bool) (post : Post) → is_free (tidy_by moving later post) ≡ true
+tidy_free later true post = refl
+tidy_free later false post = refl
+
 given_up_adds : (answer : Answer) (post : Post) (desk : Desk) (told : List Event) (x : Option ℕ) → Adds told (given_up answer post desk told x)
 given_up_adds answer post desk told None = adds_none told (given_up answer post desk told None) refl refl
 given_up_adds answer post desk told (Some slot) = adds_none told (given_up answer post desk told (Some slot)) refl refl
 
 pub closed_adds : (task : Task) (next : Next) (post : Post) (desk : Desk) (told : List Event) → Adds told (closed task next post desk told)
 closed_adds task Again post desk told = adds_none told (closed task Again post desk told) refl (round_free task post)
-closed_adds task MakeRoom post desk told = adds_none told (closed task MakeRoom post desk told) refl refl
+closed_adds task MakeRoom post desk told = adds_none told (closed task MakeRoom post desk told) refl (tidy_free (Repeated task) (moves (scheme_of post)) post)
 closed_adds task (Answering answer) post desk told = given_up_adds answer post desk told (taken_of task)
 closed_adds task (Retiring slot answer) post desk told = adds_none told (closed task (Retiring slot answer) post desk told) refl refl
 
@@ -184,23 +188,23 @@ reading_adds later number post desk told false = giving_back_adds later post des
 -- what a scan's step tells besides
 abbrev pub scan_told : ScanAt → Post → ℕ → List Event
 scan_told (ReadGuard number) post found =
-    events.Read (the_guards.guard_at post.layout.config number) (the_guards.eras_in (the_guards.guard_at post.layout.config number) found) ∷ []
+    scan.reads_guard (publishes_rows (scheme_of post)) (the_guards.guard_at post.layout.config number) found ∷ []
 scan_told (GiveBack place slot) post found = events.Back slot ∷ []
 
-read_guard_adds : (later : AfterScan) (number : ℕ) (post : Post) (desk : Desk) (guard : Guard) (span : Option Interval) → Adds (events.Read guard span ∷ []) (scan.read_guard later number post desk guard span)
-read_guard_adds later number post desk guard span =
-    reading_adds later number post (scan.with_read desk number (guard, shown span)) (events.Read guard span ∷ []) (nat_lt (number + 1) (the_guards.guards post.layout.config))
+read_guard_adds : (later : AfterScan) (number : ℕ) (post : Post) (desk : Desk) (rows : Bool) (guard : Guard) (word : ℕ) → Adds (scan.reads_guard rows guard word ∷ []) (scan.read_guard later number post desk rows guard word)
+read_guard_adds later number post desk rows guard word =
+    reading_adds later number post (scan.with_read desk number (guard, the_guards.published rows guard word)) (scan.reads_guard rows guard word ∷ []) (nat_lt (number + 1) (the_guards.guards post.layout.config))
 
 pub scan_adds : (later : AfterScan) (at : ScanAt) (post : Post) (desk : Desk) (found : ℕ) → Adds (scan_told at post found) (scan.scan_turn later at post desk found)
 scan_adds later (ReadGuard number) post desk found =
-    read_guard_adds later number post desk (the_guards.guard_at post.layout.config number) (the_guards.eras_in (the_guards.guard_at post.layout.config number) found)
+    read_guard_adds later number post desk (publishes_rows (scheme_of post)) (the_guards.guard_at post.layout.config number) found
 scan_adds later (GiveBack place slot) post desk found =
     giving_back_adds later post (scan.with_back desk place) (events.Back slot ∷ []) (scan.unmet_from (scan.with_back desk place) place)
 
 -- after a retirement, a move of the clock, and a release
 
 tidying_adds : (answer : Answer) (post : Post) (desk : Desk) (told : List Event) (due : Bool) → Adds told (steps.tidying answer post desk told due)
-tidying_adds answer post desk told true = adds_none told (steps.tidying answer post desk told true) refl refl
+tidying_adds answer post desk told true = adds_none told (steps.tidying answer post desk told true) refl (tidy_free (Answered answer) (moves (scheme_of post)) post)
 tidying_adds answer post desk told false = adds_none told (steps.tidying answer post desk told false) refl refl
 
 retired_adds : (answer : Answer) (ending : Ending) (post : Post) (desk : Desk) (told : List Event) → Adds told (steps.retired_by answer ending post desk told)
@@ -228,12 +232,12 @@ advanced_adds (Allocated end) post desk told = adds_none told (steps.advanced (A
 advanced_adds (Retired life) post desk told = adds_none told (steps.advanced (Retired life) post desk told) refl refl
 
 -- a seat that leaves works on no row
-parting_by_free : (x : Option ℕ) → is_free (keeps.parting_index x) ≡ true
-parting_by_free None = refl
-parting_by_free (Some index) = refl
+parting_by_free : (rows : Bool) (x : Option ℕ) → is_free (keeps.parting_index rows x) ≡ true
+parting_by_free rows None = refl
+parting_by_free rows (Some index) = refl
 
 pub parting_from_free : (index : ℕ) (post : Post) → is_free (keeps.parting_from index post) ≡ true
-parting_from_free index post = parting_by_free (standing_from index (drop index post.standing))
+parting_from_free index post = parting_by_free (publishes_rows (scheme_of post)) (standing_from index (drop index post.standing))
 
 parting_span_free : (x : Option Interval) → is_free (keeps.parting_span x) ≡ true
 parting_span_free None = refl

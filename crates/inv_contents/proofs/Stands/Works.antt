@@ -15,8 +15,8 @@ use Rattle.inv_covers.specs.model.declared.ends.FollowEnd.TheVariants as follow_
 use Rattle.inv_covers.specs.model.declared.ends.ProtectEnd.TheVariants as protect_ends
 use Rattle.inv_covers.specs.model.declared.post.Post.{Post}
 use Rattle.inv_covers.specs.model.Desks.{Desk}
-use Rattle.inv_covers.specs.words.Schemes.{has_one_interval}
-use Rattle.inv_covers.specs.model.Posts.{cleared, reserves_index, stands, withdrawn}
+use Rattle.inv_covers.specs.words.Schemes.{has_one_interval, publishes_rows}
+use Rattle.inv_covers.specs.model.Posts.{cleared, stands, withdrawn, publishes_index}
 use Rattle.inv_covers.specs.model.Phases.{Ending}
 use Rattle.inv_covers.specs.model.Phases.Ending.{Done, Protected, Followed, Allocated, Retired, Clocked}
 use Rattle.inv_covers.specs.model.Rounds.{bucket_of, index_of, let_index, scheme_of, clearing, clearing_next, closed}
@@ -171,7 +171,7 @@ keep_stood (Loosens let_go) post desk found h =
     let told : List Event = cleared (let_index let_go) (stands post (let_index let_go)) in
     adds_stood told (keeps.keep_turn (Loosens let_go) post desk found) (released_adds let_go (withdrawn post (let_index let_go)) desk told)
 keep_stood (LoadHeld from index) post desk found h = load_held_stood from index post desk found (has_one_interval (scheme_of post))
-keep_stood (StoreHeld from index era) post desk found h = copied_stood from index post desk (reserves_index post index era) (stands post from)
+keep_stood (StoreHeld from index era) post desk found h = copied_stood from index post desk (publishes_index (publishes_rows (scheme_of post)) post index era) (stands post from)
 keep_stood (Looks index key at) post desk found h = look_stood index key at post desk found h
 keep_stood (Misses index) post desk found h = free_stood Idle post refl
 keep_stood HideSpan post desk found h = free_stood (Works (Keeping MarkLeft)) _ refl

@@ -1,7 +1,8 @@
 -- A step tells that a row is copied where it copies it, and the row stands at both indexes from then on.
+use Rattle.inv_covers.specs.model.Phases.HazardAt.{FirstLink, PublishLink, CheckLink}
 use Rattle.std.proofs.Common.{ℕ, ◌+◌, ◌≤◌, Bool, true, false, ◌≡◌, ◌∙◌, sym, refl, ap, subst, arith}
 use Rattle.std.specs.List.{list_any}
-use Rattle.std.specs.Prelude.{Option, Some, None, drop, length, if◌then◌else◌, ◌==◌, ◌&&◌}
+use Rattle.std.specs.Prelude.{Option, Some, None, drop, length, if◌then◌else◌, ◌==◌, ◌&&◌, ◌||◌}
 use Rattle.inv_covers.specs.defs.declared.event.Event.{Event}
 use Rattle.inv_covers.specs.defs.declared.event.Event.TheVariants as events
 use Rattle.inv_covers.specs.defs.declared.event.Root.{Root}
@@ -12,7 +13,7 @@ use Rattle.inv_covers.specs.model.Desks.{Desk}
 use Rattle.inv_covers.specs.model.Locals.{Local, turn}
 use Rattle.inv_covers.specs.model.Memory.{bump}
 use Rattle.inv_covers.specs.model.Phases.{ProtectAt, Base}
-use Rattle.inv_covers.specs.model.Phases.ProtectAt.{CheckClock, CheckUpper, TakeAnswer}
+use Rattle.inv_covers.specs.model.Phases.ProtectAt.{CheckClock, CheckUpper, TakeAnswer, ByHazard}
 use Rattle.inv_covers.specs.model.Phases.Base.{Clear, Protect, Release, Reload}
 use Rattle.inv_covers.specs.model.Posts.{counted, stands, upper, with_row}
 use Rattle.inv_covers.specs.model.Protect.{told_held}
@@ -36,7 +37,7 @@ use Rattle.inv_ends.specs.Standing.{CopiedCovered, CopiedStands, CopiedTold, Cop
 use Rattle.inv_ends.specs.Stands.{is_copied}
 
 copied_calm : (f j s : ℕ) → Calm (is_copied f j s)
-copied_calm f j s = record { reserve = λ g x. refl; read = λ g x. refl; era = λ e. refl; give = λ a b. refl; unused = λ a. refl; retire = λ a b r. refl; back = λ a. refl }
+copied_calm f j s = record { reserve = λ g x. refl; hazard = λ g x. refl; saw = λ g x. refl; read = λ g x. refl; era = λ e. refl; give = λ a b. refl; unused = λ a. refl; retire = λ a b r. refl; back = λ a. refl }
 
 copied_later : (f j s : ℕ) (e : Event) → is_later e ≡ true → is_copied f j s e ≡ false
 copied_later f j s (events.Copied from index slot) h = no_truth_2 h
@@ -57,12 +58,15 @@ at_uncopied : (f j s index : ℕ) (root : Root) (n : ℕ) (post : Post) (at : Pr
 at_uncopied f j s index root n post (CheckClock era tries link) found = rw (held_uncopied f j s index root link n (link == 0) refl) (and_false (found == era))
 at_uncopied f j s index root n post (TakeAnswer link era) found = held_uncopied f j s index root link n (link == 0) refl
 at_uncopied f j s index root n post (CheckUpper link) found = rw (held_uncopied f j s index root link n (link == 0) refl) (and_false (found == upper post.span))
+at_uncopied f j s index root n post (ByHazard FirstLink) found = rw (held_uncopied f j s index root found n (found == 0) refl) (and_false (found == 0))
+at_uncopied f j s index root n post (ByHazard (PublishLink link)) found = refl
+at_uncopied f j s index root n post (ByHazard (CheckLink link)) found = rw (held_uncopied f j s index root found n (found == 0) refl) (and_false (found == link || found == 0))
 at_uncopied f j s index root n post at found = refl
 
 base_uncopied : (f j s : ℕ) (base : Base) (post : Post) (found : ℕ) → base_shows (is_copied f j s) post base found ≡ false
 base_uncopied f j s (Protect aim index root made at) post found = at_uncopied f j s index root (bump made) post at found
 base_uncopied f j s (Reload parent index slot era made) post found = and_false (found == parent + 1)
-base_uncopied f j s (Clear index) post found = none_cleared (is_copied f j s) index (stands post index) (λ n slot. refl)
+base_uncopied f j s (Clear rows index) post found = none_cleared (is_copied f j s) index (stands post index) (λ n slot. refl)
 base_uncopied f j s (Release index) post found = none_cleared (is_copied f j s) index (stands post index) (λ n slot. refl)
 base_uncopied f j s base post found = refl
 

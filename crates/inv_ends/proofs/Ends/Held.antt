@@ -1,4 +1,5 @@
 -- A row that is told to stand stands after the step, and one that is told to stand no more stood before it.
+use Rattle.inv_covers.specs.model.Guards.{guard_at}
 use Rattle.std.proofs.Common.{ℕ, ◌+◌, ◌-◌, ◌<◌, Bool, true, false, ◌≡◌, ◌∙◌, sym, refl, ap, subst, arith, ◌⊎◌, inl, inr}
 use Rattle.std.proofs.lemmas.Bool.Decides.{nat_tests}
 use Rattle.std.proofs.lemmas.List.Folds.{list_any-append}
@@ -27,7 +28,8 @@ use Rattle.inv_covers.specs.model.Memory.{bump}
 use Rattle.inv_covers.specs.model.Phases.{Aim, Base, Turn, ends, goes}
 use Rattle.inv_covers.specs.model.Phases.Aim.{Alone, Follows}
 use Rattle.inv_covers.specs.model.Phases.Base.{Allocate, Begin, Clear, Finish, GiveUp, Move, Protect, Release, Reload, Retire, Write}
-use Rattle.inv_covers.specs.model.Phases.ProtectAt.{AnswerOwn, CheckClock, CheckOwnClock, CheckUpper, LoadAnswer, LoadClock, LoadLink, LoadOwnClock, LoadOwnLink, LoadWithin, PublishEra, PublishHelper, PublishRequest, RaiseUpper, TakeAnswer, WithdrawHelper, WithdrawRequest}
+use Rattle.inv_covers.specs.model.Phases.ProtectAt.{AnswerOwn, ByHazard, CheckClock, CheckOwnClock, CheckUpper, LoadAnswer, LoadClock, LoadLink, LoadOwnClock, LoadOwnLink, LoadWithin, PublishEra, PublishHelper, PublishRequest, RaiseUpper, TakeAnswer, WithdrawHelper, WithdrawRequest}
+use Rattle.inv_covers.specs.model.Phases.HazardAt.{FirstLink, PublishLink, CheckLink}
 use Rattle.inv_covers.specs.model.Posts.{cleared, counted, reserves_index, stands, tag_of, upper, with_row, with_tag}
 use Rattle.inv_covers.specs.model.Protect.{concluded, held_post, protected, told_held}
 use Rattle.inv_covers.specs.model.SlowPath.{after_take_answer}
@@ -43,13 +45,13 @@ use Rattle.inv_covers.specs.defs.declared.event.Root.{Root}
 use Rattle.inv_ends.proofs.Ends.Left.{left_stood}
 use Rattle.inv_ends.proofs.Ends.Nulls.{none_of}
 use Rattle.inv_ends.proofs.Told.Rows.{concluded_told, own_told, phase_adds, resumed_adds}
-use Rattle.inv_ends.proofs.Ends.Stood.{base_keeps, clear_calm, counted_fits, fits_index, held_told, is_still, run_index, same_standing, still_shows}
-use Rattle.inv_ends.proofs.Ends.Tests.{any_more, base_any, copied_shows, keep_any, keep_shows}
+use Rattle.inv_ends.proofs.Ends.Stood.{again_leads, base_keeps, clear_calm, counted_fits, fits_index, held_told, is_still, run_index, same_standing, still_shows}
+use Rattle.inv_ends.proofs.Ends.Tests.{any_more, base_any, copied_shows, keep_any, keep_shows, read_any}
 use Rattle.inv_ends.proofs.Told.Turns.{Adds, Just, adds_wide, at_index, cleared_stood, keep_just, out_adds, resume_adds, work_adds}
 use Rattle.inv_ends.specs.Standing.{ClearStood, HeldCovered, HeldStands, holds_base, holds_in, is_end}
 use Rattle.inv_ends.specs.Stands.{is_clear}
 use Rattle.inv_covers.specs.shapes.Seats.{PhaseFits, protects, reloads, suits, kind_of}
-use Rattle.inv_covers.specs.words.Schemes.{has_one_interval}
+use Rattle.inv_covers.specs.words.Schemes.{has_one_interval, publishes_rows}
 use Rattle.inv_covers.specs.words.declared.layout.Layout.{Layout}
 use Rattle.model_history.proofs.Passes.{keep_post, keep_told}
 use Rattle.std.specs.Prelude.{List, [], ◌∷◌, ◌++◌, length, Option, Some, None, if◌then◌else◌, ◌==◌, ◌&&◌, ◌||◌}
@@ -200,9 +202,12 @@ run_clears why desk (Protect aim index root steps (WithdrawHelper link era)) pos
 run_clears why desk (Protect aim index root steps LoadWithin) post found j s k = still_clears why desk (Protect aim index root steps LoadWithin) post found j s refl
 run_clears why desk (Protect aim index root steps (CheckUpper link)) post found j s k = check_clears why desk aim index root (bump steps) link found post _ j s (found == upper post.span) k
 run_clears why desk (Protect aim index root steps (RaiseUpper era)) post found j s k = still_clears why desk (Protect aim index root steps (RaiseUpper era)) post found j s refl
+run_clears why desk (Protect aim index root steps (ByHazard FirstLink)) post found j s k = check_clears why desk aim index root (bump steps) found 0 post _ j s (found == 0) k
+run_clears why desk (Protect aim index root steps (ByHazard (PublishLink link))) post found j s k = still_clears why desk (Protect aim index root steps (ByHazard (PublishLink link))) post found j s refl
+run_clears why desk (Protect aim index root steps (ByHazard (CheckLink link))) post found j s k = check_clears why desk aim index root (bump steps) found 0 post _ j s (found == link || found == 0) k
 run_clears why desk (Begin at) post found j s k = still_clears why desk (Begin at) post found j s refl
 run_clears why desk (Reload parent index slot era steps) post found j s k = reload_clears why desk index slot (bump steps) found post j s (found == parent + 1) k
-run_clears why desk (Clear index) post found j s k = split_clears why desk (after (Clear index) post found) post index j s (base_any (is_clear j s) (Clear index) post found (clear_calm j s)) (withdrawn_shrinks post index)
+run_clears why desk (Clear rows index) post found j s k = split_clears why desk (after (Clear rows index) post found) post index j s (base_any (is_clear j s) (Clear rows index) post found (clear_calm j s)) (withdrawn_shrinks post index)
 run_clears why desk Finish post found j s k = still_clears why desk Finish post found j s refl
 run_clears why desk (Release index) post found j s k = split_clears why desk (after (Release index) post found) post index j s (base_any (is_clear j s) (Release index) post found (clear_calm j s)) (withdrawn_shrinks post index)
 run_clears why desk (Allocate at) post found j s k = still_clears why desk (Allocate at) post found j s refl
@@ -245,7 +250,8 @@ work_clears (Keeping at) post desk found j s = keep_clears at post desk found j 
 phase_clears : (layout : Layout) (phase : Phase) (post : Post) (desk : Desk) (found j s : ℕ) → PhaseFits layout post phase → ClearsOf post (steps.phase_turn phase post desk found) j s
 phase_clears layout Idle post desk found j s r = left_clears post post [] _ j s (phase_adds Idle post desk found) refl refl
 phase_clears layout (Runs why base) post desk found j s r = run_clears why desk base post found j s r.suited
-phase_clears layout (Scans later (ReadGuard number)) post desk found j s r = left_clears post post (own_told (Scans later (ReadGuard number)) post found) _ j s (phase_adds (Scans later (ReadGuard number)) post desk found) refl refl
+phase_clears layout (Scans later (ReadGuard number)) post desk found j s r = left_clears post post (own_told (Scans later (ReadGuard number)) post found) _ j s (phase_adds (Scans later (ReadGuard number)) post desk found)
+    (read_any (is_clear j s) (publishes_rows (scheme_of post)) (guard_at post.layout.config number) found (clear_calm j s)) refl
 phase_clears layout (Scans later (GiveBack place slot)) post desk found j s r = left_clears post post (own_told (Scans later (GiveBack place slot)) post found) _ j s (phase_adds (Scans later (GiveBack place slot)) post desk found) refl refl
 phase_clears layout (Works work) post desk found j s r = work_clears work post desk found j s
 
@@ -313,9 +319,13 @@ run_stands why desk (Protect aim index root steps (WithdrawHelper link era)) pos
 run_stands why desk (Protect aim index root steps LoadWithin) post found j s b k h = no_truth_2 (none_of (index == j) ∙ h)
 run_stands why desk (Protect aim index root steps (CheckUpper link)) post found j s b k h = check_stands why desk aim index root (bump steps) link found post _ j s (found == upper post.span) b k h
 run_stands why desk (Protect aim index root steps (RaiseUpper era)) post found j s b k h = no_truth_2 (none_of (index == j) ∙ h)
+run_stands why desk (Protect aim index root steps (ByHazard FirstLink)) post found j s b k h = no_truth_2 (none_of (index == j) ∙ h)
+run_stands why desk (Protect aim index root steps (ByHazard (PublishLink link))) post found j s b k h = no_truth_2 (none_of (index == j) ∙ h)
+run_stands why desk (Protect aim index root steps (ByHazard (CheckLink link))) post found j s b k h =
+    check_stands why desk aim index root (bump steps) found 0 post _ j s (found == link || found == 0) b k (ap (λ (x : Bool). (index == j) && x) (again_leads (is_end root) found link s (found == link) refl) ∙ h)
 run_stands why desk (Begin at) post found j s b k h = no_truth_2 h
 run_stands why desk (Reload parent index slot era steps) post found j s b k h = reload_stands why desk index slot (bump steps) found post j s (found == parent + 1) b k h
-run_stands why desk (Clear index) post found j s b k h = no_truth_2 h
+run_stands why desk (Clear rows index) post found j s b k h = no_truth_2 h
 run_stands why desk Finish post found j s b k h = no_truth_2 h
 run_stands why desk (Release index) post found j s b k h = no_truth_2 h
 run_stands why desk (Allocate at) post found j s b k h = no_truth_2 h

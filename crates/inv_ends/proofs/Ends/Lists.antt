@@ -3,7 +3,7 @@ use Rattle.std.proofs.Common.{ℕ, ◌+◌, ◌-◌, Bool, true, false, ◌≡�
 use Rattle.std.proofs.lemmas.Bool.Decides.{nat_tests}
 use Rattle.std.proofs.lemmas.List.Elements.{filter-append}
 use Rattle.std.specs.List.{filter, list_all, list_any}
-use Rattle.std.specs.Prelude.{List, [], ◌∷◌, ◌++◌, length, if◌then◌else◌, ◌==◌}
+use Rattle.std.specs.Prelude.{List, [], ◌∷◌, ◌++◌, length, if◌then◌else◌, ◌==◌, ◌||◌}
 use Rattle.inv_covers.specs.defs.declared.call.Answer.TheVariants as the_answers
 use Rattle.inv_covers.specs.defs.declared.event.Event.{Event}
 use Rattle.inv_covers.specs.defs.declared.event.Event.TheVariants as events
@@ -26,7 +26,8 @@ use Rattle.inv_covers.specs.model.Memory.{bump}
 use Rattle.inv_covers.specs.model.Phases.{AllocateAt, Base, ProtectAt, RetireAt}
 use Rattle.inv_covers.specs.model.Phases.AllocateAt.{ClaimSlot, LoadBirth, StoreLife}
 use Rattle.inv_covers.specs.model.Phases.Base.{Allocate, Begin, Clear, Finish, GiveUp, Move, Protect, Release, Reload, Retire, Write}
-use Rattle.inv_covers.specs.model.Phases.ProtectAt.{CheckClock, CheckUpper, TakeAnswer}
+use Rattle.inv_covers.specs.model.Phases.ProtectAt.{CheckClock, CheckUpper, TakeAnswer, ByHazard}
+use Rattle.inv_covers.specs.model.Phases.HazardAt.{FirstLink, PublishLink, CheckLink}
 use Rattle.inv_covers.specs.model.Phases.RetireAt.{LoadLife, LoadRetire, StoreRetired}
 use Rattle.inv_covers.specs.model.Posts.{counted, stands, upper}
 use Rattle.inv_covers.specs.model.Protect.{told_held}
@@ -45,7 +46,7 @@ use Rattle.inv_ends.proofs.Told.Turns.{AddsPlain, is_sequel}
 use Rattle.inv_ends.specs.Lists.{AdoptsAlone, AdoptsTold, LeftTold, ListsTold, MarkedTold, NoneTaken, is_of_lists, list_events}
 
 lists_calm : Calm is_of_lists
-lists_calm = record { reserve = λ g x. refl; read = λ g x. refl; era = λ e. refl; give = λ a b. refl; unused = λ a. refl; retire = λ a b r. refl; back = λ a. refl }
+lists_calm = record { reserve = λ g x. refl; hazard = λ g x. refl; saw = λ g x. refl; read = λ g x. refl; era = λ e. refl; give = λ a b. refl; unused = λ a. refl; retire = λ a b r. refl; back = λ a. refl }
 
 -- a machine and a step on what is kept tell nothing of lists
 held_unlisted : (index : ℕ) (root : Root) (link n : ℕ) (null : Bool) → (link == 0) ≡ null → list_any is_of_lists (told_held index root link n) ≡ false
@@ -62,12 +63,15 @@ at_unlisted : (index : ℕ) (root : Root) (n : ℕ) (post : Post) (at : ProtectA
 at_unlisted index root n post (CheckClock era tries link) found = rw (held_unlisted index root link n (link == 0) refl) (and_false (found == era))
 at_unlisted index root n post (TakeAnswer link era) found = held_unlisted index root link n (link == 0) refl
 at_unlisted index root n post (CheckUpper link) found = rw (held_unlisted index root link n (link == 0) refl) (and_false (found == upper post.span))
+at_unlisted index root n post (ByHazard FirstLink) found = rw (held_unlisted index root found n (found == 0) refl) (and_false (found == 0))
+at_unlisted index root n post (ByHazard (PublishLink link)) found = refl
+at_unlisted index root n post (ByHazard (CheckLink link)) found = rw (held_unlisted index root found n (found == 0) refl) (and_false (found == link || found == 0))
 at_unlisted index root n post at found = refl
 
 base_unlisted : (base : Base) (post : Post) (found : ℕ) → base_shows is_of_lists post base found ≡ false
 base_unlisted (Protect aim index root made at) post found = at_unlisted index root (bump made) post at found
 base_unlisted (Reload parent index slot era made) post found = and_false (found == parent + 1)
-base_unlisted (Clear index) post found = none_cleared is_of_lists index (stands post index) (λ n slot. refl)
+base_unlisted (Clear rows index) post found = none_cleared is_of_lists index (stands post index) (λ n slot. refl)
 base_unlisted (Release index) post found = none_cleared is_of_lists index (stands post index) (λ n slot. refl)
 base_unlisted base post found = refl
 
@@ -160,7 +164,7 @@ base_none : (base : Base) (found : ℕ) → adopts_any (base_row base found) ≡
 base_none (Begin at) found = refl
 base_none (Protect aim index root made at) found = refl
 base_none (Reload parent index slot era made) found = refl
-base_none (Clear index) found = refl
+base_none (Clear rows index) found = refl
 base_none Finish found = refl
 base_none (Release index) found = refl
 base_none (Allocate at) found = allocate_none at found

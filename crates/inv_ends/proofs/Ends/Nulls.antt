@@ -1,5 +1,5 @@
 -- A step tells Null where the link by which it decides is null.
-use Rattle.std.proofs.Common.{ℕ, ◌+◌, Bool, true, false, ◌≡◌, ◌∙◌, refl}
+use Rattle.std.proofs.Common.{ℕ, ◌+◌, Bool, true, false, ◌≡◌, ◌∙◌, refl, ap}
 use Rattle.std.specs.List.{list_any}
 use Rattle.inv_covers.specs.defs.declared.event.Event.TheVariants as events
 use Rattle.inv_covers.specs.defs.declared.event.Root.TheVariants as roots
@@ -8,7 +8,8 @@ use Rattle.inv_covers.specs.model.Calls.Phase.{Idle, Runs, Scans, Works}
 use Rattle.inv_covers.specs.model.Memory.{bump}
 use Rattle.inv_covers.specs.model.Phases.{Base}
 use Rattle.inv_covers.specs.model.Phases.Base.{Begin, Clear, Finish, Protect, Release, Reload}
-use Rattle.inv_covers.specs.model.Phases.ProtectAt.{AnswerOwn, CheckClock, CheckOwnClock, CheckUpper, LoadAnswer, LoadClock, LoadLink, LoadOwnClock, LoadOwnLink, LoadWithin, PublishEra, PublishHelper, PublishRequest, RaiseUpper, TakeAnswer, WithdrawHelper, WithdrawRequest}
+use Rattle.inv_covers.specs.model.Phases.ProtectAt.{AnswerOwn, CheckClock, CheckOwnClock, CheckUpper, LoadAnswer, LoadClock, LoadLink, LoadOwnClock, LoadOwnLink, LoadWithin, PublishEra, PublishHelper, PublishRequest, RaiseUpper, TakeAnswer, WithdrawHelper, WithdrawRequest, ByHazard}
+use Rattle.inv_covers.specs.model.Phases.HazardAt.{FirstLink, PublishLink, CheckLink}
 use Rattle.inv_covers.specs.model.Posts.{cleared, counted, stands, upper}
 use Rattle.inv_covers.specs.model.Protect.{told_held}
 use Rattle.inv_covers.specs.model.World.{finds}
@@ -23,7 +24,7 @@ use Rattle.std.specs.Prelude.{Option, Some, None, ◌==◌, ◌&&◌, ◌||◌}
 use Rattle.inv_covers.proofs.model.Facts.{and_false, no_truth_2}
 
 null_calm : (j : ℕ) → Calm (is_null j)
-null_calm j = record { reserve = λ g s. refl; read = λ g s. refl; era = λ e. refl; give = λ s b. refl; unused = λ s. refl; retire = λ s b r. refl; back = λ s. refl }
+null_calm j = record { reserve = λ g s. refl; hazard = λ g s. refl; saw = λ g s. refl; read = λ g s. refl; era = λ e. refl; give = λ s b. refl; unused = λ s. refl; retire = λ s b r. refl; back = λ s. refl }
 
 null_later : (j : ℕ) (e : Event) → is_later e ≡ true → is_null j e ≡ false
 null_later j (events.Begin call) h = refl
@@ -31,6 +32,8 @@ null_later j (events.End count answer) h = refl
 null_later j (events.Era era) h = refl
 null_later j (events.Reserve guard span) h = refl
 null_later j (events.Read guard span) h = refl
+null_later j (events.Hazard guard slot) h = refl
+null_later j (events.Saw guard slot) h = refl
 null_later j (events.Give slot birth) h = refl
 null_later j (events.Unused slot) h = refl
 null_later j (events.Link root slot) h = refl
@@ -78,6 +81,12 @@ cleared_null : (index j : ℕ) (x : Option ℕ) → list_any (is_null j) (cleare
 cleared_null index j None = refl
 cleared_null index j (Some slot) = refl
 
+absorbed : (a b : Bool) → ((a || b) && b) ≡ b
+absorbed true true = refl
+absorbed true false = refl
+absorbed false true = refl
+absorbed false false = refl
+
 base_null : (base : Base) (post : Post) (found j : ℕ) → base_shows (is_null j) post base found ≡ null_base post base found j
 base_null (Protect aim index root steps (LoadClock tries)) post found j = none_of (index == j)
 base_null (Protect aim index root steps (PublishEra era tries)) post found j = none_of (index == j)
@@ -96,9 +105,14 @@ base_null (Protect aim index root steps (WithdrawHelper link era)) post found j 
 base_null (Protect aim index root steps LoadWithin) post found j = none_of (index == j)
 base_null (Protect aim index root steps (CheckUpper link)) post found j = under_test (found == upper post.span) _ (index == j) (link == 0) (told_null index root link (bump steps) j (link == 0) refl)
 base_null (Protect aim index root steps (RaiseUpper era)) post found j = none_of (index == j)
+base_null (Protect aim index root steps (ByHazard FirstLink)) post found j =
+    under_test (found == 0) _ (index == j) (found == 0) (told_null index root found (bump steps) j (found == 0) refl) ∙ ap (λ (x : Bool). (index == j) && x) (absorbed false (found == 0))
+base_null (Protect aim index root steps (ByHazard (PublishLink link))) post found j = none_of (index == j)
+base_null (Protect aim index root steps (ByHazard (CheckLink link))) post found j =
+    under_test (found == link || found == 0) _ (index == j) (found == 0) (told_null index root found (bump steps) j (found == 0) refl) ∙ ap (λ (x : Bool). (index == j) && x) (absorbed (found == link) (found == 0))
 base_null (Begin at) post found j = refl
 base_null (Reload parent index slot era steps) post found j = and_false (found == parent + 1)
-base_null (Clear index) post found j = cleared_null index j (stands post index)
+base_null (Clear rows index) post found j = cleared_null index j (stands post index)
 base_null Finish post found j = refl
 base_null (Release index) post found j = cleared_null index j (stands post index)
 base_null base post found j = refl

@@ -1,8 +1,10 @@
 -- What stands at the indexes of a seat is what its steps tell.
+use Rattle.inv_covers.specs.model.Scan.{reads_guard}
+use Rattle.inv_covers.specs.defs.declared.event.Guard.{Guard}
 use Rattle.std.proofs.Common.{ℕ, ◌+◌, ◌-◌, ◌≤◌, ◌<◌, Bool, true, false, ◌≡◌, ◌≢◌, ◌∙◌, sym, refl, ap, subst, arith}
 use Rattle.std.proofs.lemmas.Bool.Decides.{nat_tests}
 use Rattle.std.specs.List.{list_any}
-use Rattle.std.specs.Prelude.{slice_index_or, List, [], ◌∷◌, ◌++◌, length, Option, Some, None, if◌then◌else◌, ◌==◌, ◌&&◌}
+use Rattle.std.specs.Prelude.{slice_index_or, List, [], ◌∷◌, ◌++◌, length, Option, Some, None, if◌then◌else◌, ◌==◌, ◌&&◌, ◌||◌}
 use Rattle.inv_covers.specs.model.Phases.Ending.{Clocked}
 use Rattle.inv_covers.specs.defs.declared.event.Event.TheVariants as events
 use Rattle.inv_covers.specs.defs.declared.event.Root.TheVariants as roots
@@ -15,7 +17,7 @@ use Rattle.inv_covers.specs.model.Calls.Work.{Changing, Dequeuing, Enqueuing, Ge
 use Rattle.inv_covers.specs.model.Calls.Phase.{Idle, Runs, Scans, Works}
 use Rattle.inv_covers.specs.model.Calls.ScanAt.{GiveBack, ReadGuard}
 use Rattle.inv_covers.specs.model.Desks.{Desk}
-use Rattle.inv_covers.specs.model.Guards.{one_era}
+use Rattle.inv_covers.specs.model.Guards.{one_era, linked_row, guard_at}
 use Rattle.inv_covers.specs.model.Locals.{Local, turn}
 use Rattle.inv_covers.specs.model.Machine.{after, move_turn}
 use Rattle.inv_covers.specs.model.Memory.{bump}
@@ -25,9 +27,10 @@ use Rattle.inv_covers.specs.model.Phases.AllocateAt.{ClaimSlot, LoadBirth, Store
 use Rattle.inv_covers.specs.model.Phases.Base.{Allocate, Begin, Clear, Finish, GiveUp, Move, Protect, Release, Reload, Retire, Write}
 use Rattle.inv_covers.specs.model.Phases.BeginAt.{LoadLower, PublishSpan}
 use Rattle.inv_covers.specs.model.Phases.MoveAt.{AnswerAsked, CheckEra, ExchangeClock, HandOver, HideEra, HideLate, LoadAsked, LoadEra, LoadRequest, LoadReserved, ShowEra}
-use Rattle.inv_covers.specs.model.Phases.ProtectAt.{AnswerOwn, CheckClock, CheckOwnClock, CheckUpper, LoadAnswer, LoadClock, LoadLink, LoadOwnClock, LoadOwnLink, LoadWithin, PublishEra, PublishHelper, PublishRequest, RaiseUpper, TakeAnswer, WithdrawHelper, WithdrawRequest}
+use Rattle.inv_covers.specs.model.Phases.ProtectAt.{AnswerOwn, CheckClock, CheckOwnClock, CheckUpper, LoadAnswer, LoadClock, LoadLink, LoadOwnClock, LoadOwnLink, LoadWithin, PublishEra, PublishHelper, PublishRequest, RaiseUpper, TakeAnswer, WithdrawHelper, WithdrawRequest, ByHazard}
+use Rattle.inv_covers.specs.model.Phases.HazardAt.{FirstLink, PublishLink, CheckLink}
 use Rattle.inv_covers.specs.model.Phases.RetireAt.{LoadLife, LoadRetire, StoreRetired}
-use Rattle.inv_covers.specs.model.Posts.{cleared, counted, reserves_helper, reserves_index, stands, tag_of, upper, with_row, with_tag, withdrawn}
+use Rattle.inv_covers.specs.model.Posts.{cleared, counted, reserves_helper, stands, tag_of, upper, with_row, with_tag, withdrawn, publishes_index}
 use Rattle.inv_covers.specs.model.Protect.{held_post, protected, told_held}
 use Rattle.inv_covers.specs.model.Rounds.{let_index, scheme_of}
 use Rattle.inv_covers.specs.model.SlowPath.{asking, own_request}
@@ -50,7 +53,7 @@ use Rattle.inv_covers.specs.defs.Events.{is_held}
 use Rattle.inv_ends.specs.Stands.{is_clear, stood, stood_by}
 use Rattle.inv_covers.specs.shapes.Seats.{PhaseFits, Run, index_by, kind_of, protects}
 use Rattle.inv_covers.specs.shapes.Slots.{KeepIn, PhaseIn, WorkIn}
-use Rattle.inv_covers.specs.words.Schemes.{has_one_interval}
+use Rattle.inv_covers.specs.words.Schemes.{has_one_interval, publishes_rows}
 use Rattle.inv_covers.specs.words.declared.config.Config.{Config}
 use Rattle.inv_covers.specs.words.Packed.{read_reservation}
 use Rattle.inv_covers.specs.words.declared.layout.Layout.{Layout}
@@ -59,14 +62,14 @@ use Rattle.model_history.proofs.Passes.{copied_post, copied_told, keep_post, kee
 use Rattle.inv_covers.proofs.model.Standing.{stands-with_row_same, stands-with_row_other}
 use Rattle.inv_covers.proofs.model.Ranges.{bounds_of}
 use Rattle.inv_covers.proofs.shapes.Kept.{run_counted, work_counted}
-use Rattle.inv_covers.proofs.model.Facts.{or_false, no_truth_2}
+use Rattle.inv_covers.proofs.model.Facts.{or_false, no_truth_2, and_false, number_is}
 
 -- Held is told where a row comes to stand
 held_calm : (j s : ℕ) → Calm (is_held j s)
-held_calm j s = record { reserve = λ g x. refl; read = λ g x. refl; era = λ e. refl; give = λ a b. refl; unused = λ a. refl; retire = λ a b r. refl; back = λ a. refl }
+held_calm j s = record { reserve = λ g x. refl; hazard = λ g x. refl; saw = λ g x. refl; read = λ g x. refl; era = λ e. refl; give = λ a b. refl; unused = λ a. refl; retire = λ a b r. refl; back = λ a. refl }
 
 pub clear_calm : (j s : ℕ) → Calm (is_clear j s)
-clear_calm j s = record { reserve = λ g x. refl; read = λ g x. refl; era = λ e. refl; give = λ a b. refl; unused = λ a. refl; retire = λ a b r. refl; back = λ a. refl }
+clear_calm j s = record { reserve = λ g x. refl; hazard = λ g x. refl; saw = λ g x. refl; read = λ g x. refl; era = λ e. refl; give = λ a b. refl; unused = λ a. refl; retire = λ a b r. refl; back = λ a. refl }
 
 held_later : (j s : ℕ) (e : Event) → is_later e ≡ true → is_held j s e ≡ false
 held_later j s (events.Begin call) h = refl
@@ -74,6 +77,8 @@ held_later j s (events.End count answer) h = refl
 held_later j s (events.Era era) h = refl
 held_later j s (events.Reserve guard span) h = refl
 held_later j s (events.Read guard span) h = refl
+held_later j s (events.Hazard guard slot) h = refl
+held_later j s (events.Saw guard slot) h = refl
 held_later j s (events.Give slot birth) h = refl
 held_later j s (events.Unused slot) h = refl
 held_later j s (events.Link root slot) h = refl
@@ -109,6 +114,15 @@ told_is_held index roots.Tail link n j s false e = rw (e, lead_is link s (link =
 told_is_held index (roots.Next parent) link n j s true e = rw e (none_of (index == j))
 told_is_held index (roots.Next parent) link n j s false e = rw e (none_of (index == j))
 
+-- a first load that ends a protection leads to no row, and one more does where it finds the link that is published
+first_leads : (end : Bool) (found s : ℕ) (null : Bool) → (found == 0) ≡ null → (null && (end && leads found s)) ≡ false
+first_leads end found s true e = rw (null_leads found s e) (and_false end)
+first_leads end found s false e = refl
+
+pub again_leads : (end : Bool) (found link s : ℕ) (same : Bool) → (found == link) ≡ same → ((same || found == 0) && (end && leads found s)) ≡ (same && (end && leads link s))
+again_leads end found link s true e = ap (λ (n : ℕ). end && leads n s) (number_is found link e)
+again_leads end found link s false e = first_leads end found s (found == 0) refl
+
 cleared_held : (index j s : ℕ) (x : Option ℕ) → list_any (is_held j s) (cleared index x) ≡ false
 cleared_held index j s None = refl
 cleared_held index j s (Some slot) = refl
@@ -131,9 +145,14 @@ base_held (Protect aim index root steps (WithdrawHelper link era)) post found j 
 base_held (Protect aim index root steps LoadWithin) post found j s = none_of (index == j)
 base_held (Protect aim index root steps (CheckUpper link)) post found j s = under_test (found == upper post.span) _ (index == j) (is_end root && leads link s) (told_is_held index root link (bump steps) j s (link == 0) refl)
 base_held (Protect aim index root steps (RaiseUpper era)) post found j s = none_of (index == j)
+base_held (Protect aim index root steps (ByHazard FirstLink)) post found j s =
+    under_test (found == 0) _ (index == j) (is_end root && leads found s) (told_is_held index root found (bump steps) j s (found == 0) refl) ∙ ap (λ (x : Bool). (index == j) && x) (first_leads (is_end root) found s (found == 0) refl)
+base_held (Protect aim index root steps (ByHazard (PublishLink link))) post found j s = none_of (index == j)
+base_held (Protect aim index root steps (ByHazard (CheckLink link))) post found j s =
+    under_test (found == link || found == 0) _ (index == j) (is_end root && leads found s) (told_is_held index root found (bump steps) j s (found == 0) refl) ∙ ap (λ (x : Bool). (index == j) && x) (again_leads (is_end root) found link s (found == link) refl)
 base_held (Begin at) post found j s = refl
 base_held (Reload parent index slot era steps) post found j s = under_test (found == parent + 1) ((index == j) && (slot == s)) (index == j) (slot == s) refl
-base_held (Clear index) post found j s = cleared_held index j s (stands post index)
+base_held (Clear rows index) post found j s = cleared_held index j s (stands post index)
 base_held Finish post found j s = refl
 base_held (Release index) post found j s = cleared_held index j s (stands post index)
 base_held base post found j s = refl
@@ -152,12 +171,14 @@ abbrev pub is_still_at : ProtectAt → Bool
 is_still_at (CheckClock era tries link) = false
 is_still_at (TakeAnswer link era) = false
 is_still_at (CheckUpper link) = false
+is_still_at (ByHazard FirstLink) = false
+is_still_at (ByHazard (CheckLink link)) = false
 is_still_at at = true
 
 abbrev pub is_still : Base → Bool
 is_still (Protect aim index root steps at) = is_still_at at
 is_still (Reload parent index slot era steps) = false
-is_still (Clear index) = false
+is_still (Clear rows index) = false
 is_still (Release index) = false
 is_still base = true
 
@@ -216,10 +237,13 @@ base_keeps (Protect aim index root steps (WithdrawHelper link era)) post found k
 base_keeps (Protect aim index root steps LoadWithin) post found k = refl
 base_keeps (Protect aim index root steps (CheckUpper link)) post found k = no_truth_2 k
 base_keeps (Protect aim index root steps (RaiseUpper era)) post found k = refl
+base_keeps (Protect aim index root steps (ByHazard FirstLink)) post found k = no_truth_2 k
+base_keeps (Protect aim index root steps (ByHazard (PublishLink link))) post found k = refl
+base_keeps (Protect aim index root steps (ByHazard (CheckLink link))) post found k = no_truth_2 k
 base_keeps (Begin LoadLower) post found k = refl
 base_keeps (Begin (PublishSpan era)) post found k = refl
 base_keeps (Reload parent index slot era steps) post found k = no_truth_2 k
-base_keeps (Clear index) post found k = no_truth_2 k
+base_keeps (Clear rows index) post found k = no_truth_2 k
 base_keeps Finish post found k = refl
 base_keeps (Release index) post found k = no_truth_2 k
 base_keeps (Allocate LoadBirth) post found k = refl
@@ -243,7 +267,7 @@ is_standing (events.Clear index slot) = true
 is_standing event = false
 
 pub standing_calm : Calm is_standing
-standing_calm = record { reserve = λ g x. refl; read = λ g x. refl; era = λ e. refl; give = λ a b. refl; unused = λ a. refl; retire = λ a b r. refl; back = λ a. refl }
+standing_calm = record { reserve = λ g x. refl; hazard = λ g x. refl; saw = λ g x. refl; read = λ g x. refl; era = λ e. refl; give = λ a b. refl; unused = λ a. refl; retire = λ a b r. refl; back = λ a. refl }
 
 by_calm : (e : Event) (x : Option ℕ) (j : ℕ) → is_standing e ≡ false → stood_by e x j ≡ x
 by_calm (events.Begin call) x j h = refl
@@ -251,6 +275,8 @@ by_calm (events.End count answer) x j h = refl
 by_calm (events.Era era) x j h = refl
 by_calm (events.Reserve guard span) x j h = refl
 by_calm (events.Read guard span) x j h = refl
+by_calm (events.Hazard guard slot) x j h = refl
+by_calm (events.Saw guard slot) x j h = refl
 by_calm (events.Give slot birth) x j h = refl
 by_calm (events.Unused slot) x j h = refl
 by_calm (events.Link root slot) x j h = refl
@@ -294,9 +320,12 @@ still_shows p (Protect aim index root steps (WithdrawHelper link era)) post foun
 still_shows p (Protect aim index root steps LoadWithin) post found k = refl
 still_shows p (Protect aim index root steps (CheckUpper link)) post found k = no_truth_2 k
 still_shows p (Protect aim index root steps (RaiseUpper era)) post found k = refl
+still_shows p (Protect aim index root steps (ByHazard FirstLink)) post found k = no_truth_2 k
+still_shows p (Protect aim index root steps (ByHazard (PublishLink link))) post found k = refl
+still_shows p (Protect aim index root steps (ByHazard (CheckLink link))) post found k = no_truth_2 k
 still_shows p (Begin at) post found k = refl
 still_shows p (Reload parent index slot era steps) post found k = no_truth_2 k
-still_shows p (Clear index) post found k = no_truth_2 k
+still_shows p (Clear rows index) post found k = no_truth_2 k
 still_shows p Finish post found k = refl
 still_shows p (Release index) post found k = no_truth_2 k
 still_shows p base post found k = refl
@@ -340,11 +369,15 @@ load_held_stood : (from index : ℕ) (post : Post) (j : ℕ) (one : Bool) → in
 load_held_stood from index post j true b = copied_stood from index post [] (stands post from) j b (λ y. refl)
 load_held_stood from index post j false b = refl
 
+shown_stood : (rows : Bool) (post : Post) (index number : ℕ) (x : Option ℕ) (j : ℕ) → stood (publishes_index rows post index number) x j ≡ x
+shown_stood true post index number x j = refl
+shown_stood false post index number x j = refl
+
 -- what stands after a step on what is kept is what it told
 keep_stood : (config : Config) (at : KeepAt) (post : Post) (j : ℕ) → config.indexes ≤ length post.standing → KeepIn config at → Vacant (vacant_keep at) post → stands (keep_post at post) j ≡ stood (keep_told at post) (stands post j) j
 keep_stood config (Loosens let_go) post j b k n = withdrawn_stood post (let_index let_go) j
 keep_stood config (LoadHeld from index) post j b k n = load_held_stood from index post j (has_one_interval (scheme_of post)) (omega (arith, b, k.below))
-keep_stood config (StoreHeld from index era) post j b k n = copied_stood from index post (reserves_index post index era) (stands post from) j (omega (arith, b, k.below)) (λ y. refl)
+keep_stood config (StoreHeld from index era) post j b k n = copied_stood from index post (publishes_index (publishes_rows (scheme_of post)) post index era) (stands post from) j (omega (arith, b, k.below)) (λ y. shown_stood (publishes_rows (scheme_of post)) post index era y j)
 keep_stood config (Looks index key at) post j b k n = refl
 keep_stood config (Misses index) post j b k n = refl
 keep_stood config HideSpan post j b k n = hidden_stood post j n
@@ -406,9 +439,13 @@ base_turned (Protect aim index root steps (WithdrawHelper link era)) post found 
 base_turned (Protect aim index root steps LoadWithin) post found j b = still_turned (Protect aim index root steps LoadWithin) post found j refl
 base_turned (Protect aim index root steps (CheckUpper link)) post found j b = check_turned aim index root (bump steps) link found post _ j (found == upper post.span) b
 base_turned (Protect aim index root steps (RaiseUpper era)) post found j b = still_turned (Protect aim index root steps (RaiseUpper era)) post found j refl
+base_turned (Protect aim index root steps (ByHazard FirstLink)) post found j b = check_turned aim index root (bump steps) found 0 post _ j (found == 0) b
+base_turned (Protect aim index root steps (ByHazard (PublishLink link))) post found j b = still_turned (Protect aim index root steps (ByHazard (PublishLink link))) post found j refl
+base_turned (Protect aim index root steps (ByHazard (CheckLink link))) post found j b = check_turned aim index root (bump steps) found 0 post _ j (found == link || found == 0) b
 base_turned (Begin at) post found j b = still_turned (Begin at) post found j refl
 base_turned (Reload parent index slot era steps) post found j b = reload_turned post index slot (bump steps) j _ _ (found == parent + 1) b
-base_turned (Clear index) post found j b = cleared_turned post index j (events.Reserve (guards.Index post.seat index) (one_era 0)) (λ x. refl)
+base_turned (Clear true index) post found j b = cleared_turned post index j (events.Hazard (guards.Index post.seat index) (linked_row 0)) (λ x. refl)
+base_turned (Clear false index) post found j b = cleared_turned post index j (events.Reserve (guards.Index post.seat index) (one_era 0)) (λ x. refl)
 base_turned Finish post found j b = still_turned Finish post found j refl
 base_turned (Release index) post found j b = cleared_turned post index j (events.Reserve (guards.Whole post.seat) None) (λ x. refl)
 base_turned (Allocate at) post found j b = still_turned (Allocate at) post found j refl
@@ -425,11 +462,15 @@ run_index layout why (Protect aim index root steps at) post l r = at_below why i
 run_index layout why (Reload parent index slot era steps) post l r = at_below why index (length post.standing) (reloads_protect (kind_of why) r.suited) r.shape.at l
 run_index layout why base post l r = tt
 
+read_stood : (rows : Bool) (guard : Guard) (word : ℕ) (x : Option ℕ) (j : ℕ) → stood (reads_guard rows guard word ∷ []) x j ≡ x
+read_stood true guard word x j = refl
+read_stood false guard word x j = refl
+
 phase_turned : (layout : Layout) (phase : Phase) (post : Post) (desk : Desk) (found j : ℕ) → length post.standing ≡ 8 → layout.config.indexes ≤ length post.standing → PhaseFits layout post phase → PhaseIn layout desk phase → Vacant (vacant phase) post
     → stands (own_post phase post found) j ≡ stood (own_told phase post found) (stands post j) j
 phase_turned layout Idle post desk found j l b r k n = refl
 phase_turned layout (Runs why base) post desk found j l b r k n = base_turned base post found j (run_index layout why base post l r)
-phase_turned layout (Scans later (ReadGuard number)) post desk found j l b r k n = refl
+phase_turned layout (Scans later (ReadGuard number)) post desk found j l b r k n = sym (read_stood (publishes_rows (scheme_of post)) (guard_at post.layout.config number) found (stands post j) j)
 phase_turned layout (Scans later (GiveBack place slot)) post desk found j l b r k n = refl
 phase_turned layout (Works work) post desk found j l b r k n = work_stood layout.config work post j b k n
 

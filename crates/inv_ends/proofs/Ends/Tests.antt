@@ -16,17 +16,20 @@ use Rattle.inv_covers.specs.model.Locals.{turn}
 use Rattle.inv_covers.specs.model.Machine.{after, allocate_turn, begin_turn, move_turn, protect_turn, retire_turn}
 use Rattle.inv_covers.specs.model.Memory.{bump}
 use Rattle.inv_covers.specs.model.MoveClock.{after_hand_over}
-use Rattle.inv_covers.specs.model.Phases.{Aim, AllocateAt, Base, BeginAt, Ending, MoveAt, ProtectAt, RetireAt, Walk, ends, goes}
+use Rattle.inv_covers.specs.model.Phases.{Aim, AllocateAt, Base, BeginAt, Ending, HazardAt, MoveAt, ProtectAt, RetireAt, Walk, ends, goes}
 use Rattle.inv_covers.specs.model.Phases.AllocateAt.{ClaimSlot, LoadBirth, StoreLife}
 use Rattle.inv_covers.specs.model.Phases.Base.{Allocate, Begin, Clear, Finish, GiveUp, Move, Protect, Release, Reload, Retire, Write}
 use Rattle.inv_covers.specs.model.Phases.BeginAt.{LoadLower, PublishSpan}
 use Rattle.inv_covers.specs.model.Phases.Ending.{Clocked}
 use Rattle.inv_covers.specs.model.Phases.MoveAt.{AnswerAsked, CheckEra, ExchangeClock, HandOver, HideEra, HideLate, LoadAsked, LoadEra, LoadRequest, LoadReserved, ShowEra}
-use Rattle.inv_covers.specs.model.Phases.ProtectAt.{AnswerOwn, CheckClock, CheckOwnClock, CheckUpper, LoadAnswer, LoadClock, LoadLink, LoadOwnClock, LoadOwnLink, LoadWithin, PublishEra, PublishHelper, PublishRequest, RaiseUpper, TakeAnswer, WithdrawHelper, WithdrawRequest}
+use Rattle.inv_covers.specs.model.Phases.ProtectAt.{AnswerOwn, ByHazard, CheckClock, CheckOwnClock, CheckUpper, LoadAnswer, LoadClock, LoadLink, LoadOwnClock, LoadOwnLink, LoadWithin, PublishEra, PublishHelper, PublishRequest, RaiseUpper, TakeAnswer, WithdrawHelper, WithdrawRequest}
+use Rattle.inv_covers.specs.model.Phases.HazardAt.{FirstLink, PublishLink, CheckLink}
 use Rattle.inv_covers.specs.model.Phases.RetireAt.{LoadLife, LoadRetire, StoreRetired}
-use Rattle.inv_covers.specs.model.Posts.{cleared, cleared_from, counted, reserves_helper, reserves_index, reserves_span, stands, upper}
+use Rattle.inv_covers.specs.model.Posts.{cleared, cleared_from, counted, publishes_index, reserves_helper, reserves_span, stands, upper}
 use Rattle.inv_covers.specs.model.Protect.{held_post, protected, told_held}
 use Rattle.inv_covers.specs.model.Rounds.{let_index, scheme_of}
+use Rattle.inv_covers.specs.model.Guards.{guard_at}
+use Rattle.inv_covers.specs.model.Scan.{reads_guard}
 use Rattle.inv_covers.specs.model.SlowPath.{asking, own_request}
 use Rattle.inv_covers.specs.model.World.{World, finds, offered, told_in}
 use Rattle.inv_covers.specs.model.WriteRow.{last_written}
@@ -39,13 +42,15 @@ use Rattle.inv_ends.proofs.Told.Rows.{concluded_told, own_post, own_told, step_a
 use Rattle.inv_ends.proofs.Told.Turns.{Adds, is_later}
 use Rattle.inv_covers.proofs.model.Facts.{and_false, or_false}
 use Rattle.inv_covers.specs.words.Packed.{read_reservation}
-use Rattle.inv_covers.specs.words.Schemes.{has_one_interval}
+use Rattle.inv_covers.specs.words.Schemes.{has_one_interval, publishes_rows}
 use Rattle.model_history.proofs.Passes.{copied_told, keep_told, work_told}
 use Rattle.std.specs.Prelude.{List, [], ◌∷◌, ◌++◌, drop, Option, Some, None, if◌then◌else◌, ◌==◌, ◌&&◌, ◌||◌}
 
 -- a test that is false of guards, eras, rows and scans
 pub record Calm (p : Event → Bool) : Type 0 where
   pub reserve : (guard : Guard) (span : Option Interval) → p (events.Reserve guard span) ≡ false
+  pub hazard : (guard : Guard) (slot : Option ℕ) → p (events.Hazard guard slot) ≡ false
+  pub saw : (guard : Guard) (slot : Option ℕ) → p (events.Saw guard slot) ≡ false
   pub read : (guard : Guard) (span : Option Interval) → p (events.Read guard span) ≡ false
   pub era : (era : ℕ) → p (events.Era era) ≡ false
   pub give : (slot birth : ℕ) → p (events.Give slot birth) ≡ false
@@ -54,16 +59,22 @@ pub record Calm (p : Event → Bool) : Type 0 where
   pub back : (slot : ℕ) → p (events.Back slot) ≡ false
 
 -- what a phase shows of a test
+abbrev pub hazard_shows : (Event → Bool) → ℕ → Root → ℕ → HazardAt → ℕ → Bool
+hazard_shows p index root n FirstLink found = (found == 0) && list_any p (told_held index root found n)
+hazard_shows p index root n (PublishLink link) found = false
+hazard_shows p index root n (CheckLink link) found = (found == link || found == 0) && list_any p (told_held index root found n)
+
 abbrev pub at_shows : (Event → Bool) → ℕ → Root → ℕ → Post → ProtectAt → ℕ → Bool
 at_shows p index root n post (CheckClock era tries link) found = (found == era) && list_any p (told_held index root link n)
 at_shows p index root n post (TakeAnswer link era) found = list_any p (told_held index root link n)
 at_shows p index root n post (CheckUpper link) found = (found == upper post.span) && list_any p (told_held index root link n)
+at_shows p index root n post (ByHazard at) found = hazard_shows p index root n at found
 at_shows p index root n post at found = false
 
 abbrev pub base_shows : (Event → Bool) → Post → Base → ℕ → Bool
 base_shows p post (Protect aim index root steps at) found = at_shows p index root (bump steps) post at found
 base_shows p post (Reload parent index slot era steps) found = (found == parent + 1) && p (events.Held index slot (bump steps))
-base_shows p post (Clear index) found = list_any p (cleared index (stands post index))
+base_shows p post (Clear rows index) found = list_any p (cleared index (stands post index))
 base_shows p post (Release index) found = list_any p (cleared index (stands post index))
 base_shows p post base found = false
 
@@ -85,6 +96,15 @@ ends_any p post a b false = refl
 one_any : (p : Event → Bool) (e : Event) (es : List Event) → p e ≡ false → list_any p (e ∷ es) ≡ list_any p es
 one_any p e es h = rw h refl
 
+-- an index word that publishes something else
+shown_any : (p : Event → Bool) (rows : Bool) (post : Post) (index number : ℕ) → Calm p → list_any p (publishes_index rows post index number) ≡ false
+shown_any p true post index number c = one_any p _ [] (c.hazard _ _)
+shown_any p false post index number c = one_any p _ [] (c.reserve _ _)
+
+pub read_any : (p : Event → Bool) (rows : Bool) (guard : Guard) (word : ℕ) → Calm p → list_any p (reads_guard rows guard word ∷ []) ≡ false
+read_any p true guard word c = one_any p _ [] (c.saw _ _)
+read_any p false guard word c = one_any p _ [] (c.read _ _)
+
 protect_any : (p : Event → Bool) (aim : Aim) (index : ℕ) (root : Root) (n : ℕ) (at : ProtectAt) (post : Post) (found : ℕ) → Calm p → list_any p (protect_turn aim index root n at post found).told ≡ at_shows p index root n post at found
 protect_any p aim index root n (LoadClock tries) post found c = refl
 protect_any p aim index root n (PublishEra era tries) post found c = one_any p _ [] (c.reserve _ _)
@@ -104,6 +124,9 @@ protect_any p aim index root n (WithdrawHelper link era) post found c =
 protect_any p aim index root n LoadWithin post found c = refl
 protect_any p aim index root n (CheckUpper link) post found c = check_any p aim index root n found link post _ (found == upper post.span)
 protect_any p aim index root n (RaiseUpper era) post found c = one_any p _ [] (c.reserve _ _)
+protect_any p aim index root n (ByHazard FirstLink) post found c = check_any p aim index root n 0 found post _ (found == 0)
+protect_any p aim index root n (ByHazard (PublishLink link)) post found c = one_any p _ [] (c.hazard _ _)
+protect_any p aim index root n (ByHazard (CheckLink link)) post found c = check_any p aim index root n 0 found post _ (found == link || found == 0)
 
 begin_any : (p : Event → Bool) (at : BeginAt) (post : Post) (found : ℕ) → Calm p → list_any p (begin_turn at post found).told ≡ false
 begin_any p LoadLower post found c = refl
@@ -169,7 +192,7 @@ pub base_any : (p : Event → Bool) (base : Base) (post : Post) (found : ℕ) �
 base_any p (Begin at) post found c = begin_any p at post found c
 base_any p (Protect aim index root steps at) post found c = protect_any p aim index root (bump steps) at post found c
 base_any p (Reload parent index slot era steps) post found c = reload_any p _ post _ _ _ (found == parent + 1)
-base_any p (Clear index) post found c = cleared_any p index (stands post index) _ (one_any p _ [] (c.reserve _ _))
+base_any p (Clear rows index) post found c = cleared_any p index (stands post index) _ (shown_any p rows post index 0 c)
 base_any p Finish post found c = one_any p _ [] (c.reserve _ _)
 base_any p (Release index) post found c = cleared_any p index (stands post index) _ (one_any p _ [] (c.reserve _ _))
 base_any p (Allocate at) post found c = allocate_any p at post found c
@@ -214,7 +237,7 @@ load_held_any p from index post false = refl
 pub keep_any : (p : Event → Bool) (at : KeepAt) (post : Post) → Calm p → list_any p (keep_told at post) ≡ keep_shows p post at
 keep_any p (Loosens let_go) post c = refl
 keep_any p (LoadHeld from index) post c = load_held_any p from index post (has_one_interval (scheme_of post))
-keep_any p (StoreHeld from index era) post c = copied_any p from index post (reserves_index post index era) (stands post from) (one_any p _ [] (c.reserve _ _))
+keep_any p (StoreHeld from index era) post c = copied_any p from index post (publishes_index (publishes_rows (scheme_of post)) post index era) (stands post from) (shown_any p (publishes_rows (scheme_of post)) post index era c)
 keep_any p (Looks index key at) post c = refl
 keep_any p (Misses index) post c = refl
 keep_any p HideSpan post c = any_more p (cleared_from 2 (drop 2 post.standing)) (reserves_span post None) (one_any p _ [] (c.reserve _ _))
@@ -232,7 +255,7 @@ work_any p (Keeping at) post c = keep_any p at post c
 pub own_any : (p : Event → Bool) (phase : Phase) (post : Post) (found : ℕ) → Calm p → list_any p (own_told phase post found) ≡ phase_shows p post phase found
 own_any p Idle post found c = refl
 own_any p (Runs why base) post found c = base_any p base post found c
-own_any p (Scans later (ReadGuard number)) post found c = one_any p _ [] (c.read _ _)
+own_any p (Scans later (ReadGuard number)) post found c = read_any p (publishes_rows (scheme_of post)) (guard_at post.layout.config number) found c
 own_any p (Scans later (GiveBack place slot)) post found c = one_any p _ [] (c.back slot)
 own_any p (Works work) post found c = work_any p work post c
 

@@ -8,7 +8,7 @@ use Rattle.inv_covers.specs.model.declared.post.Post.{Post}
 use Rattle.inv_covers.specs.model.Links.{link_number}
 use Rattle.inv_covers.specs.model.Posts.{stands}
 use Rattle.inv_covers.specs.model.Phases.{Aim, ProtectAt, MoveAt, Base}
-use Rattle.inv_covers.specs.model.Phases.ProtectAt.{LoadClock, PublishEra, LoadLink, CheckClock, PublishRequest, LoadOwnClock, PublishHelper, LoadOwnLink, CheckOwnClock, AnswerOwn, LoadAnswer, TakeAnswer, WithdrawRequest, WithdrawHelper, LoadWithin, CheckUpper, RaiseUpper}
+use Rattle.inv_covers.specs.model.Phases.ProtectAt.{LoadClock, PublishEra, LoadLink, CheckClock, PublishRequest, LoadOwnClock, PublishHelper, LoadOwnLink, CheckOwnClock, AnswerOwn, LoadAnswer, TakeAnswer, WithdrawRequest, WithdrawHelper, LoadWithin, CheckUpper, RaiseUpper, ByHazard}
 use Rattle.inv_covers.specs.model.Phases.MoveAt.{LoadEra, LoadRequest, ShowEra, LoadAsked, CheckEra, AnswerAsked, LoadReserved, HandOver, HideEra, HideLate, ExchangeClock}
 use Rattle.inv_covers.specs.model.Phases.Base.{Begin, Protect, Reload, Clear, Finish, Release, Allocate, Write, GiveUp, Retire, Move}
 use Rattle.inv_covers.specs.model.Rounds.{index_of}
@@ -118,6 +118,7 @@ protect_asks layout index root (WithdrawHelper link era) d j word f a = absurd (
 protect_asks layout index root LoadWithin d j word f a = absurd (no_truth (quiet_asks d j word f a))
 protect_asks layout index root (CheckUpper link) d j word f a = absurd (no_truth (quiet_asks d j word f a))
 protect_asks layout index root (RaiseUpper era) d j word f a = absurd (no_truth (quiet_asks d j word f a))
+protect_asks layout index root (ByHazard at) d j word f a = absurd (no_truth (quiet_asks d j word f a))
 
 move_quiet : (layout : Layout) (at : MoveAt) (d : Deal) → fits (move_role layout at) d ≡ true → is_quiet d ≡ true
 move_quiet layout (LoadEra helps) d f = f
@@ -139,11 +140,11 @@ asks_of w k j word why aim index root steps at e a =
 phase_asks : (w : World) (k j word : ℕ) (d : Deal) (phase : Phase) → (w.seat k).phase ≡ phase → fits (role_of w.layout phase) d ≡ true → asked_at j word d ≡ true → Asker w k j word
 phase_asks w k j word d Idle e f a = absurd (no_truth (quiet_asks d j word f a))
 phase_asks w k j word d (Scans later at) e f a = absurd (no_truth (quiet_asks d j word f a))
-phase_asks w k j word d (Works work) e f a = absurd (no_truth (quiet_asks d j word (each_work_role work (λ (r : Role). fits r d ≡ true → is_quiet d ≡ true) (λ q. q) (λ from era q. q) f) a))
+phase_asks w k j word d (Works work) e f a = absurd (no_truth (quiet_asks d j word (each_work_role w.layout work (λ (r : Role). fits r d ≡ true → is_quiet d ≡ true) (λ q. q) (λ from era q. q) f) a))
 phase_asks w k j word d (Runs why (Begin at)) e f a = absurd (no_truth (quiet_asks d j word f a))
 phase_asks w k j word d (Runs why (Protect aim index root steps at)) e f a = asks_of w k j word why aim index root steps at e (protect_asks w.layout index root at d j word f a)
 phase_asks w k j word d (Runs why (Reload parent index slot era steps)) e f a = absurd (no_truth (quiet_asks d j word f a))
-phase_asks w k j word d (Runs why (Clear index)) e f a = absurd (no_truth (quiet_asks d j word f a))
+phase_asks w k j word d (Runs why (Clear rows index)) e f a = absurd (no_truth (quiet_asks d j word f a))
 phase_asks w k j word d (Runs why Finish) e f a = absurd (no_truth (quiet_asks d j word f a))
 phase_asks w k j word d (Runs why (Release index)) e f a = absurd (no_truth (quiet_asks d j word f a))
 phase_asks w k j word d (Runs why (Allocate at)) e f a = absurd (no_truth (quiet_asks d j word f a))

@@ -1,4 +1,5 @@
 -- How a seat's deal comes to be what it is after a step, and what each of these steps finds.
+use Rattle.inv_covers.proofs.shapes.Tries.{helps_plain}
 use Rattle.std.proofs.Common.{ℕ, ◌≡◌, ◌≤◌, ◌<◌, ◌+◌, ◌^◌, ◌∙◌, Bool, true, false, refl, ap, sym, arith, ◌&&◌}
 use Rattle.std.proofs.lemmas.Bool.Decides.{nat_tests}
 use Rattle.std.specs.Prelude.{◌==◌, ◌||◌, if◌then◌else◌, nat_lt}
@@ -12,7 +13,7 @@ use Rattle.inv_covers.specs.model.Links.{link_place, link_number}
 use Rattle.inv_covers.specs.model.Memory.{upd}
 use Rattle.inv_covers.specs.model.Posts.{tag_of}
 use Rattle.inv_covers.specs.model.Phases.{Aim, ProtectAt, MoveAt}
-use Rattle.inv_covers.specs.model.Phases.ProtectAt.{LoadClock, PublishEra, LoadLink, CheckClock, PublishRequest, LoadOwnClock, PublishHelper, LoadOwnLink, CheckOwnClock, AnswerOwn, LoadAnswer, TakeAnswer, WithdrawRequest, WithdrawHelper, LoadWithin, CheckUpper, RaiseUpper}
+use Rattle.inv_covers.specs.model.Phases.ProtectAt.{LoadClock, PublishEra, LoadLink, CheckClock, PublishRequest, LoadOwnClock, PublishHelper, LoadOwnLink, CheckOwnClock, AnswerOwn, LoadAnswer, TakeAnswer, WithdrawRequest, WithdrawHelper, LoadWithin, CheckUpper, RaiseUpper, ByHazard}
 use Rattle.inv_covers.specs.model.Phases.MoveAt.{LoadEra, LoadRequest, ShowEra, LoadAsked, CheckEra, AnswerAsked, LoadReserved, HandOver, HideEra, HideLate, ExchangeClock}
 use Rattle.inv_covers.specs.model.Phases.Base.{Protect, Move}
 use Rattle.inv_covers.specs.model.SlowPath.{asking, own_request}
@@ -26,7 +27,7 @@ use Rattle.inv_requests.specs.Views.{Deal, View as Asked}
 use Rattle.inv_requests.specs.Views.Deal.{Quiet, Open, Answered, Passed, Taken}
 use Rattle.inv_covers.specs.rows.Rows.{View}
 use Rattle.inv_ends.specs.Handover.{HandoverNeeds}
-use Rattle.inv_ends.proofs.Handover.Asks.{asker}
+use Rattle.inv_ends.proofs.Handover.Asks.{asker, run_of}
 use Rattle.inv_ends.proofs.Handover.Back.{inside_of}
 use Rattle.inv_ends.proofs.Handover.Words.{Handed}
 use Rattle.inv_requests.proofs.Known.{stands_as}
@@ -82,6 +83,7 @@ protect_step w i k deal why aim index root steps (WithdrawHelper link era) q e =
 protect_step w i k deal why aim index root steps LoadWithin q e = SameDeal e
 protect_step w i k deal why aim index root steps (CheckUpper link) q e = SameDeal e
 protect_step w i k deal why aim index root steps (RaiseUpper era) q e = SameDeal e
+protect_step w i k deal why aim index root steps (ByHazard at) q e = SameDeal e
 
 asked_step : (w : World) (i k : ℕ) (deal : ℕ → Deal) (why : Why) (e m t j : ℕ) (root : Root) (link : ℕ) → (w.seat i).phase ≡ Runs why (Move (AnswerAsked e m t j root link)) → (w.mem (places.Request m) == asking (w.seat i).post.layout t j root) ≡ true → k ≡ m → next_deals w i deal k ≡ Answered t j (link_number (w.seat i).post.layout root) link e i → DealStep w i k deal
 asked_step w i k deal why e m t j root link q s o d = HelpedAnswer why e t j root link (q ∙ ap (λ (n : ℕ). Runs why (Move (AnswerAsked e n t j root link))) (sym o)) (rw o s) d
@@ -139,8 +141,9 @@ handed_deal w i v z k j n h =
     let b = bounds_of w.layout n.valid in
     let m = n.requests.parts.clock in
     let f : h.tag < 2 ^ 32 = grind (arith, nat_tests, b.eras) in
+    let plain = helps_plain w.layout.config.scheme (nat_lt k w.layout.config.seats) (run_of w i h.why (Move (HandOver h.era k h.tag j h.root h.link h.old)) n.seats h.is).fits in
     let e : w.mem (places.Index k j) ≡ halves h.old h.tag = let y = h.same in grind (arith, nat_tests) in
-    let x = halves_one (z.era k j) (z.mark k j) h.old h.tag (mark_few w i v z k j n) f (sym (n.requests.words.indexes k j) ∙ e) in
+    let x = halves_one (z.era k j) (z.mark k j) h.old h.tag (mark_few w i v z k j n) f (sym (n.requests.words.indexes plain k j) ∙ e) in
     let q = n.requests.parts.marks k j in
     let u : nat_lt h.tag (z.tag k j) ≡ false = let y = x.1 in grind (arith, nat_tests) in
     gave_is h.tag j (link_number w.layout h.root) h.link h.era i (z.deal k) (last_first (nat_lt h.tag (z.tag k j)) (gave_by h.tag j (link_number w.layout h.root) h.link h.era i (z.deal k)) (z.era k j == h.old) (rw r at (n.requests.parts.known i)) u)

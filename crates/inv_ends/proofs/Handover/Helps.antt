@@ -1,4 +1,5 @@
 -- What helper words hold after a step, and an index word from the hand-over on.
+use Rattle.inv_covers.proofs.words.Schemes.{helps_not_rows}
 use Rattle.std.proofs.Common.{ℕ, ◌≡◌, ◌∙◌, Bool, true, false, List, refl, ap, sym, subst, arith, ◌⊎◌, inl, inr, ◌&&◌}
 use Rattle.std.proofs.lemmas.Bool.Decides.{nat_tests}
 use Rattle.std.specs.Prelude.{◌==◌, nat_lt}
@@ -15,7 +16,8 @@ use Rattle.inv_covers.specs.model.Links.{link_place, link_number, root_at}
 use Rattle.inv_covers.specs.model.Memory.{Move as Act, upd, written, bump}
 use Rattle.inv_covers.specs.model.Posts.{counted, tag_of}
 use Rattle.inv_covers.specs.model.Phases.{Aim, ProtectAt, MoveAt, Base, Outcome, Goes, Ends, Turn}
-use Rattle.inv_covers.specs.model.Phases.ProtectAt.{PublishEra, PublishHelper, LoadOwnLink, CheckOwnClock, AnswerOwn, TakeAnswer, WithdrawHelper}
+use Rattle.inv_covers.specs.model.Phases.ProtectAt.{PublishEra, PublishHelper, LoadOwnLink, CheckOwnClock, AnswerOwn, TakeAnswer, WithdrawHelper, ByHazard}
+use Rattle.inv_covers.specs.model.Phases.HazardAt.{PublishLink}
 use Rattle.inv_covers.specs.model.Phases.MoveAt.{ShowEra, LoadAsked, CheckEra, AnswerAsked, HideEra, HideLate}
 use Rattle.inv_covers.specs.model.Phases.Base.{Protect, Move}
 use Rattle.inv_covers.specs.model.Machine.{after}
@@ -38,7 +40,7 @@ use Rattle.inv_covers.specs.Covers.{eras_shown}
 use Rattle.inv_covers.specs.Held.{leads, under, Holds, Held}
 use Rattle.inv_ends.specs.Helped.{open_by, helper_holds, answered_from, passed_to, Helped}
 use Rattle.inv_ends.specs.Handover.{HandoverNeeds}
-use Rattle.inv_covers.proofs.Held.{stepped_phase, move_is, finds_at, protect_stays, protect_rows, loads_cover, same_run}
+use Rattle.inv_covers.proofs.Held.{stepped_phase, move_is, finds_at, protect_stays, protect_rows, loads_cover, same_run, eras_reaches}
 use Rattle.inv_covers.proofs.Guards.{helpers_fit}
 use Rattle.inv_covers.proofs.Fresh.{works_start, resume_fresh}
 use Rattle.inv_covers.proofs.Scans.{scan_starts}
@@ -54,15 +56,15 @@ use Rattle.inv_requests.proofs.Known.{stands_as}
 use Rattle.inv_covers.proofs.model.Facts.{first_of, rest_of, both, no_truth}
 
 -- a helper word that its own seat leaves
-still_helper : (w : World) (i : ℕ) (v : View) (z : Asked) (why : Why) (base : Base) (s : ℕ) → HandoverNeeds w i v z → (w.seat i).phase ≡ Runs why base → stores_helper base ≡ false → Holds w v (Helper i) s → Holds (step w i) (rows_after w i v) (Helper i) s
-still_helper w i v z why base s n e o h = holds_stay w i v (Helper i) s n.covers n.scans (helper_stays w i i (Runs why base) (n.seats.fits i).post.seat e (rw o (no_store i i))) h
+still_helper : (w : World) (i : ℕ) (v : View) (z : Asked) (why : Why) (base : Base) (s : ℕ) → helps w.layout.config.scheme ≡ true → HandoverNeeds w i v z → (w.seat i).phase ≡ Runs why base → stores_helper base ≡ false → Holds w v (Helper i) s → Holds (step w i) (rows_after w i v) (Helper i) s
+still_helper w i v z why base s f n e o h = holds_stay w i v (Helper i) s f n.covers n.scans (helper_stays w i i (Runs why base) (n.seats.fits i).post.seat e (rw o (no_store i i))) h
 
 -- a link that is loaded under the own helper word
 helper_load : (w : World) (i : ℕ) (v : View) (z : Asked) (root : Root) (era s : ℕ) → helps w.layout.config.scheme ≡ true → HandoverNeeds w i v z → z.helper i ≡ era → w.mem Clock ≡ era → leads (w.mem (link_place root)) s ≡ true → under v.status root ≡ true → Holds w v (Helper i) s
 helper_load w i v z root era s f n h c l u =
     let m = n.eras.some in
     let x : eras_shown w (Helper i) ≡ from_to era era = helper_shows w z i n.requests ∙ ap one_era h ∙ one_from era (omega (arith, c, m)) in
-    record { fits = helpers_fit w.layout.config i f n.below; covers = loads_cover w v (Helper i) root era era s n.roots x (omega (arith, c)) (grind (arith, nat_tests)) u }
+    record { fits = helpers_fit w.layout.config i f n.below; covers = loads_cover w v (Helper i) root s n.roots (eras_reaches w (Helper i) era era s (helps_not_rows w.layout.config.scheme f) x (omega (arith, c))) (grind (arith, nat_tests)) u }
 
 -- a mover leaves the rows
 move_rows : (w : World) (i : ℕ) (v : View) (why : Why) (at : MoveAt) → (w.seat i).phase ≡ Runs why (Move at) → rows_after w i v ≡ v
@@ -77,13 +79,13 @@ turn_loads w i v z why aim index root steps (LoadOwnLink first era last) s f n g
     let l : leads (finds w i) s ≡ true = first_of (leads (finds w i) s) (w.mem Clock == era && under v.status root) h in
     let q : (w.mem Clock == era && under v.status root) ≡ true = rest_of (leads (finds w i) s) (w.mem Clock == era && under v.status root) h in
     let c : (w.mem Clock == era) ≡ true = first_of (w.mem Clock == era) (under v.status root) q in
-    still_helper w i v z why (Protect aim index root steps (LoadOwnLink first era last)) s n e refl
+    still_helper w i v z why (Protect aim index root steps (LoadOwnLink first era last)) s f n e refl
     (helper_load w i v z root era s f n (grind (arith, nat_tests)) (grind (arith, nat_tests)) (subst (λ (k : ℕ). leads k s ≡ true) x l) (rest_of (w.mem Clock == era) (under v.status root) q))
 turn_loads w i v z why aim index root steps (CheckOwnClock first era last link) s f n g e h =
     let x : finds w i ≡ w.mem Clock = finds_at w i (Runs why (Protect aim index root steps (CheckOwnClock first era last link))) e in
     let c : (w.mem Clock == era) ≡ true = rw (sym x) (first_of (finds w i == era) (leads link s && under v.status root) h) in
     let q = rest_of (finds w i == era) (leads link s && under v.status root) h in
-    still_helper w i v z why (Protect aim index root steps (CheckOwnClock first era last link)) s n e refl
+    still_helper w i v z why (Protect aim index root steps (CheckOwnClock first era last link)) s f n e refl
     (g.loaded i why (Protect aim index root steps (CheckOwnClock first era last link)) s e
     (both (leads link s) (w.mem Clock == era && under v.status root) (first_of (leads link s) (under v.status root) q) (both (w.mem Clock == era) (under v.status root) c (rest_of (leads link s) (under v.status root) q))))
 turn_loads w i v z why aim index root steps at s f n g e h = absurd (cc)
@@ -98,7 +100,7 @@ move_loads_held w i v z why (LoadAsked era k t j root) clock s f n g e d h =
     let l : leads (finds w i) s ≡ true = first_of (leads (finds w i) s) (clock == era && under v.status root) h in
     let q : (clock == era && under v.status root) ≡ true = rest_of (leads (finds w i) s) (clock == era && under v.status root) h in
     let c : (clock == era) ≡ true = first_of (clock == era) (under v.status root) q in
-    still_helper w i v z why (Move (LoadAsked era k t j root)) s n e refl
+    still_helper w i v z why (Move (LoadAsked era k t j root)) s f n e refl
     (helper_load w i v z root era s f n (grind (arith, nat_tests)) (sym y ∙ sym d ∙ grind (arith, nat_tests)) (subst (λ (k : ℕ). leads k s ≡ true) x l) (rest_of (clock == era) (under v.status root) q))
 move_loads_held w i v z why (CheckEra era k t j root link) clock s f n g e d h =
     let x : finds w i ≡ w.mem Clock = finds_at w i (Runs why (Move (CheckEra era k t j root link))) e in
@@ -107,7 +109,7 @@ move_loads_held w i v z why (CheckEra era k t j root link) clock s f n g e d h =
     let q = rest_of (finds w i == era) (open_by t j (link_number w.layout root) (next_deals w i z.deal k) && (leads link s && under v.status root)) h in
     let o : open_by t j (link_number w.layout root) (z.deal k) ≡ true = subst (λ (b : Deal). open_by t j (link_number w.layout root) b ≡ true) u (first_of (open_by t j (link_number w.layout root) (next_deals w i z.deal k)) (leads link s && under v.status root) q) in
     let m = rest_of (open_by t j (link_number w.layout root) (next_deals w i z.deal k)) (leads link s && under v.status root) q in
-    still_helper w i v z why (Move (CheckEra era k t j root link)) s n e refl
+    still_helper w i v z why (Move (CheckEra era k t j root link)) s f n e refl
     (g.loaded i why (Move (CheckEra era k t j root link)) s e
     (all_true (open_by t j (link_number w.layout root) (z.deal k)) (leads link s) (w.mem Clock == era) (under v.status root) o (first_of (leads link s) (under v.status root) m) c (rest_of (leads link s) (under v.status root) m)))
 move_loads_held w i v z why at clock s f n g e d h = absurd (cc)
@@ -182,12 +184,12 @@ giver_still w i v z k t j word l e m true o n q =
     rw x (phase_still w.layout i m k t j word l e (w.seat i).phase (rw (sym r) h))
 
 -- an answer that was given before
-same_answer : (w : World) (i : ℕ) (v : View) (z : Asked) (k by s : ℕ) (d : Deal) → HandoverNeeds w i v z → Held w v → Helped w v z.deal → z.deal k ≡ d → answered_from w.layout (rows_after w i v).status by d s ≡ true → Holds (step w i) (rows_after w i v) (Helper by) s
-same_answer w i v z k by s Quiet n h g q a = absurd (cc)
-same_answer w i v z k by s (Open t j word) n h g q a = absurd (cc)
-same_answer w i v z k by s (Passed t j word l e) n h g q a = absurd (cc)
-same_answer w i v z k by s (Taken t j word l e) n h g q a = absurd (cc)
-same_answer w i v z k by s (Answered t j word l e m) n h g q a =
+same_answer : (w : World) (i : ℕ) (v : View) (z : Asked) (k by s : ℕ) (d : Deal) → helps w.layout.config.scheme ≡ true → HandoverNeeds w i v z → Held w v → Helped w v z.deal → z.deal k ≡ d → answered_from w.layout (rows_after w i v).status by d s ≡ true → Holds (step w i) (rows_after w i v) (Helper by) s
+same_answer w i v z k by s Quiet helping n h g q a = absurd (cc)
+same_answer w i v z k by s (Open t j word) helping n h g q a = absurd (cc)
+same_answer w i v z k by s (Passed t j word l e) helping n h g q a = absurd (cc)
+same_answer w i v z k by s (Taken t j word l e) helping n h g q a = absurd (cc)
+same_answer w i v z k by s (Answered t j word l e m) helping n h g q a =
     let o : (m == by) ≡ true = first_of (m == by) (leads l s && under (rows_after w i v).status (root_at w.layout word)) a in
     let x : m ≡ by = grind (arith, nat_tests) in
     let b = rest_of (m == by) (leads l s && under (rows_after w i v).status (root_at w.layout word)) a in
@@ -195,7 +197,7 @@ same_answer w i v z k by s (Answered t j word l e m) n h g q a =
     let u = asked_under w i v z k j word n h c (rest_of (leads l s) (under (rows_after w i v).status (root_at w.layout word)) b) in
     let y : answered_from w.layout v.status by (z.deal k) s ≡ true = rw q (both (m == by) (leads l s && under v.status (root_at w.layout word)) o (both (leads l s) (under v.status (root_at w.layout word)) (first_of (leads l s) (under (rows_after w i v).status (root_at w.layout word)) b) u)) in
     let f : own_helper i (w.seat i).phase by ≡ false = rw (sym x) (giver_still w i v z k t j word l e m (m == i) refl n q) in
-    holds_stay w i v (Helper by) s n.covers n.scans (helper_stays w i by (w.seat i).phase (n.seats.fits i).post.seat refl f) (g.answered k by s y)
+    holds_stay w i v (Helper by) s helping n.covers n.scans (helper_stays w i by (w.seat i).phase (n.seats.fits i).post.seat refl f) (g.answered k by s y)
 
 -- the parts of a new answer
 new_by : (layout : Layout) (status : ℕ → Status) (by t j word l e m s : ℕ) → answered_from layout status by (Answered t j word l e m) s ≡ true → m ≡ by
@@ -210,13 +212,13 @@ new_under layout status by t j word l e m s h = rest_of (leads l s) (under statu
 own_number : (w : World) (i : ℕ) (v : View) (z : Asked) (root : Root) → HandoverNeeds w i v z → link_number (w.seat i).post.layout root ≡ link_number w.layout root
 own_number w i v z root n = ap (λ (l : Layout). link_number l root) (n.seats.fits i).post.layout
 
-answer_from : (w : World) (i : ℕ) (v : View) (z : Asked) (k by s : ℕ) → HandoverNeeds w i v z → Held w v → Helped w v z.deal → DealStep w i k z.deal → answered_from w.layout (rows_after w i v).status by (next_deals w i z.deal k) s ≡ true → Holds (step w i) (rows_after w i v) (Helper by) s
-answer_from w i v z k by s n h g (SameDeal e) a = same_answer w i v z k by s (z.deal k) n h g refl (subst (λ (d : Deal). answered_from w.layout (rows_after w i v).status by d s ≡ true) e a)
-answer_from w i v z k by s n h g (NewAsk why aim index root steps o q e) a = absurd (let x = rw e at a in no_truth x)
-answer_from w i v z k by s n h g (AnswerTaken tag index number link era e) a = absurd (let x = rw e at a in no_truth x)
-answer_from w i v z k by s n h g (AskLeft e) a = absurd (let x = rw e at a in no_truth x)
-answer_from w i v z k by s n h g (HandedOver why era tag index root link old q m e) a = absurd (let x = rw e at a in no_truth x)
-answer_from w i v z k by s n h g (OwnAnswer why aim index root steps first era link o q e) a =
+answer_from : (w : World) (i : ℕ) (v : View) (z : Asked) (k by s : ℕ) → helps w.layout.config.scheme ≡ true → HandoverNeeds w i v z → Held w v → Helped w v z.deal → DealStep w i k z.deal → answered_from w.layout (rows_after w i v).status by (next_deals w i z.deal k) s ≡ true → Holds (step w i) (rows_after w i v) (Helper by) s
+answer_from w i v z k by s f n h g (SameDeal e) a = same_answer w i v z k by s (z.deal k) f n h g refl (subst (λ (d : Deal). answered_from w.layout (rows_after w i v).status by d s ≡ true) e a)
+answer_from w i v z k by s f n h g (NewAsk why aim index root steps o q e) a = absurd (let x = rw e at a in no_truth x)
+answer_from w i v z k by s f n h g (AnswerTaken tag index number link era e) a = absurd (let x = rw e at a in no_truth x)
+answer_from w i v z k by s f n h g (AskLeft e) a = absurd (let x = rw e at a in no_truth x)
+answer_from w i v z k by s f n h g (HandedOver why era tag index root link old q m e) a = absurd (let x = rw e at a in no_truth x)
+answer_from w i v z k by s f n h g (OwnAnswer why aim index root steps first era link o q e) a =
     let b : answered_from w.layout (rows_after w i v).status by (Answered (tag_of (w.seat i).post index) index (link_number w.layout root) link era i) s ≡ true = subst (λ (d : Deal). answered_from w.layout (rows_after w i v).status by d s ≡ true) (e ∙ ap (λ (c : ℕ). Answered (tag_of (w.seat i).post index) index c link era i) (own_number w i v z root n)) a in
     let x = new_by w.layout (rows_after w i v).status by (tag_of (w.seat i).post index) index (link_number w.layout root) link era i s b in
     let l = new_leads w.layout (rows_after w i v).status by (tag_of (w.seat i).post index) index (link_number w.layout root) link era i s b in
@@ -224,8 +226,8 @@ answer_from w i v z k by s n h g (OwnAnswer why aim index root steps first era l
     let p = inside_of w i v z i why aim index root steps (AnswerOwn first era link) n q in
     let r : root_at w.layout (link_number w.layout root) ≡ root = root_at_link w.layout root (rest_of (nat_lt index w.layout.config.indexes) (has w.layout (link_place root)) p) in
     let y = own_under w i v z i why aim index root steps (AnswerOwn first era link) n h q (subst (λ (c : Root). under (rows_after w i v).status c ≡ true) r u) in
-    rw (sym x) (still_helper w i v z why (Protect aim index root steps (AnswerOwn first era link)) s n q refl (g.loaded i why (Protect aim index root steps (AnswerOwn first era link)) s q (both (leads link s) (under v.status root) l y)))
-answer_from w i v z k by s n h g (HelpedAnswer why era t j root link q m e) a =
+    rw (sym x) (still_helper w i v z why (Protect aim index root steps (AnswerOwn first era link)) s f n q refl (g.loaded i why (Protect aim index root steps (AnswerOwn first era link)) s q (both (leads link s) (under v.status root) l y)))
+answer_from w i v z k by s f n h g (HelpedAnswer why era t j root link q m e) a =
     let b : answered_from w.layout (rows_after w i v).status by (Answered t j (link_number w.layout root) link era i) s ≡ true = subst (λ (d : Deal). answered_from w.layout (rows_after w i v).status by d s ≡ true) (e ∙ ap (λ (c : ℕ). Answered t j c link era i) (own_number w i v z root n)) a in
     let x = new_by w.layout (rows_after w i v).status by t j (link_number w.layout root) link era i s b in
     let l = new_leads w.layout (rows_after w i v).status by t j (link_number w.layout root) link era i s b in
@@ -235,11 +237,11 @@ answer_from w i v z k by s n h g (HelpedAnswer why era t j root link q m e) a =
     let c : asked_at j (link_number w.layout root) (z.deal k) ≡ true = rw d (grind (arith, nat_tests)) in
     let r : root_at w.layout (link_number w.layout root) ≡ root = root_at_link w.layout root (move_root w z i why (AnswerAsked era k t j root link) n.requests q) in
     let y = subst (λ (f : Root). under v.status f ≡ true) r (asked_under w i v z k j (link_number w.layout root) n h c u) in
-    rw (sym x) (still_helper w i v z why (Move (AnswerAsked era k t j root link)) s n q refl (g.loaded i why (Move (AnswerAsked era k t j root link)) s q
+    rw (sym x) (still_helper w i v z why (Move (AnswerAsked era k t j root link)) s f n q refl (g.loaded i why (Move (AnswerAsked era k t j root link)) s q
     (both (open_by t j (link_number w.layout root) (z.deal k)) (leads link s && under v.status root) o (both (leads link s) (under v.status root) l y))))
 
-pub answers_hold : (w : World) (i : ℕ) (v : View) (z : Asked) (k by s : ℕ) → HandoverNeeds w i v z → Held w v → Helped w v z.deal → answered_from w.layout (rows_after w i v).status by (next_deals w i z.deal k) s ≡ true → Holds (step w i) (rows_after w i v) (Helper by) s
-answers_hold w i v z k by s n h g a = answer_from w i v z k by s n h g (deal_step w i k z.deal) a
+pub answers_hold : (w : World) (i : ℕ) (v : View) (z : Asked) (k by s : ℕ) → helps w.layout.config.scheme ≡ true → HandoverNeeds w i v z → Held w v → Helped w v z.deal → answered_from w.layout (rows_after w i v).status by (next_deals w i z.deal k) s ≡ true → Holds (step w i) (rows_after w i v) (Helper by) s
+answers_hold w i v z k by s f n h g a = answer_from w i v z k by s f n h g (deal_step w i k z.deal) a
 
 -- an answer that was handed over before: its seat does not store its index word, unless it takes the answer
 self_upd : (i : ℕ) (deal : ℕ → Deal) (d : Deal) → upd deal i d i ≡ d
@@ -252,6 +254,7 @@ not_taken w i deal why aim index root steps (TakeAnswer link era) t j word l e q
     other_deal : Taken (tag_of (w.seat i).post index) index (link_number (w.seat i).post.layout root) link era ≡ Passed t j word l e → ⊥
     other_deal y = cc
 not_taken w i deal why aim index root steps (PublishEra era tries) t j word l e q o p = absurd (cc)
+not_taken w i deal why aim index root steps (ByHazard (PublishLink link)) t j word l e q o p = absurd (cc)
 not_taken w i deal why aim index root steps at t j word l e q o p = refl
 
 passed_own : (w : World) (i : ℕ) (v : View) (z : Asked) (k t j word l e : ℕ) (own : Bool) → (k == i) ≡ own → HandoverNeeds w i v z → next_deals w i z.deal k ≡ z.deal k → z.deal k ≡ Passed t j word l e → own_index i (w.seat i).phase k j ≡ false
@@ -271,12 +274,12 @@ handed_once w i v z k j t word l e n h q = let d = handed_deal w i v z k j n h i
     other_deal : Answered h.tag j (link_number w.layout h.root) h.link h.era i ≡ Passed t j word l e → ⊥
     other_deal y = cc
 
-same_passed : (w : World) (i : ℕ) (v : View) (z : Asked) (k index s : ℕ) (d : Deal) → HandoverNeeds w i v z → Held w v → Helped w v z.deal → next_deals w i z.deal k ≡ z.deal k → z.deal k ≡ d → passed_to w.layout (rows_after w i v).status index d s ≡ true → Holds (step w i) (rows_after w i v) (Index k index) s
-same_passed w i v z k index s Quiet n h g x q a = absurd (cc)
-same_passed w i v z k index s (Open t j word) n h g x q a = absurd (cc)
-same_passed w i v z k index s (Answered t j word l e m) n h g x q a = absurd (cc)
-same_passed w i v z k index s (Taken t j word l e) n h g x q a = absurd (cc)
-same_passed w i v z k index s (Passed t j word l e) n h g x q a =
+same_passed : (w : World) (i : ℕ) (v : View) (z : Asked) (k index s : ℕ) (d : Deal) → helps w.layout.config.scheme ≡ true → HandoverNeeds w i v z → Held w v → Helped w v z.deal → next_deals w i z.deal k ≡ z.deal k → z.deal k ≡ d → passed_to w.layout (rows_after w i v).status index d s ≡ true → Holds (step w i) (rows_after w i v) (Index k index) s
+same_passed w i v z k index s Quiet helping n h g x q a = absurd (cc)
+same_passed w i v z k index s (Open t j word) helping n h g x q a = absurd (cc)
+same_passed w i v z k index s (Answered t j word l e m) helping n h g x q a = absurd (cc)
+same_passed w i v z k index s (Taken t j word l e) helping n h g x q a = absurd (cc)
+same_passed w i v z k index s (Passed t j word l e) helping n h g x q a =
     let o : (j == index) ≡ true = first_of (j == index) (leads l s && under (rows_after w i v).status (root_at w.layout word)) a in
     let y : j ≡ index = grind (arith, nat_tests) in
     let b = rest_of (j == index) (leads l s && under (rows_after w i v).status (root_at w.layout word)) a in
@@ -286,11 +289,11 @@ same_passed w i v z k index s (Passed t j word l e) n h g x q a =
     rw (sym y) (by (g.passed k j s p) (index_stays w i k j (w.seat i).phase (n.seats.fits i).post.seat refl (passed_own w i v z k t j word l e (k == i) refl n x q)))
   where
     by : Holds w v (Index k j) s → (eras_shown (step w i) (Index k j) ≡ eras_shown w (Index k j)) ⊎ Handed w i k j → Holds (step w i) (rows_after w i v) (Index k j) s
-    by r (inl f) = holds_stay w i v (Index k j) s n.covers n.scans f r
+    by r (inl f) = holds_stay w i v (Index k j) s helping n.covers n.scans f r
     by r (inr f) = absurd (no_truth (handed_once w i v z k j t word l e n f q))
 
 passed_from : (w : World) (i : ℕ) (v : View) (z : Asked) (k index s : ℕ) → helps w.layout.config.scheme ≡ true → HandoverNeeds w i v z → Held w v → Helped w v z.deal → DealStep w i k z.deal → passed_to w.layout (rows_after w i v).status index (next_deals w i z.deal k) s ≡ true → Holds (step w i) (rows_after w i v) (Index k index) s
-passed_from w i v z k index s f n h g (SameDeal e) a = same_passed w i v z k index s (z.deal k) n h g e refl (subst (λ (d : Deal). passed_to w.layout (rows_after w i v).status index d s ≡ true) e a)
+passed_from w i v z k index s f n h g (SameDeal e) a = same_passed w i v z k index s (z.deal k) f n h g e refl (subst (λ (d : Deal). passed_to w.layout (rows_after w i v).status index d s ≡ true) e a)
 passed_from w i v z k index s f n h g (NewAsk why aim place root steps o q e) a = absurd (let x = rw e at a in no_truth x)
 passed_from w i v z k index s f n h g (OwnAnswer why aim place root steps first era link o q e) a = absurd (let x = rw e at a in no_truth x)
 passed_from w i v z k index s f n h g (AnswerTaken tag place number link era e) a = absurd (let x = rw e at a in no_truth x)

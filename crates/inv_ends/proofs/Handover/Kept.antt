@@ -48,7 +48,7 @@ loaded_at : (w : World) (i : ℕ) (v : View) (z : Asked) (k : ℕ) (why : Why) (
 loaded_at w i v z k why base s true o f n h g e t =
     let q : k ≡ i = grind (arith, nat_tests) in
     subst (λ (m : ℕ). ((step w i).seat m).phase ≡ Runs why base → Holds (step w i) (rows_after w i v) (Helper m) s) (sym q) (λ x. own_loaded w i v z why base s f n g x t) e
-loaded_at w i v z k why base s false o f n h g e t = other_loaded w i v z k why base s o n h g e t
+loaded_at w i v z k why base s false o f n h g e t = other_loaded w i v z k why base s o f n h g e t
 
 pub handover_kept : HandoverKept
 handover_kept w i v z f n h g = (
@@ -58,7 +58,7 @@ handover_kept w i v z f n h g = (
   },
   record {
     loaded = λ k why base s e t. loaded_at w i v z k why base s (k == i) refl f n h g e t;
-    answered = λ k by s a. answers_hold w i v z k by s n h g a;
+    answered = λ k by s a. answers_hold w i v z k by s f n h g a;
     passed = λ k index s a. passed_hold w i v z k index s f n h g a;
   },
 )

@@ -1,7 +1,7 @@
 -- What helper words hold after a step of their own seat: the turn or the mover has loaded it before, or loads it.
 use Rattle.std.proofs.Common.{ℕ, ◌≡◌, ◌+◌, ◌∙◌, Bool, true, false, List, [], ◌∷◌, Option, Some, None, refl, sym, subst, arith, ◌&&◌}
 use Rattle.std.proofs.lemmas.Bool.Decides.{nat_tests}
-use Rattle.std.specs.Prelude.{◌==◌, if◌then◌else◌, nat_le, nat_lt}
+use Rattle.std.specs.Prelude.{◌==◌, if◌then◌else◌, nat_le, nat_lt, ◌||◌}
 use Rattle.inv_covers.specs.words.Packed.{read_request, read_reservation, reservation_word}
 use Rattle.inv_covers.specs.words.declared.packed.Request.{Request}
 use Rattle.inv_covers.specs.words.declared.config.Config.{Config}
@@ -13,7 +13,8 @@ use Rattle.inv_covers.specs.model.Links.{link_number, root_at}
 use Rattle.inv_covers.specs.model.Memory.{found}
 use Rattle.inv_covers.specs.model.Phases.{Aim, Alone, Follows, Walk, Tries, Endless, Failed, BeginAt, ProtectAt, AllocateAt, RetireAt, MoveAt, Base, Outcome, Goes, Ends, Turn, goes, ends}
 use Rattle.inv_covers.specs.model.Phases.BeginAt.{LoadLower, PublishSpan}
-use Rattle.inv_covers.specs.model.Phases.ProtectAt.{LoadClock, PublishEra, LoadLink, CheckClock, PublishRequest, LoadOwnClock, PublishHelper, LoadOwnLink, CheckOwnClock, AnswerOwn, LoadAnswer, TakeAnswer, WithdrawRequest, WithdrawHelper, LoadWithin, CheckUpper, RaiseUpper}
+use Rattle.inv_covers.specs.model.Phases.ProtectAt.{LoadClock, PublishEra, LoadLink, CheckClock, PublishRequest, LoadOwnClock, PublishHelper, LoadOwnLink, CheckOwnClock, AnswerOwn, LoadAnswer, TakeAnswer, WithdrawRequest, WithdrawHelper, LoadWithin, CheckUpper, RaiseUpper, ByHazard}
+use Rattle.inv_covers.specs.model.Phases.HazardAt.{FirstLink, PublishLink, CheckLink}
 use Rattle.inv_covers.specs.model.Phases.AllocateAt.{LoadBirth, ClaimSlot, StoreLife}
 use Rattle.inv_covers.specs.model.Phases.RetireAt.{LoadLife, LoadRetire, StoreRetired}
 use Rattle.inv_covers.specs.model.Phases.MoveAt.{LoadEra, LoadRequest, ShowEra, LoadAsked, CheckEra, AnswerAsked, LoadReserved, HandOver, HideEra, HideLate, ExchangeClock}
@@ -129,6 +130,11 @@ protect_loads layout clock status deal aim index root n LoadWithin post found s 
 protect_loads layout clock status deal aim index root n (CheckUpper link) post found s h =
     absurd (no_truth (sym (either_unheld layout clock status deal (protected aim index root n link found post) (goes post [] (Protect aim index root n (RaiseUpper found))) s (found == upper post.span) (over_unheld layout clock status deal aim index root n link found (held_post post index root link) (told_held index root link n) s) refl) ∙ h))
 protect_loads layout clock status deal aim index root n (RaiseUpper era) post found s h = absurd (cc)
+protect_loads layout clock status deal aim index root n (ByHazard FirstLink) post found s h =
+    absurd (no_truth (sym (either_unheld layout clock status deal (protected aim index root n found 0 post) (goes post [] (Protect aim index root n (ByHazard (PublishLink found)))) s (found == 0) (over_unheld layout clock status deal aim index root n found 0 (held_post post index root found) (told_held index root found n) s) refl) ∙ h))
+protect_loads layout clock status deal aim index root n (ByHazard (PublishLink link)) post found s h = absurd (cc)
+protect_loads layout clock status deal aim index root n (ByHazard (CheckLink link)) post found s h =
+    absurd (no_truth (sym (either_unheld layout clock status deal (protected aim index root n found 0 post) (goes post [] (Protect aim index root n (ByHazard (PublishLink found)))) s (found == link || found == 0) (over_unheld layout clock status deal aim index root n found 0 (held_post post index root found) (told_held index root found n) s) refl) ∙ h))
 
 -- movers
 met_all_unheld : (layout : Layout) (clock : ℕ) (status : ℕ → Status) (deal : ℕ → Deal) (era s : ℕ) (shows : Bool) → move_holds layout clock status deal (all_met era shows) s ≡ false
@@ -209,7 +215,7 @@ pub other_unheld : (layout : Layout) (clock : ℕ) (status : ℕ → Status) (de
 other_unheld layout clock status deal (Begin at) post found s p = begin_unheld layout clock status deal at post found s
 other_unheld layout clock status deal (Protect aim index root steps at) post found s p = absurd (cc)
 other_unheld layout clock status deal (Reload parent index slot era steps) post found s p = either_unheld layout clock status deal _ _ s (found == parent + 1) refl refl
-other_unheld layout clock status deal (Clear index) post found s p = refl
+other_unheld layout clock status deal (Clear rows index) post found s p = refl
 other_unheld layout clock status deal Finish post found s p = refl
 other_unheld layout clock status deal (Release index) post found s p = refl
 other_unheld layout clock status deal (Allocate at) post found s p = allocate_unheld layout clock status deal at post found s

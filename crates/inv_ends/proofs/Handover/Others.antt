@@ -178,8 +178,8 @@ holds_before w i v z k why (Protect aim index root steps at) s n d q h = turn_be
 holds_before w i v z k why (Move at) s n d q h = move_before w i v z k why at s n d q h
 holds_before w i v z k why base s n d q h = absurd (cc)
 
-pub other_loaded : (w : World) (i : ℕ) (v : View) (z : Asked) (k : ℕ) (why : Why) (base : Base) (s : ℕ) → (k == i) ≡ false → HandoverNeeds w i v z → Held w v → Helped w v z.deal → ((step w i).seat k).phase ≡ Runs why base → helper_holds w.layout ((step w i).mem Clock) (rows_after w i v).status (next_deals w i z.deal) base s ≡ true
+pub other_loaded : (w : World) (i : ℕ) (v : View) (z : Asked) (k : ℕ) (why : Why) (base : Base) (s : ℕ) → (k == i) ≡ false → helps w.layout.config.scheme ≡ true → HandoverNeeds w i v z → Held w v → Helped w v z.deal → ((step w i).seat k).phase ≡ Runs why base → helper_holds w.layout ((step w i).mem Clock) (rows_after w i v).status (next_deals w i z.deal) base s ≡ true
     → Holds (step w i) (rows_after w i v) (Helper k) s
-other_loaded w i v z k why base s o n d g e h =
+other_loaded w i v z k why base s o f n d g e h =
     let q : (w.seat k).phase ≡ Runs why base = sym (ap (λ (l : Local). l.phase) (seat_stays w i k o)) ∙ e in
-    holds_stay w i v (Helper k) s n.covers n.scans (helper_stays w i k (w.seat i).phase (n.seats.fits i).post.seat refl (other_helper i k (w.seat i).phase o)) (g.loaded k why base s q (holds_before w i v z k why base s n d q h))
+    holds_stay w i v (Helper k) s f n.covers n.scans (helper_stays w i k (w.seat i).phase (n.seats.fits i).post.seat refl (other_helper i k (w.seat i).phase o)) (g.loaded k why base s q (holds_before w i v z k why base s n d q h))

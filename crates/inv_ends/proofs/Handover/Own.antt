@@ -1,4 +1,6 @@
 -- What the index words of the seat that steps hold after its step.
+use Rattle.inv_covers.specs.defs.Shown as values
+use Rattle.inv_requests.specs.Standing.{copy_role}
 use Rattle.std.proofs.Common.{ℕ, ◌≡◌, ◌<◌, ◌+◌, ◌∙◌, Bool, true, false, length, Option, Some, None, refl, ap, sym, subst, arith, ◌⊎◌, inl, inr, ◌&&◌}
 use Rattle.std.proofs.lemmas.Bool.Decides.{nat_tests}
 use Rattle.std.specs.Prelude.{◌==◌}
@@ -15,7 +17,8 @@ use Rattle.inv_covers.specs.model.Links.{link_place, link_number, parent_of}
 use Rattle.inv_covers.specs.model.Memory.{place_in, found, bump}
 use Rattle.inv_covers.specs.model.Posts.{stands, counted, tag_of}
 use Rattle.inv_covers.specs.model.Phases.{Aim, Follows, ProtectAt, Base}
-use Rattle.inv_covers.specs.model.Phases.ProtectAt.{PublishEra, LoadLink, TakeAnswer}
+use Rattle.inv_covers.specs.model.Phases.ProtectAt.{PublishEra, LoadLink, TakeAnswer, ByHazard}
+use Rattle.inv_covers.specs.model.Phases.HazardAt.{PublishLink}
 use Rattle.inv_covers.specs.model.Phases.MoveAt.{HandOver}
 use Rattle.inv_covers.specs.model.Phases.Base.{Begin, Protect, Reload, Clear, Finish, Release, Allocate, Write, GiveUp, Retire, Move}
 use Rattle.inv_covers.specs.model.Machine.{protect_move, after}
@@ -25,18 +28,18 @@ use Rattle.inv_covers.specs.model.Calls.{Why, Opens, FollowsHead, Fills, ClearsN
 use Rattle.inv_covers.specs.model.World.{World, step, finds, offered}
 use Rattle.inv_covers.proofs.model.Ranges.{bounds_of}
 use Rattle.inv_covers.specs.shapes.Frame.{phase_left}
-use Rattle.inv_covers.specs.words.Schemes.{helps}
+use Rattle.inv_covers.specs.words.Schemes.{helps, publishes_rows}
 use Rattle.inv_covers.specs.shapes.Seats.{Run}
-use Rattle.inv_requests.specs.Views.{View as Asked}
+use Rattle.inv_requests.specs.Views.{View as Asked, Role as role}
 use Rattle.inv_covers.specs.rows.Rows.{Status, View}
 use Rattle.inv_covers.specs.rows.Agree.{rows_after}
 use Rattle.inv_covers.specs.rows.Queue.{in_queue}
-use Rattle.inv_covers.specs.Covers.{eras_shown}
+use Rattle.inv_covers.specs.Covers.{eras_shown, shown, number_shown}
 use Rattle.inv_covers.specs.Held.{under, tries_protect, tries_base, index_base, Holds, Held, rests_protect}
 use Rattle.inv_covers.specs.Rests.{vacant_why, vacant, Vacant}
 use Rattle.inv_ends.specs.Helped.{Helped}
 use Rattle.inv_ends.specs.Handover.{HandoverNeeds}
-use Rattle.inv_covers.proofs.Held.{stepped_post, stepped_phase, KeepFrom, WorkFrom, PhaseHas, From, turn_from, head_queued, finds_at, Comes, turn_out, other_comes, protect_stays, protect_rows, tries_counted, loads_cover, out_start}
+use Rattle.inv_covers.proofs.Held.{stepped_post, stepped_phase, KeepFrom, WorkFrom, PhaseHas, From, turn_from, head_queued, finds_at, Comes, turn_out, other_comes, protect_stays, protect_rows, tries_counted, loads_cover, out_start, eras_reaches}
 use Rattle.inv_covers.proofs.Tried.{is_protect}
 use Rattle.inv_covers.specs.model.WriteRow.{last_written}
 use Rattle.inv_covers.proofs.Stood.{reload_stood, begin_stood, allocate_stood, write_stood, retire_stood, move_stood}
@@ -44,11 +47,11 @@ use Rattle.inv_covers.proofs.Stands.{withdrawn_shrinks, withdrawn_apart}
 use Rattle.inv_covers.proofs.Resting.{base_rests}
 use Rattle.inv_covers.proofs.Copying.{copy_covers}
 use Rattle.inv_covers.proofs.Fresh.{works_start}
-use Rattle.inv_covers.proofs.Words.{work_stores}
+use Rattle.inv_covers.proofs.Words.{work_stores, eras_are_shown}
 use Rattle.inv_covers.specs.shapes.Seats.{PhaseFits}
 use Rattle.inv_covers.specs.shapes.Slots.{PhaseIn}
 use Rattle.inv_covers.specs.words.Schemes.{has_one_interval}
-use Rattle.inv_covers.proofs.words.Schemes.{helps_not_interval}
+use Rattle.inv_covers.proofs.words.Schemes.{helps_not_interval, helps_not_rows}
 use Rattle.inv_covers.proofs.Scans.{scan_starts}
 use Rattle.inv_ends.proofs.Handover.Tries.{try_loads, takes_row, Rose, protect_rose, protect_next}
 use Rattle.inv_ends.proofs.Handover.Asks.{Asker, asker, run_of, asker_rests, asker_untried}
@@ -56,7 +59,7 @@ use Rattle.inv_ends.proofs.Handover.Back.{inside_of}
 use Rattle.inv_ends.proofs.Handover.Deals.{handed_deal}
 use Rattle.inv_ends.proofs.Handover.Words.{stores_protect, own_index, Handed, index_stays}
 use Rattle.inv_ends.proofs.Handover.Shown.{index_shows, one_from, helped_guard, index_fits, holds_stay, no_store, taken_holds}
-use Rattle.inv_requests.proofs.Known.{stands_as, copying}
+use Rattle.inv_requests.proofs.Known.{stands_as}
 use Rattle.inv_covers.proofs.model.Facts.{no_truth}
 
 no_row : (x : Option ℕ) (s : ℕ) → x ≡ None → x ≡ Some s → false ≡ true
@@ -73,7 +76,7 @@ helped_holds w v k j s f h = subst (λ (g : Guard). Holds w v g s) (helped_guard
 pub stood_stays : (w : World) (i : ℕ) (v : View) (z : Asked) (k j s : ℕ) (phase : Phase) → helps w.layout.config.scheme ≡ true → HandoverNeeds w i v z → Held w v → (w.seat i).phase ≡ phase → own_index i phase k j ≡ false → stands (w.seat k).post j ≡ Some s → Holds (step w i) (rows_after w i v) (Index k j) s
 stood_stays w i v z k j s phase f n d e o y = by (index_stays w i k j phase (n.seats.fits i).post.seat e o) where
   by : (eras_shown (step w i) (Index k j) ≡ eras_shown w (Index k j)) ⊎ Handed w i k j → Holds (step w i) (rows_after w i v) (Index k j) s
-  by (inl q) = holds_stay w i v (Index k j) s n.covers n.scans q (helped_holds w v k j s f (d.stood k j s y))
+  by (inl q) = holds_stay w i v (Index k j) s f n.covers n.scans q (helped_holds w v k j s f (d.stood k j s y))
   by (inr h) = absurd (no_truth (no_row (stands (w.seat k).post j) s (asker_rests w k j (link_number w.layout h.root) n.seats n.rests (handed_asker w i v z k j n h)) y))
 
 -- a row that is tried
@@ -81,7 +84,7 @@ pub tried_stays : (w : World) (i : ℕ) (v : View) (z : Asked) (k : ℕ) (why : 
     → (w.seat k).phase ≡ Runs why base → tries_base (w.mem Clock) v.status (w.seat k).post base s ≡ true → Holds (step w i) (rows_after w i v) (Index k (index_base base)) s
 tried_stays w i v z k why base s phase f n d e o q y = by (index_stays w i k (index_base base) phase (n.seats.fits i).post.seat e o) where
   by : (eras_shown (step w i) (Index k (index_base base)) ≡ eras_shown w (Index k (index_base base))) ⊎ Handed w i k (index_base base) → Holds (step w i) (rows_after w i v) (Index k (index_base base)) s
-  by (inl x) = holds_stay w i v (Index k (index_base base)) s n.covers n.scans x (helped_holds w v k (index_base base) s f (d.tried k why base s q y))
+  by (inl x) = holds_stay w i v (Index k (index_base base)) s f n.covers n.scans x (helped_holds w v k (index_base base) s f (d.tried k why base s q y))
   by (inr h) = absurd (no_truth (sym (asker_untried w v k (index_base base) (link_number w.layout h.root) why base s (handed_asker w i v z k (index_base base) n h) q) ∙ y))
 
 -- the own index word, by what the step stores
@@ -98,17 +101,20 @@ protect_left w i v z why aim index root steps at j s true f n d e o y =
     rests_stored : (index : ℕ) (at : ProtectAt) (j : ℕ) → stores_protect index at j ≡ true → rests_protect index at j ≡ true
     rests_stored index (PublishEra era tries) j h = h
     rests_stored index (TakeAnswer link era) j h = h
+    rests_stored index (ByHazard (PublishLink link)) j h = h
     rests_stored index at j h = absurd (cc)
 
 -- a try that had its link stores nothing
 tried_apart : (clock : ℕ) (status : ℕ → Status) (post : Post) (index : ℕ) (root : Root) (at : ProtectAt) (s : ℕ) → tries_protect clock status post root at s ≡ true → stores_protect index at index ≡ false
 tried_apart clock status post index root (PublishEra era tries) s h = absurd (cc)
 tried_apart clock status post index root (TakeAnswer link era) s h = absurd (cc)
+tried_apart clock status post index root (ByHazard (PublishLink link)) s h = absurd (cc)
 tried_apart clock status post index root at s h = refl
 
 loads_apart : (clock : ℕ) (status : ℕ → Status) (mem : Place → ℕ) (index : ℕ) (root : Root) (at : ProtectAt) (s : ℕ) → try_loads clock status mem root at s ≡ true → stores_protect index at index ≡ false
 loads_apart clock status mem index root (PublishEra era tries) s h = absurd (cc)
 loads_apart clock status mem index root (TakeAnswer link era) s h = absurd (cc)
+loads_apart clock status mem index root (ByHazard (PublishLink link)) s h = absurd (cc)
 loads_apart clock status mem index root at s h = refl
 
 -- an answer is taken
@@ -127,8 +133,8 @@ load_holds w i v z why aim index root steps (LoadLink era tries) s f n e h =
     let c : w.mem Clock ≡ era = grind (arith, nat_tests) in
     let m = n.eras.some in
     let o = inside_of w i v z i why aim index root steps (LoadLink era tries) n e in
-    let x : eras_shown w (Index i index) ≡ from_to era era = index_shows w i v z i index n ∙ ap one_era q ∙ one_from era (omega (arith, c, m)) in
-    record { fits = index_fits w.layout.config i index f n.below (grind (arith, nat_tests)); covers = loads_cover w v (Index i index) root era era s n.roots x (omega (arith, c)) l u }
+    let x : eras_shown w (Index i index) ≡ from_to era era = index_shows w i v z i index n (helps_not_rows w.layout.config.scheme f) ∙ ap one_era q ∙ one_from era (omega (arith, c, m)) in
+    record { fits = index_fits w.layout.config i index f n.below (grind (arith, nat_tests)); covers = loads_cover w v (Index i index) root s n.roots (eras_reaches w (Index i index) era era s (helps_not_rows w.layout.config.scheme f) x (omega (arith, c))) l u }
 load_holds w i v z why aim index root steps at s f n e h = absurd (cc)
 
 -- the phase of a protection is no hand-over
@@ -143,7 +149,7 @@ still_index w i v z why aim index root steps at j n e o = by (index_stays w i i 
 
 load_stays : (w : World) (i : ℕ) (v : View) (z : Asked) (why : Why) (aim : Aim) (index : ℕ) (root : Root) (steps : ℕ) (at : ProtectAt) (s : ℕ) → helps w.layout.config.scheme ≡ true → HandoverNeeds w i v z → (w.seat i).phase ≡ Runs why (Protect aim index root steps at) → try_loads (w.mem Clock) v.status w.mem root at s ≡ true → Holds (step w i) (rows_after w i v) (Index i index) s
 load_stays w i v z why aim index root steps at s f n e h =
-    holds_stay w i v (Index i index) s n.covers n.scans (still_index w i v z why aim index root steps at index n e (loads_apart (w.mem Clock) v.status w.mem index root at s h)) (load_holds w i v z why aim index root steps at s f n e h)
+    holds_stay w i v (Index i index) s f n.covers n.scans (still_index w i v z why aim index root steps at index n e (loads_apart (w.mem Clock) v.status w.mem index root at s h)) (load_holds w i v z why aim index root steps at s f n e h)
 
 -- the index of a machine has a place in the post
 index_small : (w : World) (i : ℕ) (v : View) (z : Asked) (why : Why) (aim : Aim) (index : ℕ) (root : Root) (steps : ℕ) (at : ProtectAt) → HandoverNeeds w i v z → (w.seat i).phase ≡ Runs why (Protect aim index root steps at) → index < length (w.seat i).post.standing
@@ -207,8 +213,8 @@ base_holds : (w : World) (i : ℕ) (v : View) (z : Asked) (why : Why) (base : Ba
 base_holds w i v z why (Begin at) j s f n d g e y = stood_stays w i v z i j s (Runs why (Begin at)) f n d e (no_store i i) (begin_stood at (finds w i) (counted (w.seat i).post) j s y)
 base_holds w i v z why (Protect aim index root steps at) j s f n d g e y = protect_holds w i v z why aim index root steps at j s f n d g e y
 base_holds w i v z why (Reload parent index slot era steps) j s f n d g e y = reload_holds w i v z why parent index slot era steps j s f n d e (reload_from w i v z why parent index slot era steps j s n e y)
-base_holds w i v z why (Clear index) j s f n d g e y =
-    stood_stays w i v z i j s (Runs why (Clear index)) f n d e (own_stores i (j == index) (withdrawn_apart (counted (w.seat i).post) index j s y)) (withdrawn_shrinks (counted (w.seat i).post) index j s y)
+base_holds w i v z why (Clear rows index) j s f n d g e y =
+    stood_stays w i v z i j s (Runs why (Clear rows index)) f n d e (own_stores i (j == index) (withdrawn_apart (counted (w.seat i).post) index j s y)) (withdrawn_shrinks (counted (w.seat i).post) index j s y)
 base_holds w i v z why Finish j s f n d g e y = stood_stays w i v z i j s (Runs why Finish) f n d e (no_store i i) y
 base_holds w i v z why (Release index) j s f n d g e y = stood_stays w i v z i j s (Runs why (Release index)) f n d e (no_store i i) (withdrawn_shrinks (counted (w.seat i).post) index j s y)
 base_holds w i v z why (Allocate at) j s f n d g e y = stood_stays w i v z i j s (Runs why (Allocate at)) f n d e (no_store i i) (allocate_stood at (finds w i) (counted (w.seat i).post) j s y)
@@ -230,11 +236,20 @@ copy_load_holds w i v z from index j s f n d e (inr y) =
 tag_few : (w : World) (i : ℕ) (v : View) (z : Asked) (index : ℕ) → HandoverNeeds w i v z → tag_of (w.seat i).post index < 4294967295
 tag_few w i v z index n = let b = bounds_of w.layout n.valid in omega (arith, n.requests.locals.tags i index, n.requests.parts.low i index, n.requests.parts.clock, b.eras)
 
+-- the era of a copy is the one that the first index publishes
+copied_shows : (w : World) (i : ℕ) (v : View) (z : Asked) (from index era : ℕ) → helps w.layout.config.scheme ≡ true → HandoverNeeds w i v z → (w.seat i).phase ≡ Works (Keeping (StoreHeld from index era)) → shown w (Index i from) ≡ number_shown (publishes_rows w.layout.config.scheme) era
+copied_shows w i v z from index era f n e =
+    let p = helps_not_rows w.layout.config.scheme f in
+    let r : z.role i ≡ role.Copies from era = stands_as w z i (Works (Keeping (StoreHeld from index era))) n.requests e ∙ ap (λ (rows : Bool). copy_role rows from era) p in
+    let x : (z.era i from == era) ≡ true = rw r at (n.requests.parts.published i) in
+    let y : z.era i from ≡ era = grind (arith, nat_tests) in
+    eras_are_shown w (Index i from) p ∙ ap values.shown (index_shows w i v z i from n p ∙ ap one_era y) ∙ ap (λ (rows : Bool). number_shown rows era) (sym p)
+
 copy_store_holds : (w : World) (i : ℕ) (v : View) (z : Asked) (from index era s : ℕ) → helps w.layout.config.scheme ≡ true → HandoverNeeds w i v z → Held w v → (w.seat i).phase ≡ Works (Keeping (StoreHeld from index era)) → stands (w.seat i).post from ≡ Some s → Holds (step w i) (rows_after w i v) (Index i index) s
 copy_store_holds w i v z from index era s f n d e y =
     let c : PhaseIn w.layout (w.seat i).desk (Works (Keeping (StoreHeld from index era))) = subst (λ (p : Phase). PhaseIn w.layout (w.seat i).desk p) e (n.slots.seats i).phase in
     let o = helped_holds w v i from s f (d.stood i from s y) in
-    record { fits = index_fits w.layout.config i index f n.below c.below; covers = copy_covers w i v from index era s n.covers n.scans (n.seats.fits i).post.seat c.rises (tag_few w i v z index n) (ap one_era ((copying w z i n.valid n.requests).publishes from index era e)) e o.fits o.covers }
+    record { fits = index_fits w.layout.config i index f n.below c.below; covers = copy_covers w i v from index era s n.covers n.scans (n.seats.fits i).post.seat c.rises (λ p. tag_few w i v z index n) (copied_shows w i v z from index era f n e) e o.fits o.covers }
 
 work_holds : (w : World) (i : ℕ) (v : View) (z : Asked) (work : Work) (j s : ℕ) → helps w.layout.config.scheme ≡ true → HandoverNeeds w i v z → Held w v → (w.seat i).phase ≡ Works work → WorkFrom work (w.seat i).post j s → Holds (step w i) (rows_after w i v) (Index i j) s
 work_holds w i v z (Keeping (LoadHeld from index)) j s f n d e y = copy_load_holds w i v z from index j s f n d e y

@@ -25,7 +25,7 @@ use Rattle.inv_covers.specs.model.Calls.{Why, Phase, Runs}
 use Rattle.inv_covers.specs.model.World.{World, step}
 use Rattle.inv_covers.proofs.model.Ranges.{bounds_of}
 use Rattle.inv_covers.proofs.model.Roots.{root_at_link}
-use Rattle.inv_covers.specs.words.Schemes.{helps}
+use Rattle.inv_covers.specs.words.Schemes.{helps, publishes_rows}
 use Rattle.inv_covers.proofs.shapes.Frame.{word_steps}
 use Rattle.inv_requests.specs.Deals.{answered_with, stays}
 use Rattle.inv_requests.specs.Roles.{is_away}
@@ -36,7 +36,7 @@ use Rattle.inv_covers.specs.rows.Rows.{View}
 use Rattle.inv_covers.specs.rows.Agree.{rows_after}
 use Rattle.inv_covers.specs.Covers.{eras_shown, shown, CoversNeeds, GuardFits, Scanning}
 use Rattle.inv_covers.specs.Held.{leads, under, Holds}
-use Rattle.inv_covers.proofs.Words.{widens_same}
+use Rattle.inv_covers.proofs.Words.{eras_are_shown, widens_same}
 use Rattle.inv_ends.specs.Helped.{answered_from, passed_to, Helped}
 use Rattle.inv_ends.specs.Handover.{HandoverNeeds}
 use Rattle.inv_covers.proofs.Held.{move_is}
@@ -49,16 +49,16 @@ use Rattle.inv_ends.proofs.Handover.Words.{Handed, helper_stays}
 use Rattle.inv_requests.proofs.Known.{stands_as}
 use Rattle.inv_covers.proofs.model.Facts.{rest_of}
 use Rattle.inv_covers.proofs.model.Schemes.{index_guard}
-use Rattle.inv_covers.proofs.words.Schemes.{helps_not_interval}
+use Rattle.inv_covers.proofs.words.Schemes.{helps_not_interval, helps_not_rows}
 
 pub helper_shows : (w : World) (z : Asked) (k : ℕ) → Requests w z → eras_shown w (Helper k) ≡ one_era (z.helper k)
 helper_shows w z k q =
     let e = ap read_reservation (q.words.helpers k) ∙ read_reservation-halves (z.helper k) 0 (omega arith) in
     ap (λ (r : Reservation). one_era r.era) e
 
-pub index_shows : (w : World) (i : ℕ) (v : View) (z : Asked) (k j : ℕ) → HandoverNeeds w i v z → eras_shown w (Index k j) ≡ one_era (z.era k j)
-index_shows w i v z k j n =
-    let e = ap read_reservation (n.requests.words.indexes k j) ∙ read_reservation-halves (z.era k j) (z.mark k j) (mark_few w i v z k j n) in
+pub index_shows : (w : World) (i : ℕ) (v : View) (z : Asked) (k j : ℕ) → HandoverNeeds w i v z → publishes_rows w.layout.config.scheme ≡ false → eras_shown w (Index k j) ≡ one_era (z.era k j)
+index_shows w i v z k j n p =
+    let e = ap read_reservation (n.requests.words.indexes p k j) ∙ read_reservation-halves (z.era k j) (z.mark k j) (mark_few w i v z k j n) in
     ap (λ (r : Reservation). one_era r.era) e
 
 pub one_from : (era : ℕ) → 1 ≤ era → one_era era ≡ from_to era era
@@ -71,8 +71,11 @@ pub index_fits : (config : Config) (k j : ℕ) → helps config.scheme ≡ true 
 index_fits config k j f a b = subst (λ (g : Guard). GuardFits config g) (helped_guard config.scheme k j f) (guards_fit config k j a b)
 
 -- what is held stays held while the word is the same
-pub holds_stay : (w : World) (i : ℕ) (v : View) (guard : Guard) (s : ℕ) → CoversNeeds w i v → Scanning w → eras_shown (step w i) guard ≡ eras_shown w guard → Holds w v guard s → Holds (step w i) (rows_after w i v) guard s
-holds_stay w i v guard s n u e h = record { fits = h.fits; covers = covers_kept w i v guard s n u h.fits (widens_same (shown w guard) (shown (step w i) guard) (ap values.shown e)) h.covers }
+shown_same : (w : World) (i : ℕ) (guard : Guard) → helps w.layout.config.scheme ≡ true → eras_shown (step w i) guard ≡ eras_shown w guard → shown (step w i) guard ≡ shown w guard
+shown_same w i guard f e = let p = helps_not_rows w.layout.config.scheme f in eras_are_shown (step w i) guard p ∙ ap values.shown e ∙ sym (eras_are_shown w guard p)
+
+pub holds_stay : (w : World) (i : ℕ) (v : View) (guard : Guard) (s : ℕ) → helps w.layout.config.scheme ≡ true → CoversNeeds w i v → Scanning w → eras_shown (step w i) guard ≡ eras_shown w guard → Holds w v guard s → Holds (step w i) (rows_after w i v) guard s
+holds_stay w i v guard s f n u e h = record { fits = h.fits; covers = covers_kept w i v guard s n u h.fits (widens_same (shown w guard) (shown (step w i) guard) (shown_same w i guard f e)) h.covers }
 
 -- the word that the step leaves at its place
 moved_word : (w : World) (i : ℕ) (phase : Phase) → (w.seat i).phase ≡ phase → (step w i).mem (place_in (phase_move phase (w.seat i).post)) ≡ change (phase_move phase (w.seat i).post) (w.mem (place_in (phase_move phase (w.seat i).post)))
@@ -95,8 +98,8 @@ pub over_holds : (w : World) (i : ℕ) (v : View) (z : Asked) (m k j s era : ℕ
     → eras_shown (step w i) (Helper m) ≡ eras_shown w (Helper m) → z.helper m ≡ era → eras_shown (step w i) (Index k j) ≡ one_era era → Holds w v (Helper m) s → Holds (step w i) (rows_after w i v) (Index k j) s
 over_holds w i v z m k j s era f n b c d e q r h = record {
   fits = index_fits w.layout.config k j f c d;
-  covers = handed_kept w i v (Helper m) (Index k j) s n.covers n.scans h.fits (helpers_first w.layout.config m k j f b) (widens_same (shown w (Helper m)) (shown (step w i) (Helper m)) (ap values.shown e))
-      (ap values.shown (r ∙ sym (e ∙ helper_shows w z m n.requests ∙ ap one_era q))) h.covers;
+  covers = handed_kept w i v (Helper m) (Index k j) s n.covers n.scans h.fits (helpers_first w.layout.config m k j f b) (widens_same (shown w (Helper m)) (shown (step w i) (Helper m)) (shown_same w i (Helper m) f e))
+      (let p = helps_not_rows w.layout.config.scheme f in eras_are_shown (step w i) (Index k j) p ∙ ap values.shown (r ∙ sym (e ∙ helper_shows w z m n.requests ∙ ap one_era q)) ∙ sym (eras_are_shown (step w i) (Helper m) p)) h.covers;
 }
 
 pub handed_holds : (w : World) (i : ℕ) (v : View) (z : Asked) (k j s : ℕ) → helps w.layout.config.scheme ≡ true → HandoverNeeds w i v z → Helped w v z.deal → (h : Handed w i k j) → leads h.link s ≡ true → under v.status (root_at w.layout (link_number w.layout h.root)) ≡ true
@@ -166,7 +169,7 @@ taken_by w i v z why aim index root steps link era s (Passed t j' w' l' e') f n 
     let o : passed_to w.layout v.status index (z.deal i) s ≡ true = rw (q, p, x, y) (grind (arith, nat_tests, l, u)) in
     let g : (z.era i j' == e') ≡ true = rw q at (n.requests.parts.taken i) in
     let r : z.era i index ≡ era = grind (arith, nat_tests) in
-    holds_stay w i v (Index i index) s n.covers n.scans (take_shown w i v z why aim index root steps link era n e ∙ ap one_era (sym r) ∙ sym (index_shows w i v z i index n)) (d.passed i index s o)
+    holds_stay w i v (Index i index) s f n.covers n.scans (take_shown w i v z why aim index root steps link era n e ∙ ap one_era (sym r) ∙ sym (index_shows w i v z i index n (helps_not_rows w.layout.config.scheme f))) (d.passed i index s o)
 
 pub taken_holds : (w : World) (i : ℕ) (v : View) (z : Asked) (why : Why) (aim : Aim) (index : ℕ) (root : Root) (steps link era s : ℕ) → helps w.layout.config.scheme ≡ true → HandoverNeeds w i v z → Helped w v z.deal → (w.seat i).phase ≡ Runs why (Protect aim index root steps (TakeAnswer link era))
     → leads link s ≡ true → under v.status root ≡ true → Holds (step w i) (rows_after w i v) (Index i index) s

@@ -15,13 +15,13 @@ use Rattle.inv_covers.specs.model.Links.{link_place, parent_of}
 use Rattle.inv_covers.specs.model.Memory.{place_in, found}
 use Rattle.inv_covers.specs.model.Posts.{stands, tag_of, with_tag, reserves_helper}
 use Rattle.inv_covers.specs.model.Phases.{Aim, Follows, Tries, ProtectAt, Base, Outcome, goes}
-use Rattle.inv_covers.specs.model.Phases.ProtectAt.{LoadClock, PublishEra, LoadLink, CheckClock, PublishRequest, LoadOwnClock, PublishHelper, LoadOwnLink, CheckOwnClock, AnswerOwn, LoadAnswer, TakeAnswer, WithdrawRequest, WithdrawHelper, LoadWithin, CheckUpper, RaiseUpper}
+use Rattle.inv_covers.specs.model.Phases.ProtectAt.{LoadClock, PublishEra, LoadLink, CheckClock, PublishRequest, LoadOwnClock, PublishHelper, LoadOwnLink, CheckOwnClock, AnswerOwn, LoadAnswer, TakeAnswer, WithdrawRequest, WithdrawHelper, LoadWithin, CheckUpper, RaiseUpper, ByHazard}
 use Rattle.inv_covers.specs.model.Phases.Base.{Protect}
 use Rattle.inv_covers.specs.model.Protect.{concluded}
 use Rattle.inv_covers.specs.model.SlowPath.{own_request, answer_in, lost_turn}
 use Rattle.inv_covers.specs.model.Machine.{protect_move, protect_turn}
 use Rattle.inv_covers.proofs.model.Facts.{both, no_truth}
-use Rattle.inv_covers.proofs.words.Schemes.{no_help_in_interval}
+use Rattle.inv_covers.proofs.words.Schemes.{no_help_in_interval, helps_not_rows}
 use Rattle.inv_covers.specs.words.Schemes.{helps}
 use Rattle.inv_covers.specs.shapes.Seats.{protect_fits}
 use Rattle.inv_covers.specs.rows.Rows.{Status}
@@ -72,6 +72,7 @@ protect_rose clock status scheme most mem aim index root n (WithdrawHelper link 
 protect_rose clock status scheme most mem aim index root n LoadWithin post last j s c w f b h = inl h
 protect_rose clock status scheme most mem aim index root n (CheckUpper link) post last j s c w f b h = absurd (no_help_in_interval scheme w f)
 protect_rose clock status scheme most mem aim index root n (RaiseUpper era) post last j s c w f b h = inl h
+protect_rose clock status scheme most mem aim index root n (ByHazard at) post last j s c w f b h = absurd (let e = helps_not_rows scheme w in cc)
 
 -- what a protection comes to
 abbrev pub Next : ℕ → (ℕ → Status) → (Place → ℕ) → Post → ℕ → Root → ProtectAt → Outcome → ℕ → Type 0
@@ -123,3 +124,4 @@ protect_next clock status scheme most mem aim index root n (WithdrawHelper link 
 protect_next clock status scheme most mem aim index root n LoadWithin post last next s c w f g h = absurd (no_help_in_interval scheme w f)
 protect_next clock status scheme most mem aim index root n (CheckUpper link) post last next s c w f g h = absurd (no_help_in_interval scheme w f)
 protect_next clock status scheme most mem aim index root n (RaiseUpper era) post last next s c w f g h = absurd (cc)
+protect_next clock status scheme most mem aim index root n (ByHazard at) post last next s c w f g h = absurd (let e = helps_not_rows scheme w in cc)

@@ -12,7 +12,8 @@ use Rattle.inv_covers.specs.model.Guards.{guard_place, eras_in}
 use Rattle.inv_covers.specs.model.Memory.{Move as Act, written}
 use Rattle.inv_covers.specs.model.Phases.{ProtectAt, MoveAt, Base}
 use Rattle.inv_covers.specs.model.Phases.BeginAt.{LoadLower, PublishSpan}
-use Rattle.inv_covers.specs.model.Phases.ProtectAt.{PublishEra, PublishHelper, TakeAnswer, WithdrawHelper}
+use Rattle.inv_covers.specs.model.Phases.ProtectAt.{PublishEra, PublishHelper, TakeAnswer, WithdrawHelper, ByHazard}
+use Rattle.inv_covers.specs.model.Phases.HazardAt.{FirstLink, PublishLink, CheckLink}
 use Rattle.inv_covers.specs.model.Phases.AllocateAt.{LoadBirth}
 use Rattle.inv_covers.specs.model.Phases.RetireAt.{LoadLife}
 use Rattle.inv_covers.specs.model.Phases.MoveAt.{LoadEra, LoadRequest, ShowEra, LoadAsked, CheckEra, AnswerAsked, LoadReserved, HandOver, HideEra, HideLate, ExchangeClock}
@@ -36,11 +37,12 @@ use Rattle.inv_covers.proofs.Held.{move_is, keeps_at}
 abbrev pub stores_protect : ℕ → ProtectAt → ℕ → Bool
 stores_protect index (PublishEra era tries) j = j == index
 stores_protect index (TakeAnswer link era) j = j == index
+stores_protect index (ByHazard (PublishLink link)) j = j == index
 stores_protect index at j = false
 
 abbrev pub stores_index : Base → ℕ → Bool
 stores_index (Protect aim index root steps at) j = stores_protect index at j
-stores_index (Clear index) j = j == index
+stores_index (Clear rows index) j = j == index
 stores_index base j = false
 
 abbrev pub shows_protect : ProtectAt → Bool
@@ -78,6 +80,9 @@ is_hand base = false
 protect_keeps : (k j : ℕ) (index : ℕ) (root : Root) (at : ProtectAt) (post : Post) → (k == post.seat && stores_protect index at j) ≡ false → keeps (protect_move index root at post) (places.Index k j) ≡ true
 protect_keeps k j index root (PublishEra era tries) post h = rw h refl
 protect_keeps k j index root (TakeAnswer link era) post h = rw h refl
+protect_keeps k j index root (ByHazard FirstLink) post h = refl
+protect_keeps k j index root (ByHazard (PublishLink link)) post h = rw h refl
+protect_keeps k j index root (ByHazard (CheckLink link)) post h = refl
 protect_keeps k j index root at post h = refl
 
 base_keeps : (k j : ℕ) (base : Base) (post : Post) → (k == post.seat && stores_index base j) ≡ false → is_hand base ≡ false → keeps (base_move base post) (places.Index k j) ≡ true
@@ -85,7 +90,7 @@ base_keeps k j (Begin LoadLower) post h n = refl
 base_keeps k j (Begin (PublishSpan era)) post h n = refl
 base_keeps k j (Protect aim index root steps at) post h n = protect_keeps k j index root at post h
 base_keeps k j (Reload parent index slot era steps) post h n = refl
-base_keeps k j (Clear index) post h n = rw h refl
+base_keeps k j (Clear rows index) post h n = rw h refl
 base_keeps k j Finish post h n = refl
 base_keeps k j (Release index) post h n = refl
 base_keeps k j (Allocate at) post h n = allocate_index k j at
@@ -146,6 +151,9 @@ index_stays w i k j (Runs why base) n e h = inl (eras_kept w i (Index k j) (keep
 protect_shows : (k : ℕ) (index : ℕ) (root : Root) (at : ProtectAt) (post : Post) → (k == post.seat && shows_protect at) ≡ false → keeps (protect_move index root at post) (places.Helper k) ≡ true
 protect_shows k index root (PublishHelper first era last) post h = let o : (k == post.seat) ≡ false = grind (arith, nat_tests) in rw o refl
 protect_shows k index root (WithdrawHelper link era) post h = let o : (k == post.seat) ≡ false = grind (arith, nat_tests) in rw o refl
+protect_shows k index root (ByHazard FirstLink) post h = refl
+protect_shows k index root (ByHazard (PublishLink link)) post h = refl
+protect_shows k index root (ByHazard (CheckLink link)) post h = refl
 protect_shows k index root at post h = refl
 
 move_shows : (k : ℕ) (at : MoveAt) (post : Post) → (k == post.seat && shows_move at) ≡ false → keeps (move_move at post) (places.Helper k) ≡ true
@@ -159,7 +167,7 @@ base_shows k (Begin LoadLower) post h = refl
 base_shows k (Begin (PublishSpan era)) post h = refl
 base_shows k (Protect aim index root steps at) post h = protect_shows k index root at post h
 base_shows k (Reload parent index slot era steps) post h = refl
-base_shows k (Clear index) post h = refl
+base_shows k (Clear rows index) post h = refl
 base_shows k Finish post h = refl
 base_shows k (Release index) post h = refl
 base_shows k (Allocate LoadBirth) post h = refl

@@ -1,4 +1,7 @@
 -- The birth era of a row is the one under which it was given last.
+use Rattle.inv_covers.specs.model.Rounds.{scheme_of}
+use Rattle.inv_covers.specs.words.Schemes.{publishes_rows}
+use Rattle.inv_covers.specs.model.Keep.{held_number}
 use Rattle.std.proofs.Common.{ℕ, ◌+◌, ◌-◌, Bool, true, false, ◌≡◌, ◌∙◌, sym, refl, ap, subst, arith}
 use Rattle.std.proofs.lemmas.Bool.Decides.{nat_tests}
 use Rattle.inv_covers.specs.model.Machine as machine
@@ -47,7 +50,6 @@ use Rattle.inv_ends.proofs.Told.Rows.{rows_told, rows_were}
 use Rattle.inv_ends.specs.Births.{GivenBase, GivenBegin, GivenKept, GivenNeeds, GivenPhase, GivenStart, RetiresGiven, given_after, given_all, given_by}
 use Rattle.inv_ends.specs.Told.{RowRetires, RowWas, birth_base, birth_in, move_of, of_rows, row_events}
 use Rattle.inv_covers.specs.defs.Events.{is_of_rows}
-use Rattle.inv_covers.specs.words.Packed.{read_reservation}
 use Rattle.inv_covers.specs.words.Place.{is_valid}
 use Rattle.inv_covers.specs.words.Place.Place.{Clock}
 use Rattle.inv_covers.specs.words.declared.layout.Layout.{Layout}
@@ -61,6 +63,8 @@ event_given (events.End count answer) given h = refl
 event_given (events.Era era) given h = refl
 event_given (events.Reserve guard span) given h = refl
 event_given (events.Read guard span) given h = refl
+event_given (events.Hazard guard slot) given h = refl
+event_given (events.Saw guard slot) given h = refl
 event_given (events.Give slot birth) given h = no_truth_2 (sym h)
 event_given (events.Unused slot) given h = no_truth_2 (sym h)
 event_given (events.Link root slot) given h = refl
@@ -155,7 +159,7 @@ phase_bears given Idle post found h = tt
 phase_bears given (Runs why (Begin at)) post found h = tt
 phase_bears given (Runs why (Protect aim index root steps at)) post found h = tt
 phase_bears given (Runs why (Reload parent index slot era steps)) post found h = tt
-phase_bears given (Runs why (Clear index)) post found h = tt
+phase_bears given (Runs why (Clear rows index)) post found h = tt
 phase_bears given (Runs why Finish) post found h = tt
 phase_bears given (Runs why (Release index)) post found h = tt
 phase_bears given (Runs why (Allocate LoadBirth)) post found h = tt
@@ -221,7 +225,7 @@ base_given : (slots k : ℕ) (v : View) (given now : ℕ → ℕ) (why : Why) (b
 base_given slots k v given now why (Begin at) list g p f h = tt
 base_given slots k v given now why (Protect aim index root steps at) list g p f h = tt
 base_given slots k v given now why (Reload parent index slot era steps) list g p f h = tt
-base_given slots k v given now why (Clear index) list g p f h = tt
+base_given slots k v given now why (Clear rows index) list g p f h = tt
 base_given slots k v given now why Finish list g p f h = tt
 base_given slots k v given now why (Release index) list g p f h = tt
 base_given slots k v given now why (Allocate LoadBirth) list g p f h = tt
@@ -252,7 +256,7 @@ given_grows layout k given v = let g = shape_grows layout k v in record {
   finishes = λ post task next s e q. tt;
   gives_up = λ post answer slot q. tt;
   retires = λ post answer slot q. tt;
-  tidies = λ post later q. tt;
+  tidies = λ post later m q. tt;
   advances = λ post q. tt;
   clears_kept = λ post let_go s q. tt;
   releases = λ post let_go s e q. tt;
@@ -266,7 +270,7 @@ other_base : (layout : Layout) (why : Why) (base : Base) (post : Post) (given : 
 other_base layout why (Begin at) post given f r = tt
 other_base layout why (Protect aim index root steps at) post given f r = tt
 other_base layout why (Reload parent index slot era steps) post given f r = tt
-other_base layout why (Clear index) post given f r = tt
+other_base layout why (Clear rows index) post given f r = tt
 other_base layout why Finish post given f r = tt
 other_base layout why (Release index) post given f r = tt
 other_base layout why (Allocate at) post given f r = no_truth_2 (sym f ∙ r.suited)
@@ -296,7 +300,7 @@ apart base ToMove n s = refl
 apart (Begin at) ToFill n s = sym s
 apart (Protect aim index root steps at) ToFill n s = sym s
 apart (Reload parent index slot era steps) ToFill n s = sym s
-apart (Clear index) ToFill n s = sym s
+apart (Clear rows index) ToFill n s = sym s
 apart Finish ToFill n s = sym s
 apart (Release index) ToFill n s = sym s
 apart (Allocate at) ToFill n s = n
@@ -327,7 +331,7 @@ base_on : (layout : Layout) (k : ℕ) (why : Why) (base : Base) (post : Post) (f
 base_on layout k why (Begin at) post found given r c h = other_on layout why _ (machine.after (Begin at) post found).outcome given (apart (Begin at) (kind_of why) refl r.suited) h
 base_on layout k why (Protect aim index root steps at) post found given r c h = other_on layout why _ (machine.after (Protect aim index root steps at) post found).outcome given (apart (Protect aim index root steps at) (kind_of why) refl r.suited) h
 base_on layout k why (Reload parent index slot era steps) post found given r c h = other_on layout why _ (machine.after (Reload parent index slot era steps) post found).outcome given (apart (Reload parent index slot era steps) (kind_of why) refl r.suited) h
-base_on layout k why (Clear index) post found given r c h = tt
+base_on layout k why (Clear rows index) post found given r c h = tt
 base_on layout k why Finish post found given r c h = tt
 base_on layout k why (Release index) post found given r c h = tt
 base_on layout k why (Allocate LoadBirth) post found given r c h = tt
@@ -353,7 +357,7 @@ claims_base : (given now : ℕ → ℕ) (why : Why) (base : Base) (post : Post) 
 claims_base given now why (Begin at) post found f = tt
 claims_base given now why (Protect aim index root steps at) post found f = tt
 claims_base given now why (Reload parent index slot era steps) post found f = tt
-claims_base given now why (Clear index) post found f = tt
+claims_base given now why (Clear rows index) post found f = tt
 claims_base given now why Finish post found f = tt
 claims_base given now why (Release index) post found f = tt
 claims_base given now why (Allocate LoadBirth) post found f = tt
@@ -369,7 +373,7 @@ claims_in given now (Works work) post found f = tt
 
 -- a property that the second step of a copy has at each post
 pub each_stores : (P : Post → Phase → Type 0) → ((post : Post) (from index era : ℕ) → P post (Works (Keeping (StoreHeld from index era)))) → (post : Post) (found : ℕ) (work : Work) → Stores P post found work
-each_stores P h post found (Keeping (LoadHeld from index)) = λ n. h post from index (read_reservation found).era
+each_stores P h post found (Keeping (LoadHeld from index)) = λ n. h post from index (held_number (publishes_rows (scheme_of post)) found)
 each_stores P h post found work = tt
 
 owed : (layout : Layout) (k : ℕ) → is_valid layout ≡ true → (phase : Phase) (post : Post) (found : ℕ) (given : ℕ → ℕ) → PostFits layout k post → PhaseFits layout post phase → ClaimingIn given phase found → Owes (PostFits layout k) (λ p q. GivenPhase given q) (counted post) found phase

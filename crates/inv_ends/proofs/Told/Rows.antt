@@ -1,4 +1,5 @@
 -- What a step tells of rows is its move of rows.
+use Rattle.inv_covers.specs.defs.declared.event.Guard.{Guard}
 use Rattle.std.proofs.Common.{ℕ, ◌+◌, ◌-◌, Bool, true, false, ◌≡◌, ◌∙◌, sym, refl, ap, arith, ◌≤◌}
 use Rattle.std.proofs.lemmas.Bool.Decides.{nat_tests}
 use Rattle.std.proofs.lemmas.List.Elements.{filter-append}
@@ -21,7 +22,7 @@ use Rattle.inv_covers.specs.model.Calls.Why.{Advances, Clears, ClearsNext, Fills
 use Rattle.inv_covers.specs.model.Calls.Work.{Changing, Dequeuing, Enqueuing, Getting, Keeping}
 use Rattle.inv_covers.specs.model.Change.{changed_bucket}
 use Rattle.inv_covers.specs.model.Desks.{Desk}
-use Rattle.inv_covers.specs.model.Guards.{guard_at, guards, eras_in, published}
+use Rattle.inv_covers.specs.model.Guards.{guard_at, guards, published}
 use Rattle.inv_covers.specs.model.Locals.{Local, turn}
 use Rattle.inv_covers.specs.model.Machine.{after, allocate_turn, base_move, begin_turn, move_turn, protect_turn, retire_move, retire_turn}
 use Rattle.inv_covers.specs.model.Memory.{place_in}
@@ -33,12 +34,13 @@ use Rattle.inv_covers.specs.model.Phases.BeginAt.{LoadLower, PublishSpan}
 use Rattle.inv_covers.specs.model.Phases.Ending.{Clocked}
 use Rattle.inv_covers.specs.model.Phases.MoveAt.{AnswerAsked, CheckEra, ExchangeClock, HandOver, HideEra, HideLate, LoadAsked, LoadEra, LoadRequest, LoadReserved, ShowEra}
 use Rattle.inv_covers.specs.model.Phases.Outcome.{Ends, Goes}
-use Rattle.inv_covers.specs.model.Phases.ProtectAt.{AnswerOwn, CheckClock, CheckOwnClock, CheckUpper, LoadAnswer, LoadClock, LoadLink, LoadOwnClock, LoadOwnLink, LoadWithin, PublishEra, PublishHelper, PublishRequest, RaiseUpper, TakeAnswer, WithdrawHelper, WithdrawRequest}
+use Rattle.inv_covers.specs.model.Phases.ProtectAt.{AnswerOwn, CheckClock, CheckOwnClock, CheckUpper, LoadAnswer, LoadClock, LoadLink, LoadOwnClock, LoadOwnLink, LoadWithin, PublishEra, PublishHelper, PublishRequest, RaiseUpper, TakeAnswer, WithdrawHelper, WithdrawRequest, ByHazard}
+use Rattle.inv_covers.specs.model.Phases.HazardAt.{FirstLink, PublishLink, CheckLink}
 use Rattle.inv_covers.specs.model.Phases.RetireAt.{LoadLife, LoadRetire, StoreRetired}
-use Rattle.inv_covers.specs.model.Posts.{cleared, cleared_from, counted, reserves_helper, reserves_index, reserves_span, stands, upper}
+use Rattle.inv_covers.specs.model.Posts.{cleared, cleared_from, counted, reserves_helper, reserves_span, stands, upper, publishes_index}
 use Rattle.inv_covers.specs.model.Protect.{held_post, protected, told_held}
 use Rattle.inv_covers.specs.model.Rounds.{let_index, scheme_of}
-use Rattle.inv_covers.specs.model.Scan.{Entry, giving_back, scanned, unmet_from, with_back, with_kept}
+use Rattle.inv_covers.specs.model.Scan.{Entry, giving_back, scanned, unmet_from, with_back, with_kept, reads_guard}
 use Rattle.inv_covers.specs.model.SlowPath.{asking, own_request}
 use Rattle.inv_covers.specs.model.Steps.{phase_move, phase_turn, resumed}
 use Rattle.inv_covers.specs.model.World.{World, finds, list_in, offered, told_in}
@@ -61,11 +63,11 @@ use Rattle.inv_covers.specs.rows.Rows.{Good, RowMove, View}
 use Rattle.inv_covers.specs.rows.Rows.Hand.{Dated, Known}
 use Rattle.inv_covers.specs.rows.Rows.RowMove.{Adopts, Appends, Bears, Claims, Drops, Links, Lists, Pops, Reads, Replaces, Returns, Seals, Stays}
 use Rattle.inv_covers.specs.words.Packed.{read_reservation}
-use Rattle.inv_covers.specs.words.Schemes.{has_one_interval}
+use Rattle.inv_covers.specs.words.Schemes.{has_one_interval, publishes_rows}
 use Rattle.inv_covers.specs.words.Place.{Place, claim_word}
 use Rattle.inv_covers.specs.words.Place.Place.{Claim, Clock}
 use Rattle.inv_covers.specs.words.declared.layout.Layout.{Layout}
-use Rattle.std.specs.Prelude.{List, None, Option, Some, [], drop, if◌then◌else◌, nat_lt, ◌++◌, ◌==◌, ◌∷◌}
+use Rattle.std.specs.Prelude.{List, None, Option, Some, [], drop, if◌then◌else◌, nat_lt, ◌++◌, ◌==◌, ◌∷◌, ◌||◌}
 use Rattle.inv_covers.proofs.model.Facts.{no_truth_2}
 pub use Rattle.inv_covers.proofs.shapes.Frame.{concluded_told}
 
@@ -74,7 +76,7 @@ abbrev pub own_told : Phase → Post → ℕ → List Event
 own_told Idle post found = []
 own_told (Runs why base) post found = (after base post found).told
 own_told (Scans later (ReadGuard number)) post found =
-    events.Read (guard_at post.layout.config number) (eras_in (guard_at post.layout.config number) found) ∷ []
+    reads_guard (publishes_rows (scheme_of post)) (guard_at post.layout.config number) found ∷ []
 own_told (Scans later (GiveBack place slot)) post found = events.Back slot ∷ []
 own_told (Works work) post found = work_told work post
 
@@ -110,7 +112,7 @@ hands_lists phase = false
 pub phase_still : (phase : Phase) (post : Post) (desk : Desk) (found : ℕ) → hands_lists phase ≡ false → AddsPlain (own_post phase post found) (own_told phase post found) (phase_turn phase post desk found)
 phase_still Idle post desk found h = out_adds _ _ _ _
 phase_still (Runs why base) post desk found h = resumed_adds why desk (after base post found).post (after base post found).told (after base post found).outcome
-phase_still (Scans later (ReadGuard number)) post desk found h = reading_adds later number post (scans.with_read desk number (guard_at post.layout.config number, published (guard_at post.layout.config number) found)) _ (nat_lt (number + 1) (guards post.layout.config))
+phase_still (Scans later (ReadGuard number)) post desk found h = reading_adds later number post (scans.with_read desk number (guard_at post.layout.config number, published (publishes_rows (scheme_of post)) (guard_at post.layout.config number) found)) _ (nat_lt (number + 1) (guards post.layout.config))
 phase_still (Scans later (GiveBack place slot)) post desk found h = giving_adds later post (with_back desk place) _ (unmet_from (with_back desk place) place)
 phase_still (Works work) post desk found h = work_still work post desk found h
 
@@ -135,6 +137,8 @@ later_rows (events.End count answer) h = refl
 later_rows (events.Era era) h = refl
 later_rows (events.Reserve guard span) h = refl
 later_rows (events.Read guard span) h = refl
+later_rows (events.Hazard guard slot) h = refl
+later_rows (events.Saw guard slot) h = refl
 later_rows (events.Give slot birth) h = no_truth_2 h
 later_rows (events.Unused slot) h = no_truth_2 h
 later_rows (events.Link root slot) h = refl
@@ -196,6 +200,9 @@ protect_rows aim index root n (WithdrawHelper link era) post found = rw (conclud
 protect_rows aim index root n LoadWithin post found = refl
 protect_rows aim index root n (CheckUpper link) post found = check_rows aim index root n found link post _ (found == upper post.span)
 protect_rows aim index root n (RaiseUpper era) post found = refl
+protect_rows aim index root n (ByHazard FirstLink) post found = check_rows aim index root n 0 found post _ (found == 0)
+protect_rows aim index root n (ByHazard (PublishLink link)) post found = refl
+protect_rows aim index root n (ByHazard (CheckLink link)) post found = check_rows aim index root n 0 found post _ (found == link || found == 0)
 
 begin_rows : (at : BeginAt) (post : Post) (found : ℕ) → of_rows (begin_turn at post found).told ≡ []
 begin_rows LoadLower post found = refl
@@ -265,11 +272,15 @@ left_rows : (index : ℕ) (rows : List (Option ℕ)) → of_rows (cleared_from i
 left_rows index [] = refl
 left_rows index (row ∷ rows) = cleared_rows index row (cleared_from (index + 1) rows) (left_rows (index + 1) rows)
 
+shown_rows : (rows : Bool) (post : Post) (index number : ℕ) → of_rows (publishes_index rows post index number) ≡ []
+shown_rows true post index number = refl
+shown_rows false post index number = refl
+
 -- a step on what is kept tells nothing of rows
 keep_rows : (at : KeepAt) (post : Post) → of_rows (keep_told at post) ≡ []
 keep_rows (Loosens let_go) post = let_go_rows (let_index let_go) (stands post (let_index let_go))
 keep_rows (LoadHeld from index) post = load_held_rows from index post (has_one_interval (scheme_of post))
-keep_rows (StoreHeld from index era) post = copied_rows from index post (reserves_index post index era) (stands post from) refl
+keep_rows (StoreHeld from index era) post = copied_rows from index post (publishes_index (publishes_rows (scheme_of post)) post index era) (stands post from) (shown_rows (publishes_rows (scheme_of post)) post index era)
 keep_rows (Looks index key at) post = refl
 keep_rows (Misses index) post = refl
 keep_rows HideSpan post = filter-append is_of_rows (cleared_from 2 (drop 2 post.standing)) (reserves_span post None) ∙ rw (left_rows 2 (drop 2 post.standing)) refl
@@ -281,7 +292,7 @@ base_rows : (base : Base) (post : Post) (found : ℕ) → of_rows (after base po
 base_rows (Begin at) post found = begin_rows at post found
 base_rows (Protect aim index root steps at) post found = protect_rows aim index root _ at post found
 base_rows (Reload parent index slot era steps) post found = reload_rows index slot _ post _ _ _ (found == parent + 1)
-base_rows (Clear index) post found = cleared_rows index (stands post index) _ refl
+base_rows (Clear rows index) post found = cleared_rows index (stands post index) _ (shown_rows rows post index 0)
 base_rows Finish post found = refl
 base_rows (Release index) post found = cleared_rows index (stands post index) _ refl
 base_rows (Allocate at) post found = allocate_rows at post found
@@ -340,10 +351,14 @@ work_rows (Dequeuing (TakeValue head next number)) post last found = refl
 work_rows (Dequeuing (ExchangeHead head next number value)) post last found = pop_none head next 0 (found == head + 1)
 work_rows (Keeping at) post last found = keep_rows at post ∙ keep_none at found 0
 
+read_rows : (rows : Bool) (guard : Guard) (word : ℕ) → of_rows (reads_guard rows guard word ∷ []) ≡ []
+read_rows true guard word = refl
+read_rows false guard word = refl
+
 own_rows : (phase : Phase) (post last : Post) (found : ℕ) → of_rows (own_told phase post found) ≡ row_events (birth_in phase) (row_move phase last found)
 own_rows Idle post last found = refl
 own_rows (Runs why base) post last found = base_rows base post found
-own_rows (Scans later (ReadGuard number)) post last found = refl
+own_rows (Scans later (ReadGuard number)) post last found = read_rows (publishes_rows (scheme_of post)) (guard_at post.layout.config number) found
 own_rows (Scans later (GiveBack place slot)) post last found = refl
 own_rows (Works work) post last found = work_rows work post last found
 
@@ -448,7 +463,7 @@ run_extra : (slots i : ℕ) (layout : Layout) (mem : Place → ℕ) (v : View) (
 run_extra slots i layout mem v why (Begin at) post list g p e = tt
 run_extra slots i layout mem v why (Protect aim index root steps at) post list g p e = tt
 run_extra slots i layout mem v why (Reload parent index slot era steps) post list g p e = tt
-run_extra slots i layout mem v why (Clear index) post list g p e = tt
+run_extra slots i layout mem v why (Clear rows index) post list g p e = tt
 run_extra slots i layout mem v why Finish post list g p e = tt
 run_extra slots i layout mem v why (Release index) post list g p e = tt
 run_extra slots i layout mem v why (Allocate LoadBirth) post list g p e = tt
@@ -499,6 +514,8 @@ reuses_rows s (events.End count answer) h = refl
 reuses_rows s (events.Era era) h = refl
 reuses_rows s (events.Reserve guard span) h = refl
 reuses_rows s (events.Read guard span) h = refl
+reuses_rows s (events.Hazard guard slot) h = refl
+reuses_rows s (events.Saw guard slot) h = refl
 reuses_rows s (events.Give slot birth) h = no_truth_2 (sym h)
 reuses_rows s (events.Unused slot) h = no_truth_2 (sym h)
 reuses_rows s (events.Link root slot) h = refl

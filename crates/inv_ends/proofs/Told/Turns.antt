@@ -36,7 +36,7 @@ use Rattle.inv_covers.specs.model.Desks.{Desk, with_life}
 use Rattle.inv_covers.specs.model.Locals.{told_by, told_end}
 use Rattle.inv_covers.specs.model.Phases.{Ending, Base}
 use Rattle.inv_covers.specs.model.Phases.Ending.{Allocated, Clocked, Done, Followed, Protected, Retired}
-use Rattle.inv_covers.specs.model.Posts.{cleared, reserves_index, stands, withdrawn}
+use Rattle.inv_covers.specs.model.Posts.{cleared, stands, withdrawn, publishes_index}
 use Rattle.inv_covers.specs.model.Rounds.{bucket_of, clear_base, clear_post, clear_told, clearing, clearing_by, clearing_next, clearing_next_by, closed, finish_base, finish_span, finishing, finishing_by, given_up, index_of, kept_row, let_index, scheme_of, taken_of}
 use Rattle.inv_covers.specs.model.declared.ends.AllocateEnd.{AllocateEnd}
 use Rattle.inv_covers.specs.model.declared.ends.FollowEnd.{FollowEnd}
@@ -55,7 +55,7 @@ use Rattle.std.specs.Prelude.{List, None, Option, Some, [], if◌then◌else◌,
 use Rattle.inv_covers.proofs.model.Standing.{stands-withdrawn_same, stands-withdrawn_other}
 use Rattle.inv_covers.proofs.model.Facts.{either_true, no_truth_2}
 use Rattle.inv_covers.proofs.model.Schemes.{each_clear, each_finish}
-use Rattle.inv_covers.specs.words.Schemes.{has_one_interval}
+use Rattle.inv_covers.specs.words.Schemes.{has_one_interval, publishes_rows}
 
 -- an event that comes after those of a machine or of a step on what is kept, besides those of lists
 abbrev pub is_sequel : Event → Bool
@@ -419,7 +419,7 @@ is_handing at = false
 pub keep_still : (at : KeepAt) (post : Post) (desk : Desk) (found : ℕ) → is_handing at ≡ false → JustPlain (keep_post at post) (keep_told at post) (keeps.keep_turn at post desk found)
 keep_still (Loosens let_go) post desk found h = let_go_just let_go (withdrawn post (let_index let_go)) desk (cleared (let_index let_go) (stands post (let_index let_go)))
 keep_still (LoadHeld from index) post desk found h = load_held_just from index post desk found (has_one_interval (scheme_of post))
-keep_still (StoreHeld from index era) post desk found h = copied_just from index post desk (reserves_index post index era) (stands post from)
+keep_still (StoreHeld from index era) post desk found h = copied_just from index post desk (publishes_index (publishes_rows (scheme_of post)) post index era) (stands post from)
 keep_still (Looks index key at) post desk found h = look_just index key at post desk found
 keep_still (Misses index) post desk found h = just_out _ _ _ _
 keep_still HideSpan post desk found h = just_out _ _ _ _

@@ -48,7 +48,7 @@ walk_grows layout k seen v = let g = shape_grows layout k v in record {
   finishes = λ post task next s e q. tt;
   gives_up = λ post answer slot q. tt;
   retires = λ post answer slot q. tt;
-  tidies = λ post later q. tt;
+  tidies = λ post later m q. tt;
   advances = λ post q. tt;
   clears_kept = λ post let_go s q. tt;
   releases = λ post let_go s e q. tt;
@@ -62,7 +62,7 @@ other_base : (layout : Layout) (why : Why) (base : Base) (post : Post) (seen : �
 other_base layout why (Begin at) post seen f r = tt
 other_base layout why (Protect aim index root steps at) post seen f r = tt
 other_base layout why (Reload parent index slot era steps) post seen f r = tt
-other_base layout why (Clear index) post seen f r = tt
+other_base layout why (Clear rows index) post seen f r = tt
 other_base layout why Finish post seen f r = tt
 other_base layout why (Release index) post seen f r = tt
 other_base layout why (Allocate at) post seen f r = no_truth_2 (sym f ∙ r.suited)
@@ -102,7 +102,7 @@ base_on : (layout : Layout) (k : ℕ) (why : Why) (base : Base) (post : Post) (f
 base_on layout k why (Begin at) post found seen q r x h = other_on layout why _ (machine.after (Begin at) post found).outcome seen (apart (Begin at) (kind_of why) refl r.suited) h
 base_on layout k why (Protect aim index root steps at) post found seen q r x h = other_on layout why _ (machine.after (Protect aim index root steps at) post found).outcome seen (apart (Protect aim index root steps at) (kind_of why) refl r.suited) h
 base_on layout k why (Reload parent index slot era steps) post found seen q r x h = other_on layout why _ (machine.after (Reload parent index slot era steps) post found).outcome seen (apart (Reload parent index slot era steps) (kind_of why) refl r.suited) h
-base_on layout k why (Clear index) post found seen q r x h = tt
+base_on layout k why (Clear rows index) post found seen q r x h = tt
 base_on layout k why Finish post found seen q r x h = tt
 base_on layout k why (Release index) post found seen q r x h = tt
 base_on layout k why (Allocate LoadBirth) post found seen q r x h = rw q.layout (begins_seen layout.config.slots post.cursor (λ s. false) q.cursor)

@@ -83,7 +83,7 @@ base_more : (over next met : Known) (seats : ℕ) (base : Base) → ((k t j : �
 base_more over next met seats (Begin at) f p = tt
 base_more over next met seats (Protect aim index root steps at) f p = tt
 base_more over next met seats (Reload parent index slot era steps) f p = tt
-base_more over next met seats (Clear index) f p = tt
+base_more over next met seats (Clear rows index) f p = tt
 base_more over next met seats Finish f p = tt
 base_more over next met seats (Release index) f p = tt
 base_more over next met seats (Allocate at) f p = tt
@@ -115,7 +115,7 @@ met_grows layout i over met v = let g = shape_grows layout i v in record {
   finishes = λ post task next s e q. tt;
   gives_up = λ post answer slot q. tt;
   retires = λ post answer slot q. tt;
-  tidies = λ post later q. tt;
+  tidies = λ post later m q. tt;
   advances = λ post q. tt;
   clears_kept = λ post let_go s q. tt;
   releases = λ post let_go s e q. tt;
@@ -129,7 +129,7 @@ other_base : (layout : Layout) (over met : Known) (why : Why) (base : Base) (pos
 other_base layout over met why (Begin at) post f r = tt
 other_base layout over met why (Protect aim index root steps at) post f r = tt
 other_base layout over met why (Reload parent index slot era steps) post f r = tt
-other_base layout over met why (Clear index) post f r = tt
+other_base layout over met why (Clear rows index) post f r = tt
 other_base layout over met why Finish post f r = tt
 other_base layout over met why (Release index) post f r = tt
 other_base layout over met why (Allocate at) post f r = tt
@@ -161,7 +161,7 @@ apart base ToRetire n s = refl
 apart (Begin at) ToMove n s = sym s
 apart (Protect aim index root steps at) ToMove n s = sym s
 apart (Reload parent index slot era steps) ToMove n s = sym s
-apart (Clear index) ToMove n s = sym s
+apart (Clear rows index) ToMove n s = sym s
 apart Finish ToMove n s = sym s
 apart (Release index) ToMove n s = sym s
 apart (Allocate at) ToMove n s = sym s
@@ -286,7 +286,7 @@ base_on layout k over met mem why (Begin at) post last l n r p h = other_on layo
 base_on layout k over met mem why (Protect aim index root steps at) post last l n r p h =
     other_on layout over met why _ (machine.after (Protect aim index root steps at) post (found (base_move (Protect aim index root steps at) last) (mem (place_in (base_move (Protect aim index root steps at) last))))).outcome (apart (Protect aim index root steps at) (kind_of why) refl r.suited) h
 base_on layout k over met mem why (Reload parent index slot era steps) post last l n r p h = other_on layout over met why _ (machine.after (Reload parent index slot era steps) post (mem Head)).outcome (apart (Reload parent index slot era steps) (kind_of why) refl r.suited) h
-base_on layout k over met mem why (Clear index) post last l n r p h = tt
+base_on layout k over met mem why (Clear rows index) post last l n r p h = tt
 base_on layout k over met mem why Finish post last l n r p h = tt
 base_on layout k over met mem why (Release index) post last l n r p h = tt
 base_on layout k over met mem why (Allocate at) post last l n r p h = other_on layout over met why _ (machine.after (Allocate at) post (found (base_move (Allocate at) last) (mem (place_in (base_move (Allocate at) last))))).outcome (apart (Allocate at) (kind_of why) refl r.suited) h
@@ -427,7 +427,7 @@ base_met : (w : World) (i : ℕ) (z : View) (met : Known) (k t j : ℕ) (base : 
 base_met w i z met k t j (Begin at) post a f h = no_truth_2 (sym f ∙ h)
 base_met w i z met k t j (Protect aim index root steps at) post a f h = no_truth_2 (sym f ∙ h)
 base_met w i z met k t j (Reload parent index slot era steps) post a f h = no_truth_2 (sym f ∙ h)
-base_met w i z met k t j (Clear index) post a f h = no_truth_2 (sym f ∙ h)
+base_met w i z met k t j (Clear rows index) post a f h = no_truth_2 (sym f ∙ h)
 base_met w i z met k t j Finish post a f h = no_truth_2 (sym f ∙ h)
 base_met w i z met k t j (Release index) post a f h = no_truth_2 (sym f ∙ h)
 base_met w i z met k t j (Allocate at) post a f h = no_truth_2 (sym f ∙ h)

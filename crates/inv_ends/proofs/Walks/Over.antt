@@ -1,4 +1,7 @@
 -- A request that is over stays over: its answer stands until it is taken, and then the tag of its index has risen.
+use Rattle.inv_covers.specs.words.declared.layout.Layout.{Layout}
+use Rattle.inv_covers.specs.words.Schemes.{publishes_rows}
+use Rattle.inv_covers.proofs.shapes.Tries.{helps_plain}
 use Rattle.std.proofs.Common.{ℕ, ◌+◌, ◌<◌, Bool, true, false, ◌≡◌, ◌∙◌, sym, refl, ap, subst, arith}
 use Rattle.std.proofs.lemmas.Bool.Decides.{nat_tests}
 use Rattle.inv_covers.specs.model.Calls.{Phase, Why}
@@ -8,12 +11,12 @@ use Rattle.inv_covers.specs.model.Memory.{upd}
 use Rattle.inv_covers.specs.model.Phases.{Aim}
 use Rattle.inv_covers.specs.model.Phases.Base.{Allocate, Begin, Clear, Finish, GiveUp, Move, Protect, Release, Reload, Retire, Write}
 use Rattle.inv_covers.specs.model.Phases.MoveAt.{AnswerAsked, CheckEra, ExchangeClock, HandOver, HideEra, HideLate, LoadAsked, LoadEra, LoadRequest, LoadReserved, ShowEra}
-use Rattle.inv_covers.specs.model.Phases.ProtectAt.{AnswerOwn, CheckClock, CheckOwnClock, CheckUpper, LoadAnswer, LoadClock, LoadLink, LoadOwnClock, LoadOwnLink, LoadWithin, PublishEra, PublishHelper, PublishRequest, RaiseUpper, TakeAnswer, WithdrawHelper, WithdrawRequest}
+use Rattle.inv_covers.specs.model.Phases.ProtectAt.{AnswerOwn, CheckClock, CheckOwnClock, CheckUpper, LoadAnswer, LoadClock, LoadLink, LoadOwnClock, LoadOwnLink, LoadWithin, PublishEra, PublishHelper, PublishRequest, RaiseUpper, TakeAnswer, WithdrawHelper, WithdrawRequest, ByHazard}
 use Rattle.inv_covers.specs.model.Posts.{tag_of}
 use Rattle.inv_covers.specs.model.SlowPath.{asking, own_request}
 use Rattle.inv_covers.specs.model.World.{World, step}
 use Rattle.inv_covers.specs.defs.declared.event.Root.{Root}
-use Rattle.inv_covers.specs.shapes.Seats.{Seats}
+use Rattle.inv_covers.specs.shapes.Seats.{Seats, Run, PhaseFits}
 use Rattle.inv_requests.proofs.Answering.{Bits, own_bits}
 use Rattle.inv_requests.proofs.Going.{stands_in}
 use Rattle.inv_requests.proofs.Kept.{at_of}
@@ -167,21 +170,27 @@ asked_stays w i k t j v why e k' t' j' root link a q h =
     if_stays (step w i) v.deal k' k t j _ (w.mem (Request k') == asking (w.seat i).post.layout t' j' root) (w.mem (Request k') == asking (w.seat i).post.layout t' j' root) refl h
     (λ y n d. no_truth_2 (sym (word_done t j t' j' (link_number (w.seat i).post.layout root) (v.deal k') b (sym (a.facts.words.requests k') ∙ number_is (w.mem (Request k')) (asking (w.seat i).post.layout t' j' root) y)) ∙ d))
 
-hand_gave : (w : World) (i : ℕ) (v : View) (why : Why) (e k t j : ℕ) (root : Root) (link old : ℕ) → At w.mem w.seat i v → (w.seat i).phase ≡ Runs why (Move (HandOver e k t j root link old)) → (w.mem (Index k j) == halves old t) ≡ true → gave_by t j (link_number (w.seat i).post.layout root) link e i (v.deal k) ≡ true
-hand_gave w i v why e k t j root link old a q h =
+-- a seat that hands an answer over helps, so its scheme publishes no rows
+hand_plain : (w : World) (i : ℕ) (why : Why) (e k t j : ℕ) (root : Root) (link old : ℕ) → Seats w → (w.seat i).phase ≡ Runs why (Move (HandOver e k t j root link old)) → publishes_rows (w.seat i).post.layout.config.scheme ≡ false
+hand_plain w i why e k t j root link old s q =
+    let r : Run w.layout why (Move (HandOver e k t j root link old)) (w.seat i).post = subst (PhaseFits w.layout (w.seat i).post) q (s.fits i).phase in
+    subst (λ (l : Layout). publishes_rows l.config.scheme ≡ false) (sym (s.fits i).post.layout) (helps_plain w.layout.config.scheme (nat_lt k w.layout.config.seats) r.fits)
+
+hand_gave : (w : World) (i : ℕ) (v : View) (why : Why) (e k t j : ℕ) (root : Root) (link old : ℕ) → Seats w → At w.mem w.seat i v → (w.seat i).phase ≡ Runs why (Move (HandOver e k t j root link old)) → (w.mem (Index k j) == halves old t) ≡ true → gave_by t j (link_number (w.seat i).post.layout root) link e i (v.deal k) ≡ true
+hand_gave w i v why e k t j root link old s a q h =
     let r = stands_in w.mem w.seat i v (Runs why (Move (HandOver e k t j root link old))) a q in
     let b = asked_bits w.mem w.seat i v e k t j (link_number (w.seat i).post.layout root) a (rw r at (a.facts.parts.whom i)) (rw r at (a.facts.parts.spare i)) (rw r at (a.facts.parts.eras i)) in
-    let x : halves (v.era k j) (v.mark k j) ≡ halves old t = sym (a.facts.words.indexes k j) ∙ number_is (w.mem (Index k j)) (halves old t) h in
+    let x : halves (v.era k j) (v.mark k j) ≡ halves old t = sym (a.facts.words.indexes (hand_plain w i why e k t j root link old s q) k j) ∙ number_is (w.mem (Index k j)) (halves old t) h in
     let y = halves_one (v.era k j) (v.mark k j) old t (mark_few w.mem w.seat i v k j a) b.tag_in x in
     let z : v.mark k j ≡ t = y.1 in
     let f : (nat_lt t (v.tag k j) || (gave_by t j (link_number (w.seat i).post.layout root) link e i (v.deal k) && v.era k j == old)) ≡ true = rw r at (a.facts.parts.known i) in
     grind (arith, nat_tests, a.facts.parts.marks k j)
 
-hand_stays : (w : World) (i k t j : ℕ) (v : View) (why : Why) (e k' t' j' : ℕ) (root : Root) (link old : ℕ) → At w.mem w.seat i v → (w.seat i).phase ≡ Runs why (Move (HandOver e k' t' j' root link old)) → done_at t j (v.deal k) ≡ true
+hand_stays : (w : World) (i k t j : ℕ) (v : View) (why : Why) (e k' t' j' : ℕ) (root : Root) (link old : ℕ) → Seats w → At w.mem w.seat i v → (w.seat i).phase ≡ Runs why (Move (HandOver e k' t' j' root link old)) → done_at t j (v.deal k) ≡ true
     → Stays (step w i) k t j (move_deals w.mem i (w.seat i).post (HandOver e k' t' j' root link old) v.deal k)
-hand_stays w i k t j v why e k' t' j' root link old a q h =
+hand_stays w i k t j v why e k' t' j' root link old s a q h =
     if_stays (step w i) v.deal k' k t j _ (w.mem (Index k' j') == halves old t') (w.mem (Index k' j') == halves old t') refl h
-    (λ y n d. by_done (step w i) k' t j (Passed t' j' (link_number (w.seat i).post.layout root) link e) (gave_done t j t' j' (link_number (w.seat i).post.layout root) link e i (v.deal k') (hand_gave w i v why e k' t' j' root link old a q y) d))
+    (λ y n d. by_done (step w i) k' t j (Passed t' j' (link_number (w.seat i).post.layout root) link e) (gave_done t j t' j' (link_number (w.seat i).post.layout root) link e i (v.deal k') (hand_gave w i v why e k' t' j' root link old s a q y) d))
 
 phase_stays : (w : World) (i k t j : ℕ) (v : View) (phase : Phase) → Seats w → At w.mem w.seat i v → (w.seat i).phase ≡ phase → done_at t j (v.deal k) ≡ true → Stays (step w i) k t j (phase_deals w.mem i (w.seat i).post phase v.deal k)
 phase_stays w i k t j v Idle s a q h = by_done (step w i) k t j (v.deal k) h
@@ -202,9 +211,10 @@ phase_stays w i k t j v (Runs why (Protect aim index root steps (WithdrawHelper 
 phase_stays w i k t j v (Runs why (Protect aim index root steps LoadWithin)) s a q h = by_done (step w i) k t j (v.deal k) h
 phase_stays w i k t j v (Runs why (Protect aim index root steps (CheckUpper link))) s a q h = by_done (step w i) k t j (v.deal k) h
 phase_stays w i k t j v (Runs why (Protect aim index root steps (RaiseUpper era))) s a q h = by_done (step w i) k t j (v.deal k) h
+phase_stays w i k t j v (Runs why (Protect aim index root steps (ByHazard at))) s a q h = by_done (step w i) k t j (v.deal k) h
 phase_stays w i k t j v (Runs why (Begin at)) s a q h = by_done (step w i) k t j (v.deal k) h
 phase_stays w i k t j v (Runs why (Reload parent index slot era steps)) s a q h = by_done (step w i) k t j (v.deal k) h
-phase_stays w i k t j v (Runs why (Clear index)) s a q h = by_done (step w i) k t j (v.deal k) h
+phase_stays w i k t j v (Runs why (Clear rows index)) s a q h = by_done (step w i) k t j (v.deal k) h
 phase_stays w i k t j v (Runs why Finish) s a q h = by_done (step w i) k t j (v.deal k) h
 phase_stays w i k t j v (Runs why (Release index)) s a q h = by_done (step w i) k t j (v.deal k) h
 phase_stays w i k t j v (Runs why (Allocate at)) s a q h = by_done (step w i) k t j (v.deal k) h
@@ -218,7 +228,7 @@ phase_stays w i k t j v (Runs why (Move (LoadAsked era seat tag index root))) s 
 phase_stays w i k t j v (Runs why (Move (CheckEra era seat tag index root link))) s a q h = by_done (step w i) k t j (v.deal k) h
 phase_stays w i k t j v (Runs why (Move (AnswerAsked era seat tag index root link))) s a q h = asked_stays w i k t j v why era seat tag index root link a q h
 phase_stays w i k t j v (Runs why (Move (LoadReserved era seat tag index root link))) s a q h = by_done (step w i) k t j (v.deal k) h
-phase_stays w i k t j v (Runs why (Move (HandOver era seat tag index root link old))) s a q h = hand_stays w i k t j v why era seat tag index root link old a q h
+phase_stays w i k t j v (Runs why (Move (HandOver era seat tag index root link old))) s a q h = hand_stays w i k t j v why era seat tag index root link old s a q h
 phase_stays w i k t j v (Runs why (Move (HideEra era))) s a q h = by_done (step w i) k t j (v.deal k) h
 phase_stays w i k t j v (Runs why (Move (HideLate seen))) s a q h = by_done (step w i) k t j (v.deal k) h
 phase_stays w i k t j v (Runs why (Move (ExchangeClock era))) s a q h = by_done (step w i) k t j (v.deal k) h

@@ -4,7 +4,7 @@ use Rattle.inv_covers.specs.model.Calls.KeepAt.{HideSpan}
 use Rattle.std.proofs.Common.{ℕ, ◌+◌, ◌≤◌, ◌<◌, ◌-◌, Bool, true, false, ◌≡◌, ◌≢◌, ◌∙◌, sym, refl, ap, subst, arith}
 use Rattle.std.proofs.lemmas.Bool.Decides.{nat_tests}
 use Rattle.std.proofs.lemmas.Grind.{common_steps}
-use Rattle.std.specs.Prelude.{slice_index, slice_set, List, [], ◌∷◌, length, Option, Some, None, if◌then◌else◌, ◌==◌}
+use Rattle.std.specs.Prelude.{slice_index, slice_set, List, [], ◌∷◌, length, Option, Some, None, if◌then◌else◌, ◌==◌, ◌||◌}
 use Rattle.inv_covers.specs.model.Machine as machine
 use Rattle.inv_covers.specs.model.Phases.Ending.{Followed, Clocked}
 use Rattle.inv_covers.specs.model.declared.ends.FollowEnd.TheVariants as follow_ends
@@ -26,7 +26,8 @@ use Rattle.inv_covers.specs.model.Phases.Base.{Allocate, Begin, Clear, Finish, G
 use Rattle.inv_covers.specs.model.Phases.BeginAt.{LoadLower, PublishSpan}
 use Rattle.inv_covers.specs.model.Phases.MoveAt.{AnswerAsked, CheckEra, ExchangeClock, HandOver, HideEra, HideLate, LoadAsked, LoadEra, LoadRequest, LoadReserved, ShowEra}
 use Rattle.inv_covers.specs.model.Phases.Outcome.{Ends, Goes}
-use Rattle.inv_covers.specs.model.Phases.ProtectAt.{AnswerOwn, CheckClock, CheckOwnClock, CheckUpper, LoadAnswer, LoadClock, LoadLink, LoadOwnClock, LoadOwnLink, LoadWithin, PublishEra, PublishHelper, PublishRequest, RaiseUpper, TakeAnswer, WithdrawHelper, WithdrawRequest}
+use Rattle.inv_covers.specs.model.Phases.ProtectAt.{AnswerOwn, CheckClock, CheckOwnClock, CheckUpper, LoadAnswer, LoadClock, LoadLink, LoadOwnClock, LoadOwnLink, LoadWithin, PublishEra, PublishHelper, PublishRequest, RaiseUpper, TakeAnswer, WithdrawHelper, WithdrawRequest, ByHazard}
+use Rattle.inv_covers.specs.model.Phases.HazardAt.{FirstLink, PublishLink, CheckLink}
 use Rattle.inv_covers.specs.model.Phases.RetireAt.{LoadLife, LoadRetire, StoreRetired}
 use Rattle.inv_covers.specs.model.Posts.{counted, reserves_helper, tag_of, upper, with_row, with_tag}
 use Rattle.inv_covers.specs.model.Protect.{concluded, held_post, protected, told_held}
@@ -144,10 +145,13 @@ base_tags (Protect aim index root steps (WithdrawHelper link era)) post found k 
 base_tags (Protect aim index root steps LoadWithin) post found k = refl
 base_tags (Protect aim index root steps (CheckUpper link)) post found k = check_tags aim index root (bump steps) link found post _ (found == upper post.span)
 base_tags (Protect aim index root steps (RaiseUpper era)) post found k = refl
+base_tags (Protect aim index root steps (ByHazard FirstLink)) post found k = check_tags aim index root (bump steps) found 0 post _ (found == 0)
+base_tags (Protect aim index root steps (ByHazard (PublishLink link))) post found k = refl
+base_tags (Protect aim index root steps (ByHazard (CheckLink link))) post found k = check_tags aim index root (bump steps) found 0 post _ (found == link || found == 0)
 base_tags (Begin LoadLower) post found k = refl
 base_tags (Begin (PublishSpan era)) post found k = refl
 base_tags (Reload parent index slot era steps) post found k = reload_tags post index slot (bump steps) found (found == parent + 1)
-base_tags (Clear index) post found k = refl
+base_tags (Clear rows index) post found k = refl
 base_tags Finish post found k = refl
 base_tags (Release index) post found k = refl
 base_tags (Allocate LoadBirth) post found k = refl
@@ -188,7 +192,7 @@ tags_grow layout i tags v = let g = shape_grows layout i v in record {
   finishes = λ post task next s e q. tt;
   gives_up = λ post answer slot q. tt;
   retires = λ post answer slot q. tt;
-  tidies = λ post later q. tt;
+  tidies = λ post later m q. tt;
   advances = λ post q. tt;
   clears_kept = λ post let_go s q. tt;
   releases = λ post let_go s e q. tt;
@@ -280,9 +284,10 @@ phase_rises w i j (Runs why (Protect aim index root steps (WithdrawHelper link e
 phase_rises w i j (Runs why (Protect aim index root steps LoadWithin)) v s e = kept_rises w i j v s (ap takes_in e)
 phase_rises w i j (Runs why (Protect aim index root steps (CheckUpper link))) v s e = kept_rises w i j v s (ap takes_in e)
 phase_rises w i j (Runs why (Protect aim index root steps (RaiseUpper era))) v s e = kept_rises w i j v s (ap takes_in e)
+phase_rises w i j (Runs why (Protect aim index root steps (ByHazard at))) v s e = kept_rises w i j v s (ap takes_in e)
 phase_rises w i j (Runs why (Begin at)) v s e = kept_rises w i j v s (ap takes_in e)
 phase_rises w i j (Runs why (Reload parent index slot era steps)) v s e = kept_rises w i j v s (ap takes_in e)
-phase_rises w i j (Runs why (Clear index)) v s e = kept_rises w i j v s (ap takes_in e)
+phase_rises w i j (Runs why (Clear rows index)) v s e = kept_rises w i j v s (ap takes_in e)
 phase_rises w i j (Runs why Finish) v s e = kept_rises w i j v s (ap takes_in e)
 phase_rises w i j (Runs why (Release index)) v s e = kept_rises w i j v s (ap takes_in e)
 phase_rises w i j (Runs why (Allocate at)) v s e = kept_rises w i j v s (ap takes_in e)

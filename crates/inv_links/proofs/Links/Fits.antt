@@ -154,6 +154,6 @@ fresh_after w i v l root s f g =
 
 pub links_stay : (w : World) (i : ℕ) (v : View) (l : Line) (z : Asking) → LinksNeeds w i v l z → Stays (λ k. links_to w.book w.mem v l) (λ k. links_to (step w i).book (step w i).mem (rows_after w i v) (line_after w i l)) w i z
 links_stay w i v l z n = record {
-  fresh = λ k h. fresh_after w i v l (root_in w k) (still w i v l h) n.both n.linked;
+  fresh = λ k h t. fresh_after w i v l (root_in w k) (still w i v l h t) n.both n.linked;
   stays = λ k x t h. stays_link w i v l z k x (root_in w k) refl n t h;
 }

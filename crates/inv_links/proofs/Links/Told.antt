@@ -3,7 +3,7 @@
 use Rattle.std.proofs.Common.{ℕ, ◌+◌, ◌≡◌, Bool, true, false, List, [], ◌∷◌, ◌++◌, length, Option, Some, None, arith, refl, ap, drop}
 use Rattle.std.specs.Prelude.{◌==◌, ◌%◌, ◌-◌, ◌&&◌, ◌||◌, nat_lt, if◌then◌else◌}
 use Rattle.inv_covers.specs.words.Packed.{reservation_word}
-use Rattle.inv_covers.specs.words.Schemes.{has_one_interval}
+use Rattle.inv_covers.specs.words.Schemes.{has_one_interval, publishes_rows}
 use Rattle.inv_covers.specs.words.declared.config.SchemeKind.{SchemeKind}
 use Rattle.inv_covers.specs.defs.declared.call.Answer.{Answer}
 use Rattle.inv_covers.specs.defs.declared.call.Answer.TheVariants as the_answers
@@ -26,7 +26,7 @@ use Rattle.inv_covers.specs.model.Dequeue as dequeues
 use Rattle.inv_covers.specs.model.Desks.{Desk, with_life}
 use Rattle.inv_covers.specs.model.Enqueue as enqueues
 use Rattle.inv_covers.specs.model.Get as gets
-use Rattle.inv_covers.specs.model.Guards.{guard_at, guards, eras_in, published}
+use Rattle.inv_covers.specs.model.Guards.{guard_at, guards, published}
 use Rattle.inv_covers.specs.model.Keep as keeps
 use Rattle.inv_covers.specs.model.Machine as machine
 use Rattle.inv_covers.specs.model.Memory.{bump}
@@ -34,10 +34,11 @@ use Rattle.inv_covers.specs.model.MoveClock as movers
 use Rattle.inv_covers.specs.model.Protect as protects
 use Rattle.inv_covers.specs.model.Scan as scan
 use Rattle.inv_covers.specs.model.Steps as steps
-use Rattle.inv_covers.specs.model.Posts.{stands, withdrawn, cleared, reserves_index, reserves_helper, reserves_span, cleared_from}
+use Rattle.inv_covers.specs.model.Posts.{stands, withdrawn, cleared, reserves_index, reserves_helper, reserves_span, cleared_from, publishes_index}
 use Rattle.inv_covers.specs.model.Phases.{Aim, Alone, Follows, BeginAt, ProtectAt, AllocateAt, RetireAt, MoveAt, Base, Walk, Turn, Outcome, Goes, Ends, Ending}
 use Rattle.inv_covers.specs.model.Phases.BeginAt.{LoadLower, PublishSpan}
-use Rattle.inv_covers.specs.model.Phases.ProtectAt.{LoadClock, PublishEra, LoadLink, CheckClock, PublishRequest, LoadOwnClock, PublishHelper, LoadOwnLink, CheckOwnClock, AnswerOwn, LoadAnswer, TakeAnswer, WithdrawRequest, WithdrawHelper, LoadWithin, CheckUpper, RaiseUpper}
+use Rattle.inv_covers.specs.model.Phases.ProtectAt.{LoadClock, PublishEra, LoadLink, CheckClock, PublishRequest, LoadOwnClock, PublishHelper, LoadOwnLink, CheckOwnClock, AnswerOwn, LoadAnswer, TakeAnswer, WithdrawRequest, WithdrawHelper, LoadWithin, CheckUpper, RaiseUpper, ByHazard}
+use Rattle.inv_covers.specs.model.Phases.HazardAt.{FirstLink, PublishLink, CheckLink}
 use Rattle.inv_covers.specs.model.Phases.AllocateAt.{LoadBirth, ClaimSlot, StoreLife}
 use Rattle.inv_covers.specs.model.Phases.RetireAt.{LoadLife, LoadRetire, StoreRetired}
 use Rattle.inv_covers.specs.model.Phases.MoveAt.{LoadEra, LoadRequest, ShowEra, LoadAsked, CheckEra, AnswerAsked, LoadReserved, HandOver, HideEra, HideLate, ExchangeClock}
@@ -48,6 +49,7 @@ use Rattle.inv_covers.specs.model.Calls.{Task, Gets, Changes, Holds, Enqueues, D
 use Rattle.inv_covers.proofs.model.Facts.{first_of, rest_of, both}
 use Rattle.inv_covers.proofs.model.Schemes.{each_clear, each_clear_told, each_finish}
 use Rattle.inv_covers.specs.rows.Tries.{is_end}
+use Rattle.inv_covers.specs.defs.declared.event.Guard.{Guard}
 
 -- the ends of the queue move to rows that were linked before
 -- the events link no rows but those of f
@@ -102,6 +104,9 @@ protect_in f aim index root n (WithdrawHelper link era) post found = concluded_i
 protect_in f aim index root n LoadWithin post found = refl
 protect_in f aim index root n (CheckUpper link) post found = grind (arith, protected_in f aim index root n link found post)
 protect_in f aim index root n (RaiseUpper era) post found = refl
+protect_in f aim index root n (ByHazard FirstLink) post found = grind (arith, protected_in f aim index root n found 0 post)
+protect_in f aim index root n (ByHazard (PublishLink link)) post found = refl
+protect_in f aim index root n (ByHazard (CheckLink link)) post found = grind (arith, protected_in f aim index root n found 0 post)
 
 move_in : (f : ℕ → Bool) (at : MoveAt) (post : Post) (found : ℕ) → Tells f (machine.move_turn at post found)
 move_in f (LoadEra helps) post found = grind arith
@@ -146,11 +151,15 @@ cleared_in : (f : ℕ → Bool) (index : ℕ) (x : Option ℕ) → links_in f (c
 cleared_in f index None = refl
 cleared_in f index (Some slot) = refl
 
+shown_in : (f : ℕ → Bool) (rows : Bool) (post : Post) (index number : ℕ) → links_in f (publishes_index rows post index number) ≡ true
+shown_in f true post index number = refl
+shown_in f false post index number = refl
+
 base_in : (f : ℕ → Bool) (base : Base) (post : Post) (found : ℕ) → Tells f (machine.after base post found)
 base_in f (Begin at) post found = begin_in f at post found
 base_in f (Protect aim index root steps at) post found = protect_in f aim index root (bump steps) at post found
 base_in f (Reload parent index slot era steps) post found = grind arith
-base_in f (Clear index) post found = append_in f (cleared index (stands post index)) (reserves_index post index 0) (cleared_in f index (stands post index)) refl
+base_in f (Clear rows index) post found = append_in f (cleared index (stands post index)) (publishes_index rows post index 0) (cleared_in f index (stands post index)) (shown_in f rows post index 0)
 base_in f Finish post found = refl
 base_in f (Release index) post found = append_in f (cleared index (stands post index)) (reserves_span post None) (cleared_in f index (stands post index)) refl
 base_in f (Allocate at) post found = allocate_in f at post found
@@ -349,7 +358,7 @@ keep_in : (f : ℕ → Bool) (at : KeepAt) (post : Post) (desk : Desk) (found : 
 keep_in f (Loosens let_go) post desk found =
     released_in f let_go (withdrawn post (let_index let_go)) desk (cleared (let_index let_go) (stands post (let_index let_go))) (cleared_in f (let_index let_go) (stands post (let_index let_go)))
 keep_in f (LoadHeld from index) post desk found = load_held_in f from index post desk found (has_one_interval (scheme_of post))
-keep_in f (StoreHeld from index era) post desk found = copied_in f from index post desk (reserves_index post index era) (stands post from) refl
+keep_in f (StoreHeld from index era) post desk found = copied_in f from index post desk (publishes_index (publishes_rows (scheme_of post)) post index era) (stands post from) (shown_in f (publishes_rows (scheme_of post)) post index era)
 keep_in f (Looks index key at) post desk found = look_in f index key at post desk found
 keep_in f (Misses index) post desk found = refl
 keep_in f HideSpan post desk found = append_in f (cleared_from 2 (drop 2 post.standing)) (reserves_span post None) (cleared_all_in f 2 (drop 2 post.standing)) refl
@@ -472,9 +481,14 @@ read_in : (f : ℕ → Bool) (later : AfterScan) (number : ℕ) (post : Post) (d
 read_in f later number post desk told true h = h
 read_in f later number post desk told false h = giving_back_in f later post desk told (scan.unmet_from desk 0) h
 
+reads_in : (f : ℕ → Bool) (rows : Bool) (guard : Guard) (word : ℕ) → links_in f (scan.reads_guard rows guard word ∷ []) ≡ true
+reads_in f true guard word = refl
+reads_in f false guard word = refl
+
 scan_in : (f : ℕ → Bool) (later : AfterScan) (at : ScanAt) (post : Post) (desk : Desk) (found : ℕ) → links_in f (scan.scan_turn later at post desk found).told ≡ true
 scan_in f later (ReadGuard number) post desk found =
-    read_in f later number post (scan.with_read desk number (guard_at post.layout.config number, published (guard_at post.layout.config number) found)) (events.Read (guard_at post.layout.config number) (eras_in (guard_at post.layout.config number) found) ∷ []) (nat_lt (number + 1) (guards post.layout.config)) refl
+    read_in f later number post (scan.with_read desk number (guard_at post.layout.config number, published (publishes_rows (scheme_of post)) (guard_at post.layout.config number) found)) (scan.reads_guard (publishes_rows (scheme_of post)) (guard_at post.layout.config number) found ∷ [])
+    (nat_lt (number + 1) (guards post.layout.config)) (reads_in f (publishes_rows (scheme_of post)) (guard_at post.layout.config number) found)
 scan_in f later (GiveBack place slot) post desk found = giving_back_in f later post (scan.with_back desk place) (events.Back slot ∷ []) (scan.unmet_from (scan.with_back desk place) place) refl
 
 -- the rows that a step links are of f

@@ -1,4 +1,4 @@
--- Under Hazard Eras and 2GE no seat has a request, so each link that is tracked is one that a try of its seat has loaded.
+-- Where no seat helps another none has a request, so each link that is tracked is one that a try of its seat has loaded.
 use Rattle.std.proofs.Common.{ℕ, ◌≡◌, ◌+◌, Bool, true, false, arith, refl}
 use Rattle.std.proofs.lemmas.Bool.Decides.{nat_tests}
 use Rattle.std.specs.Prelude.{◌==◌, ◌&&◌}
@@ -8,7 +8,7 @@ use Rattle.inv_covers.specs.defs.declared.event.Root.{Root}
 use Rattle.inv_covers.specs.model.declared.post.Post.{Post}
 use Rattle.inv_covers.specs.model.Posts.{upper}
 use Rattle.inv_covers.specs.model.Phases.{Aim, ProtectAt, MoveAt, Base}
-use Rattle.inv_covers.specs.model.Phases.ProtectAt.{LoadClock, PublishEra, LoadLink, CheckClock, PublishRequest, LoadOwnClock, PublishHelper, LoadOwnLink, CheckOwnClock, AnswerOwn, LoadAnswer, TakeAnswer, WithdrawRequest, WithdrawHelper, LoadWithin, CheckUpper, RaiseUpper}
+use Rattle.inv_covers.specs.model.Phases.ProtectAt.{LoadClock, PublishEra, LoadLink, CheckClock, PublishRequest, LoadOwnClock, PublishHelper, LoadOwnLink, CheckOwnClock, AnswerOwn, LoadAnswer, TakeAnswer, WithdrawRequest, WithdrawHelper, LoadWithin, CheckUpper, RaiseUpper, ByHazard}
 use Rattle.inv_covers.specs.model.Phases.MoveAt.{LoadEra, LoadRequest, ShowEra, LoadAsked, CheckEra, AnswerAsked, LoadReserved, HandOver, HideEra, HideLate, ExchangeClock}
 use Rattle.inv_covers.specs.model.Phases.Base.{Begin, Protect, Reload, Clear, Finish, Release, Allocate, Write, GiveUp, Retire, Move}
 use Rattle.inv_covers.specs.model.Calls.{Why, Phase, Idle, Runs, Scans, Works}
@@ -27,7 +27,7 @@ use Rattle.inv_links.specs.Tracked.{carries_at, carries_base, carries_in, root_b
 use Rattle.inv_covers.proofs.Kept.{not_reused}
 use Rattle.inv_links.specs.Links.{Tried, TrackedTried, HeldLinksStay}
 
--- no request under these schemes
+-- no request under such schemes
 quiet_protect : (layout : Layout) (why : Why) (aim : Aim) (index : ℕ) (root : Root) (steps : ℕ) (at : ProtectAt) (d : Deal) → protect_fits layout.config.scheme layout.config.tries at ≡ true → helps layout.config.scheme ≡ false → fits (role_of layout (Runs why (Protect aim index root steps at))) d ≡ true → is_quiet d ≡ true
 quiet_protect layout why aim index root steps (LoadClock tries) d p n f = f
 quiet_protect layout why aim index root steps (PublishEra era tries) d p n f = f
@@ -61,7 +61,7 @@ quiet_base : (layout : Layout) (why : Why) (base : Base) (d : Deal) → base_fit
 quiet_base layout why (Begin at) d p n f = f
 quiet_base layout why (Protect aim index root steps at) d p n f = quiet_protect layout why aim index root steps at d p n f
 quiet_base layout why (Reload parent index slot era steps) d p n f = f
-quiet_base layout why (Clear index) d p n f = f
+quiet_base layout why (Clear rows index) d p n f = f
 quiet_base layout why Finish d p n f = f
 quiet_base layout why (Release index) d p n f = f
 quiet_base layout why (Allocate at) d p n f = f
@@ -74,7 +74,7 @@ quiet_phase : (layout : Layout) (post : Post) (phase : Phase) (d : Deal) → Pha
 quiet_phase layout post Idle d p n f = f
 quiet_phase layout post (Runs why base) d p n f = quiet_base layout why base d p.fits n f
 quiet_phase layout post (Scans later at) d p n f = f
-quiet_phase layout post (Works work) d p n f = work_quiet work d f
+quiet_phase layout post (Works work) d p n f = work_quiet layout work d f
 
 no_request : (w : World) (k : ℕ) (z : Asking) → helps w.layout.config.scheme ≡ false → Seats w → Requests w z → is_quiet (z.deal k) ≡ true
 no_request w k z n s f = quiet_phase w.layout (w.seat k).post (w.seat k).phase (z.deal k) (s.fits k).phase n (fit_of w z k (w.seat k).phase f refl)
@@ -98,6 +98,7 @@ protect_tried layout clock status post root (WithdrawHelper link era) s p n u h 
 protect_tried layout clock status post root LoadWithin s p n u h = h
 protect_tried layout clock status post root (CheckUpper link) s p n u h = grind (arith, nat_tests)
 protect_tried layout clock status post root (RaiseUpper era) s p n u h = h
+protect_tried layout clock status post root (ByHazard at) s p n u h = h
 
 same_row : (slot s : ℕ) (b : Bool) → b ≡ true → (slot + 1 == s + 1) ≡ true → (slot == s && b) ≡ true
 same_row slot s b u h = grind (arith, nat_tests)

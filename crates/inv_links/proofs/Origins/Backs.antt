@@ -9,7 +9,7 @@ use Rattle.inv_covers.specs.model.declared.post.Post.{Post}
 use Rattle.inv_covers.specs.model.Links.{link_number}
 use Rattle.inv_covers.specs.model.Posts.{upper}
 use Rattle.inv_covers.specs.model.Phases.{ProtectAt, MoveAt, Base}
-use Rattle.inv_covers.specs.model.Phases.ProtectAt.{LoadClock, PublishEra, LoadLink, CheckClock, PublishRequest, LoadOwnClock, PublishHelper, LoadOwnLink, CheckOwnClock, AnswerOwn, LoadAnswer, TakeAnswer, WithdrawRequest, WithdrawHelper, LoadWithin, CheckUpper, RaiseUpper}
+use Rattle.inv_covers.specs.model.Phases.ProtectAt.{LoadClock, PublishEra, LoadLink, CheckClock, PublishRequest, LoadOwnClock, PublishHelper, LoadOwnLink, CheckOwnClock, AnswerOwn, LoadAnswer, TakeAnswer, WithdrawRequest, WithdrawHelper, LoadWithin, CheckUpper, RaiseUpper, ByHazard}
 use Rattle.inv_covers.specs.model.Phases.MoveAt.{LoadEra, LoadRequest, ShowEra, LoadAsked, CheckEra, AnswerAsked, LoadReserved, HandOver, HideEra, HideLate, ExchangeClock}
 use Rattle.inv_covers.specs.model.Phases.Base.{Begin, Protect, Reload, Clear, Finish, Release, Allocate, Write, GiveUp, Retire, Move}
 use Rattle.inv_covers.specs.model.Calls.{Why, Phase, Idle, Runs, Scans, Works}
@@ -46,6 +46,7 @@ at_back clock later upto post (WithdrawHelper link era) x r u e h = h
 at_back clock later upto post LoadWithin x r u e h = h
 at_back clock later upto post (CheckUpper link) x r u e h = grind (arith, nat_tests)
 at_back clock later upto post (RaiseUpper era) x r u e h = h
+at_back clock later upto post (ByHazard at) x r u e h = h
 
 base_back : (layout : Layout) (clock later upto : ℕ) (post : Post) (base : Base) (x : ℕ) → clock ≤ later → upto ≤ clock → base_eras layout clock post base → carries_base later upto base x ≡ true → carries_base clock upto base x ≡ true
 base_back layout clock later upto post (Begin at) x r u e h = h
@@ -111,7 +112,7 @@ helps_base_back : (w : World) (i m k : ℕ) (z : View) (why : Why) (base : Base)
 helps_base_back w i m k z why (Begin at) x n q h = h
 helps_base_back w i m k z why (Protect aim index root steps at) x n q h = h
 helps_base_back w i m k z why (Reload parent index slot era steps) x n q h = h
-helps_base_back w i m k z why (Clear index) x n q h = h
+helps_base_back w i m k z why (Clear rows index) x n q h = h
 helps_base_back w i m k z why Finish x n q h = h
 helps_base_back w i m k z why (Release index) x n q h = h
 helps_base_back w i m k z why (Allocate at) x n q h = h

@@ -1,5 +1,5 @@
 -- A link that is tracked after a step was tracked before it, or the step loads it.
-use Rattle.std.proofs.Common.{ℕ, ◌≡◌, Bool, true, false, List, arith, refl, sym, ap, subst, ◌∙◌}
+use Rattle.std.proofs.Common.{ℕ, ◌≡◌, Bool, true, false, List, [], arith, refl, sym, ap, subst, ◌∙◌}
 use Rattle.std.proofs.lemmas.Bool.Decides.{nat_tests}
 use Rattle.std.specs.Prelude.{◌==◌}
 use Rattle.inv_covers.specs.words.Place.Place.{Clock}
@@ -17,9 +17,9 @@ use Rattle.inv_covers.specs.model.Phases.{Aim, Follows, ProtectAt, MoveAt, Base,
 use Rattle.inv_covers.specs.model.Phases.MoveAt.{LoadEra, LoadRequest, ShowEra, LoadAsked, CheckEra, AnswerAsked}
 use Rattle.inv_covers.specs.model.Phases.Base.{Begin, Protect, Reload, Clear, Finish, Release, Allocate, Write, GiveUp, Retire, Move}
 use Rattle.inv_covers.specs.model.Calls.{Why, Opens, FollowsHead, Fills, ClearsNext, Clears, Finishes, GivesUp, Retires, Tidies, Advances, Releases, Phase, Idle, Runs, Scans, Works}
-use Rattle.inv_covers.specs.model.Locals.{Local}
-use Rattle.inv_covers.specs.model.Steps.{resumed}
-use Rattle.inv_covers.specs.model.World.{World, step, finds, offered}
+use Rattle.inv_covers.specs.model.Locals.{Local, told_by}
+use Rattle.inv_covers.specs.model.Steps.{resumed, phase_turn}
+use Rattle.inv_covers.specs.model.World.{World, step, finds, offered, told_in}
 use Rattle.inv_covers.specs.shapes.Frame.{phase_left}
 use Rattle.inv_covers.specs.shapes.Seats.{Seats, Aimed, PhaseFits}
 use Rattle.inv_covers.proofs.shapes.Frame.{seat_stays}
@@ -28,13 +28,13 @@ use Rattle.inv_requests.specs.NextDeals.{next_deals}
 use Rattle.inv_requests.specs.Views.{View, Deal}
 use Rattle.inv_requests.specs.Views.Deal.{Quiet, Open, Answered, Passed, Taken}
 use Rattle.inv_links.specs.Tracked.{carries_in, has_link, helps_at, helps_base, helps_in, root_for, root_in, Tracked, Carried, Given, Helped}
-use Rattle.inv_links.specs.Origins.{loads_link, OriginsNeeds, Came, Before, Now, TrackedCame}
+use Rattle.inv_links.specs.Origins.{loads_at, loads_link, OriginsNeeds, Came, Before, Now, TrackedCame}
 use Rattle.inv_links.proofs.Origins.Backs.{carries_back, helps_back}
 use Rattle.inv_links.proofs.Origins.Deals.{given_came}
 use Rattle.inv_links.proofs.Origins.Heard.{hears_at}
 use Rattle.inv_links.proofs.Origins.Movers.{out_helps, move_came, no_way}
 use Rattle.inv_links.proofs.Origins.Opened.{turn_of, stepped_by, busy_root}
-use Rattle.inv_links.proofs.Origins.Own.{HearsAt, out_carries, out_root, Source, Had, Loads, Hears, protect_next}
+use Rattle.inv_links.proofs.Origins.Own.{HearsAt, out_carries, out_root, Source, Had, Loads, Hears, protect_next, loads_none}
 use Rattle.inv_links.proofs.Origins.Plain.{out_plain, is_plain, plain_after, out_moves, moves_on, out_protects, protects_on, start_carries, start_carries_base, start_helps, start_helps_base, works_carry, works_help, move_carries, protect_helps}
 use Rattle.inv_covers.proofs.Fresh.{works_start, resume_fresh}
 use Rattle.inv_covers.proofs.Held.{stepped_phase, finds_at, protect_stays}
@@ -67,6 +67,11 @@ resumed_root : (clock upto : ℕ) (why : Why) (desk : Desk) (post : Post) (told 
 resumed_root clock upto why desk post told (Goes base) x h = refl
 resumed_root clock upto why desk post told (Ends ending) x h = absurd (cc)
 
+-- where a machine goes on and tells nothing, nothing is told
+goes_told : (clock upto : ℕ) (why : Why) (desk : Desk) (post : Post) (told : List Event) (outcome : Outcome) (x : ℕ) → told ≡ [] → out_carries clock upto outcome x ≡ true → told_by (resumed why desk post told outcome) ≡ []
+goes_told clock upto why desk post told (Goes base) x e h = rw e refl
+goes_told clock upto why desk post told (Ends ending) x e h = absurd (cc)
+
 plain_carries : (clock upto : ℕ) (outcome : Outcome) (x : ℕ) → out_plain outcome ≡ true → out_carries clock upto outcome x ≡ false
 plain_carries clock upto (Goes base) x p = start_carries_base clock upto base x p
 plain_carries clock upto (Ends ending) x p = refl
@@ -76,24 +81,29 @@ moves_carries clock upto (Goes base) x p = move_carries clock upto base x p
 moves_carries clock upto (Ends ending) x p = refl
 
 -- where the link of the seat's own protection comes from
-came_from : (w : World) (i : ℕ) (z : View) (why : Why) (aim : Aim) (index : ℕ) (root : Root) (steps : ℕ) (at : ProtectAt) (x : ℕ) → (w.seat i).phase ≡ Runs why (Protect aim index root steps at) → root_in (step w i) i ≡ root → Source w.mem (w.mem Clock) (upper (w.seat i).post.span) root at (z.deal i) x → Came w i z i x
-came_from w i z why aim index root steps at x q r (Had c) = Before (r ∙ sym (ap root_for q)) (Carried (subst (λ (p : Phase). carries_in (w.mem Clock) (upper (w.seat i).post.span) p x ≡ true) (sym q) c))
-came_from w i z why aim index root steps at x q r (Loads l e) = Now (r ∙ sym (ap root_for q)) (subst (λ (p : Phase). loads_link p ≡ true) (sym q) l) (ap (λ (p : Phase). w.mem (link_place (root_for p))) q ∙ e)
-came_from w i z why aim index root steps at x q r (Hears h) = Before (r ∙ sym (ap root_for q)) (Given h)
+came_from : (w : World) (i : ℕ) (z : View) (why : Why) (aim : Aim) (index : ℕ) (root : Root) (steps : ℕ) (at : ProtectAt) (x : ℕ) → (w.seat i).phase ≡ Runs why (Protect aim index root steps at) → root_in (step w i) i ≡ root → (loads_at at ≡ true → told_in w i ≡ []) → Source w.mem (w.mem Clock) (upper (w.seat i).post.span) root at (z.deal i) x → Came w i z i x
+came_from w i z why aim index root steps at x q r t (Had c) = Before (r ∙ sym (ap root_for q)) (Carried (subst (λ (p : Phase). carries_in (w.mem Clock) (upper (w.seat i).post.span) p x ≡ true) (sym q) c))
+came_from w i z why aim index root steps at x q r t (Loads l e) = Now (r ∙ sym (ap root_for q)) (subst (λ (p : Phase). loads_link p ≡ true) (sym q) l) (t l) (ap (λ (p : Phase). w.mem (link_place (root_for p))) q ∙ e)
+came_from w i z why aim index root steps at x q r t (Hears h) = Before (r ∙ sym (ap root_for q)) (Given h)
 
 protect_came : (w : World) (i : ℕ) (z : View) (why : Why) (aim : Aim) (index : ℕ) (root : Root) (steps : ℕ) (at : ProtectAt) (upto x : ℕ) → OriginsNeeds w i z → (w.seat i).phase ≡ Runs why (Protect aim index root steps at)
     → root_in (step w i) i ≡ out_root (after (Protect aim index root steps at) (counted (w.seat i).post) (finds w i)).outcome
     → out_carries ((step w i).mem Clock) upto (after (Protect aim index root steps at) (counted (w.seat i).post) (finds w i)).outcome x ≡ true → Came w i z i x
 protect_came w i z why aim index root steps at upto x n q r h =
     let e = finds_at w i (Runs why (Protect aim index root steps at)) q in
+    let k = why_follows w.layout.config.buckets why aim index root (aimed_at w i why aim index root steps at n.seats q) in
+    let u : Turn = after (Protect aim index root steps at) (counted (w.seat i).post) (finds w i) in
+    let t : loads_at at ≡ true → told_in w i ≡ [] = λ l.
+    ap (λ (p : Phase). told_by (phase_turn p (counted (w.seat i).post) (offered w i).desk (finds w i))) q
+    ∙ goes_told ((step w i).mem Clock) upto why (offered w i).desk u.post u.told u.outcome x (loads_none ((step w i).mem Clock) upto aim index root (bump steps) at (counted (w.seat i).post) (finds w i) x l k h) h in
     let a = subst (λ (y : ℕ). HearsAt at (counted (w.seat i).post) index root (z.deal i) y) e (hears_at w i z why aim index root steps at n q) in
     let c : out_carries (w.mem Clock) upto (protect_turn aim index root (bump steps) at (counted (w.seat i).post) (found (protect_move index root at (w.seat i).post) (w.mem (place_in (protect_move index root at (w.seat i).post))))).outcome x ≡ true =
     subst (λ (y : ℕ). out_carries (w.mem Clock) upto (protect_turn aim index root (bump steps) at (counted (w.seat i).post) y).outcome x ≡ true) e
     (subst (λ (y : ℕ). out_carries y upto (protect_turn aim index root (bump steps) at (counted (w.seat i).post) (finds w i)).outcome x ≡ true) (protect_stays w i why aim index root steps at q) h) in
     let g = protect_next w.mem (w.mem Clock) (upper (w.seat i).post.span) upto aim index root (bump steps) at (counted (w.seat i).post) (w.seat i).post (z.deal i) x refl refl
-    (why_follows w.layout.config.buckets why aim index root (aimed_at w i why aim index root steps at n.seats q)) a c in
+    k a c in
     let s : out_root (after (Protect aim index root steps at) (counted (w.seat i).post) (finds w i)).outcome ≡ root = ap (λ (y : ℕ). out_root (protect_turn aim index root (bump steps) at (counted (w.seat i).post) y).outcome) e ∙ g.same in
-    came_from w i z why aim index root steps at x q (r ∙ s) g.source
+    came_from w i z why aim index root steps at x q (r ∙ s) t g.source
 
 -- the seat that steps carries a link after a machine's step
 run_came : (w : World) (i : ℕ) (z : View) (why : Why) (base : Base) (upto x : ℕ) → OriginsNeeds w i z → (w.seat i).phase ≡ Runs why base
@@ -102,7 +112,7 @@ run_came : (w : World) (i : ℕ) (z : View) (why : Why) (base : Base) (upto x : 
 run_came w i z why (Begin at) upto x n q r h = no_way (out_carries ((step w i).mem Clock) upto (after (Begin at) (counted (w.seat i).post) (finds w i)).outcome x) (plain_carries ((step w i).mem Clock) upto (after (Begin at) (counted (w.seat i).post) (finds w i)).outcome x (plain_after (Begin at) (counted (w.seat i).post) (finds w i) refl)) h
 run_came w i z why (Protect aim index root steps at) upto x n q r h = protect_came w i z why aim index root steps at upto x n q r h
 run_came w i z why (Reload parent index slot era steps) upto x n q r h = no_way (out_carries ((step w i).mem Clock) upto (after (Reload parent index slot era steps) (counted (w.seat i).post) (finds w i)).outcome x) (plain_carries ((step w i).mem Clock) upto (after (Reload parent index slot era steps) (counted (w.seat i).post) (finds w i)).outcome x (plain_after (Reload parent index slot era steps) (counted (w.seat i).post) (finds w i) refl)) h
-run_came w i z why (Clear index) upto x n q r h = no_way (out_carries ((step w i).mem Clock) upto (after (Clear index) (counted (w.seat i).post) (finds w i)).outcome x) (plain_carries ((step w i).mem Clock) upto (after (Clear index) (counted (w.seat i).post) (finds w i)).outcome x (plain_after (Clear index) (counted (w.seat i).post) (finds w i) refl)) h
+run_came w i z why (Clear rows index) upto x n q r h = no_way (out_carries ((step w i).mem Clock) upto (after (Clear rows index) (counted (w.seat i).post) (finds w i)).outcome x) (plain_carries ((step w i).mem Clock) upto (after (Clear rows index) (counted (w.seat i).post) (finds w i)).outcome x (plain_after (Clear rows index) (counted (w.seat i).post) (finds w i) refl)) h
 run_came w i z why Finish upto x n q r h = no_way (out_carries ((step w i).mem Clock) upto (after Finish (counted (w.seat i).post) (finds w i)).outcome x) (plain_carries ((step w i).mem Clock) upto (after Finish (counted (w.seat i).post) (finds w i)).outcome x (plain_after Finish (counted (w.seat i).post) (finds w i) refl)) h
 run_came w i z why (Release index) upto x n q r h = no_way (out_carries ((step w i).mem Clock) upto (after (Release index) (counted (w.seat i).post) (finds w i)).outcome x) (plain_carries ((step w i).mem Clock) upto (after (Release index) (counted (w.seat i).post) (finds w i)).outcome x (plain_after (Release index) (counted (w.seat i).post) (finds w i) refl)) h
 run_came w i z why (Allocate at) upto x n q r h = no_way (out_carries ((step w i).mem Clock) upto (after (Allocate at) (counted (w.seat i).post) (finds w i)).outcome x) (plain_carries ((step w i).mem Clock) upto (after (Allocate at) (counted (w.seat i).post) (finds w i)).outcome x (plain_after (Allocate at) (counted (w.seat i).post) (finds w i) refl)) h
@@ -153,7 +163,7 @@ run_helped w i k z why (Protect aim index root steps at) x n q same h =
     no_way (out_helps w.layout ((step w i).mem Clock) k (after (Protect aim index root steps at) (counted (w.seat i).post) (finds w i)).outcome (next_deals w i z.deal k) x)
     (protects_helps w.layout ((step w i).mem Clock) k (after (Protect aim index root steps at) (counted (w.seat i).post) (finds w i)).outcome (next_deals w i z.deal k) x (protects_on aim index root (bump steps) at (counted (w.seat i).post) (finds w i))) h
 run_helped w i k z why (Reload parent index slot era steps) x n q same h = plain_none w i k z why (Reload parent index slot era steps) x refl h
-run_helped w i k z why (Clear index) x n q same h = plain_none w i k z why (Clear index) x refl h
+run_helped w i k z why (Clear rows index) x n q same h = plain_none w i k z why (Clear rows index) x refl h
 run_helped w i k z why Finish x n q same h = plain_none w i k z why Finish x refl h
 run_helped w i k z why (Release index) x n q same h = plain_none w i k z why (Release index) x refl h
 run_helped w i k z why (Allocate at) x n q same h = plain_none w i k z why (Allocate at) x refl h
@@ -209,7 +219,7 @@ helps_busy_base : (layout : Layout) (clock k : ℕ) (base : Base) (x : ℕ) → 
 helps_busy_base layout clock k (Begin at) x h = h
 helps_busy_base layout clock k (Protect aim index root steps at) x h = h
 helps_busy_base layout clock k (Reload parent index slot era steps) x h = h
-helps_busy_base layout clock k (Clear index) x h = h
+helps_busy_base layout clock k (Clear rows index) x h = h
 helps_busy_base layout clock k Finish x h = h
 helps_busy_base layout clock k (Release index) x h = h
 helps_busy_base layout clock k (Allocate at) x h = h

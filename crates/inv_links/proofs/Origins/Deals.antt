@@ -14,7 +14,7 @@ use Rattle.inv_covers.specs.model.Memory.{upd}
 use Rattle.inv_covers.specs.model.Posts.{upper, tag_of}
 use Rattle.inv_covers.specs.model.SlowPath.{asking, own_request}
 use Rattle.inv_covers.specs.model.Phases.{Aim, ProtectAt, MoveAt, Base}
-use Rattle.inv_covers.specs.model.Phases.ProtectAt.{LoadClock, PublishEra, LoadLink, CheckClock, PublishRequest, LoadOwnClock, PublishHelper, LoadOwnLink, CheckOwnClock, AnswerOwn, LoadAnswer, TakeAnswer, WithdrawRequest, WithdrawHelper, LoadWithin, CheckUpper, RaiseUpper}
+use Rattle.inv_covers.specs.model.Phases.ProtectAt.{LoadClock, PublishEra, LoadLink, CheckClock, PublishRequest, LoadOwnClock, PublishHelper, LoadOwnLink, CheckOwnClock, AnswerOwn, LoadAnswer, TakeAnswer, WithdrawRequest, WithdrawHelper, LoadWithin, CheckUpper, RaiseUpper, ByHazard}
 use Rattle.inv_covers.specs.model.Phases.MoveAt.{LoadEra, LoadRequest, ShowEra, LoadAsked, CheckEra, AnswerAsked, LoadReserved, HandOver, HideEra, HideLate, ExchangeClock}
 use Rattle.inv_covers.specs.model.Phases.Base.{Begin, Protect, Reload, Clear, Finish, Release, Allocate, Write, GiveUp, Retire, Move}
 use Rattle.inv_covers.specs.model.Calls.{Why, Phase, Idle, Runs, Scans, Works}
@@ -30,6 +30,9 @@ use Rattle.inv_links.specs.Tracked.{carries_in, carries_at, has_link, helps_at, 
 use Rattle.inv_links.specs.Origins.{OriginsNeeds}
 use Rattle.inv_requests.proofs.Handing.{mark_few, open_exact, asked_bits, gave_is}
 use Rattle.inv_covers.proofs.model.Facts.{number_is}
+use Rattle.inv_covers.specs.words.Schemes.{publishes_rows}
+use Rattle.inv_covers.specs.shapes.Seats.{Seats, PhaseFits}
+use Rattle.inv_covers.proofs.shapes.Tries.{helps_plain}
 
 -- a mover answers a request that is open
 pub answered_is : (mem : Place → ℕ) (seat : ℕ → Local) (i : ℕ) (v : View) (why : Why) (e k t j : ℕ) (root : Root) (link : ℕ) → At mem seat i v → (seat i).phase ≡ Runs why (Move (AnswerAsked e k t j root link))
@@ -39,13 +42,19 @@ answered_is mem seat i v why e k t j root link a q h =
     let b = asked_bits mem seat i v e k t j (link_number (seat i).post.layout root) a (rw r at (a.facts.parts.whom i)) (rw r at (a.facts.parts.spare i)) (rw r at (a.facts.parts.eras i)) in
     open_exact mem seat i v k t j (link_number (seat i).post.layout root) (v.deal k) a b refl (sym (a.facts.words.requests k) ∙ number_is (mem (Request k)) (asking (seat i).post.layout t j root) h)
 
+-- a mover that hands over helps, and where seats help no rows are published
+pub hands_plain : (w : World) (i : ℕ) (why : Why) (e k t j : ℕ) (root : Root) (link old : ℕ) → Seats w → (w.seat i).phase ≡ Runs why (Move (HandOver e k t j root link old)) → publishes_rows (w.seat i).post.layout.config.scheme ≡ false
+hands_plain w i why e k t j root link old s q =
+    let r : PhaseFits w.layout (w.seat i).post (Runs why (Move (HandOver e k t j root link old))) = subst (λ (p : Phase). PhaseFits w.layout (w.seat i).post p) q (s.fits i).phase in
+    subst (λ (l : Layout). publishes_rows l.config.scheme ≡ false) (sym (s.fits i).post.layout) (helps_plain w.layout.config.scheme (nat_lt k w.layout.config.seats) r.fits)
+
 -- and hands over the answer that it gave
 pub passed_is : (mem : Place → ℕ) (seat : ℕ → Local) (i : ℕ) (v : View) (why : Why) (e k t j : ℕ) (root : Root) (link old : ℕ) → At mem seat i v → (seat i).phase ≡ Runs why (Move (HandOver e k t j root link old))
-    → (mem (Index k j) == halves old t) ≡ true → v.deal k ≡ Answered t j (link_number (seat i).post.layout root) link e i
-passed_is mem seat i v why e k t j root link old a q h =
+    → publishes_rows (seat i).post.layout.config.scheme ≡ false → (mem (Index k j) == halves old t) ≡ true → v.deal k ≡ Answered t j (link_number (seat i).post.layout root) link e i
+passed_is mem seat i v why e k t j root link old a q p h =
     let r = stands_in mem seat i v (Runs why (Move (HandOver e k t j root link old))) a q in
     let b = asked_bits mem seat i v e k t j (link_number (seat i).post.layout root) a (rw r at (a.facts.parts.whom i)) (rw r at (a.facts.parts.spare i)) (rw r at (a.facts.parts.eras i)) in
-    let x : halves (v.era k j) (v.mark k j) ≡ halves old t = sym (a.facts.words.indexes k j) ∙ number_is (mem (Index k j)) (halves old t) h in
+    let x : halves (v.era k j) (v.mark k j) ≡ halves old t = sym (a.facts.words.indexes p k j) ∙ number_is (mem (Index k j)) (halves old t) h in
     let y = halves_one (v.era k j) (v.mark k j) old t (mark_few mem seat i v k j a) b.tag_in x in
     let z = y.1 in
     let f : (nat_lt t (v.tag k j) || (gave_by t j (link_number (seat i).post.layout root) link e i (v.deal k) && v.era k j == old)) ≡ true = rw r at (a.facts.parts.known i) in
@@ -95,6 +104,7 @@ given_protect w i z why aim index root steps (WithdrawHelper link era) k x q h =
 given_protect w i z why aim index root steps LoadWithin k x q h = Given h
 given_protect w i z why aim index root steps (CheckUpper link) k x q h = Given h
 given_protect w i z why aim index root steps (RaiseUpper era) k x q h = Given h
+given_protect w i z why aim index root steps (ByHazard at) k x q h = Given h
 
 -- a mover has loaded the link of the answer that it gives, for the request that is open
 helps_open : (layout : Layout) (clock k e t j : ℕ) (root : Root) (link : ℕ) (d : Deal) (x : ℕ) → d ≡ Open t j (link_number layout root) → (link == x) ≡ true → helps_at layout clock k (AnswerAsked e k t j root link) d x ≡ true
@@ -111,7 +121,7 @@ helped_by w i z why e k t j root link x n q h c =
 passed_by : (w : World) (i : ℕ) (z : View) (why : Why) (e k t j : ℕ) (root : Root) (link old x : ℕ) → OriginsNeeds w i z → (w.seat i).phase ≡ Runs why (Move (HandOver e k t j root link old)) → (w.mem (Index k j) == halves old t) ≡ true → (link == x) ≡ true → Tracked w z k x
 passed_by w i z why e k t j root link old x n q h c =
     let a = at_of w i z n.valid n.below n.seats n.needs n.requests in
-    let o = passed_is w.mem w.seat i z why e k t j root link old a q h in
+    let o = passed_is w.mem w.seat i z why e k t j root link old a q (hands_plain w i why e k t j root link old n.seats q) h in
     Given (rw o c)
 
 mover_given : (w : World) (i s : ℕ) (z : View) (k x : ℕ) (D : Deal) (c : Bool) → (c ≡ true → has_link D x ≡ true → Tracked w z s x) → has_link ((if c then upd z.deal s D else z.deal) k) x ≡ true → Tracked w z k x
@@ -137,7 +147,7 @@ given_base : (w : World) (i : ℕ) (z : View) (why : Why) (base : Base) (k x : �
 given_base w i z why (Begin at) k x n q h = Given h
 given_base w i z why (Protect aim index root steps at) k x n q h = given_protect w i z why aim index root steps at k x q h
 given_base w i z why (Reload parent index slot era steps) k x n q h = Given h
-given_base w i z why (Clear index) k x n q h = Given h
+given_base w i z why (Clear rows index) k x n q h = Given h
 given_base w i z why Finish k x n q h = Given h
 given_base w i z why (Release index) k x n q h = Given h
 given_base w i z why (Allocate at) k x n q h = Given h

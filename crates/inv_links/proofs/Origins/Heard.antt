@@ -16,7 +16,7 @@ use Rattle.inv_covers.specs.model.Memory.{found}
 use Rattle.inv_covers.specs.model.Posts.{counted, tag_of}
 use Rattle.inv_covers.specs.model.SlowPath.{asking, own_request, answer_in}
 use Rattle.inv_covers.specs.model.Phases.{Aim, ProtectAt, MoveAt, Base}
-use Rattle.inv_covers.specs.model.Phases.ProtectAt.{LoadClock, PublishEra, LoadLink, CheckClock, PublishRequest, LoadOwnClock, PublishHelper, LoadOwnLink, CheckOwnClock, AnswerOwn, LoadAnswer, TakeAnswer, WithdrawRequest, WithdrawHelper, LoadWithin, CheckUpper, RaiseUpper}
+use Rattle.inv_covers.specs.model.Phases.ProtectAt.{LoadClock, PublishEra, LoadLink, CheckClock, PublishRequest, LoadOwnClock, PublishHelper, LoadOwnLink, CheckOwnClock, AnswerOwn, LoadAnswer, TakeAnswer, WithdrawRequest, WithdrawHelper, LoadWithin, CheckUpper, RaiseUpper, ByHazard}
 use Rattle.inv_covers.specs.model.Phases.MoveAt.{LoadEra, LoadRequest, ShowEra, LoadAsked, CheckEra, AnswerAsked, LoadReserved, HandOver, HideEra, HideLate, ExchangeClock}
 use Rattle.inv_covers.specs.model.Phases.Base.{Begin, Protect, Reload, Clear, Finish, Release, Allocate, Write, GiveUp, Retire, Move}
 use Rattle.inv_covers.specs.model.Calls.{Why, Phase, Idle, Runs, Scans, Works}
@@ -107,6 +107,7 @@ hears_at w i z why aim index root steps (WithdrawHelper link era) n q = tt
 hears_at w i z why aim index root steps LoadWithin n q = tt
 hears_at w i z why aim index root steps (CheckUpper link) n q = tt
 hears_at w i z why aim index root steps (RaiseUpper era) n q = tt
+hears_at w i z why aim index root steps (ByHazard at) n q = tt
 
 -- where an answer is read the request is not open
 read_open : (mem : Place → ℕ) (seat : ℕ → Local) (i : ℕ) (z : View) (k link era : ℕ) (d : Deal) → At mem seat i z → z.deal k ≡ d → read_request (request_of d) ≡ Some (requests.Answered link era) → is_open d ≡ false
@@ -195,7 +196,7 @@ asks_base : (layout : Layout) (base : Base) (why : Why) (t j w : ℕ) → phase_
 asks_base layout (Begin at) why t j w h f = absurd (cc)
 asks_base layout (Protect aim index root steps at) why t j w h f = asks_at layout aim index root steps at why t j w h f
 asks_base layout (Reload parent index slot era steps) why t j w h f = absurd (cc)
-asks_base layout (Clear index) why t j w h f = absurd (cc)
+asks_base layout (Clear rows index) why t j w h f = absurd (cc)
 asks_base layout Finish why t j w h f = absurd (cc)
 asks_base layout (Release index) why t j w h f = absurd (cc)
 asks_base layout (Allocate at) why t j w h f = absurd (cc)
@@ -208,7 +209,7 @@ pub asks_for : (layout : Layout) (phase : Phase) (t j w : ℕ) → phase_there l
 asks_for layout Idle t j w h f = absurd (cc)
 asks_for layout (Runs why base) t j w h f = asks_base layout base why t j w h f
 asks_for layout (Scans later at) t j w h f = absurd (cc)
-asks_for layout (Works work) t j w h f = let q : is_quiet (Open t j w) ≡ true = work_quiet work (Open t j w) f in absurd (cc)
+asks_for layout (Works work) t j w h f = let q : is_quiet (Open t j w) ≡ true = work_quiet layout work (Open t j w) f in absurd (cc)
 
 -- two roots of the table with one number are one
 pub root_one : (layout : Layout) (one two : Root) → has layout (link_place one) ≡ true → has layout (link_place two) ≡ true → link_number layout one ≡ link_number layout two → one ≡ two

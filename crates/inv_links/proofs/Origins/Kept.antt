@@ -27,7 +27,7 @@ use Rattle.inv_covers.proofs.Begun.{first_begins}
 
 came_good : (good after : ℕ → Root → ℕ → Bool) (w : World) (i : ℕ) (z : View) (k x : ℕ) → Stays good after w i z → Origins good w z → Came w i z k x → after k (root_in (step w i) k) x ≡ true
 came_good good after w i z k x s o (Before e t) = rw e (s.stays k x t (o.tracked k x t))
-came_good good after w i z k x s o (Now e l f) = rw e (subst (λ (y : ℕ). after k (root_in w k) y ≡ true) f (s.fresh k l))
+came_good good after w i z k x s o (Now e l t f) = rw e (subst (λ (y : ℕ). after k (root_in w k) y ≡ true) f (s.fresh k l t))
 
 pub origins_kept : OriginsKept
 origins_kept good after w i z next n d s o = record { tracked = λ k x t. came_good good after w i z k x s o (tracked_came w i z next k x n d t) }

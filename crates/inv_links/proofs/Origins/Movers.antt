@@ -20,7 +20,7 @@ use Rattle.inv_covers.specs.model.Phases.{MoveAt, Turn, Outcome, Goes, Ends, goe
 use Rattle.inv_covers.specs.model.Phases.MoveAt.{LoadEra, LoadRequest, ShowEra, LoadAsked, CheckEra, AnswerAsked, LoadReserved, HandOver, HideEra, HideLate, ExchangeClock}
 use Rattle.inv_covers.specs.model.Phases.Base.{Move}
 use Rattle.inv_covers.specs.model.Calls.{Why, Phase, Runs}
-use Rattle.inv_covers.specs.model.World.{World, step, finds}
+use Rattle.inv_covers.specs.model.World.{World, step, finds, offered}
 use Rattle.inv_requests.specs.Context.{phase_there}
 use Rattle.inv_requests.specs.NextDeals.{phase_deals, next_deals}
 use Rattle.inv_requests.specs.Standing.{is_there}
@@ -33,6 +33,8 @@ use Rattle.inv_links.proofs.Origins.Backs.{checks_parts, helps_parts, checks_aga
 use Rattle.inv_links.proofs.Origins.Heard.{asks_for, root_one}
 use Rattle.inv_links.proofs.Origins.Opened.{fit_of}
 use Rattle.inv_covers.proofs.Held.{finds_at}
+use Rattle.inv_covers.specs.model.Locals.{told_by}
+use Rattle.inv_covers.specs.model.Steps.{phase_turn}
 
 -- what an outcome has for a request
 abbrev pub out_helps : Layout → ℕ → ℕ → Outcome → Deal → ℕ → Bool
@@ -103,7 +105,7 @@ load_came w i k z why e s t j r x n q same h =
     let root = asked_root w i k z t j r n there o in
     let f : finds w i ≡ w.mem (link_place r) = finds_at w i (Runs why (Move (LoadAsked e s t j r))) q in
     let l : finds w i ≡ x = grind (arith, nat_tests, p.1) in
-    Now same (subst (λ (y : Phase). loads_link y ≡ true) (sym q) refl) (ap (λ (y : Root). w.mem (link_place y)) root ∙ sym f ∙ l)
+    Now same (subst (λ (y : Phase). loads_link y ≡ true) (sym q) refl) (ap (λ (p : Phase). told_by (phase_turn p (counted (w.seat i).post) (offered w i).desk (finds w i))) q) (ap (λ (y : Root). w.mem (link_place y)) root ∙ sym f ∙ l)
 
 -- and checks that its era is still the clock
 check_came : (w : World) (i k : ℕ) (z : View) (why : Why) (e s t j : ℕ) (r : Root) (link x : ℕ) (c : Bool) → (finds w i == e) ≡ c → OriginsNeeds w i z → (w.seat i).phase ≡ Runs why (Move (CheckEra e s t j r link)) → root_in (step w i) k ≡ root_in w k

@@ -15,7 +15,7 @@ use Rattle.inv_covers.specs.model.Memory.{upd, bump}
 use Rattle.inv_covers.specs.model.Posts.{counted, tag_of}
 use Rattle.inv_covers.specs.model.SlowPath.{asking, own_request}
 use Rattle.inv_covers.specs.model.Phases.{Aim, ProtectAt, MoveAt, Base, Turn, Outcome, Goes, Ends}
-use Rattle.inv_covers.specs.model.Phases.ProtectAt.{LoadClock, PublishEra, LoadLink, CheckClock, PublishRequest, LoadOwnClock, PublishHelper, LoadOwnLink, CheckOwnClock, AnswerOwn, LoadAnswer, TakeAnswer, WithdrawRequest, WithdrawHelper, LoadWithin, CheckUpper, RaiseUpper}
+use Rattle.inv_covers.specs.model.Phases.ProtectAt.{LoadClock, PublishEra, LoadLink, CheckClock, PublishRequest, LoadOwnClock, PublishHelper, LoadOwnLink, CheckOwnClock, AnswerOwn, LoadAnswer, TakeAnswer, WithdrawRequest, WithdrawHelper, LoadWithin, CheckUpper, RaiseUpper, ByHazard}
 use Rattle.inv_covers.specs.model.Phases.MoveAt.{LoadEra, LoadRequest, ShowEra, LoadAsked, CheckEra, AnswerAsked, LoadReserved, HandOver, HideEra, HideLate, ExchangeClock}
 use Rattle.inv_covers.specs.model.Phases.Base.{Begin, Protect, Reload, Clear, Finish, Release, Allocate, Write, GiveUp, Retire, Move}
 use Rattle.inv_covers.specs.model.Calls.{Why, Work, Phase, Idle, Runs, Scans, Works, CallTurn}
@@ -31,8 +31,9 @@ use Rattle.inv_requests.proofs.Kept.{at_of}
 use Rattle.inv_requests.proofs.Turns.{each_work_role}
 use Rattle.inv_links.specs.Tracked.{opened_by, root_base, root_for, root_in}
 use Rattle.inv_links.specs.Origins.{OriginsNeeds}
-use Rattle.inv_links.proofs.Origins.Deals.{answered_is, passed_is, other_deal}
+use Rattle.inv_links.proofs.Origins.Deals.{answered_is, passed_is, hands_plain, other_deal}
 use Rattle.inv_covers.proofs.Held.{stepped_phase}
+use Rattle.inv_covers.specs.words.declared.layout.Layout.{Layout}
 pub use Rattle.inv_requests.proofs.Known.{fits_at as fit_of}
 
 quiet_asked : (t j u : ℕ) (d : Deal) → is_quiet d ≡ true → asked_by t j u d ≡ false
@@ -117,7 +118,7 @@ open_base : (w : World) (i : ℕ) (z : View) (why : Why) (base : Base) (k t j u 
 open_base w i z why (Begin at) k t j u n q known h = h
 open_base w i z why (Protect aim index root steps at) k t j u n q known h = open_protect w i z why aim index root steps at k t j u n q known h
 open_base w i z why (Reload parent index slot era steps) k t j u n q known h = h
-open_base w i z why (Clear index) k t j u n q known h = h
+open_base w i z why (Clear rows index) k t j u n q known h = h
 open_base w i z why Finish k t j u n q known h = h
 open_base w i z why (Release index) k t j u n q known h = h
 open_base w i z why (Allocate at) k t j u n q known h = h
@@ -175,6 +176,7 @@ busy_protect w i z why aim index root steps n (WithdrawHelper link era) post fou
 busy_protect w i z why aim index root steps n LoadWithin post found needs q h = absurd (quiet_busy (z.deal i) (fit_of w z i (Runs why (Protect aim index root steps LoadWithin)) needs.requests q) h)
 busy_protect w i z why aim index root steps n (CheckUpper link) post found needs q h = absurd (quiet_busy (z.deal i) (fit_of w z i (Runs why (Protect aim index root steps (CheckUpper link))) needs.requests q) h)
 busy_protect w i z why aim index root steps n (RaiseUpper era) post found needs q h = absurd (quiet_busy (z.deal i) (fit_of w z i (Runs why (Protect aim index root steps (RaiseUpper era))) needs.requests q) h)
+busy_protect w i z why aim index root steps n (ByHazard at) post found needs q h = absurd (quiet_busy (z.deal i) (fit_of w z i (Runs why (Protect aim index root steps (ByHazard at))) needs.requests q) h)
 
 -- a mover has no request of its own, and makes none
 own_quiet : (z : View) (s i : ℕ) (D : Deal) (c same : Bool) → (i == s) ≡ same → is_quiet (z.deal i) ≡ true → (c ≡ true → is_quiet (z.deal s) ≡ false) → is_quiet ((if c then upd z.deal s D else z.deal) i) ≡ true
@@ -194,7 +196,7 @@ quiet_move w i z why (AnswerAsked e s t j r link) n q f =
 quiet_move w i z why (LoadReserved e s t j r link) n q f = f
 quiet_move w i z why (HandOver e s t j r link old) n q f =
     let a = at_of w i z n.valid n.below n.seats n.needs n.requests in
-    own_quiet z s i (Passed t j (link_number (w.seat i).post.layout r) link e) (w.mem (Index s j) == halves old t) (i == s) refl f (λ c. ap is_quiet (passed_is w.mem w.seat i z why e s t j r link old a q c))
+    own_quiet z s i (Passed t j (link_number (w.seat i).post.layout r) link e) (w.mem (Index s j) == halves old t) (i == s) refl f (λ c. ap is_quiet (passed_is w.mem w.seat i z why e s t j r link old a q (hands_plain w i why e s t j r link old n.seats q) c))
 quiet_move w i z why (HideEra e) n q f = f
 quiet_move w i z why (HideLate seen) n q f = f
 quiet_move w i z why (ExchangeClock e) n q f = f
@@ -220,7 +222,7 @@ busy_base : (w : World) (i : ℕ) (z : View) (why : Why) (base : Base) → Origi
 busy_base w i z why (Begin at) n q h = absurd (quiet_busy (z.deal i) (fit_of w z i (Runs why (Begin at)) n.requests q) h)
 busy_base w i z why (Protect aim index root steps at) n q h = busy_protect w i z why aim index root steps (bump steps) at (counted (w.seat i).post) (finds w i) n q h
 busy_base w i z why (Reload parent index slot era steps) n q h = absurd (quiet_busy (z.deal i) (fit_of w z i (Runs why (Reload parent index slot era steps)) n.requests q) h)
-busy_base w i z why (Clear index) n q h = absurd (quiet_busy (z.deal i) (fit_of w z i (Runs why (Clear index)) n.requests q) h)
+busy_base w i z why (Clear rows index) n q h = absurd (quiet_busy (z.deal i) (fit_of w z i (Runs why (Clear rows index)) n.requests q) h)
 busy_base w i z why Finish n q h = absurd (quiet_busy (z.deal i) (fit_of w z i (Runs why Finish) n.requests q) h)
 busy_base w i z why (Release index) n q h = absurd (quiet_busy (z.deal i) (fit_of w z i (Runs why (Release index)) n.requests q) h)
 busy_base w i z why (Allocate at) n q h = absurd (quiet_busy (z.deal i) (fit_of w z i (Runs why (Allocate at)) n.requests q) h)
@@ -230,8 +232,8 @@ busy_base w i z why (Retire at) n q h = absurd (quiet_busy (z.deal i) (fit_of w 
 busy_base w i z why (Move at) n q h = absurd (quiet_busy (move_deals w.mem i (w.seat i).post at z.deal i) (quiet_move w i z why at n q (move_fit w i z why at n q)) h)
 
 -- nor has a call's own step a request
-pub work_quiet : (work : Work) (d : Deal) → fits (work_role work) d ≡ true → is_quiet d ≡ true
-work_quiet work d f = each_work_role work (λ (r : Role). fits r d ≡ true → is_quiet d ≡ true) (λ g. g) (λ from era g. g) f
+pub work_quiet : (layout : Layout) (work : Work) (d : Deal) → fits (work_role layout work) d ≡ true → is_quiet d ≡ true
+work_quiet layout work d f = each_work_role layout work (λ (r : Role). fits r d ≡ true → is_quiet d ≡ true) (λ g. g) (λ from era g. g) f
 
 busy_phase : (w : World) (i : ℕ) (z : View) (phase : Phase) → OriginsNeeds w i z → (w.seat i).phase ≡ phase → is_quiet (phase_deals w.mem i (w.seat i).post phase z.deal i) ≡ false → root_in (step w i) i ≡ root_for phase
 busy_phase w i z Idle n q h = absurd (quiet_busy (z.deal i) (fit_of w z i Idle n.requests q) h)
@@ -239,7 +241,7 @@ busy_phase w i z (Runs why base) n q h =
     let t : Turn = after base (counted (w.seat i).post) (finds w i) in
     ap root_for (stepped_by w i (Runs why base) q) ∙ left_root why (offered w i).desk t.post t.told t.outcome (root_base base) (busy_base w i z why base n q h)
 busy_phase w i z (Scans later at) n q h = absurd (quiet_busy (z.deal i) (fit_of w z i (Scans later at) n.requests q) h)
-busy_phase w i z (Works work) n q h = absurd (quiet_busy (z.deal i) (work_quiet work (z.deal i) (fit_of w z i (Works work) n.requests q)) h)
+busy_phase w i z (Works work) n q h = absurd (quiet_busy (z.deal i) (work_quiet w.layout work (z.deal i) (fit_of w z i (Works work) n.requests q)) h)
 
 -- a seat that has a request after its step protects the same root
 pub busy_root : (w : World) (i : ℕ) (z : View) → OriginsNeeds w i z → is_quiet (next_deals w i z.deal i) ≡ false → root_in (step w i) i ≡ root_in w i

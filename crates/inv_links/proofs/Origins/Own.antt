@@ -2,7 +2,7 @@
 -- request.
 use Rattle.std.proofs.Common.{ℕ, ◌≡◌, ◌+◌, ◌-◌, Bool, true, false, List, arith, refl, sym, subst}
 use Rattle.std.proofs.lemmas.Bool.Decides.{nat_tests}
-use Rattle.std.specs.Prelude.{◌==◌, ◌&&◌, if◌then◌else◌, nat_le, []}
+use Rattle.std.specs.Prelude.{◌==◌, ◌&&◌, ◌||◌, if◌then◌else◌, nat_le, []}
 use Rattle.inv_covers.specs.words.Packed.{read_request}
 use Rattle.inv_covers.specs.words.Place.{Place}
 use Rattle.inv_covers.specs.words.Place.Place.{Clock, Request}
@@ -15,7 +15,8 @@ use Rattle.inv_covers.specs.model.Links.{link_place, parent_of}
 use Rattle.inv_covers.specs.model.Machine.{protect_move, protect_turn}
 use Rattle.inv_covers.specs.model.Memory.{found, place_in}
 use Rattle.inv_covers.specs.model.Phases.{Aim, Alone, Follows, Tries, Endless, Failed, ProtectAt, Outcome, Goes, Ends, goes}
-use Rattle.inv_covers.specs.model.Phases.ProtectAt.{LoadClock, PublishEra, LoadLink, CheckClock, PublishRequest, LoadOwnClock, PublishHelper, LoadOwnLink, CheckOwnClock, AnswerOwn, LoadAnswer, TakeAnswer, WithdrawRequest, WithdrawHelper, LoadWithin, CheckUpper, RaiseUpper}
+use Rattle.inv_covers.specs.model.Phases.ProtectAt.{LoadClock, PublishEra, LoadLink, CheckClock, PublishRequest, LoadOwnClock, PublishHelper, LoadOwnLink, CheckOwnClock, AnswerOwn, LoadAnswer, TakeAnswer, WithdrawRequest, WithdrawHelper, LoadWithin, CheckUpper, RaiseUpper, ByHazard}
+use Rattle.inv_covers.specs.model.Phases.HazardAt.{FirstLink, PublishLink, CheckLink}
 use Rattle.inv_covers.specs.model.Phases.Base.{Protect}
 use Rattle.inv_covers.specs.model.Posts.{upper, reserves_helper}
 use Rattle.inv_covers.specs.model.Protect.{held_post, told_held, failed_once, trying, concluded, protected}
@@ -84,6 +85,20 @@ upper_carries clock own upto aim index root n link post x true e f h =
     (q.0, both (link == x) (clock == own) q.1 e)
 upper_carries clock own upto aim index root n link post x false e f h = absurd (cc)
 
+-- a first link that ends the protection is null, and carried by nothing
+first_carries : (clock upto : ℕ) (aim : Aim) (index : ℕ) (root : Root) (n link : ℕ) (post : Post) (x : ℕ) (null : Bool) → (link == 0) ≡ null → (aim ≡ Follows → root ≡ roots.Next (parent_of root))
+    → out_carries clock upto (if null then protected aim index root n link 0 post else goes post [] (Protect aim index root n (ByHazard (PublishLink link)))).outcome x ≡ true → ⊥
+first_carries clock upto Alone index root n link post x true e f h = cc
+first_carries clock upto Follows index root n link post x true e f h = absurd (grind (arith, nat_tests))
+first_carries clock upto aim index root n link post x false e f h = cc
+
+-- a link that is loaded again
+again_carries : (clock upto : ℕ) (aim : Aim) (index : ℕ) (root : Root) (n link found : ℕ) (post : Post) (x : ℕ) (same : Bool) → (found == link || found == 0) ≡ same → (aim ≡ Follows → root ≡ roots.Next (parent_of root))
+    → out_carries clock upto (if same then protected aim index root n found 0 post else goes post [] (Protect aim index root n (ByHazard (PublishLink found)))).outcome x ≡ true
+    → (out_root (if same then protected aim index root n found 0 post else goes post [] (Protect aim index root n (ByHazard (PublishLink found)))).outcome ≡ root) × ((found == x) ≡ true)
+again_carries clock upto aim index root n link found post x true e f h = concluded_carries clock upto aim index root n found 0 (held_post post index root found) (told_held index root found n) x (found == 0) refl f h
+again_carries clock upto aim index root n link found post x false e f h = absurd (cc)
+
 own_carries : (clock upto : ℕ) (aim : Aim) (index : ℕ) (root : Root) (n first era : ℕ) (last : Bool) (link : ℕ) (post : Post) (x : ℕ) (same : Bool) → (clock == era) ≡ same
     → out_carries clock upto (if same then goes post [] (Protect aim index root n (AnswerOwn first era link)) else goes post [] (Protect aim index root n (lost_turn first last clock))).outcome x ≡ true
     → (out_root (if same then goes post [] (Protect aim index root n (AnswerOwn first era link)) else goes post [] (Protect aim index root n (lost_turn first last clock))).outcome ≡ root) × ((link == x && clock == era) ≡ true)
@@ -138,3 +153,36 @@ protect_next mem clock upto next aim index root n LoadWithin post last d x c u f
 protect_next mem clock upto next aim index root n (CheckUpper link) post last d x c u f a h =
     let q = upper_carries (mem Clock) (upper post.span) next aim index root n link post x (mem Clock == upper post.span) refl f (rw c at h) in record { same = q.0; source = Had (rw (c, u) (q.1)) }
 protect_next mem clock upto next aim index root n (RaiseUpper era) post last d x c u f a h = absurd (cc)
+protect_next mem clock upto next aim index root n (ByHazard FirstLink) post last d x c u f a h =
+    absurd (first_carries (mem Clock) next aim index root n (mem (link_place root)) post x (mem (link_place root) == 0) refl f (rw c at h))
+protect_next mem clock upto next aim index root n (ByHazard (PublishLink link)) post last d x c u f a h = absurd (cc)
+protect_next mem clock upto next aim index root n (ByHazard (CheckLink link)) post last d x c u f a h =
+    let q = again_carries (mem Clock) next aim index root n link (mem (link_place root)) post x (mem (link_place root) == link || mem (link_place root) == 0) refl f (rw c at h) in
+    record { same = q.0; source = Loads refl (grind (arith, nat_tests, q.1)) }
+
+-- a step that loads the link that is carried from there on tells nothing
+next_none : (index : ℕ) (root : Root) (link n : ℕ) → root ≡ roots.Next (parent_of root) → (link == 0) ≡ false → told_held index root link n ≡ []
+next_none index (roots.Bucket bucket) link n e h = absurd (cc)
+next_none index roots.Head link n e h = absurd (cc)
+next_none index roots.Tail link n e h = absurd (cc)
+next_none index (roots.Next parent) link n e h = rw h refl
+
+concluded_none : (clock upto : ℕ) (aim : Aim) (index : ℕ) (root : Root) (n link era : ℕ) (post : Post) (x : ℕ) (null : Bool) → (link == 0) ≡ null → (aim ≡ Follows → root ≡ roots.Next (parent_of root))
+    → out_carries clock upto (concluded aim index root n link era post (told_held index root link n)).outcome x ≡ true → (concluded aim index root n link era post (told_held index root link n)).told ≡ []
+concluded_none clock upto Alone index root n link era post x null e f h = absurd (cc)
+concluded_none clock upto Follows index root n link era post x true e f h = absurd (grind (arith, nat_tests))
+concluded_none clock upto Follows index root n link era post x false e f h = rw e (next_none index root link n (f refl) e)
+
+again_none : (clock upto : ℕ) (aim : Aim) (index : ℕ) (root : Root) (n found : ℕ) (post : Post) (x : ℕ) (same : Bool) → (aim ≡ Follows → root ≡ roots.Next (parent_of root))
+    → out_carries clock upto (if same then protected aim index root n found 0 post else goes post [] (Protect aim index root n (ByHazard (PublishLink found)))).outcome x ≡ true
+    → (if same then protected aim index root n found 0 post else goes post [] (Protect aim index root n (ByHazard (PublishLink found)))).told ≡ []
+again_none clock upto aim index root n found post x true f h = concluded_none clock upto aim index root n found 0 (held_post post index root found) x (found == 0) refl f h
+again_none clock upto aim index root n found post x false f h = refl
+
+pub loads_none : (clock upto : ℕ) (aim : Aim) (index : ℕ) (root : Root) (n : ℕ) (at : ProtectAt) (post : Post) (found x : ℕ) → loads_at at ≡ true → (aim ≡ Follows → root ≡ roots.Next (parent_of root))
+    → out_carries clock upto (protect_turn aim index root n at post found).outcome x ≡ true → (protect_turn aim index root n at post found).told ≡ []
+loads_none clock upto aim index root n (LoadLink era tries) post found x l f h = refl
+loads_none clock upto aim index root n (LoadOwnLink first era last) post found x l f h = refl
+loads_none clock upto aim index root n LoadWithin post found x l f h = refl
+loads_none clock upto aim index root n (ByHazard (CheckLink link)) post found x l f h = again_none clock upto aim index root n found post x (found == link || found == 0) f h
+loads_none clock upto aim index root n at post found x l f h = absurd (cc)

@@ -1,7 +1,7 @@
 -- What the steps of machines come to: only a protection comes to a protection that carries a link, and only a move of the
 -- clock to one that helps.
 use Rattle.std.proofs.Common.{ℕ, ◌≡◌, ◌+◌, Bool, true, false, Option, Some, None, List, [], ◌∷◌, refl}
-use Rattle.std.specs.Prelude.{◌==◌, if◌then◌else◌, is_none}
+use Rattle.std.specs.Prelude.{◌==◌, ◌||◌, if◌then◌else◌, is_none}
 use Rattle.inv_covers.specs.words.Packed.{read_reservation, reservation_word}
 use Rattle.inv_covers.specs.words.declared.layout.Layout.{Layout}
 use Rattle.inv_covers.specs.defs.declared.event.Event.{Event}
@@ -14,7 +14,8 @@ use Rattle.inv_covers.specs.model.Machine.{begin_turn, protect_turn, allocate_tu
 use Rattle.inv_covers.specs.model.MoveClock.{after_hand_over}
 use Rattle.inv_covers.specs.model.Phases.{Aim, Alone, Follows, BeginAt, ProtectAt, AllocateAt, RetireAt, MoveAt, Base, Walk, Turn, Outcome, Goes, Ends, Ending, goes}
 use Rattle.inv_covers.specs.model.Phases.BeginAt.{LoadLower, PublishSpan}
-use Rattle.inv_covers.specs.model.Phases.ProtectAt.{LoadClock, PublishEra, LoadLink, CheckClock, PublishRequest, LoadOwnClock, PublishHelper, LoadOwnLink, CheckOwnClock, AnswerOwn, LoadAnswer, TakeAnswer, WithdrawRequest, WithdrawHelper, LoadWithin, CheckUpper, RaiseUpper}
+use Rattle.inv_covers.specs.model.Phases.ProtectAt.{LoadClock, PublishEra, LoadLink, CheckClock, PublishRequest, LoadOwnClock, PublishHelper, LoadOwnLink, CheckOwnClock, AnswerOwn, LoadAnswer, TakeAnswer, WithdrawRequest, WithdrawHelper, LoadWithin, CheckUpper, RaiseUpper, ByHazard}
+use Rattle.inv_covers.specs.model.Phases.HazardAt.{FirstLink, PublishLink, CheckLink}
 use Rattle.inv_covers.specs.model.Phases.AllocateAt.{LoadBirth, ClaimSlot, StoreLife}
 use Rattle.inv_covers.specs.model.Phases.RetireAt.{LoadLife, LoadRetire, StoreRetired}
 use Rattle.inv_covers.specs.model.Phases.MoveAt.{LoadEra, LoadRequest, ShowEra, LoadAsked, CheckEra, AnswerAsked, LoadReserved, HandOver, HideEra, HideLate, ExchangeClock}
@@ -41,7 +42,7 @@ abbrev pub is_plain : Base → Bool
 is_plain (Begin at) = true
 is_plain (Protect aim index root steps at) = false
 is_plain (Reload parent index slot era steps) = true
-is_plain (Clear index) = true
+is_plain (Clear rows index) = true
 is_plain Finish = true
 is_plain (Release index) = true
 is_plain (Allocate at) = true
@@ -79,7 +80,7 @@ pub plain_after : (base : Base) (post : Post) (found : ℕ) → is_plain base �
 plain_after (Begin at) post found p = plain_begin at post found
 plain_after (Protect aim index root steps at) post found p = absurd (cc)
 plain_after (Reload parent index slot era steps) post found p = plain_if _ _ (found == parent + 1) refl refl
-plain_after (Clear index) post found p = refl
+plain_after (Clear rows index) post found p = refl
 plain_after Finish post found p = refl
 plain_after (Release index) post found p = refl
 plain_after (Allocate at) post found p = plain_allocate at post found
@@ -93,7 +94,7 @@ abbrev pub is_move : Base → Bool
 is_move (Begin at) = false
 is_move (Protect aim index root steps at) = false
 is_move (Reload parent index slot era steps) = false
-is_move (Clear index) = false
+is_move (Clear rows index) = false
 is_move Finish = false
 is_move (Release index) = false
 is_move (Allocate at) = false
@@ -164,6 +165,9 @@ protects_on aim index root n (WithdrawHelper link era) post found = protects_con
 protects_on aim index root n LoadWithin post found = refl
 protects_on aim index root n (CheckUpper link) post found = protects_if _ _ (found == upper post.span) (protects_concluded aim index root n link found (held_post post index root link) (told_held index root link n)) refl
 protects_on aim index root n (RaiseUpper era) post found = refl
+protects_on aim index root n (ByHazard FirstLink) post found = protects_if _ _ (found == 0) (protects_concluded aim index root n found 0 (held_post post index root found) (told_held index root found n)) refl
+protects_on aim index root n (ByHazard (PublishLink link)) post found = refl
+protects_on aim index root n (ByHazard (CheckLink link)) post found = protects_if _ _ (found == link || found == 0) (protects_concluded aim index root n found 0 (held_post post index root found) (told_held index root found n)) refl
 
 -- such phases carry nothing
 start_carries_at : (clock upto : ℕ) (at : ProtectAt) (x : ℕ) → starts_protect at ≡ true → carries_at clock upto at x ≡ false
@@ -184,6 +188,7 @@ start_carries_at clock upto (WithdrawHelper link era) x h = absurd (cc)
 start_carries_at clock upto LoadWithin x h = refl
 start_carries_at clock upto (CheckUpper link) x h = absurd (cc)
 start_carries_at clock upto (RaiseUpper era) x h = refl
+start_carries_at clock upto (ByHazard at) x h = refl
 
 pub start_carries_base : (clock upto : ℕ) (base : Base) (x : ℕ) → starts_base base ≡ true → carries_base clock upto base x ≡ false
 start_carries_base clock upto (Begin at) x h = refl
@@ -218,7 +223,7 @@ pub start_helps_base : (layout : Layout) (clock k : ℕ) (why : Why) (base : Bas
 start_helps_base layout clock k why (Begin at) d x h = refl
 start_helps_base layout clock k why (Protect aim index root steps at) d x h = refl
 start_helps_base layout clock k why (Reload parent index slot era steps) d x h = refl
-start_helps_base layout clock k why (Clear index) d x h = refl
+start_helps_base layout clock k why (Clear rows index) d x h = refl
 start_helps_base layout clock k why Finish d x h = refl
 start_helps_base layout clock k why (Release index) d x h = refl
 start_helps_base layout clock k why (Allocate at) d x h = refl
@@ -244,7 +249,7 @@ pub move_carries : (clock upto : ℕ) (base : Base) (x : ℕ) → is_move base �
 move_carries clock upto (Begin at) x h = absurd (cc)
 move_carries clock upto (Protect aim index root steps at) x h = absurd (cc)
 move_carries clock upto (Reload parent index slot era steps) x h = absurd (cc)
-move_carries clock upto (Clear index) x h = absurd (cc)
+move_carries clock upto (Clear rows index) x h = absurd (cc)
 move_carries clock upto Finish x h = absurd (cc)
 move_carries clock upto (Release index) x h = absurd (cc)
 move_carries clock upto (Allocate at) x h = absurd (cc)
@@ -257,7 +262,7 @@ pub protect_helps : (layout : Layout) (clock k : ℕ) (base : Base) (d : Deal) (
 protect_helps layout clock k (Begin at) d x h = refl
 protect_helps layout clock k (Protect aim index root steps at) d x h = refl
 protect_helps layout clock k (Reload parent index slot era steps) d x h = refl
-protect_helps layout clock k (Clear index) d x h = refl
+protect_helps layout clock k (Clear rows index) d x h = refl
 protect_helps layout clock k Finish d x h = refl
 protect_helps layout clock k (Release index) d x h = refl
 protect_helps layout clock k (Allocate at) d x h = refl

@@ -1,11 +1,14 @@
-use Rattle.inv_links.proofs.Origins.Ends.{ends_with, end_tracked, end_root, answer_tracked}
+use Rattle.inv_links.proofs.Origins.Ends.{ends_with, end_comes, end_good, end_root, answer_tracked}
 use Rattle.inv_links.proofs.ends_are_tracked.Goals as goal
 
 pub returns-clause-ends : goal.returns-clause-ends
 returns-clause-ends c = ends_with
 
-pub returns-clause-tracked : goal.returns-clause-tracked
-returns-clause-tracked c = end_tracked
+pub returns-clause-comes : goal.returns-clause-comes
+returns-clause-comes c = end_comes
+
+pub returns-clause-good : goal.returns-clause-good
+returns-clause-good c = end_good
 
 pub returns-clause-root : goal.returns-clause-root
 returns-clause-root c = end_root

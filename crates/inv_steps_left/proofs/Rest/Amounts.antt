@@ -1,5 +1,5 @@
 -- What rounds and lists are worth in steps.
-use Rattle.std.proofs.Common.{ℕ, ◌≤◌, ◌+◌, ◌*◌, ◌-◌, Bool, true, false, arith}
+use Rattle.std.proofs.Common.{ℕ, ◌≤◌, ◌+◌, ◌*◌, ◌-◌, Bool, true, false, arith, mul-le-mul_right}
 use Rattle.std.proofs.lemmas.Bool.Decides.{nat_tests}
 use Rattle.std.specs.Prelude.{Option, Some, None}
 use Rattle.inv_covers.specs.words.declared.config.Config.{Config}
@@ -37,6 +37,13 @@ task_grows c lives more task lost h = let a = walks_grow c lives more task h in 
 -- the task goes on with one round less
 pub task_drops : (c : Config) (lives more : ℕ) (task : Task) (r : ℕ) → lives ≤ more → r ≤ rounds_most c task → task_left c lives task (r + 1) + round_worth c ≤ task_left c more task r
 task_drops c lives more task r h k = let a = walks_grow c lives more task h in let b = ending_grows c lives more h in let d = rounds_drop c task r k in omega (arith, a, b, d)
+
+times_fall : (a r w : ℕ) → (a + 1 - (r + 1)) * w ≤ (a + 1 - r) * w
+times_fall a r w = mul-le-mul_right w (omega arith)
+
+-- a round more that is lost leaves no more
+pub task_falls : (c : Config) (lives : ℕ) (task : Task) (r : ℕ) → task_left c lives task (r + 1) ≤ task_left c lives task r
+task_falls c lives task r = let d : rounds_left c task (r + 1) ≤ rounds_left c task r = times_fall (rounds_most c task) r (round_worth c) in omega (arith, d)
 
 -- what another round takes, with the clearing before it, is worth less than a round
 pub opens_worth : (c : Config) (task : Task) → open_left c task + 3 ≤ round_worth c

@@ -1,5 +1,5 @@
 -- The same of the machines by which a round ends, and of those that come once in a call.
-use Rattle.std.proofs.Common.{ℕ, ◌∙◌, ◌≡◌, ◌≤◌, ◌+◌, true, [], ◌∷◌, arith, refl, sym, subst, ◌<◌}
+use Rattle.std.proofs.Common.{ℕ, ◌∙◌, ◌≡◌, ◌≤◌, ◌+◌, true, [], ◌∷◌, arith, refl, sym, subst, ◌<◌, Bool}
 use Rattle.inv_covers.specs.words.Place.{is_valid}
 use Rattle.inv_covers.specs.words.Place.Place.{Clock}
 use Rattle.inv_covers.specs.model.Phases.Base.{Move, Allocate, Begin, Clear, Finish, GiveUp, Protect, Release, Reload, Retire, Write}
@@ -8,7 +8,6 @@ use Rattle.inv_covers.specs.model.Calls.{AfterScan, LetGo, Next, Task, Why}
 use Rattle.inv_covers.specs.model.Calls.Next.{Again, Answering, MakeRoom, Retiring}
 use Rattle.inv_covers.specs.model.Calls.Task.{Dequeues}
 use Rattle.inv_covers.specs.model.Calls.Why.{Advances, Clears, ClearsNext, Fills, Finishes, FollowsHead, GivesUp, Opens, Releases, Retires, Tidies}
-use Rattle.inv_covers.specs.model.Locals.{rounds_told}
 use Rattle.inv_covers.specs.model.Machine.{after}
 use Rattle.inv_covers.specs.model.Phases.{Base, Ending, MoveAt, RetireAt, Turn, ends}
 use Rattle.inv_covers.specs.model.Phases.Ending.{Done}
@@ -28,14 +27,15 @@ use Rattle.inv_steps_left.proofs.Rest.Runs.{advances_on, ends_on, retires_on, ti
 use Rattle.inv_steps_left.proofs.Rest.Seats.{Knows, Lowers, fills_lowers, follows_lowers, opens_lowers, seat_settles, still_after}
 use Rattle.inv_steps_left.proofs.Rest.Told.{base_steady}
 use Rattle.inv_steps_left.proofs.Rest.Ways.{released_left}
-use Rattle.inv_steps_left.specs.Losses.{finish_fit}
+use Rattle.inv_steps_left.specs.Losses.{finish_fit, rounds_in}
 use Rattle.inv_covers.specs.words.declared.config.Config.{Config}
 use Rattle.std.specs.Prelude.{List, length, None}
 use Rattle.inv_covers.specs.shapes.Slots.{WhyIn}
 use Rattle.inv_steps_left.proofs.Rest.Small.{few_of}
+use Rattle.inv_covers.specs.words.Schemes.{publishes_rows}
 
-pub clear_rounds : (w : World) (i index : ℕ) → rounds_told (w.seat i).rounds (after (Clear index) (counted (w.seat i).post) (finds w i)).told ≡ (w.seat i).rounds
-clear_rounds w i index = base_steady (w.seat i).rounds (Clear index) (counted (w.seat i).post) (finds w i) refl
+pub clear_rounds : (w : World) (i : ℕ) (rows : Bool) (index : ℕ) → rounds_in w.layout.config (w.seat i).rounds (after (Clear rows index) (counted (w.seat i).post) (finds w i)).told ≡ (w.seat i).rounds
+clear_rounds w i rows index = base_steady (publishes_rows w.layout.config.scheme) (w.seat i).rounds (Clear rows index) (counted (w.seat i).post) (finds w i) refl
 
 -- a machine of one step, with what comes after it
 one_step : (w : World) (i : ℕ) → is_valid w.layout ≡ true → (why : Why) (base : Base) (ending : Ending) (post : Post) (told : List Event) (most : ℕ) → Seat w i why base → Knows w i why base → base_owes w.layout.config base (counted (w.seat i).post) (finds w i)
@@ -54,24 +54,24 @@ one_step w i v why base ending post told most s p o e b h =
 closing_at : (c : Config) (lives rounds other : ℕ) (task : Task) (next : Next) (n : ℕ) → other ≡ rounds → n ≤ closing_left c lives other task next → n ≤ closing_left c lives rounds task next
 closing_at c lives rounds other task next n e h = subst (λ (r : ℕ). n ≤ closing_left c lives r task next) e h
 
-next_clears : (w : World) (i : ℕ) → is_valid w.layout ≡ true → (next : Next) (index : ℕ) → Seat w i (ClearsNext next) (Clear index) → Knows w i (ClearsNext next) (Clear index) → Lowers w i (ClearsNext next) (Clear index)
-next_clears w i v next index s p =
+next_clears : (w : World) (i : ℕ) → is_valid w.layout ≡ true → (next : Next) (rows : Bool) (index : ℕ) → Seat w i (ClearsNext next) (Clear rows index) → Knows w i (ClearsNext next) (Clear rows index) → Lowers w i (ClearsNext next) (Clear rows index)
+next_clears w i v next rows index s p =
     let c : Config = w.layout.config in
     let post : Post = counted (w.seat i).post in
-    let told : List Event = (after (Clear index) post (finds w i)).told in
+    let told : List Event = (after (Clear rows index) post (finds w i)).told in
     let h = clearing_left c (w.seat i).rounds Dequeues next (withdrawn post index) (offered w i).desk told in
     let g : turn_left c (w.seat i).rounds (clearing Dequeues next (withdrawn post index) (offered w i).desk told) ≤ 1 + closing_left c (length (w.seat i).desk.list) (w.seat i).rounds Dequeues next =
-    subst (λ (r : ℕ). turn_left c (w.seat i).rounds (clearing Dequeues next (withdrawn post index) (offered w i).desk told) ≤ 1 + closing_left c (length (w.seat i).desk.list) r Dequeues next) (clear_rounds w i index) h in
-    one_step w i v (ClearsNext next) (Clear index) Done (withdrawn post index) told (2 + closing_left c (length (w.seat i).desk.list) (w.seat i).rounds Dequeues next) s p tt refl refl (omega (arith, g))
+    subst (λ (r : ℕ). turn_left c (w.seat i).rounds (clearing Dequeues next (withdrawn post index) (offered w i).desk told) ≤ 1 + closing_left c (length (w.seat i).desk.list) r Dequeues next) (clear_rounds w i rows index) h in
+    one_step w i v (ClearsNext next) (Clear rows index) Done (withdrawn post index) told (2 + closing_left c (length (w.seat i).desk.list) (w.seat i).rounds Dequeues next) s p tt refl refl (omega (arith, g))
 
-round_clears : (w : World) (i : ℕ) → is_valid w.layout ≡ true → (task : Task) (next : Next) (index : ℕ) → Seat w i (Clears task next) (Clear index) → Knows w i (Clears task next) (Clear index) → Lowers w i (Clears task next) (Clear index)
-round_clears w i v task next index s p =
+round_clears : (w : World) (i : ℕ) → is_valid w.layout ≡ true → (task : Task) (next : Next) (rows : Bool) (index : ℕ) → Seat w i (Clears task next) (Clear rows index) → Knows w i (Clears task next) (Clear rows index) → Lowers w i (Clears task next) (Clear rows index)
+round_clears w i v task next rows index s p =
     let c : Config = w.layout.config in
     let post : Post = counted (w.seat i).post in
-    let told : List Event = (after (Clear index) post (finds w i)).told in
+    let told : List Event = (after (Clear rows index) post (finds w i)).told in
     let h = finishing_left c (w.seat i).rounds task next (withdrawn post index) (offered w i).desk told in
-    let g = closing_at c (length (w.seat i).desk.list) (w.seat i).rounds (rounds_told (w.seat i).rounds told) task next (turn_left c (w.seat i).rounds (finishing task next (withdrawn post index) (offered w i).desk told)) (clear_rounds w i index) h in
-    one_step w i v (Clears task next) (Clear index) Done (withdrawn post index) told (1 + closing_left c (length (w.seat i).desk.list) (w.seat i).rounds task next) s p tt refl refl (omega (arith, g))
+    let g = closing_at c (length (w.seat i).desk.list) (w.seat i).rounds (rounds_in w.layout.config (w.seat i).rounds told) task next (turn_left c (w.seat i).rounds (finishing task next (withdrawn post index) (offered w i).desk told)) (clear_rounds w i rows index) h in
+    one_step w i v (Clears task next) (Clear rows index) Done (withdrawn post index) told (1 + closing_left c (length (w.seat i).desk.list) (w.seat i).rounds task next) s p tt refl refl (omega (arith, g))
 
 round_spares : (c : Config) (rounds : ℕ) (task : Task) (next : Next) → finish_fit c rounds task next → spare next ≡ 1
 round_spares c rounds task Again f = absurd (cc)
@@ -101,7 +101,7 @@ retires_lowers w i v answer at s p =
 tidies_lowers : (w : World) (i : ℕ) → is_valid w.layout ≡ true → (later : AfterScan) (at : MoveAt) → Seat w i (Tidies later) (Move at) → Knows w i (Tidies later) (Move at) → Lowers w i (Tidies later) (Move at)
 tidies_lowers w i v later at s p =
     let t : Turn = after (Move at) (counted (w.seat i).post) (finds w i) in
-    let told = base_steady (w.seat i).rounds (Move at) (counted (w.seat i).post) (finds w i) refl in
+    let told = base_steady (publishes_rows w.layout.config.scheme) (w.seat i).rounds (Move at) (counted (w.seat i).post) (finds w i) refl in
     let h = tidies_on w.layout.config w.layout i ((step w i).mem Clock) (w.seat i).rounds later (offered w i).desk t.post t.told t.outcome (start_of w.layout.config (w.mem Clock) (w.seat i).post.span (Move at)) told (still_after w i v (Tidies later) (Move at) s p (s.moves.falls (Tidies later) at s.at)) in
     omega (arith, h)
 
@@ -115,22 +115,22 @@ advances_lowers w i v at s p =
 let_below : (w : World) (i : ℕ) → is_valid w.layout ≡ true → (let_go : LetGo) → WhyIn w.layout.config (Releases let_go) → let_index let_go < 8
 let_below w i v let_go k = let a = (few_of w.layout v).indexes in let b = k.below in omega (arith, a, b)
 
-clear_releases : (w : World) (i : ℕ) → is_valid w.layout ≡ true → (let_go : LetGo) (index : ℕ) → Seat w i (Releases let_go) (Clear index) → Knows w i (Releases let_go) (Clear index) → Lowers w i (Releases let_go) (Clear index)
-clear_releases w i v let_go index s p =
+clear_releases : (w : World) (i : ℕ) → is_valid w.layout ≡ true → (let_go : LetGo) (rows : Bool) (index : ℕ) → Seat w i (Releases let_go) (Clear rows index) → Knows w i (Releases let_go) (Clear rows index) → Lowers w i (Releases let_go) (Clear rows index)
+clear_releases w i v let_go rows index s p =
     let post : Post = counted (w.seat i).post in
-    let told : List Event = (after (Clear index) post (finds w i)).told in
-    let h = released_left w.layout.config (w.seat i).rounds (length (w.seat i).desk.list) let_go (withdrawn post index) (offered w i).desk told (let_below w i v let_go s.inside) refl (clear_rounds w i index ∙ s.lost) in
-    one_step w i v (Releases let_go) (Clear index) Done (withdrawn post index) told (why_left w.layout.config (length (w.seat i).desk.list) (w.seat i).rounds (Clear index) (Releases let_go)) s p tt refl refl (omega (arith, h))
+    let told : List Event = (after (Clear rows index) post (finds w i)).told in
+    let h = released_left w.layout.config (w.seat i).rounds (length (w.seat i).desk.list) let_go (withdrawn post index) (offered w i).desk told (let_below w i v let_go s.inside) refl (clear_rounds w i rows index ∙ s.lost) in
+    one_step w i v (Releases let_go) (Clear rows index) Done (withdrawn post index) told (why_left w.layout.config (length (w.seat i).desk.list) (w.seat i).rounds (Clear rows index) (Releases let_go)) s p tt refl refl (omega (arith, h))
 
 span_releases : (w : World) (i : ℕ) → is_valid w.layout ≡ true → (let_go : LetGo) (index : ℕ) → Seat w i (Releases let_go) (Release index) → Knows w i (Releases let_go) (Release index) → Lowers w i (Releases let_go) (Release index)
 span_releases w i v let_go index s p =
     let post : Post = counted (w.seat i).post in
     let t : Turn = after (Release index) post (finds w i) in
-    let h = released_left w.layout.config (w.seat i).rounds (length (w.seat i).desk.list) let_go t.post (offered w i).desk t.told (let_below w i v let_go s.inside) refl (base_steady (w.seat i).rounds (Release index) post (finds w i) refl ∙ s.lost) in
+    let h = released_left w.layout.config (w.seat i).rounds (length (w.seat i).desk.list) let_go t.post (offered w i).desk t.told (let_below w i v let_go s.inside) refl (base_steady (publishes_rows w.layout.config.scheme) (w.seat i).rounds (Release index) post (finds w i) refl ∙ s.lost) in
     one_step w i v (Releases let_go) (Release index) Done t.post t.told (why_left w.layout.config (length (w.seat i).desk.list) (w.seat i).rounds (Release index) (Releases let_go)) s p tt refl refl (omega (arith, h))
 
 nexts_lower : (w : World) (i : ℕ) → is_valid w.layout ≡ true → (next : Next) (base : Base) → Seat w i (ClearsNext next) base → Knows w i (ClearsNext next) base → Lowers w i (ClearsNext next) base
-nexts_lower w i v next (Clear index) s p = next_clears w i v next index s p
+nexts_lower w i v next (Clear rows index) s p = next_clears w i v next rows index s p
 nexts_lower w i v next (Begin at) s p = absurd (let e = s.run.suited in cc)
 nexts_lower w i v next (Protect aim index root n at) s p = absurd (let e = s.run.suited in cc)
 nexts_lower w i v next (Reload parent index slot era n) s p = absurd (let e = s.run.suited in cc)
@@ -143,7 +143,7 @@ nexts_lower w i v next (Retire at) s p = absurd (let e = s.run.suited in cc)
 nexts_lower w i v next (Move at) s p = absurd (let e = s.run.suited in cc)
 
 clears_lower : (w : World) (i : ℕ) → is_valid w.layout ≡ true → (task : Task) (next : Next) (base : Base) → Seat w i (Clears task next) base → Knows w i (Clears task next) base → Lowers w i (Clears task next) base
-clears_lower w i v task next (Clear index) s p = round_clears w i v task next index s p
+clears_lower w i v task next (Clear rows index) s p = round_clears w i v task next rows index s p
 clears_lower w i v task next (Begin at) s p = absurd (let e = s.run.suited in cc)
 clears_lower w i v task next (Protect aim index root n at) s p = absurd (let e = s.run.suited in cc)
 clears_lower w i v task next (Reload parent index slot era n) s p = absurd (let e = s.run.suited in cc)
@@ -160,7 +160,7 @@ finishes_lower w i v task next Finish s p = round_finishes w i v task next s p
 finishes_lower w i v task next (Begin at) s p = absurd (let e = s.run.suited in cc)
 finishes_lower w i v task next (Protect aim index root n at) s p = absurd (let e = s.run.suited in cc)
 finishes_lower w i v task next (Reload parent index slot era n) s p = absurd (let e = s.run.suited in cc)
-finishes_lower w i v task next (Clear index) s p = absurd (let e = s.run.suited in cc)
+finishes_lower w i v task next (Clear rows index) s p = absurd (let e = s.run.suited in cc)
 finishes_lower w i v task next (Release index) s p = absurd (let e = s.run.suited in cc)
 finishes_lower w i v task next (Allocate at) s p = absurd (let e = s.run.suited in cc)
 finishes_lower w i v task next (Write slot row place) s p = absurd (let e = s.run.suited in cc)
@@ -173,7 +173,7 @@ gives_lower w i v answer (GiveUp slot) s p = gives_up_lowers w i v answer slot s
 gives_lower w i v answer (Begin at) s p = absurd (let e = s.run.suited in cc)
 gives_lower w i v answer (Protect aim index root n at) s p = absurd (let e = s.run.suited in cc)
 gives_lower w i v answer (Reload parent index slot era n) s p = absurd (let e = s.run.suited in cc)
-gives_lower w i v answer (Clear index) s p = absurd (let e = s.run.suited in cc)
+gives_lower w i v answer (Clear rows index) s p = absurd (let e = s.run.suited in cc)
 gives_lower w i v answer Finish s p = absurd (let e = s.run.suited in cc)
 gives_lower w i v answer (Release index) s p = absurd (let e = s.run.suited in cc)
 gives_lower w i v answer (Allocate at) s p = absurd (let e = s.run.suited in cc)
@@ -186,7 +186,7 @@ retires_lower w i v answer (Retire at) s p = retires_lowers w i v answer at s p
 retires_lower w i v answer (Begin at) s p = absurd (let e = s.run.suited in cc)
 retires_lower w i v answer (Protect aim index root n at) s p = absurd (let e = s.run.suited in cc)
 retires_lower w i v answer (Reload parent index slot era n) s p = absurd (let e = s.run.suited in cc)
-retires_lower w i v answer (Clear index) s p = absurd (let e = s.run.suited in cc)
+retires_lower w i v answer (Clear rows index) s p = absurd (let e = s.run.suited in cc)
 retires_lower w i v answer Finish s p = absurd (let e = s.run.suited in cc)
 retires_lower w i v answer (Release index) s p = absurd (let e = s.run.suited in cc)
 retires_lower w i v answer (Allocate at) s p = absurd (let e = s.run.suited in cc)
@@ -199,7 +199,7 @@ tidies_lower w i v later (Move at) s p = tidies_lowers w i v later at s p
 tidies_lower w i v later (Begin at) s p = absurd (let e = s.run.suited in cc)
 tidies_lower w i v later (Protect aim index root n at) s p = absurd (let e = s.run.suited in cc)
 tidies_lower w i v later (Reload parent index slot era n) s p = absurd (let e = s.run.suited in cc)
-tidies_lower w i v later (Clear index) s p = absurd (let e = s.run.suited in cc)
+tidies_lower w i v later (Clear rows index) s p = absurd (let e = s.run.suited in cc)
 tidies_lower w i v later Finish s p = absurd (let e = s.run.suited in cc)
 tidies_lower w i v later (Release index) s p = absurd (let e = s.run.suited in cc)
 tidies_lower w i v later (Allocate at) s p = absurd (let e = s.run.suited in cc)
@@ -212,7 +212,7 @@ advances_lower w i v (Move at) s p = advances_lowers w i v at s p
 advances_lower w i v (Begin at) s p = absurd (let e = s.run.suited in cc)
 advances_lower w i v (Protect aim index root n at) s p = absurd (let e = s.run.suited in cc)
 advances_lower w i v (Reload parent index slot era n) s p = absurd (let e = s.run.suited in cc)
-advances_lower w i v (Clear index) s p = absurd (let e = s.run.suited in cc)
+advances_lower w i v (Clear rows index) s p = absurd (let e = s.run.suited in cc)
 advances_lower w i v Finish s p = absurd (let e = s.run.suited in cc)
 advances_lower w i v (Release index) s p = absurd (let e = s.run.suited in cc)
 advances_lower w i v (Allocate at) s p = absurd (let e = s.run.suited in cc)
@@ -221,7 +221,7 @@ advances_lower w i v (GiveUp slot) s p = absurd (let e = s.run.suited in cc)
 advances_lower w i v (Retire at) s p = absurd (let e = s.run.suited in cc)
 
 releases_lower : (w : World) (i : ℕ) → is_valid w.layout ≡ true → (let_go : LetGo) (base : Base) → Seat w i (Releases let_go) base → Knows w i (Releases let_go) base → Lowers w i (Releases let_go) base
-releases_lower w i v let_go (Clear index) s p = clear_releases w i v let_go index s p
+releases_lower w i v let_go (Clear rows index) s p = clear_releases w i v let_go rows index s p
 releases_lower w i v let_go (Release index) s p = span_releases w i v let_go index s p
 releases_lower w i v let_go (Begin at) s p = absurd (let e = s.run.suited in cc)
 releases_lower w i v let_go (Protect aim index root n at) s p = absurd (let e = s.run.suited in cc)

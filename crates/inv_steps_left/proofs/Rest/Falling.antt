@@ -5,13 +5,14 @@ use Rattle.inv_covers.specs.shapes.Frame.{phase_left as stands_at, Passed}
 use Rattle.inv_covers.specs.words.Place.{is_valid}
 use Rattle.inv_covers.specs.words.Place.Place.{Clock}
 use Rattle.inv_covers.specs.model.Calls.{Why}
+use Rattle.inv_covers.specs.model.Calls.Why.{FollowsHead}
 use Rattle.inv_covers.specs.model.Calls.Phase.{Runs}
 use Rattle.inv_covers.specs.model.Desks.{Desk}
 use Rattle.inv_covers.specs.model.Machine.{after}
 use Rattle.inv_covers.specs.model.Phases.{Aim, Base, Outcome, ProtectAt, Tries, Turn}
 use Rattle.inv_covers.specs.model.Phases.Base.{Protect}
 use Rattle.inv_covers.specs.model.Phases.Outcome.{Ends, Goes}
-use Rattle.inv_covers.specs.model.Phases.ProtectAt.{AnswerOwn, CheckClock, CheckOwnClock, CheckUpper, LoadAnswer, LoadClock, LoadLink, LoadOwnClock, LoadOwnLink, LoadWithin, PublishEra, PublishHelper, PublishRequest, RaiseUpper, TakeAnswer, WithdrawHelper, WithdrawRequest}
+use Rattle.inv_covers.specs.model.Phases.ProtectAt.{AnswerOwn, ByHazard, CheckClock, CheckOwnClock, CheckUpper, LoadAnswer, LoadClock, LoadLink, LoadOwnClock, LoadOwnLink, LoadWithin, PublishEra, PublishHelper, PublishRequest, RaiseUpper, TakeAnswer, WithdrawHelper, WithdrawRequest}
 use Rattle.inv_covers.specs.model.Phases.Tries.{Endless, Failed}
 use Rattle.inv_covers.specs.model.Posts.{counted}
 use Rattle.inv_covers.specs.model.Rest.{span_seen}
@@ -24,14 +25,15 @@ use Rattle.inv_covers.specs.defs.declared.lifetime.Interval.{Interval}
 use Rattle.inv_covers.proofs.shapes.Inside.{shape_moves}
 use Rattle.inv_covers.proofs.shapes.Works.{resume_left}
 use Rattle.inv_covers.specs.shapes.Eras.{SpanIn, base_eras, protect_eras}
-use Rattle.inv_covers.specs.words.Schemes.{has_one_interval, counts_tries}
-use Rattle.inv_covers.proofs.words.Schemes.{eras_not_interval, helps_not_interval}
+use Rattle.inv_covers.specs.words.Schemes.{has_one_interval, counts_tries, publishes_rows}
+use Rattle.inv_covers.proofs.words.Schemes.{eras_not_interval, eras_not_rows, helps_not_interval, helps_not_rows, interval_not_rows, rows_not_interval}
 pub use Rattle.inv_covers.proofs.words.Schemes.{helps_not_interval as wfe_plain}
 use Rattle.inv_covers.proofs.shapes.Tries.{tries_eras, try_eras}
 use Rattle.inv_covers.specs.shapes.Seats.{PhaseFits, PostFits, Run, protect_fits, tries_fit, try_fits}
 use Rattle.inv_requests.specs.Paces.{MovesOn}
 use Rattle.inv_steps_left.proofs.Rest.Amounts.{PhaseKnown}
-use Rattle.inv_steps_left.proofs.Rest.Machines.{Protects, Settles, TryLeft, at_clock, at_era, at_span, at_try}
+use Rattle.inv_steps_left.proofs.Rest.Machines.{Protects, Settles, TryLeft, at_agrees, at_ends, at_clock, at_era, at_span, at_try}
+use Rattle.inv_steps_left.proofs.Rest.Told.{at_linked, by_rows}
 use Rattle.inv_steps_left.proofs.Rest.Runs.{After, EndLeft}
 use Rattle.inv_steps_left.proofs.Rest.Seen.{seen_grows}
 use Rattle.inv_steps_left.specs.Losses.{why_fit}
@@ -77,6 +79,33 @@ fit_span scheme most (WithdrawHelper link era) span f n s = n (helps_not_interva
 fit_span scheme most LoadWithin span f n s = s f
 fit_span scheme most (CheckUpper link) span f n s = s f
 fit_span scheme most (RaiseUpper era) span f n s = s f
+fit_span scheme most (ByHazard at) span f n s = n (rows_not_interval scheme f)
+
+-- a protection is by hazard pointers where rows are published
+pub fit_rows : (scheme : SchemeKind) (most : ℕ) (at : ProtectAt) → protect_fits scheme most at ≡ true → publishes_rows scheme ≡ by_rows at
+fit_rows scheme most (LoadClock tries) f = eras_not_rows scheme (tries_eras scheme most tries f)
+fit_rows scheme most (PublishEra era tries) f = eras_not_rows scheme (tries_eras scheme most tries f)
+fit_rows scheme most (LoadLink era tries) f = eras_not_rows scheme (try_eras scheme most tries f)
+fit_rows scheme most (CheckClock era tries link) f = eras_not_rows scheme (try_eras scheme most tries f)
+fit_rows scheme most PublishRequest f = helps_not_rows scheme f
+fit_rows scheme most LoadOwnClock f = helps_not_rows scheme f
+fit_rows scheme most (PublishHelper first era last) f = helps_not_rows scheme f
+fit_rows scheme most (LoadOwnLink first era last) f = helps_not_rows scheme f
+fit_rows scheme most (CheckOwnClock first era last link) f = helps_not_rows scheme f
+fit_rows scheme most (AnswerOwn first era link) f = helps_not_rows scheme f
+fit_rows scheme most (LoadAnswer first) f = helps_not_rows scheme f
+fit_rows scheme most (TakeAnswer link era) f = helps_not_rows scheme f
+fit_rows scheme most (WithdrawRequest link era) f = helps_not_rows scheme f
+fit_rows scheme most (WithdrawHelper link era) f = helps_not_rows scheme f
+fit_rows scheme most LoadWithin f = interval_not_rows scheme f
+fit_rows scheme most (CheckUpper link) f = interval_not_rows scheme f
+fit_rows scheme most (RaiseUpper era) f = interval_not_rows scheme f
+fit_rows scheme most (ByHazard at) f = f
+
+-- another protection has no reload that could fail
+pub plain_agrees : (at : ProtectAt) (found : ℕ) → by_rows at ≡ false → at_agrees at found ≡ true
+plain_agrees (ByHazard at) found h = absurd (cc)
+plain_agrees at found h = refl
 
 fit_era : (clock : ℕ) (post : Post) (at : ProtectAt) → protect_eras clock post at → at_era at post.span clock
 fit_era clock post (LoadClock tries) h = tt
@@ -96,6 +125,7 @@ fit_era clock post (WithdrawHelper link era) h = tt
 fit_era clock post LoadWithin h = tt
 fit_era clock post (CheckUpper link) h = tt
 fit_era clock post (RaiseUpper era) h = h.rises
+fit_era clock post (ByHazard at) h = tt
 
 fit_try : (c : Config) (at : ProtectAt) → protect_fits c.scheme c.tries at ≡ true → at_try c at
 fit_try c (LoadClock tries) f = tt
@@ -122,10 +152,21 @@ fit_clock w i why aim index root n (WithdrawHelper link era) e = tt
 fit_clock w i why aim index root n LoadWithin e = tt
 fit_clock w i why aim index root n (CheckUpper link) e = finds_at w i (Runs why (Protect aim index root n (CheckUpper link))) e
 fit_clock w i why aim index root n (RaiseUpper era) e = tt
+fit_clock w i why aim index root n (ByHazard at) e = tt
 
 pub span_within : (clock : ℕ) (span : Option Interval) → SpanIn clock span → span_seen clock span ≤ clock
 span_within clock None h = omega arith
 span_within clock (Some span) h = h.2
+
+-- the link that a protection publishes is not null
+abbrev pub base_linked : Base → Type 0
+base_linked (Protect aim index root steps at) = at_linked at
+base_linked base = Unit {0}
+
+-- the reload of a next link finds the same
+abbrev pub follow_agrees : Why → Base → (found : ℕ) → Type 0
+follow_agrees (FollowsHead head tail) (Protect aim index root steps at) found = at_agrees at found ≡ true
+follow_agrees why base found = Unit {0}
 
 -- what is known of a seat whose machine makes its step
 pub record Seat (w : World) (i : ℕ) (why : Why) (base : Base) : Type 0 where
@@ -140,12 +181,14 @@ pub record Seat (w : World) (i : ℕ) (why : Why) (base : Base) : Type 0 where
   pub rises : w.mem Clock ≤ (step w i).mem Clock
   pub most : (step w i).mem Clock ≤ w.layout.config.last_era
   pub moves : MovesOn w i
+  pub linked : base_linked base
+  pub agrees : follow_agrees why base (finds w i)
 
 seat_span : (w : World) (i : ℕ) (why : Why) (base : Base) (aim : Aim) (index : ℕ) (root : Root) (n : ℕ) (at : ProtectAt) → Run w.layout why (Protect aim index root n at) (counted (w.seat i).post) → PostFits w.layout i (counted (w.seat i).post) → has_one_interval w.layout.config.scheme ≡ true → is_some (w.seat i).post.span ≡ true
 seat_span w i why base aim index root n at r f h = r.posted (ap (λ (l : Layout). has_one_interval l.config.scheme) f.layout ∙ h)
 
-pub seat_protects : (w : World) (i : ℕ) (why : Why) (aim : Aim) (index : ℕ) (root : Root) (n : ℕ) (at : ProtectAt) → Seat w i why (Protect aim index root n at) → Protects w.layout.config (w.mem Clock) ((step w i).mem Clock) at (counted (w.seat i).post) (finds w i)
-seat_protects w i why aim index root n at s = record {
+pub seat_protects : (w : World) (i : ℕ) (why : Why) (aim : Aim) (index : ℕ) (root : Root) (n : ℕ) (at : ProtectAt) → Seat w i why (Protect aim index root n at) → at_ends at (finds w i) ≡ true → Protects w.layout.config (w.mem Clock) ((step w i).mem Clock) at (counted (w.seat i).post) (finds w i)
+seat_protects w i why aim index root n at s a = record {
   config = ap (λ (l : Layout). l.config) s.fits.layout;
   rises = s.rises;
   most = s.most;
@@ -154,6 +197,7 @@ seat_protects w i why aim index root n at s = record {
   era = fit_era (w.mem Clock) (w.seat i).post at s.eras;
   try = fit_try w.layout.config at s.run.fits;
   loads = fit_clock w i why aim index root n at s.at;
+  ends = a;
 }
 
 end_left : (layout : Layout) (k : ℕ) → is_valid layout ≡ true → (why : Why) (desk : Desk) (post : Post) (told : List Event) (outcome : Outcome) → PostFits layout k post → Passed (PhaseFits layout) why post outcome → EndLeft layout k post.span (resumed why desk post told outcome) outcome

@@ -1,5 +1,5 @@
 -- The steps that a call has left fall at its own steps, and rise at no other.
-use Rattle.std.proofs.Common.{ℕ, ◌≡◌, ◌≤◌, ◌+◌, true, [], arith, refl, sym, subst}
+use Rattle.std.proofs.Common.{ℕ, ◌≡◌, ◌≤◌, ◌+◌, true, [], arith, refl, sym, ap, subst}
 use Rattle.inv_covers.specs.shapes.Frame.{phase_left as stands_at, Left, bared}
 use Rattle.inv_covers.specs.model.Steps as steps
 use Rattle.inv_covers.specs.model.Scan as scan
@@ -11,7 +11,13 @@ use Rattle.inv_covers.specs.model.Calls.CallOutcome.{Answers, GoesOn}
 use Rattle.inv_covers.specs.model.Calls.Phase.{Idle, Runs, Scans, Works}
 use Rattle.inv_covers.specs.model.Desks.{Desk}
 use Rattle.inv_covers.specs.model.Locals.{Local, busy_in, settled, turn}
+use Rattle.inv_covers.specs.model.Calls.Why.{FollowsHead}
 use Rattle.inv_covers.specs.model.Phases.{Base}
+use Rattle.inv_covers.specs.model.Phases.Base.{Protect}
+use Rattle.inv_covers.specs.model.Phases.HazardAt.{CheckLink, FirstLink, PublishLink}
+use Rattle.inv_covers.specs.model.Phases.ProtectAt.{ByHazard}
+use Rattle.inv_covers.specs.model.Rounds.{scheme_of}
+use Rattle.inv_covers.specs.words.Schemes.{publishes_rows}
 use Rattle.inv_covers.specs.model.Posts.{counted}
 use Rattle.inv_covers.specs.model.Rest.{eras_left, phase_left, phase_seen, rest, rest_of, span_seen, work_left}
 use Rattle.inv_covers.specs.model.World.{World, finds, offered, step}
@@ -20,15 +26,15 @@ use Rattle.inv_covers.specs.defs.declared.event.Event.{Event}
 use Rattle.inv_covers.specs.defs.declared.lifetime.Interval.{Interval}
 use Rattle.inv_covers.proofs.shapes.Decode.{clock_next}
 use Rattle.inv_covers.proofs.shapes.Frame.{seat_steps}
-use Rattle.inv_covers.proofs.shapes.Kept.{counted_fits, run_counted, work_counted, bared_fits}
+use Rattle.inv_covers.proofs.shapes.Kept.{counted_fits, run_counted, work_counted, bared_fits, seats_step}
 use Rattle.inv_covers.specs.shapes.Eras.{PhaseEras, SpanIn}
 use Rattle.inv_covers.specs.shapes.Seats.{PhaseFits, Seats, scan_fits}
-use Rattle.inv_covers.specs.shapes.Slots.{PhaseIn, WorkIn, phase_finds, scan_lists}
+use Rattle.inv_covers.specs.shapes.Slots.{BaseIn, PhaseIn, WorkIn, phase_finds, scan_lists}
 use Rattle.inv_requests.proofs.Falling.{moves_on}
 use Rattle.inv_steps_left.proofs.Rest.Amounts.{PhaseKnown, known_of}
 use Rattle.inv_steps_left.proofs.Rest.Closes.{run_lowers}
 use Rattle.inv_steps_left.proofs.Rest.Closings.{rounds_join, turn_left}
-use Rattle.inv_steps_left.proofs.Rest.Falling.{Seat, span_within}
+use Rattle.inv_steps_left.proofs.Rest.Falling.{Seat, base_linked, follow_agrees, span_within}
 use Rattle.inv_steps_left.proofs.Rest.Machines.{seen_rises}
 use Rattle.inv_steps_left.proofs.Rest.Runs.{total_is, turn_total}
 use Rattle.inv_steps_left.proofs.Rest.Scans.{scan_falls}
@@ -39,22 +45,36 @@ use Rattle.inv_steps_left.specs.Losses.{later_fit, phase_fit, work_fit}
 use Rattle.inv_covers.specs.words.declared.config.Config.{Config}
 use Rattle.inv_covers.specs.words.declared.layout.Layout.{Layout}
 use Rattle.std.specs.Prelude.{List, length, Option}
-use Rattle.inv_covers.proofs.Held.{stepped_phase}
+use Rattle.inv_covers.proofs.Held.{stepped_phase, stepped_post}
 use Rattle.inv_covers.specs.model.Calls.Work.{Keeping}
 use Rattle.inv_covers.specs.model.Calls.KeepAt.{HideSpan}
 use Rattle.inv_steps_left.proofs.Rest.Small.{few_of}
 
 -- what a turn leaves, as the seat stands after it
-settled_rest : (c : Config) (next : ℕ) (l : Local) (post : Post) (desk : Desk) (told : List Event) (outcome : CallOutcome) → busy_in (settled l (record { post = post; desk = desk; told = told; outcome = outcome })).phase ≡ true
+settled_rest : (c : Config) (next : ℕ) (l : Local) (post : Post) (desk : Desk) (told : List Event) (outcome : CallOutcome) → publishes_rows (scheme_of post) ≡ publishes_rows c.scheme → busy_in (settled l (record { post = post; desk = desk; told = told; outcome = outcome })).phase ≡ true
     → rest_of c next (settled l (record { post = post; desk = desk; told = told; outcome = outcome })) ≡ turn_total c next l.rounds (record { post = post; desk = desk; told = told; outcome = outcome })
-settled_rest c next l post desk told (GoesOn phase) b = rw (rounds_join l.rounds told []) refl
-settled_rest c next l post desk told (Answers answer) b = absurd (cc)
+settled_rest c next l post desk told (GoesOn phase) t b = rw (t, rounds_join (publishes_rows c.scheme) l.rounds told []) refl
+settled_rest c next l post desk told (Answers answer) t b = absurd (cc)
 
 -- a scan's step and a call's own step
 still_total : (c : Config) (layout : Layout) (k clock next rounds : ℕ) (span : Option Interval) (t : CallTurn) (most : ℕ) → clock ≤ next → Left (PostIs layout k span) ShowsSame t → turn_left c rounds t + 1 ≤ most → turn_total c next rounds t + 1 ≤ most + eras_left c (span_seen clock span)
 still_total c layout k clock next rounds span t most r l h =
     let s = seen_rises clock next span r in
     rw (total_is c layout k next rounds span t l) (omega (arith, s, h))
+
+pub linked_of : (layout : Layout) (base : Base) → BaseIn layout base → base_linked base
+linked_of layout (Protect aim index root steps (ByHazard FirstLink)) b = tt
+linked_of layout (Protect aim index root steps (ByHazard (PublishLink link))) b = b.at_in.0
+linked_of layout (Protect aim index root steps (ByHazard (CheckLink link))) b = b.at_in.0
+linked_of layout (Protect aim index root steps at) b = tt
+linked_of layout base b = tt
+
+agrees_of : (w : World) (i : ℕ) → RestNeeds w i → (why : Why) (base : Base) → (w.seat i).phase ≡ Runs why base → follow_agrees why base (finds w i)
+agrees_of w i n (FollowsHead head tail) (Protect aim index root steps (ByHazard FirstLink)) e = refl
+agrees_of w i n (FollowsHead head tail) (Protect aim index root steps (ByHazard (PublishLink link))) e = refl
+agrees_of w i n (FollowsHead head tail) (Protect aim index root steps (ByHazard (CheckLink link))) e = n.follows head tail aim index root steps link e
+agrees_of w i n (FollowsHead head tail) (Protect aim index root steps at) e = refl
+agrees_of w i n why base e = tt
 
 pub seat_of : (w : World) (i : ℕ) → is_valid w.layout ≡ true → RestNeeds w i → (why : Why) (base : Base) → (w.seat i).phase ≡ Runs why base → Seat w i why base
 seat_of w i v n why base e =
@@ -72,6 +92,8 @@ seat_of w i v n why base e =
       rises = (clock_next w i n.eras).rises;
       most = n.eras_next.most;
       moves = moves_on w i v n.seats;
+      linked = linked_of w.layout base (subst (λ (p : Phase). PhaseIn w.layout (w.seat i).desk p) e (n.slots.seats i).phase).1;
+      agrees = agrees_of w i n why base e;
     }
 
 pub post_is : (w : World) (i : ℕ) → Seats w → PostIs w.layout i (w.seat i).post.span (counted (w.seat i).post)
@@ -115,6 +137,10 @@ idle_stays : (w : World) (i : ℕ) (phase : Phase) → (w.seat i).phase ≡ phas
 idle_stays w i Idle e b = b
 idle_stays w i phase e b = refl
 
+-- a step leaves the table's layout
+pub turn_rows : (w : World) (i : ℕ) → is_valid w.layout ≡ true → Seats w → publishes_rows (scheme_of (turn (offered w i) (finds w i)).post) ≡ publishes_rows w.layout.config.scheme
+turn_rows w i v s = subst (λ (p : Post). publishes_rows (scheme_of p) ≡ publishes_rows w.layout.config.scheme) (stepped_post w i) (ap (λ (l : Layout). publishes_rows l.config.scheme) ((seats_step w i v s).fits i).post.layout)
+
 pub rest_falls : RestFalls
 rest_falls w i v n b =
     let l : Local = offered w i in
@@ -123,6 +149,6 @@ rest_falls w i v n b =
     let c : busy_in (stands_at t.outcome) ≡ true = subst (λ (p : Phase). busy_in p ≡ true) (stepped_phase w i) b in
     let h = lowers_at w i v n l.phase refl k (idle_stays w i l.phase refl c) in
     let d : busy_in (settled l t).phase ≡ true = subst (λ (m : Local). busy_in m.phase ≡ true) (seat_steps w i) b in
-    let r = settled_rest w.layout.config ((step w i).mem Clock) l t.post t.desk t.told t.outcome d in
+    let r = settled_rest w.layout.config ((step w i).mem Clock) l t.post t.desk t.told t.outcome (turn_rows w i v n.seats) d in
     let m : rest_of w.layout.config ((step w i).mem Clock) (settled l t) + 1 ≤ rest w i = rw r h in
     subst (λ (x : Local). rest_of w.layout.config ((step w i).mem Clock) x + 1 ≤ rest w i) (sym (seat_steps w i)) m

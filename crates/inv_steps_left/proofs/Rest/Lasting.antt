@@ -30,7 +30,8 @@ use Rattle.inv_covers.specs.model.Phases.Aim.{Alone, Follows}
 use Rattle.inv_covers.specs.model.Phases.AllocateAt.{ClaimSlot, LoadBirth, StoreLife}
 use Rattle.inv_covers.specs.model.Phases.Ending.{Done, Followed}
 use Rattle.inv_covers.specs.model.Phases.Outcome.{Ends, Goes}
-use Rattle.inv_covers.specs.model.Phases.ProtectAt.{AnswerOwn, CheckClock, CheckOwnClock, CheckUpper, LoadAnswer, LoadClock, LoadLink, LoadOwnClock, LoadOwnLink, LoadWithin, PublishEra, PublishHelper, PublishRequest, RaiseUpper, TakeAnswer, WithdrawHelper, WithdrawRequest}
+use Rattle.inv_covers.specs.model.Phases.ProtectAt.{AnswerOwn, ByHazard, CheckClock, CheckOwnClock, CheckUpper, LoadAnswer, LoadClock, LoadLink, LoadOwnClock, LoadOwnLink, LoadWithin, PublishEra, PublishHelper, PublishRequest, RaiseUpper, TakeAnswer, WithdrawHelper, WithdrawRequest}
+use Rattle.inv_covers.specs.model.Phases.HazardAt.{CheckLink, FirstLink, PublishLink}
 use Rattle.inv_covers.specs.model.Phases.RetireAt.{LoadLife, LoadRetire, StoreRetired}
 use Rattle.inv_covers.specs.model.Posts.{counted, reserves_helper, stands, tag_of, with_row, with_tag}
 use Rattle.inv_covers.specs.model.Protect.{concluded, failed_once, held_post, protected, told_held}
@@ -47,11 +48,11 @@ use Rattle.inv_covers.proofs.shapes.Frame.{begin_begins, begin_stays, seat_stays
 use Rattle.inv_covers.proofs.shapes.Inside.{shape_moves}
 use Rattle.inv_covers.proofs.shapes.Kept.{counted_fits, run_counted, work_counted, one_moves, bared_fits}
 use Rattle.inv_covers.specs.shapes.Frame.{Passed, WorkFits, bared}
-use Rattle.inv_covers.specs.words.Schemes.{has_one_interval}
+use Rattle.inv_covers.specs.words.Schemes.{has_one_interval, publishes_rows}
 use Rattle.inv_covers.specs.shapes.Seats.{PhaseFits, PostFits, Run, Seats, base_fits, protect_fits}
 use Rattle.inv_steps_left.proofs.Rest.Closings.{rounds_join}
-use Rattle.inv_steps_left.proofs.Rest.Fits.{TurnFit, round_fit, scan_fit, parts_fit}
-use Rattle.inv_steps_left.proofs.Rest.Kept.{post_is, seat_of}
+use Rattle.inv_steps_left.proofs.Rest.Fits.{TurnFit, hold_opens, round_fit, scan_fit, parts_fit}
+use Rattle.inv_steps_left.proofs.Rest.Kept.{post_is, seat_of, turn_rows}
 use Rattle.inv_steps_left.proofs.Rest.Loses.{run_fits}
 use Rattle.inv_steps_left.proofs.Rest.Machines.{held_span}
 use Rattle.inv_steps_left.proofs.Rest.Moves.{move_post}
@@ -63,7 +64,7 @@ use Rattle.inv_covers.specs.words.Packed.{read_request}
 use Rattle.inv_covers.specs.words.declared.config.Config.{Config}
 use Rattle.inv_covers.specs.words.declared.config.SchemeKind.{SchemeKind}
 use Rattle.inv_covers.specs.words.declared.layout.Layout.{Layout}
-use Rattle.std.specs.Prelude.{List, Option, Some, None, ◌==◌}
+use Rattle.std.specs.Prelude.{List, Option, Some, None, ◌==◌, ◌||◌}
 use Rattle.inv_covers.proofs.model.Facts.{if_by, no_truth}
 use Rattle.inv_covers.specs.defs.declared.lifetime.Interval.{Interval}
 use Rattle.inv_covers.specs.model.Calls.KeepAt.{HideSpan}
@@ -98,6 +99,11 @@ protect_span scheme most aim index root n (WithdrawHelper link era) post found b
 protect_span scheme most aim index root n LoadWithin post found b f = refl
 protect_span scheme most aim index root n (CheckUpper link) post found b f = absurd (no_truth (sym b ∙ f))
 protect_span scheme most aim index root n (RaiseUpper era) post found b f = absurd (no_truth (sym b ∙ f))
+protect_span scheme most aim index root n (ByHazard FirstLink) post found b f =
+    if_by (found == 0) (protected aim index root n found 0 post) (goes post [] (Protect aim index root n (ByHazard (PublishLink found)))) (λ (t : Turn). t.post.span ≡ post.span) (λ e. protected_span aim index root n found 0 post) (λ e. refl)
+protect_span scheme most aim index root n (ByHazard (PublishLink link)) post found b f = refl
+protect_span scheme most aim index root n (ByHazard (CheckLink link)) post found b f =
+    if_by (found == link || found == 0) (protected aim index root n found 0 post) (goes post [] (Protect aim index root n (ByHazard (PublishLink found)))) (λ (t : Turn). t.post.span ≡ post.span) (λ e. protected_span aim index root n found 0 post) (λ e. refl)
 
 walking_span : (birth : ℕ) (post : Post) (walk : Option Walk) → (walking birth post walk).post.span ≡ post.span
 walking_span birth post None = refl
@@ -108,7 +114,7 @@ base_span c (Begin at) post found b f = absurd (no_truth (sym b ∙ f))
 base_span c (Protect aim index root steps at) post found b f = protect_span c.scheme c.tries aim index root (bump steps) at post found b f
 base_span c (Reload parent index slot era steps) post found b f =
     if_by (found == parent + 1) (ends (with_row post index slot) (events.Held index slot (bump steps) ∷ []) (Followed (follow_ends.Followed slot))) (ends post [] (Followed (follow_ends.RootMoved found))) (λ (t : Turn). t.post.span ≡ post.span) (λ e. refl) (λ e. refl)
-base_span c (Clear index) post found b f = refl
+base_span c (Clear rows index) post found b f = refl
 base_span c Finish post found b f = absurd (no_truth (sym b ∙ f))
 base_span c (Release index) post found b f = absurd (no_truth (sym b ∙ f))
 base_span c (Allocate LoadBirth) post found b f = refl
@@ -153,9 +159,9 @@ settled_span l post desk told (GoesOn phase) = refl
 settled_span l post desk told (Answers answer) = refl
 
 settled_fit : (c : Config) (l : Local) (post : Post) (desk : Desk) (told : List Event) (outcome : CallOutcome) → TurnFit c l.rounds (record { post = post; desk = desk; told = told; outcome = outcome })
-    → phase_fit c (settled l (record { post = post; desk = desk; told = told; outcome = outcome })).rounds (settled l (record { post = post; desk = desk; told = told; outcome = outcome })).phase
-settled_fit c l post desk told (GoesOn phase) f = rw (rounds_join l.rounds told []) f
-settled_fit c l post desk told (Answers answer) f = tt
+    → publishes_rows (scheme_of post) ≡ publishes_rows c.scheme → phase_fit c (settled l (record { post = post; desk = desk; told = told; outcome = outcome })).rounds (settled l (record { post = post; desk = desk; told = told; outcome = outcome })).phase
+settled_fit c l post desk told (GoesOn phase) f t = rw (t, rounds_join (publishes_rows c.scheme) l.rounds told []) f
+settled_fit c l post desk told (Answers answer) f t = tt
 
 -- what a step of a call's own needs where its round is lost
 work_few : (w : World) (i : ℕ) (work : Work) → LossNeeds w i → (w.seat i).phase ≡ Works work → WorkFew w.layout.config (w.seat i).rounds work (finds w i)
@@ -186,7 +192,7 @@ turn_fits w i v n l (Works work) e = work_turn_fit w.layout.config (w.seat i).ro
 own_few : (w : World) (i : ℕ) → is_valid w.layout ≡ true → RestNeeds w i → LossNeeds w i → phase_fit w.layout.config ((step w i).seat i).rounds ((step w i).seat i).phase
 own_few w i v n l =
     let t : CallTurn = turn (offered w i) (finds w i) in
-    let f = settled_fit w.layout.config (offered w i) t.post t.desk t.told t.outcome (turn_fits w i v n l (w.seat i).phase refl) in
+    let f = settled_fit w.layout.config (offered w i) t.post t.desk t.told t.outcome (turn_fits w i v n l (w.seat i).phase refl) (turn_rows w i v n.seats) in
     subst (λ (s : Local). phase_fit w.layout.config s.rounds s.phase) (sym (seat_steps w i)) f
 
 own_span : (w : World) (i : ℕ) → is_valid w.layout ≡ true → Seats w → Losses w → has_one_interval w.layout.config.scheme ≡ false → ((step w i).seat i).post.span ≡ None
@@ -210,7 +216,7 @@ letting_fit : (c : Config) (let_go : LetGo) (post : Post) → phase_fit c 0 (let
 letting_fit c let_go post = letting_by_fit c let_go (release_base (scheme_of post) post (let_index let_go))
 
 holding_fit : (c : Config) (key : ℕ) (post : Post) (stood : Option ℕ) → phase_fit c 0 (steps.holding key post stood)
-holding_fit c key post None = round_fit c 0 (Holds key) post refl
+holding_fit c key post None = round_fit c 0 (Holds key) post (hold_opens c 0 key refl)
 holding_fit c key post (Some slot) = letting_fit c (Rehold key) post
 
 copying_fit : (c : Config) (from index : ℕ) (stood : Option ℕ) → phase_fit c 0 (steps.copying from index stood)

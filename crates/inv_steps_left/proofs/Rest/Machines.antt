@@ -6,13 +6,14 @@ use Rattle.inv_covers.specs.model.declared.ends.FollowEnd.TheVariants as follow_
 use Rattle.inv_covers.specs.words.declared.packed.Request.TheVariants as requests
 use Rattle.inv_covers.specs.words.Packed.{read_request}
 use Rattle.inv_covers.specs.model.Links.{parent_of}
-use Rattle.inv_covers.specs.model.Machine.{protect_turn}
-use Rattle.inv_covers.specs.model.Phases.{Aim, Base, Outcome, ProtectAt, Tries, Turn, ends, goes}
+use Rattle.inv_covers.specs.model.Machine.{hazard_turn, protect_turn}
+use Rattle.inv_covers.specs.model.Phases.{Aim, Base, HazardAt, Outcome, ProtectAt, Tries, Turn, ends, goes}
 use Rattle.inv_covers.specs.model.Phases.Aim.{Alone, Follows}
 use Rattle.inv_covers.specs.model.Phases.Base.{Protect, Reload}
 use Rattle.inv_covers.specs.model.Phases.Ending.{Followed}
 use Rattle.inv_covers.specs.model.Phases.Outcome.{Ends, Goes}
-use Rattle.inv_covers.specs.model.Phases.ProtectAt.{AnswerOwn, CheckClock, CheckOwnClock, CheckUpper, LoadAnswer, LoadClock, LoadLink, LoadOwnClock, LoadOwnLink, LoadWithin, PublishEra, PublishHelper, PublishRequest, RaiseUpper, TakeAnswer, WithdrawHelper, WithdrawRequest}
+use Rattle.inv_covers.specs.model.Phases.ProtectAt.{AnswerOwn, ByHazard, CheckClock, CheckOwnClock, CheckUpper, LoadAnswer, LoadClock, LoadLink, LoadOwnClock, LoadOwnLink, LoadWithin, PublishEra, PublishHelper, PublishRequest, RaiseUpper, TakeAnswer, WithdrawHelper, WithdrawRequest}
+use Rattle.inv_covers.specs.model.Phases.HazardAt.{CheckLink, FirstLink, PublishLink}
 use Rattle.inv_covers.specs.model.Phases.Tries.{Endless, Failed}
 use Rattle.inv_covers.specs.model.Posts.{reserves_helper, tag_of, upper, with_row, with_tag}
 use Rattle.inv_covers.specs.model.Protect.{concluded, failed_once, held_post, protected, told_held, trying}
@@ -24,7 +25,7 @@ use Rattle.inv_covers.specs.defs.declared.event.Root.{Root}
 use Rattle.inv_covers.specs.defs.declared.lifetime.Interval.{Interval}
 use Rattle.inv_covers.specs.words.declared.config.Config.{Config}
 use Rattle.inv_covers.specs.words.declared.packed.Request.{Request}
-use Rattle.std.specs.Prelude.{List, Option, Some, None, is_some, nat_le, if◌then◌else◌, ◌==◌}
+use Rattle.std.specs.Prelude.{List, Option, Some, None, is_some, nat_le, if◌then◌else◌, ◌==◌, ◌||◌}
 use Rattle.inv_covers.proofs.model.Facts.{if_by}
 
 -- the steps and eras that a machine's phase leaves
@@ -62,6 +63,7 @@ at_span (WithdrawHelper link era) span = span ≡ None
 at_span LoadWithin span = is_some span ≡ true
 at_span (CheckUpper link) span = is_some span ≡ true
 at_span (RaiseUpper era) span = is_some span ≡ true
+at_span (ByHazard at) span = span ≡ None
 
 -- what a protection's step has found of the clock
 abbrev pub at_clock : ProtectAt → (found clock : ℕ) → Type 0
@@ -82,6 +84,33 @@ at_clock (WithdrawHelper link era) found clock = Unit {0}
 at_clock LoadWithin found clock = Unit {0}
 at_clock (CheckUpper link) found clock = found ≡ clock
 at_clock (RaiseUpper era) found clock = Unit {0}
+at_clock (ByHazard at) found clock = Unit {0}
+
+-- a reload finds the link that was published
+abbrev pub hazard_agrees : HazardAt → (found : ℕ) → Bool
+hazard_agrees FirstLink found = true
+hazard_agrees (PublishLink link) found = true
+hazard_agrees (CheckLink link) found = found == link
+
+abbrev pub at_agrees : ProtectAt → (found : ℕ) → Bool
+at_agrees (ByHazard at) found = hazard_agrees at found
+at_agrees at found = true
+
+-- or null
+abbrev pub hazard_ends : HazardAt → (found : ℕ) → Bool
+hazard_ends FirstLink found = true
+hazard_ends (PublishLink link) found = true
+hazard_ends (CheckLink link) found = found == link || found == 0
+
+abbrev pub at_ends : ProtectAt → (found : ℕ) → Bool
+at_ends (ByHazard at) found = hazard_ends at found
+at_ends at found = true
+
+pub agrees_ends : (at : ProtectAt) (found : ℕ) → at_agrees at found ≡ true → at_ends at found ≡ true
+agrees_ends (ByHazard FirstLink) found a = refl
+agrees_ends (ByHazard (PublishLink link)) found a = refl
+agrees_ends (ByHazard (CheckLink link)) found a = rw a refl
+agrees_ends at found a = refl
 
 concluded_settles : (c : Config) (old clock : ℕ) (aim : Aim) (index : ℕ) (root : Root) (n link era : ℕ) (post : Post) (told : List Event) → 1 + aim_left aim + eras_left c (span_seen clock post.span) ≤ old → Settles c old clock (concluded aim index root n link era post told)
 concluded_settles c old clock Alone index root n link era post told h = omega (arith, h)
@@ -160,6 +189,7 @@ pub record Protects (c : Config) (clock next : ℕ) (at : ProtectAt) (post : Pos
   pub era : at_era at post.span clock
   pub try : at_try c at
   pub loads : at_clock at found clock
+  pub ends : at_ends at found ≡ true
 
 pub none_seen : (clock : ℕ) (span : Option Interval) → span ≡ None → span_seen clock span ≡ clock
 none_seen clock span e = rw e refl
@@ -175,6 +205,18 @@ checks_left c first era link true = (refl, omega arith)
 lost_clock : (c : Config) (old clock : ℕ) (aim : Aim) (index : ℕ) (root : Root) (n first found : ℕ) (last : Bool) (post : Post) → protect_left c (CheckOwnClock first 0 last 0) + aim_left aim + eras_left c (span_seen clock post.span) ≤ old → Settles c old clock (goes post [] (Protect aim index root n (lost_turn first last found)))
 lost_clock c old clock aim index root n first found false post h = omega (arith, h)
 lost_clock c old clock aim index root n first found true post h = omega (arith, h)
+
+hazard_settles : (c : Config) (clock next : ℕ) (aim : Aim) (index : ℕ) (root : Root) (steps n : ℕ) (at : HazardAt) (post : Post) (found : ℕ) → clock ≤ next → hazard_ends at found ≡ true → Settles c (start_of c clock post.span (Protect aim index root steps (ByHazard at))) next (hazard_turn aim index root n at post found)
+hazard_settles c clock next aim index root steps n FirstLink post found r a =
+    let s = seen_rises clock next post.span r in
+    if_by (found == 0) (protected aim index root n found 0 post) (goes post [] (Protect aim index root n (ByHazard (PublishLink found))))
+    (Settles c (start_of c clock post.span (Protect aim index root steps (ByHazard FirstLink))) next)
+    (λ e. protected_settles c (start_of c clock post.span (Protect aim index root steps (ByHazard FirstLink))) next aim index root n found 0 post (omega (arith, s)))
+    (λ e. omega (arith, s))
+hazard_settles c clock next aim index root steps n (PublishLink link) post found r a = let s = seen_rises clock next post.span r in omega (arith, s)
+hazard_settles c clock next aim index root steps n (CheckLink link) post found r a =
+    let s = seen_rises clock next post.span r in
+    rw a (protected_settles c (start_of c clock post.span (Protect aim index root steps (ByHazard (CheckLink link)))) next aim index root n found 0 post (omega (arith, s)))
 
 pub protect_settles : (c : Config) (clock next : ℕ) (aim : Aim) (index : ℕ) (root : Root) (steps n : ℕ) (at : ProtectAt) (post : Post) (found : ℕ) → Protects c clock next at post found → Settles c (start_of c clock post.span (Protect aim index root steps at)) next (protect_turn aim index root n at post found)
 protect_settles c clock next aim index root steps n (LoadClock Endless) post found p = let a = p.loads in let b = p.seen in let d = p.span in omega (arith, a, b)
@@ -235,3 +277,4 @@ protect_settles c clock next aim index root steps n (CheckUpper link) post found
     let d = eras_fall c (upper post.span) clock (grind (arith, nat_tests, e, l, b, u)) (let r = p.rises in let m = p.most in omega (arith, r, m)) in
     rw (u, l) (omega (arith, d)))
 protect_settles c clock next aim index root steps n (RaiseUpper era) post found p = let s = seen_rises clock next post.span p.rises in omega (arith, s)
+protect_settles c clock next aim index root steps n (ByHazard at) post found p = hazard_settles c clock next aim index root steps n at post found p.rises p.ends

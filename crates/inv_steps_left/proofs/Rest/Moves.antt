@@ -58,7 +58,7 @@ abbrev pub base_owes : Config → Base → Post → (found : ℕ) → Type 0
 base_owes c (Begin at) post found = false ≡ true
 base_owes c (Protect aim index root steps at) post found = false ≡ true
 base_owes c (Reload parent index slot era steps) post found = Unit {0}
-base_owes c (Clear index) post found = Unit {0}
+base_owes c (Clear rows index) post found = Unit {0}
 base_owes c Finish post found = Unit {0}
 base_owes c (Release index) post found = Unit {0}
 base_owes c (Allocate at) post found = Unit {0}
@@ -73,7 +73,7 @@ falls_settles c left old clock post told (Goes (Move at)) f h = omega (arith, f,
 falls_settles c left old clock post told (Goes (Begin at)) f h = absurd f
 falls_settles c left old clock post told (Goes (Protect aim index root steps at)) f h = absurd f
 falls_settles c left old clock post told (Goes (Reload parent index slot era steps)) f h = absurd f
-falls_settles c left old clock post told (Goes (Clear index)) f h = absurd f
+falls_settles c left old clock post told (Goes (Clear rows index)) f h = absurd f
 falls_settles c left old clock post told (Goes Finish) f h = absurd f
 falls_settles c left old clock post told (Goes (Release index)) f h = absurd f
 falls_settles c left old clock post told (Goes (Allocate at)) f h = absurd f
@@ -108,7 +108,7 @@ base_settles c clock next (Reload parent index slot era steps) post found t r s 
     let k = seen_rises clock next post.span r in
     if_by (found == parent + 1) (ends (with_row post index slot) (events.Held index slot (bump steps) ∷ []) (Followed (follow_ends.Followed slot))) (ends post [] (Followed (follow_ends.RootMoved found)))
     (Settles c (start_of c clock post.span (Reload parent index slot era steps)) next) (λ e. omega (arith, k)) (λ e. omega (arith, k))
-base_settles c clock next (Clear index) post found t r s o = let k = seen_rises clock next post.span r in omega (arith, k)
+base_settles c clock next (Clear rows index) post found t r s o = let k = seen_rises clock next post.span r in omega (arith, k)
 base_settles c clock next Finish post found t r s o = omega (arith, r, s)
 base_settles c clock next (Release index) post found t r s o = omega (arith, r, s)
 base_settles c clock next (Allocate LoadBirth) post found t r s o = let k = seen_rises clock next post.span r in rw t (omega (arith, k))

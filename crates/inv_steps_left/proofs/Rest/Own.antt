@@ -21,8 +21,7 @@ use Rattle.inv_covers.specs.model.Calls.Task.{Changes, Dequeues, Enqueues, Gets}
 use Rattle.inv_covers.specs.model.Calls.Work.{Changing, Dequeuing, Enqueuing, Getting, Keeping}
 use Rattle.inv_covers.specs.model.Dequeue.{taken}
 use Rattle.inv_covers.specs.model.Desks.{Desk}
-use Rattle.inv_covers.specs.model.Locals.{rounds_told}
-use Rattle.inv_covers.specs.model.Posts.{cleared, reserves_index, stands, withdrawn}
+use Rattle.inv_covers.specs.model.Posts.{cleared, stands, withdrawn, publishes_index}
 use Rattle.inv_covers.specs.model.Rest.{rounds_most}
 use Rattle.inv_covers.specs.model.Rounds.{bucket_of, let_index, scheme_of}
 use Rattle.inv_covers.specs.model.declared.post.Post.{Post}
@@ -30,8 +29,8 @@ use Rattle.inv_covers.specs.defs.declared.event.Event.{Event}
 use Rattle.inv_steps_left.proofs.Rest.Fits.{TurnFit, clearing_fit, clearing_next_fit, deciding_fit, released_fit}
 use Rattle.inv_steps_left.proofs.Rest.Closings.{cleared_rounds, all_cleared}
 use Rattle.inv_steps_left.proofs.Rest.Works.{link_told}
-use Rattle.inv_steps_left.specs.Losses.{InRound, lost_fit, next_fit, work_fit}
-use Rattle.inv_covers.specs.words.Schemes.{has_one_interval}
+use Rattle.inv_steps_left.specs.Losses.{InRound, lost_fit, next_fit, work_fit, rounds_in}
+use Rattle.inv_covers.specs.words.Schemes.{has_one_interval, publishes_rows}
 use Rattle.inv_covers.specs.words.declared.config.Config.{Config}
 use Rattle.std.specs.Prelude.{List, ◌++◌, length, Option, Some, None, nat_lt, ◌==◌}
 use Rattle.inv_covers.proofs.model.Facts.{if_by}
@@ -63,7 +62,7 @@ done_fit c rounds version link task =
 
 exchanged_fit : (c : Config) (rounds : ℕ) (kept : ChangeKept) (slot : ℕ) (post : Post) (desk : Desk) (same : Bool) → InRound (rounds_most c (Changes kept)) rounds → (same ≡ false → rounds ≤ rounds_most c (Changes kept)) → TurnFit c rounds (alters.exchanged kept slot post desk same)
 exchanged_fit c rounds kept slot post desk true i l =
-    clearing_fit c rounds (Changes (record kept { taken = None })) (alters.answer_done (kept.version + 1) kept.link) post desk (alters.told_linked kept slot post) (done_fit c (rounds_told rounds (alters.told_linked kept slot post)) (kept.version + 1) kept.link (Changes (record kept { taken = None })))
+    clearing_fit c rounds (Changes (record kept { taken = None })) (alters.answer_done (kept.version + 1) kept.link) post desk (alters.told_linked kept slot post) (done_fit c (rounds_in c rounds (alters.told_linked kept slot post)) (kept.version + 1) kept.link (Changes (record kept { taken = None })))
 exchanged_fit c rounds kept slot post desk false i l = clearing_fit c rounds (Changes kept) Again post desk [] (record { told = i.told; few = l refl })
 
 -- what a step of a call's own needs where its round is lost
@@ -105,7 +104,7 @@ appended_fit : (c : Config) (rounds : ℕ) (kept : EnqueueKept) (slot : ℕ) (po
 appended_fit c rounds kept slot post desk true i l = i
 appended_fit c rounds kept slot post desk false i l = clearing_fit c rounds (Enqueues kept) Again post desk [] (record { told = i.told; few = l refl })
 
-told_same : (c : Config) (rounds : ℕ) (task : Task) (told : List Event) → rounds_told rounds told ≡ rounds → lost_fit c rounds task → lost_fit c (rounds_told rounds told) task
+told_same : (c : Config) (rounds : ℕ) (task : Task) (told : List Event) → rounds_in c rounds told ≡ rounds → lost_fit c rounds task → lost_fit c (rounds_in c rounds told) task
 told_same c rounds task told e l = rw e l
 
 enqueue_fit : (c : Config) (rounds : ℕ) (kept : EnqueueKept) (at : EnqueueAt) (post : Post) (desk : Desk) (found : ℕ) → InRound (rounds_most c (Enqueues kept)) rounds → WorkFew c rounds (Enqueuing kept at) found → TurnFit c rounds (enqueues.enqueue_turn kept at post desk found)
@@ -113,7 +112,7 @@ enqueue_fit c rounds kept LoadNumber post desk found i l = i
 enqueue_fit c rounds kept LoadNext post desk found i l = at_next_fit c rounds kept found post desk (found == 0) i
 enqueue_fit c rounds kept (PassTail next) post desk found i l =
     let told : List Event = enqueues.told_link roots.Tail (next - 1) (found == kept.tail + 1) in
-    clearing_fit c rounds (Enqueues kept) Again post desk told (told_same c rounds (Enqueues kept) told (link_told rounds roots.Tail (next - 1) (found == kept.tail + 1)) (record { told = i.told; few = l }))
+    clearing_fit c rounds (Enqueues kept) Again post desk told (told_same c rounds (Enqueues kept) told (link_told (publishes_rows c.scheme) rounds roots.Tail (next - 1) (found == kept.tail + 1)) (record { told = i.told; few = l }))
 enqueue_fit c rounds kept (ExchangeNext slot) post desk found i l = appended_fit c rounds kept slot post desk (found == 0) i l
 enqueue_fit c rounds kept (ExchangeTail slot) post desk found i l = clearing_fit c rounds (Enqueues kept) (Answering (answers.Queued (kept.number + 1))) post desk (enqueues.told_link roots.Tail slot (found == kept.tail + 1)) tt
 
@@ -126,7 +125,7 @@ dequeue_fit : (c : Config) (rounds : ℕ) (at : DequeueAt) (post : Post) (desk :
 dequeue_fit c rounds (LoadTail head) post desk found i l = i
 dequeue_fit c rounds (SwingTail head next) post desk found i l =
     let told : List Event = enqueues.told_link roots.Tail next (found == head + 1) in
-    clearing_next_fit c rounds Again post desk told (told_same c rounds Dequeues told (link_told rounds roots.Tail next (found == head + 1)) (record { told = i.told; few = l }))
+    clearing_next_fit c rounds Again post desk told (told_same c rounds Dequeues told (link_told (publishes_rows c.scheme) rounds roots.Tail next (found == head + 1)) (record { told = i.told; few = l }))
 dequeue_fit c rounds (TakeNumber head next) post desk found i l = i
 dequeue_fit c rounds (TakeValue head next number) post desk found i l = i
 dequeue_fit c rounds (ExchangeHead head next number value) post desk found i l = taken_fit c rounds head next number value post desk (found == head + 1) i l
@@ -159,12 +158,12 @@ taking_fit c rounds place post desk false found i = tt
 
 keep_fit : (c : Config) (rounds : ℕ) (at : KeepAt) (post : Post) (desk : Desk) (found : ℕ) → rounds ≡ 0 → TurnFit c rounds (keeps.keep_turn at post desk found)
 keep_fit c rounds (Loosens let_go) post desk found i =
-    released_fit c rounds let_go (withdrawn post (let_index let_go)) desk (cleared (let_index let_go) (stands post (let_index let_go))) (cleared_rounds rounds (let_index let_go) (stands post (let_index let_go)) ∙ i)
+    released_fit c rounds let_go (withdrawn post (let_index let_go)) desk (cleared (let_index let_go) (stands post (let_index let_go))) (cleared_rounds (publishes_rows c.scheme) rounds (let_index let_go) (stands post (let_index let_go)) ∙ i)
 keep_fit c rounds (LoadHeld from index) post desk found i = held_fit c rounds from index post desk found (has_one_interval (scheme_of post)) i
-keep_fit c rounds (StoreHeld from index era) post desk found i = copied_fit c rounds from index post desk (reserves_index post index era) (stands post from)
+keep_fit c rounds (StoreHeld from index era) post desk found i = copied_fit c rounds from index post desk (publishes_index (publishes_rows (scheme_of post)) post index era) (stands post from)
 keep_fit c rounds (Looks index key at) post desk found i = look_fit c rounds index key at post desk found i
 keep_fit c rounds (Misses index) post desk found i = tt
-keep_fit c rounds HideSpan post desk found i = all_cleared rounds post ∙ i
+keep_fit c rounds HideSpan post desk found i = all_cleared (publishes_rows c.scheme) rounds post ∙ i
 keep_fit c rounds MarkLeft post desk found i = tt
 keep_fit c rounds (TakeList place) post desk found i = taking_fit c rounds place post desk (found == 1) found i
 keep_fit c rounds (MarkTaken place count) post desk found i = tt

@@ -12,13 +12,12 @@ use Rattle.inv_covers.specs.model.Calls.Next.{Answering}
 use Rattle.inv_covers.specs.model.Calls.Task.{Dequeues, Holds}
 use Rattle.inv_covers.specs.model.Calls.Why.{Advances, FollowsHead, Opens, Retires, Tidies, Fills}
 use Rattle.inv_covers.specs.model.Desks.{Desk}
-use Rattle.inv_covers.specs.model.Locals.{rounds_told}
 use Rattle.inv_covers.specs.model.Machine.{protect_turn}
 use Rattle.inv_covers.specs.model.Phases.{Base, Outcome, ProtectAt, Turn, goes, AllocateAt, Ending, RowOf, Walk, ends}
 use Rattle.inv_covers.specs.model.Phases.Aim.{Alone}
 use Rattle.inv_covers.specs.model.Phases.Ending.{Allocated, Clocked, Done, Followed, Protected, Retired}
 use Rattle.inv_covers.specs.model.Phases.Outcome.{Ends, Goes}
-use Rattle.inv_covers.specs.model.Phases.ProtectAt.{AnswerOwn, CheckClock, CheckOwnClock, CheckUpper, LoadAnswer, LoadClock, LoadLink, LoadOwnClock, LoadOwnLink, LoadWithin, PublishEra, PublishHelper, PublishRequest, RaiseUpper, TakeAnswer, WithdrawHelper, WithdrawRequest}
+use Rattle.inv_covers.specs.model.Phases.ProtectAt.{AnswerOwn, CheckClock, CheckOwnClock, CheckUpper, LoadAnswer, LoadClock, LoadLink, LoadOwnClock, LoadOwnLink, LoadWithin, PublishEra, PublishHelper, PublishRequest, RaiseUpper, TakeAnswer, WithdrawHelper, WithdrawRequest, ByHazard}
 use Rattle.inv_covers.specs.model.Posts.{upper}
 use Rattle.inv_covers.specs.model.Protect.{failed_once, protected}
 use Rattle.inv_covers.specs.model.Rest.{eras_left, is_told, later_left, lost_by, phase_seen, room_most, round_left, rounds_most, scan_most, span_seen, task_left, ending_most, fill_left, has_walked, rounds_left, walks_after}
@@ -32,19 +31,20 @@ use Rattle.inv_covers.specs.defs.declared.event.Root.{Root}
 use Rattle.inv_covers.specs.defs.declared.lifetime.Interval.{Interval}
 use Rattle.inv_steps_left.proofs.Rest.Closings.{clearing_left, turn_left}
 use Rattle.inv_steps_left.proofs.Rest.Machines.{settles}
-use Rattle.inv_steps_left.proofs.Rest.Opens.{opened_null_left, opened_row_left}
+use Rattle.inv_steps_left.proofs.Rest.Opens.{opened_null_left, opened_row_left, lost_null_left}
 use Rattle.inv_steps_left.proofs.Rest.Seen.{PostIs, ShowsSame}
 use Rattle.inv_steps_left.proofs.Rest.Told.{Tells}
 use Rattle.inv_steps_left.proofs.Rest.Ways.{advanced_left, followed_by_left, retired_by_left, tidied_left, filled_by_left, written_row_left}
-use Rattle.inv_steps_left.specs.Losses.{InRound, fills_fit}
+use Rattle.inv_steps_left.specs.Losses.{InRound, fills_fit, rounds_in}
 use Rattle.inv_covers.specs.words.Packed.{read_request}
 use Rattle.inv_covers.specs.words.declared.config.Config.{Config}
 use Rattle.inv_covers.specs.words.declared.layout.Layout.{Layout}
-use Rattle.std.specs.Prelude.{List, length, Option, ◌==◌, Some, None, if◌then◌else◌}
+use Rattle.std.specs.Prelude.{List, length, Option, ◌==◌, Some, None, if◌then◌else◌, ◌||◌}
 use Rattle.inv_covers.specs.defs.declared.event.Event.TheVariants as events
 use Rattle.inv_covers.specs.model.Allocate.{is_claimed, next_slot, walk_past, walking}
 use Rattle.inv_covers.specs.model.Phases.AllocateAt.{ClaimSlot, LoadBirth, StoreLife}
 use Rattle.inv_covers.proofs.model.Facts.{if_by}
+use Rattle.inv_covers.specs.model.Phases.HazardAt.{CheckLink, FirstLink, PublishLink}
 
 -- steps and eras that a turn leaves
 abbrev pub turn_total : Config → (clock rounds : ℕ) → CallTurn → ℕ
@@ -86,6 +86,11 @@ ends_well index root n LoadWithin post found = tt
 ends_well index root n (CheckUpper link) post found =
     if_by (found == upper post.span) (protected Alone index root n link found post) (goes post [] (Protect Alone index root n (RaiseUpper found))) (λ (t : Turn). EndsWell t.outcome) (λ e. tt) (λ e. tt)
 ends_well index root n (RaiseUpper era) post found = tt
+ends_well index root n (ByHazard FirstLink) post found =
+    if_by (found == 0) (protected Alone index root n found 0 post) (goes post [] (Protect Alone index root n (ByHazard (PublishLink found)))) (λ (t : Turn). EndsWell t.outcome) (λ e. tt) (λ e. tt)
+ends_well index root n (ByHazard (PublishLink link)) post found = tt
+ends_well index root n (ByHazard (CheckLink link)) post found =
+    if_by (found == link || found == 0) (protected Alone index root n found 0 post) (goes post [] (Protect Alone index root n (ByHazard (PublishLink found)))) (λ (t : Turn). EndsWell t.outcome) (λ e. tt) (λ e. tt)
 
 -- where a machine has ended what comes after it shows the same era
 abbrev pub EndLeft : Layout → ℕ → Option Interval → CallTurn → Outcome → Type 0
@@ -101,14 +106,14 @@ pub record After (c : Config) (layout : Layout) (k next rounds old : ℕ) (desk 
 
 -- the protection of a task's root, at index 0
 
-opened_left : (c : Config) (layout : Layout) (rounds : ℕ) (task : Task) (ending : ProtectEnd) (post : Post) (desk : Desk) (told : List Event) (lost : ℕ) → layout.config ≡ c → rounds_told rounds told ≡ lost + 1 → lost ≤ rounds_most c task
+opened_left : (c : Config) (layout : Layout) (rounds : ℕ) (task : Task) (ending : ProtectEnd) (post : Post) (desk : Desk) (told : List Event) (lost : ℕ) → layout.config ≡ c → rounds_in c rounds told ≡ lost + 1 → lost ≤ rounds_most c task
     → PhaseKnown layout (stands_at (steps.opened task (Protected ending) post desk told).outcome)
     → turn_left c rounds (steps.opened task (Protected ending) post desk told) ≤ round_left c task + task_left c (length desk.list) task lost
 opened_left c layout rounds task (protect_ends.Held slot era) post desk told lost t e h p = opened_row_left c rounds task slot post desk told lost e
 opened_left c layout rounds task protect_ends.Null post desk told lost t e h p = opened_null_left c layout rounds task post desk told lost t e h p
 
 pub opens_own : (c : Config) (layout : Layout) (k next rounds : ℕ) (task : Task) (base : Base) (desk : Desk) (post : Post) (told : List Event) (outcome : Outcome) (old : ℕ) (lost : ℕ)
-    → lost ≤ rounds_most c task → Tells lost (rounds_told rounds told) outcome → EndsWell outcome
+    → lost ≤ rounds_most c task → Tells lost (rounds_in c rounds told) outcome → EndsWell outcome
     → After c layout k next rounds old desk post told outcome (resumed (Opens task) desk post told outcome)
     → turn_total c next rounds (resumed (Opens task) desk post told outcome) + 1 ≤ old + round_left c task + task_left c (length desk.list) task lost
 opens_own c layout k next rounds task base desk post told (Goes other) old lost h t w a = let s = a.settles in rw t (omega (arith, s))
@@ -123,6 +128,17 @@ opens_own c layout k next rounds task base desk post told (Ends (Allocated endin
 opens_own c layout k next rounds task base desk post told (Ends (Retired life)) old lost h t w a = absurd (cc)
 opens_own c layout k next rounds task base desk post told (Ends (Clocked clock)) old lost h t w a = absurd (cc)
 
+-- where a reload finds null a round more is lost
+pub opens_null : (c : Config) (layout : Layout) (k next rounds : ℕ) (task : Task) (desk : Desk) (post : Post) (told : List Event) (old lost : ℕ)
+    → lost ≤ rounds_most c task → rounds_in c rounds told ≡ lost + 2
+    → After c layout k next rounds old desk post told (Ends (Protected protect_ends.Null)) (resumed (Opens task) desk post told (Ends (Protected protect_ends.Null)))
+    → turn_total c next rounds (resumed (Opens task) desk post told (Ends (Protected protect_ends.Null))) + 1 ≤ old + round_left c task + task_left c (length desk.list) task lost
+opens_null c layout k next rounds task desk post told old lost h t a =
+    let s = a.settles in
+    let o = lost_null_left c layout rounds task post desk told lost a.config t h a.slots in
+    let i = total_is c layout k next rounds post.span (steps.opened_null task post desk told) a.left in
+    rw i (omega (arith, s, o))
+
 -- a hold's, at index 2
 
 hold_left : (c : Config) (rounds key : ℕ) (ending : ProtectEnd) (post : Post) (desk : Desk) (told : List Event) → turn_left c rounds (steps.opened (Holds key) (Protected ending) post desk told) ≤ 3
@@ -134,7 +150,7 @@ none_lost true = refl
 none_lost false = refl
 
 pub opens_hold : (c : Config) (layout : Layout) (k next rounds key : ℕ) (desk : Desk) (post : Post) (told : List Event) (outcome : Outcome) (old : ℕ)
-    → rounds_told rounds told ≡ 0 → EndsWell outcome
+    → rounds_in c rounds told ≡ 0 → EndsWell outcome
     → After c layout k next rounds old desk post told outcome (resumed (Opens (Holds key)) desk post told outcome)
     → turn_total c next rounds (resumed (Opens (Holds key)) desk post told outcome) + 1 ≤ old + round_left c (Holds key) + task_left c (length desk.list) (Holds key) 0
 opens_hold c layout k next rounds key desk post told (Goes other) old t w a = let s = a.settles in rw (t, none_lost (is_told other)) (omega (arith, s))
@@ -151,7 +167,7 @@ opens_hold c layout k next rounds key desk post told (Ends (Clocked clock)) old 
 
 -- a follow
 pub follows_on : (c : Config) (layout : Layout) (k next rounds head tail : ℕ) (desk : Desk) (post : Post) (told : List Event) (outcome : Outcome) (old : ℕ)
-    → InRound (rounds_most c Dequeues) rounds → rounds_told rounds told ≡ rounds
+    → InRound (rounds_most c Dequeues) rounds → rounds_in c rounds told ≡ rounds
     → After c layout k next rounds old desk post told outcome (resumed (FollowsHead head tail) desk post told outcome)
     → turn_total c next rounds (resumed (FollowsHead head tail) desk post told outcome) + 1 ≤ old + 7 + task_left c (length desk.list) Dequeues (rounds - 1)
 follows_on c layout k next rounds head tail desk post told (Goes other) old r e a = let s = a.settles in rw e (omega (arith, s))
@@ -174,7 +190,7 @@ retires_on c layout k next rounds answer desk post told (Ends ending) old a =
 
 -- a move of the clock before a scan, and alone
 pub tidies_on : (c : Config) (layout : Layout) (k next rounds : ℕ) (later : AfterScan) (desk : Desk) (post : Post) (told : List Event) (outcome : Outcome) (old : ℕ)
-    → rounds_told rounds told ≡ rounds
+    → rounds_in c rounds told ≡ rounds
     → After c layout k next rounds old desk post told outcome (resumed (Tidies later) desk post told outcome)
     → turn_total c next rounds (resumed (Tidies later) desk post told outcome) + 1 ≤ old + scan_most c (length desk.list) + later_left c (length desk.list) rounds later
 tidies_on c layout k next rounds later desk post told (Goes other) old e a = let s = a.settles in rw e (omega (arith, s))
@@ -200,7 +216,7 @@ Walks (Goes (Allocate at)) = Unit {0}
 Walks (Goes (Begin at)) = false ≡ true
 Walks (Goes (Protect aim index root n at)) = false ≡ true
 Walks (Goes (Reload parent index slot era n)) = false ≡ true
-Walks (Goes (Clear index)) = false ≡ true
+Walks (Goes (Clear rows index)) = false ≡ true
 Walks (Goes Finish) = false ≡ true
 Walks (Goes (Release index)) = false ≡ true
 Walks (Goes (Write slot row place)) = false ≡ true
@@ -226,14 +242,14 @@ walks_on (ClaimSlot birth walk) post found =
 walks_on (StoreLife birth slot) post found = tt
 
 pub allocates_on : (c : Config) (layout : Layout) (k next rounds : ℕ) (task : Task) (desk : Desk) (post : Post) (told : List Event) (outcome : Outcome) (old : ℕ)
-    → fills_fit c rounds task → rounds_told rounds told ≡ rounds → Walks outcome
+    → fills_fit c rounds task → rounds_in c rounds told ≡ rounds → Walks outcome
     → After c layout k next rounds old desk post told outcome (resumed (Fills task) desk post told outcome)
     → turn_total c next rounds (resumed (Fills task) desk post told outcome) + 1 ≤ old + fill_left c task + rounds_left c task (rounds - 1) + walks_after c (length desk.list) (has_walked task) + ending_most c (length desk.list)
 allocates_on c layout k next rounds task desk post told (Goes (Allocate at)) old f e w a = let s = a.settles in rw e (omega (arith, s))
 allocates_on c layout k next rounds task desk post told (Goes (Begin at)) old f e w a = absurd (cc)
 allocates_on c layout k next rounds task desk post told (Goes (Protect aim index root n at)) old f e w a = absurd (cc)
 allocates_on c layout k next rounds task desk post told (Goes (Reload parent index slot era n)) old f e w a = absurd (cc)
-allocates_on c layout k next rounds task desk post told (Goes (Clear index)) old f e w a = absurd (cc)
+allocates_on c layout k next rounds task desk post told (Goes (Clear rows index)) old f e w a = absurd (cc)
 allocates_on c layout k next rounds task desk post told (Goes Finish) old f e w a = absurd (cc)
 allocates_on c layout k next rounds task desk post told (Goes (Release index)) old f e w a = absurd (cc)
 allocates_on c layout k next rounds task desk post told (Goes (Write slot row place)) old f e w a = absurd (cc)

@@ -10,8 +10,7 @@ use Rattle.inv_covers.specs.model.Calls.{AfterScan, ScanAt, Task}
 use Rattle.inv_covers.specs.model.Calls.AfterScan.{Answered, Counted, Repeated}
 use Rattle.inv_covers.specs.model.Calls.ScanAt.{GiveBack, ReadGuard}
 use Rattle.inv_covers.specs.model.Desks.{Desk}
-use Rattle.inv_covers.specs.model.Guards.{guard_at, guards, eras_in, published}
-use Rattle.inv_covers.specs.model.Locals.{rounds_told}
+use Rattle.inv_covers.specs.model.Guards.{guard_at, guards, eras_in, published, linked_row}
 use Rattle.inv_covers.specs.model.Rest.{later_left, phase_left, round_worth, rounds_most, scan_left, task_left}
 use Rattle.inv_covers.specs.model.Rounds.{round}
 use Rattle.inv_covers.specs.model.declared.post.Post.{Post}
@@ -22,10 +21,12 @@ use Rattle.inv_covers.specs.shapes.Seats.{scan_fits}
 use Rattle.inv_covers.specs.shapes.Slots.{scan_lists}
 use Rattle.inv_steps_left.proofs.Rest.Amounts.{opens_worth, task_drops, task_grows}
 use Rattle.inv_steps_left.proofs.Rest.Closings.{round_begins, turn_left}
-use Rattle.inv_steps_left.specs.Losses.{LostRound, later_fit, lost_fit}
+use Rattle.inv_steps_left.specs.Losses.{LostRound, later_fit, lost_fit, rounds_in}
 use Rattle.inv_covers.specs.words.declared.config.Config.{Config}
 use Rattle.std.specs.Prelude.{List, length, Option, Some, None, nat_lt, drop, remove}
 use Rattle.inv_covers.specs.model.Calls.Task.{Changes, Dequeues, Enqueues, Gets, Holds}
+use Rattle.inv_covers.specs.words.Schemes.{publishes_rows}
+use Rattle.inv_covers.specs.defs.declared.event.Guard.{Guard}
 
 -- an entry found lies from a place on, below another
 abbrev Within : (low high : ℕ) → Option scan.Entry → Type 0
@@ -69,17 +70,17 @@ lost_round c rounds (Holds key) l = absurd (cc)
 lost_round c rounds (Enqueues kept) l = l
 lost_round c rounds Dequeues l = l
 
-scanned_left : (c : Config) (rounds : ℕ) (later : AfterScan) (post : Post) (desk : Desk) (told : List Event) → rounds_told rounds told ≡ rounds → later_fit c rounds later → turn_left c rounds (scan.scanned later post desk told) ≤ later_left c (length desk.list) rounds later
+scanned_left : (c : Config) (rounds : ℕ) (later : AfterScan) (post : Post) (desk : Desk) (told : List Event) → rounds_in c rounds told ≡ rounds → later_fit c rounds later → turn_left c rounds (scan.scanned later post desk told) ≤ later_left c (length desk.list) rounds later
 scanned_left c rounds (Answered answer) post desk told e l = omega arith
 scanned_left c rounds (Repeated task) post desk told e l = let h = repeated_left c rounds desk.list task post (lost_round c rounds task l) in rw e (omega (arith, h))
 scanned_left c rounds Counted post desk told e l = omega arith
 
-gives_left : (c : Config) (rounds : ℕ) (later : AfterScan) (post : Post) (desk : Desk) (told : List Event) (place : ℕ) (x : Option scan.Entry) → rounds_told rounds told ≡ rounds → later_fit c rounds later → Within place (length desk.list) x
+gives_left : (c : Config) (rounds : ℕ) (later : AfterScan) (post : Post) (desk : Desk) (told : List Event) (place : ℕ) (x : Option scan.Entry) → rounds_in c rounds told ≡ rounds → later_fit c rounds later → Within place (length desk.list) x
     → turn_left c rounds (scan.giving_back later post desk told x) ≤ (length desk.list - place) + later_left c (length desk.list) rounds later
 gives_left c rounds later post desk told place None e l w = let h = scanned_left c rounds later post (scan.with_kept desk) told e l in omega (arith, h)
 gives_left c rounds later post desk told place (Some entry) e l w = let a = w.0 in let b = w.1 in rw e (omega (arith, a, b))
 
-reads_left : (c : Config) (rounds : ℕ) (later : AfterScan) (number : ℕ) (post : Post) (desk : Desk) (told : List Event) (more : Bool) → rounds_told rounds told ≡ rounds → later_fit c rounds later → number < guards c
+reads_left : (c : Config) (rounds : ℕ) (later : AfterScan) (number : ℕ) (post : Post) (desk : Desk) (told : List Event) (more : Bool) → rounds_in c rounds told ≡ rounds → later_fit c rounds later → number < guards c
     → turn_left c rounds (scan.reading later number post desk told more) + 1 ≤ (guards c - number) + length desk.list + later_left c (length desk.list) rounds later
 reads_left c rounds later number post desk told true e l b = rw e (omega (arith, b))
 reads_left c rounds later number post desk told false e l b = let h = gives_left c rounds later post desk told 0 (scan.unmet_from desk 0) e l (unmet_within desk 0 (omega arith)) in omega (arith, h, b)
@@ -89,10 +90,14 @@ later_grows c lives more rounds (Answered answer) h = omega arith
 later_grows c lives more rounds (Repeated task) h = task_grows c lives more task (rounds - 1) h
 later_grows c lives more rounds Counted h = omega arith
 
+read_left : (c : Config) (rounds : ℕ) (later : AfterScan) (number : ℕ) (post : Post) (desk : Desk) (rows : Bool) (guard : Guard) (word : ℕ) → later_fit c rounds later → number < guards c
+    → turn_left c rounds (scan.read_guard later number post desk rows guard word) + 1 ≤ scan_left c desk.list (ReadGuard number) + later_left c (length desk.list) rounds later
+read_left c rounds later number post desk false guard word l f = reads_left c rounds later number post (scan.with_read desk number (guard, published false guard word)) (events.Read guard (eras_in guard word) ∷ []) (nat_lt (number + 1) (guards post.layout.config)) refl l f
+read_left c rounds later number post desk true guard word l f = reads_left c rounds later number post (scan.with_read desk number (guard, published true guard word)) (events.Saw guard (linked_row word) ∷ []) (nat_lt (number + 1) (guards post.layout.config)) refl l f
+
 pub scan_falls : (c : Config) (rounds : ℕ) (later : AfterScan) (at : ScanAt) (post : Post) (desk : Desk) (found : ℕ) → later_fit c rounds later → scan_fits c at ≡ true → scan_lists c desk at
     → turn_left c rounds (scan.scan_turn later at post desk found) + 1 ≤ scan_left c desk.list at + later_left c (length desk.list) rounds later
-scan_falls c rounds later (ReadGuard number) post desk found l f s =
-    reads_left c rounds later number post (scan.with_read desk number (guard_at post.layout.config number, published (guard_at post.layout.config number) found)) (events.Read (guard_at post.layout.config number) (eras_in (guard_at post.layout.config number) found) ∷ []) (nat_lt (number + 1) (guards post.layout.config)) refl l (grind (arith, nat_tests, f))
+scan_falls c rounds later (ReadGuard number) post desk found l f s = read_left c rounds later number post desk (publishes_rows post.layout.config.scheme) (guard_at post.layout.config number) found l (grind (arith, nat_tests, f))
 scan_falls c rounds later (GiveBack place slot) post desk found l f s =
     let n = length-remove desk.list place s in
     let h = gives_left c rounds later post (scan.with_back desk place) (events.Back slot ∷ []) place (scan.unmet_from (scan.with_back desk place) place) refl l (unmet_within (scan.with_back desk place) place (omega (arith, n, s))) in

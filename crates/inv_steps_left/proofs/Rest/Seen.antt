@@ -12,7 +12,7 @@ use Rattle.inv_covers.specs.defs.declared.lifetime.Interval.{Interval}
 use Rattle.inv_covers.proofs.shapes.Shapes.{shape_grows}
 use Rattle.inv_covers.specs.shapes.Seats.{PostFits}
 use Rattle.inv_covers.specs.words.declared.config.SchemeKind.{SchemeKind}
-use Rattle.inv_covers.specs.words.declared.config.SchemeKind.TheVariants.{He, Ibr, Wfe}
+use Rattle.inv_covers.specs.words.declared.config.SchemeKind.TheVariants.{He, Ibr, Wfe, Hp}
 use Rattle.inv_covers.specs.words.declared.layout.Layout.{Layout}
 use Rattle.std.specs.Prelude.{Option}
 
@@ -29,6 +29,7 @@ pub protect_same : (scheme : SchemeKind) (seen : ℕ) → protect_seen (protect_
 protect_same He seen = refl
 protect_same Ibr seen = refl
 protect_same Wfe seen = refl
+protect_same Hp seen = refl
 
 pub stores_same : (post : Post) (found : ℕ) (work : Work) → Stores ShowsSame post found work
 stores_same post found (Keeping (LoadHeld from index)) = λ one seen. refl
@@ -52,7 +53,7 @@ seen_grows layout k span v =
       finishes = λ post task next a b q seen. refl;
       gives_up = λ post answer slot q seen. refl;
       retires = λ post answer slot q seen. refl;
-      tidies = λ post later q seen. refl;
+      tidies = λ post later m q seen. refl;
       advances = λ post q seen. refl;
       clears_kept = λ post let_go n q seen. refl;
       releases = λ post let_go ibr none q seen. refl;

@@ -22,16 +22,17 @@ use Rattle.inv_covers.specs.model.Calls.Work.{Changing, Dequeuing, Enqueuing, Ge
 use Rattle.inv_covers.specs.model.Desks.{Desk}
 use Rattle.inv_covers.specs.model.Guards.{guards, guards_by}
 use Rattle.inv_covers.specs.model.Locals.{Local}
-use Rattle.inv_covers.specs.model.Phases.{Aim, AllocateAt, Base, BeginAt, MoveAt, ProtectAt, RetireAt, RowOf, Tries}
+use Rattle.inv_covers.specs.model.Phases.{Aim, AllocateAt, Base, BeginAt, HazardAt, MoveAt, ProtectAt, RetireAt, RowOf, Tries}
 use Rattle.inv_covers.specs.model.Phases.Aim.{Alone, Follows}
 use Rattle.inv_covers.specs.model.Phases.AllocateAt.{ClaimSlot, LoadBirth, StoreLife}
 use Rattle.inv_covers.specs.model.Phases.BeginAt.{LoadLower, PublishSpan}
 use Rattle.inv_covers.specs.model.Phases.MoveAt.{AnswerAsked, CheckEra, ExchangeClock, HandOver, HideEra, HideLate, LoadAsked, LoadEra, LoadRequest, LoadReserved, ShowEra}
-use Rattle.inv_covers.specs.model.Phases.ProtectAt.{AnswerOwn, CheckClock, CheckOwnClock, CheckUpper, LoadAnswer, LoadClock, LoadLink, LoadOwnClock, LoadOwnLink, LoadWithin, PublishEra, PublishHelper, PublishRequest, RaiseUpper, TakeAnswer, WithdrawHelper, WithdrawRequest}
+use Rattle.inv_covers.specs.model.Phases.ProtectAt.{AnswerOwn, ByHazard, CheckClock, CheckOwnClock, CheckUpper, LoadAnswer, LoadClock, LoadLink, LoadOwnClock, LoadOwnLink, LoadWithin, PublishEra, PublishHelper, PublishRequest, RaiseUpper, TakeAnswer, WithdrawHelper, WithdrawRequest}
+use Rattle.inv_covers.specs.model.Phases.HazardAt.{CheckLink, FirstLink, PublishLink}
 use Rattle.inv_covers.specs.model.Phases.RetireAt.{LoadLife, LoadRetire, StoreRetired}
 use Rattle.inv_covers.specs.model.Phases.RowOf.{MapRow, QueueRow}
 use Rattle.inv_covers.specs.model.Phases.Tries.{Endless, Failed}
-use Rattle.inv_covers.specs.model.Rest.{aim_left, allocate_left, base_left, base_seen, begin_left, change_left, closing_left, dequeue_left, enqueue_left, fill_left, filling_left, get_left, has_walked, is_told, keep_left, later_left, let_left, lost_by, move_left, phase_left, phase_seen, protect_left, protect_seen, rest, rest_of, retire_left, room_most, round_left, round_worth, rounds_left, rounds_most, scan_left, span_seen, task_left, tries_left, walks_after, walks_by, why_left, work_left}
+use Rattle.inv_covers.specs.model.Rest.{aim_left, gets_most, hazard_left, allocate_left, base_left, base_seen, begin_left, change_left, closing_left, dequeue_left, enqueue_left, fill_left, filling_left, get_left, has_walked, is_told, keep_left, later_left, let_left, lost_by, move_left, phase_left, phase_seen, protect_left, protect_seen, rest, rest_of, retire_left, room_most, round_left, round_worth, rounds_left, rounds_most, scan_left, span_seen, task_left, tries_left, walks_after, walks_by, why_left, work_left}
 use Rattle.inv_covers.specs.model.Rounds.{taken_of}
 use Rattle.inv_covers.specs.model.World.{step}
 use Rattle.inv_covers.specs.model.WriteRow.{last_written}
@@ -45,9 +46,10 @@ use Rattle.inv_steps_left.proofs.Rest.Machines.{seen_rises}
 use Rattle.inv_steps_left.specs.Falls.{RestIsSmall, RestStays}
 use Rattle.inv_covers.specs.words.declared.config.Config.{Config}
 use Rattle.inv_covers.specs.words.declared.config.SchemeKind.{SchemeKind}
-use Rattle.inv_covers.specs.words.declared.config.SchemeKind.TheVariants.{He, Ibr, Wfe}
+use Rattle.inv_covers.specs.words.declared.config.SchemeKind.TheVariants.{He, Hp, Ibr, Wfe}
 use Rattle.inv_covers.specs.words.declared.layout.Layout.{Layout}
 use Rattle.std.specs.Prelude.{List, length, Option, Some, None}
+use Rattle.inv_covers.specs.words.Schemes.{publishes_rows}
 
 -- the numbers of a setting
 pub record Few (c : Config) : Type 0 where
@@ -78,15 +80,20 @@ times_less a b w v h k = grind (arith, h, k)
 scheme_few : (scheme : SchemeKind) (c : Config) → Few c → guards_by scheme c ≤ 576
 scheme_few He c f = let h = times_less c.seats 64 c.indexes 8 f.seats f.indexes in omega (arith, h)
 scheme_few Ibr c f = let h = f.seats in omega (arith, h)
+scheme_few Hp c f = let h = times_less c.seats 64 c.indexes 8 f.seats f.indexes in omega (arith, h)
 scheme_few Wfe c f = let h = times_less c.seats 64 c.indexes 8 f.seats f.indexes in let k = f.seats in omega (arith, h, k)
 
 guards_few : (c : Config) → Few c → guards c ≤ 576
 guards_few c f = scheme_few c.scheme c f
 
+gets_few : (c : Config) (rows : Bool) → Few c → gets_most c rows + 1 ≤ 562949953421314
+gets_few c false f = omega arith
+gets_few c true f = let h = f.versions in omega (arith, h)
+
 rounds_few : (c : Config) (task : Task) → Few c → rounds_most c task + 1 ≤ 562949953421314
-rounds_few c (Gets key) f = omega arith
+rounds_few c (Gets key) f = gets_few c (publishes_rows c.scheme) f
 rounds_few c (Changes kept) f = let h = f.versions in omega (arith, h)
-rounds_few c (Holds key) f = omega arith
+rounds_few c (Holds key) f = gets_few c (publishes_rows c.scheme) f
 rounds_few c (Enqueues kept) f = let h = f.versions in omega (arith, h)
 rounds_few c Dequeues f = let h = f.versions in omega (arith, h)
 
@@ -125,6 +132,11 @@ turn_small : (c : Config) (first era link : ℕ) (last : Bool) → (protect_left
 turn_small c first era link false = (omega arith, omega arith, omega arith)
 turn_small c first era link true = (omega arith, omega arith, omega arith)
 
+hazard_small : (at : HazardAt) → hazard_left at ≤ 206
+hazard_small FirstLink = omega arith
+hazard_small (PublishLink link) = omega arith
+hazard_small (CheckLink link) = omega arith
+
 protect_small : (c : Config) (at : ProtectAt) → Few c → protect_left c at ≤ 206
 protect_small c (LoadClock tries) f = clock_small c tries f
 protect_small c (PublishEra era tries) f = let h = tries_small c tries 3 f in omega (arith, h)
@@ -143,6 +155,7 @@ protect_small c (WithdrawHelper link era) f = omega arith
 protect_small c LoadWithin f = omega arith
 protect_small c (CheckUpper link) f = omega arith
 protect_small c (RaiseUpper era) f = omega arith
+protect_small c (ByHazard at) f = hazard_small at
 
 aim_small : (aim : Aim) → aim_left aim ≤ 1
 aim_small Alone = omega arith
@@ -183,7 +196,7 @@ base_small : (layout : Layout) (base : Base) → Few layout.config → base_fits
 base_small layout (Begin at) f h b = let s = f.tries in let k = begin_small at in omega (arith, s, k)
 base_small layout (Protect aim index root steps at) f h b = let s = protect_small layout.config at f in let k = aim_small aim in omega (arith, s, k)
 base_small layout (Reload parent index slot era steps) f h b = omega arith
-base_small layout (Clear index) f h b = omega arith
+base_small layout (Clear rows index) f h b = omega arith
 base_small layout Finish f h b = omega arith
 base_small layout (Release index) f h b = omega arith
 base_small layout (Allocate at) f h b = allocate_small layout.config at f h
@@ -227,7 +240,7 @@ filling_small layout lives rounds task (Allocate at) f b l =
 filling_small layout lives rounds task (Begin at) f b l = let t = task_small layout.config lives task (rounds - 1) f l in omega (arith, b, t)
 filling_small layout lives rounds task (Protect aim index root steps at) f b l = let t = task_small layout.config lives task (rounds - 1) f l in omega (arith, b, t)
 filling_small layout lives rounds task (Reload parent index slot era steps) f b l = let t = task_small layout.config lives task (rounds - 1) f l in omega (arith, b, t)
-filling_small layout lives rounds task (Clear index) f b l = let t = task_small layout.config lives task (rounds - 1) f l in omega (arith, b, t)
+filling_small layout lives rounds task (Clear rows index) f b l = let t = task_small layout.config lives task (rounds - 1) f l in omega (arith, b, t)
 filling_small layout lives rounds task Finish f b l = let t = task_small layout.config lives task (rounds - 1) f l in omega (arith, b, t)
 filling_small layout lives rounds task (Release index) f b l = let t = task_small layout.config lives task (rounds - 1) f l in omega (arith, b, t)
 filling_small layout lives rounds task (Write slot row place) f b l = let t = task_small layout.config lives task (rounds - 1) f l in omega (arith, b, t)
@@ -336,6 +349,7 @@ protect_later (WithdrawHelper link era) old new h = h
 protect_later LoadWithin old new h = h
 protect_later (CheckUpper link) old new h = h
 protect_later (RaiseUpper era) old new h = omega arith
+protect_later (ByHazard at) old new h = h
 
 base_later : (base : Base) (old new : ℕ) → old ≤ new → base_seen base old ≤ base_seen base new
 base_later (Begin LoadLower) old new h = h

@@ -24,7 +24,7 @@ use Rattle.inv_covers.specs.model.Calls.Work.{Changing, Dequeuing, Enqueuing, Ge
 use Rattle.inv_covers.specs.model.Dequeue.{taken}
 use Rattle.inv_covers.specs.model.Desks.{Desk}
 use Rattle.inv_covers.specs.model.Locals.{rounds_told}
-use Rattle.inv_covers.specs.model.Posts.{cleared, reserves_index, stands, withdrawn}
+use Rattle.inv_covers.specs.model.Posts.{cleared, stands, withdrawn, publishes_index}
 use Rattle.inv_covers.specs.model.Rest.{base_left, change_left, closing_left, dequeue_left, enqueue_left, get_left, keep_left, protect_most, room_most, rounds_most, task_left, work_left}
 use Rattle.inv_covers.specs.model.Rounds.{bucket_of, let_index, scheme_of}
 use Rattle.inv_covers.specs.model.declared.post.Post.{Post}
@@ -35,11 +35,11 @@ use Rattle.inv_covers.specs.shapes.Slots.{ChangeAtIn, GetIn, KeepIn, WorkIn}
 use Rattle.inv_steps_left.proofs.Rest.Closings.{cleared_rounds, clearing_left, clearing_next_left, turn_left}
 use Rattle.inv_steps_left.proofs.Rest.Opens.{deciding_left, enqueue_fills}
 use Rattle.inv_steps_left.proofs.Rest.Ways.{lost_left, released_left}
-use Rattle.inv_steps_left.specs.Losses.{InRound, work_fit}
-use Rattle.inv_covers.specs.words.Schemes.{has_one_interval}
+use Rattle.inv_steps_left.specs.Losses.{InRound, work_fit, rounds_in}
+use Rattle.inv_covers.specs.words.Schemes.{has_one_interval, publishes_rows}
 use Rattle.inv_covers.specs.words.declared.config.Config.{Config}
 use Rattle.inv_covers.specs.words.declared.config.SchemeKind.{SchemeKind}
-use Rattle.inv_covers.specs.words.declared.config.SchemeKind.TheVariants.{He, Ibr, Wfe}
+use Rattle.inv_covers.specs.words.declared.config.SchemeKind.TheVariants.{He, Ibr, Wfe, Hp}
 use Rattle.inv_covers.specs.words.declared.layout.Layout.{Layout}
 use Rattle.std.specs.Prelude.{List, ◌++◌, length, Option, Some, None, nat_lt, ◌==◌}
 use Rattle.inv_covers.proofs.model.Facts.{if_by}
@@ -94,7 +94,7 @@ done_left c lives rounds version link task =
 exchanged_falls : (c : Config) (rounds : ℕ) (kept : ChangeKept) (slot : ℕ) (post : Post) (desk : Desk) (same : Bool) → InRound (rounds_most c (Changes kept)) rounds → turn_left c rounds (alters.exchanged kept slot post desk same) + 1 ≤ 4 + task_left c (length desk.list) (Changes kept) (rounds - 1)
 exchanged_falls c rounds kept slot post desk true i =
     let h = clearing_left c rounds (Changes (record kept { taken = None })) (alters.answer_done (kept.version + 1) kept.link) post desk (alters.told_linked kept slot post) in
-    let k = done_left c (length desk.list) (rounds_told rounds (alters.told_linked kept slot post)) (kept.version + 1) kept.link (Changes (record kept { taken = None })) in
+    let k = done_left c (length desk.list) (rounds_in c rounds (alters.told_linked kept slot post)) (kept.version + 1) kept.link (Changes (record kept { taken = None })) in
     omega (arith, h, k)
 exchanged_falls c rounds kept slot post desk false i =
     let h = clearing_left c rounds (Changes kept) Again post desk [] in let a = lost_left c rounds (Changes kept) post desk [] i refl in omega (arith, h, a)
@@ -110,9 +110,9 @@ change_falls c layout rounds kept (ExchangeRoot slot) post desk found t i g p = 
 
 -- an enqueue
 
-pub link_told : (rounds : ℕ) (root : Root) (slot : ℕ) (same : Bool) → rounds_told rounds (enqueues.told_link root slot same) ≡ rounds
-link_told rounds root slot true = refl
-link_told rounds root slot false = refl
+pub link_told : (rows : Bool) (rounds : ℕ) (root : Root) (slot : ℕ) (same : Bool) → rounds_told rows rounds (enqueues.told_link root slot same) ≡ rounds
+link_told rows rounds root slot true = refl
+link_told rows rounds root slot false = refl
 
 appending_left : (c : Config) (rounds : ℕ) (kept : EnqueueKept) (post : Post) (desk : Desk) (spent : Bool) → turn_left c rounds (enqueues.appending kept post desk spent) ≤ 8 + task_left c (length desk.list) (Enqueues kept) (rounds - 1)
 appending_left c rounds kept post desk true = let h = clearing_left c rounds (Enqueues kept) (Answering (answers.Spent kept.number)) post desk [] in omega (arith, h)
@@ -134,7 +134,7 @@ enqueue_falls c rounds kept LoadNext post desk found i = let h = at_next_left c 
 enqueue_falls c rounds kept (PassTail next) post desk found i =
     let told : List Event = enqueues.told_link roots.Tail (next - 1) (found == kept.tail + 1) in
     let h = clearing_left c rounds (Enqueues kept) Again post desk told in
-    let a = lost_left c rounds (Enqueues kept) post desk told i (link_told rounds roots.Tail (next - 1) (found == kept.tail + 1)) in omega (arith, h, a)
+    let a = lost_left c rounds (Enqueues kept) post desk told i (link_told (publishes_rows c.scheme) rounds roots.Tail (next - 1) (found == kept.tail + 1)) in omega (arith, h, a)
 enqueue_falls c rounds kept (ExchangeNext slot) post desk found i = appended_left c rounds kept slot post desk (found == 0) i
 enqueue_falls c rounds kept (ExchangeTail slot) post desk found i = let h = clearing_left c rounds (Enqueues kept) (Answering (answers.Queued (kept.number + 1))) post desk (enqueues.told_link roots.Tail slot (found == kept.tail + 1)) in omega (arith, h)
 
@@ -144,6 +144,7 @@ follows_most : (c : Config) (scheme : SchemeKind) (parent : ℕ) → base_left c
 follows_most c He parent = omega arith
 follows_most c Ibr parent = omega arith
 follows_most c Wfe parent = omega arith
+follows_most c Hp parent = omega arith
 
 taken_left : (c : Config) (rounds head next number value : ℕ) (post : Post) (desk : Desk) (same : Bool) → InRound (rounds_most c Dequeues) rounds → turn_left c rounds (dequeues.taken head next number value post desk same) + 1 ≤ 4 + task_left c (length desk.list) Dequeues (rounds - 1)
 taken_left c rounds head next number value post desk true i =
@@ -156,7 +157,7 @@ dequeue_falls c rounds (LoadTail head) post desk found i = let h = follows_most 
 dequeue_falls c rounds (SwingTail head next) post desk found i =
     let told : List Event = enqueues.told_link roots.Tail next (found == head + 1) in
     let h = clearing_next_left c rounds Again post desk told in
-    let a = lost_left c rounds Dequeues post desk told i (link_told rounds roots.Tail next (found == head + 1)) in omega (arith, h, a)
+    let a = lost_left c rounds Dequeues post desk told i (link_told (publishes_rows c.scheme) rounds roots.Tail next (found == head + 1)) in omega (arith, h, a)
 dequeue_falls c rounds (TakeNumber head next) post desk found i = omega arith
 dequeue_falls c rounds (TakeValue head next number) post desk found i = omega arith
 dequeue_falls c rounds (ExchangeHead head next number value) post desk found i = taken_left c rounds head next number value post desk (found == head + 1) i
@@ -201,10 +202,10 @@ keep_falls : (c : Config) (layout : Layout) (rounds : ℕ) (at : KeepAt) (post :
 keep_falls c layout rounds (Loosens let_go) post desk found t q i g p =
     let told : List Event = cleared (let_index let_go) (stands post (let_index let_go)) in
     let k : let_index let_go < c.indexes = subst (λ (d : Config). let_index let_go < d.indexes) t g.below in
-    let h = released_left c rounds (length desk.list) let_go (withdrawn post (let_index let_go)) desk told (omega (arith, q, k)) refl (cleared_rounds rounds (let_index let_go) (stands post (let_index let_go)) ∙ i) in
+    let h = released_left c rounds (length desk.list) let_go (withdrawn post (let_index let_go)) desk told (omega (arith, q, k)) refl (cleared_rounds (publishes_rows c.scheme) rounds (let_index let_go) (stands post (let_index let_go)) ∙ i) in
     omega (arith, h)
 keep_falls c layout rounds (LoadHeld from index) post desk found t q i g p = let h = held_left c rounds from index post desk found (has_one_interval (scheme_of post)) in omega (arith, h)
-keep_falls c layout rounds (StoreHeld from index era) post desk found t q i g p = let h = copied_left c rounds from index post desk (reserves_index post index era) (stands post from) in omega (arith, h)
+keep_falls c layout rounds (StoreHeld from index era) post desk found t q i g p = let h = copied_left c rounds from index post desk (publishes_index (publishes_rows (scheme_of post)) post index era) (stands post from) in omega (arith, h)
 keep_falls c layout rounds (Looks index key at) post desk found t q i g p = look_falls c layout rounds index key at post desk found t g.1 p
 keep_falls c layout rounds (Misses index) post desk found t q i g p = omega arith
 keep_falls c layout rounds HideSpan post desk found t q i g p = omega arith
