@@ -1,20 +1,22 @@
 -- What a hold tells as held was linked at the root of its key's bucket, and shows a version of that bucket.
 use Rattle.std.proofs.Common.{ℕ, ◌≡◌, ◌<◌, ◌+◌, ◌-◌, Bool, true, false, List, [], ◌∷◌, ◌++◌, Option, Some, None, refl, sym, ap, ◌∙◌, subst, arith}
 use Rattle.std.proofs.lemmas.Bool.Decides.{nat_tests}
-use Rattle.std.specs.Prelude.{◌==◌, drop, if◌then◌else◌, not}
+use Rattle.std.specs.Prelude.{◌&&◌, ◌==◌, ◌||◌, drop, if◌then◌else◌, not}
 use Rattle.law_steps.proofs.inv.model.Facts.{both, first_of, rest_of, same_number}
 use Rattle.law_steps.specs.inv.model.Calls.{Gets, Changes, Holds, Enqueues, Dequeues, Why, Opens, FollowsHead, Keeping, Loosens, LoadHeld, StoreHeld, Looks, Misses, HideSpan, MarkLeft, TakeList, MarkTaken, Getting, Changing, Enqueuing, Dequeuing, ReadGuard, GiveBack, Work, Phase, Idle, Runs, Scans, Works, CallTurn, CallOutcome, GoesOn, Answers}
+use Rattle.law_steps.specs.inv.model.Guards.{guard_at}
 use Rattle.law_steps.specs.inv.model.Locals.{told_end, turn}
 use Rattle.law_steps.specs.inv.model.Machine as machine
 use Rattle.law_steps.specs.inv.model.Memory.{bump}
 use Rattle.law_steps.specs.inv.model.Phases.{Aim, ProtectAt, Base, Turn}
 use Rattle.law_steps.specs.inv.model.Phases.Base.{Protect, Reload}
-use Rattle.law_steps.specs.inv.model.Phases.ProtectAt.{CheckClock, TakeAnswer, CheckUpper}
+use Rattle.law_steps.specs.inv.model.Phases.HazardAt.{CheckLink, FirstLink, PublishLink}
+use Rattle.law_steps.specs.inv.model.Phases.ProtectAt.{ByHazard, CheckClock, TakeAnswer, CheckUpper}
 use Rattle.law_steps.specs.inv.model.Rounds.{let_index, scheme_of}
-use Rattle.law_steps.specs.inv.model.words.Schemes.{has_one_interval}
+use Rattle.law_steps.specs.inv.model.words.Schemes.{has_one_interval, publishes_rows}
 use Rattle.law_steps.specs.inv.model.defs.declared.fold.Change.TheVariants as changes
 use Rattle.law_steps.specs.inv.model.defs.declared.fold.Change.{Change}
-use Rattle.law_steps.specs.inv.model.Posts.{cleared, cleared_from, counted, reserves_index, reserves_span, stands, upper}
+use Rattle.law_steps.specs.inv.model.Posts.{cleared, cleared_from, counted, publishes_index, reserves_span, stands, upper}
 use Rattle.law_steps.specs.inv.model.Protect as protects
 use Rattle.law_steps.specs.inv.model.World.{World, finds, offered, told_in}
 use Rattle.law_steps.specs.inv.model.declared.post.Post.{Post}
@@ -39,6 +41,7 @@ use Rattle.law_steps.proofs.inv.history.MayTell as mays
 use Rattle.law_steps.proofs.inv.history.MayTell.{concluded_told, is_find, no_find, clear_any}
 use Rattle.law_steps.proofs.inv.history.Passes.{Closed, First, is_quiet, step_goes, work_told, copied_told}
 use Rattle.law_eras.proofs.reuse.AnswersTold.Owed.{Serves, WhyServes, call_for}
+use Rattle.law_eras.proofs.reuse.ReadGuards.{reads_are}
 use Rattle.law_held.proofs.scans.Placing.Marks.{InOrder, is_common, ordered, step_order}
 use Rattle.law_reasons.proofs.Reasons.Shows.{Shows}
 use Rattle.law_logs.specs.Shown.{shows_bucket, shows_for, shows_ok}
@@ -115,6 +118,17 @@ tried_of K aim index root n link era post t true e h =
     subst (AllOf K) (sym (concluded_told aim index root n link era (protects.held_post post index root link) (protects.told_held index root link n))) (held_of K index root link n (h refl))
 tried_of K aim index root n link era post t false e h = subst (AllOf K) (sym e) tt
 
+no_row : (link s : ℕ) → (link == 0) ≡ true → link ≡ s + 1 → ⊥
+no_row link s e l = grind (arith, nat_tests)
+
+-- a link that was loaded again is the one that was published, where it leads to a row
+found_again : (found link s : ℕ) → (found == link || found == 0) ≡ true → found ≡ s + 1 → (found == link && link == s + 1) ≡ true
+found_again found link s e l = by (found == link) refl e
+  where
+    by : (same : Bool) → (found == link) ≡ same → (same || found == 0) ≡ true → (found == link && link == s + 1) ≡ true
+    by true q h = both (found == link) (link == s + 1) q (grind (arith, nat_tests))
+    by false q h = absurd (no_row found s h l)
+
 protect_of : (K : ℕ → Type 0) (aim : Aim) (index : ℕ) (root : Root) (made : ℕ) (at : ProtectAt) (post : Post) (found : ℕ) → ((s : ℕ) → rises_at post at found s ≡ true → K s)
     → AllOf K (machine.after (Protect aim index root made at) post found).told
 protect_of K aim index root made (CheckClock era tries link) post found h =
@@ -122,6 +136,10 @@ protect_of K aim index root made (CheckClock era tries link) post found h =
 protect_of K aim index root made (TakeAnswer link era) post found h = (tt, held_of K index root link (bump made) (λ s l. h s (same_link link s l)))
 protect_of K aim index root made (CheckUpper link) post found h =
     tried_of K aim index root (bump made) link found post _ (found == upper post.span) refl (λ e s l. h s (both (found == upper post.span) (link == s + 1) e (same_link link s l)))
+protect_of K aim index root made (ByHazard FirstLink) post found h = tried_of K aim index root (bump made) found 0 post _ (found == 0) refl (λ e s l. absurd (no_row found s e l))
+protect_of K aim index root made (ByHazard (PublishLink link)) post found h = (tt, tt)
+protect_of K aim index root made (ByHazard (CheckLink link)) post found h =
+    tried_of K aim index root (bump made) found 0 post _ (found == link || found == 0) refl (λ e s l. h s (found_again found link s e l))
 protect_of K aim index root made at post found h = all_other K (machine.after (Protect aim index root made at) post found).told (no_find (Protect aim index root made at) post found refl)
 
 -- what a call that is not a hold tells as held may be any
@@ -242,6 +260,10 @@ load_of : (K : ℕ → Type 0) (from index : ℕ) (post : Post) (one : Bool) →
 load_of K from index post true = copied_of K from index post [] (stands post from) tt
 load_of K from index post false = tt
 
+published_of : (K : ℕ → Type 0) (rows : Bool) (post : Post) (index number : ℕ) → AllOf K (publishes_index rows post index number)
+published_of K false post index number = (tt, tt)
+published_of K true post index number = (tt, tt)
+
 work_of : (K : ℕ → Type 0) (work : Work) (post : Post) → AllOf K (work_told work post)
 work_of K (Getting key at) post = tt
 work_of K (Changing kept at) post = tt
@@ -249,7 +271,7 @@ work_of K (Enqueuing kept at) post = tt
 work_of K (Dequeuing at) post = tt
 work_of K (Keeping (Loosens let_go)) post = cleared_of K (let_index let_go) (stands post (let_index let_go))
 work_of K (Keeping (LoadHeld from index)) post = load_of K from index post (has_one_interval (scheme_of post))
-work_of K (Keeping (StoreHeld from index era)) post = copied_of K from index post (reserves_index post index era) (stands post from) (tt, tt)
+work_of K (Keeping (StoreHeld from index era)) post = copied_of K from index post (publishes_index (publishes_rows (scheme_of post)) post index era) (stands post from) (published_of K (publishes_rows (scheme_of post)) post index era)
 work_of K (Keeping (Looks index key at)) post = tt
 work_of K (Keeping (Misses index)) post = tt
 work_of K (Keeping HideSpan) post = all_along K (cleared_from 2 (drop 2 post.standing)) (reserves_span post None) (cleared_from_of K 2 (drop 2 post.standing)) (tt, tt)
@@ -298,7 +320,10 @@ by_phase : (w : World) (i : ℕ) (p : Past) (phase : Phase) → i < w.layout.con
     → Each (shows_ok w.layout.config.buckets) p → Each (shows_ok w.layout.config.buckets) (tells_of p i (told_in w i))
 by_phase w i p Idle b a e began y shows g = none_step w i w.layout.config.buckets p (subst (λ (x : Phase). First (λ post told. AllOf (λ s. ⊥) told) x (counted (w.seat i).post) (finds w i)) (sym e) tt) g
 by_phase w i p (Runs why base) b a e began y shows g = run_step w i p why base b a e began y shows g
-by_phase w i p (Scans later (ReadGuard number)) b a e began y shows g = none_step w i w.layout.config.buckets p (subst (λ (x : Phase). First (λ post told. AllOf (λ s. ⊥) told) x (counted (w.seat i).post) (finds w i)) (sym e) (tt, tt)) g
+by_phase w i p (Scans later (ReadGuard number)) b a e began y shows g =
+    let post : Post = counted (w.seat i).post in
+    none_step w i w.layout.config.buckets p (subst (λ (x : Phase). First (λ post told. AllOf (λ s. ⊥) told) x (counted (w.seat i).post) (finds w i)) (sym e)
+    (reads_are (λ (event : Event). AllOf (λ s. ⊥) (event ∷ [])) (publishes_rows post.layout.config.scheme) (guard_at post.layout.config number) (finds w i) (λ span. (tt, tt)) (λ slot. (tt, tt)))) g
 by_phase w i p (Scans later (GiveBack place slot)) b a e began y shows g = none_step w i w.layout.config.buckets p (subst (λ (x : Phase). First (λ post told. AllOf (λ s. ⊥) told) x (counted (w.seat i).post) (finds w i)) (sym e) (tt, tt)) g
 by_phase w i p (Works work) b a e began y shows g =
     none_step w i w.layout.config.buckets p (subst (λ (x : Phase). First (λ post told. AllOf (λ s. ⊥) told) x (counted (w.seat i).post) (finds w i)) (sym e) (work_of (λ s. ⊥) work (counted (w.seat i).post))) g

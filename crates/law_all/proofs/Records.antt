@@ -34,7 +34,7 @@ use Rattle.law_steps.specs.inv.history.Record.{Past, tells}
 use Rattle.law_steps.specs.inv.history.Record.Past.{Then}
 use Rattle.law_logs.specs.Answered.{IsDone, IsGot, Says, SaysOfRows}
 use Rattle.law_logs.specs.Ledgers.{log_of, notes_of}
-use Rattle.law_logs.specs.Records.{CallsAnswer, ChangesAreRead, GetsAgree, HoldsSeeNothing, IsAnswered, IsEnded, LogsAnswer, LogsGrow, LogsMeet, LogsRise}
+use Rattle.law_logs.specs.Records.{IsAnswered, IsEnded}
 use Rattle.law_logs.proofs.Begins.{Began, began_at}
 use Rattle.law_logs.specs.Versions.{AtMost, Counts, counts_of, met_in, seen_in}
 use Rattle.law_logs.proofs.Along.{first_answers, lawful_tells, met_rises}
@@ -45,6 +45,7 @@ use Rattle.law_logs.proofs.Grows.{Grows, grows_along, grows_entry, grows_tells, 
 use Rattle.law_logs.proofs.Knows.{Answers, Knows, Lawful, answers_of, end_log, end_rises, knows, lawful_before}
 use Rattle.law_logs.proofs.Ledgers.{records_keep_logs}
 use Rattle.law_logs.proofs.Meets.{Rises}
+use Rattle.law_all.specs.Answers.{CallsAnswer, ChangesAreRead, GetsAgree, HoldsSeeNothing, LogsAnswer, LogsGrow, LogsMeet, LogsRise}
 
 -- the laws that the record of each history keeps
 pub lawful : (layout : Layout) (items : List Item) → is_valid layout ≡ true → Lawful layout.config (record_of layout items)

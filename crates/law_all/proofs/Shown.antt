@@ -6,6 +6,8 @@ use Rattle.law_steps.specs.inv.model.Calls.{CallTurn, CallOutcome, GoesOn, Answe
 use Rattle.law_steps.specs.inv.model.Desks.{Desk, noting}
 use Rattle.law_steps.specs.inv.model.Locals.{Local, begun, begun_post, rounds_told, settled_by, told_by, told_end, turn}
 use Rattle.law_steps.specs.inv.model.Posts.{counted, stands}
+use Rattle.law_steps.specs.inv.model.Rounds.{scheme_of}
+use Rattle.law_steps.specs.inv.model.words.Schemes.{publishes_rows}
 use Rattle.law_steps.specs.inv.model.World.{World, begin, finds, is_busy, offered, step, told_in}
 use Rattle.law_steps.specs.inv.model.declared.post.Post.{Post}
 use Rattle.law_steps.specs.inv.model.defs.declared.call.Answer.TheVariants as the_answers
@@ -104,7 +106,7 @@ step_holds : (w : World) (i k : ℕ) (same : Bool) → (k == i) ≡ same → ((m
 step_holds w i k true e h =
     let t : CallTurn = turn (offered w i) (finds w i) in
     subst (λ (m : ℕ). HoldsAt ((step w i).seat m)) (sym (number_is k i e)) (subst HoldsAt (sym (seat_steps w i))
-    (settled_holds (offered w i) t.post (noting t.desk (told_by t)) (rounds_told (w.seat i).rounds (told_by t)) t.outcome
+    (settled_holds (offered w i) t.post (noting t.desk (told_by t)) (rounds_told (publishes_rows (scheme_of t.post)) (w.seat i).rounds (told_by t)) t.outcome
     (λ c. hold_goes (w.seat i).phase (counted (w.seat i).post) (offered w i).desk (finds w i) (h i c))))
 step_holds w i k false e h = subst HoldsAt (sym (seat_stays w i k e)) (h k)
 

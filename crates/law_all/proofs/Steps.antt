@@ -35,9 +35,10 @@ use Rattle.law_steps.specs.inv.history.History.{record_of}
 use Rattle.law_steps.specs.inv.history.Record.{EachEntry, Past}
 use Rattle.law_steps.specs.inv.history.Record.Past.{Start, Then}
 use Rattle.law_logs.specs.Ledgers.{Ledger, ledger_by, ledger_of, notes_of}
-use Rattle.law_logs.specs.Records.{IsEnded, LogsTakeFewSteps, ScansTellBacks}
+use Rattle.law_logs.specs.Records.{IsEnded}
 use Rattle.law_logs.proofs.Cuts.{logs_are_cut}
 use Rattle.law_logs.proofs.Ledgers.{records_keep_logs}
+use Rattle.law_all.specs.Answers.{LogsTakeFewSteps, ScansTellBacks}
 
 -- as many rows went back as the notes tell
 back_by : (event : Event) (x : Ledger) → length (ledger_by event x).notes.back ≡ backs_by event (length x.notes.back)

@@ -5,7 +5,7 @@ use Rattle.std.specs.Prelude.{◌==◌, ◌&&◌, ◌||◌, is_some, nat_lt, if�
 use Rattle.law_eras.specs.laws.words.Schemes.{is_he, is_wfe}
 use Rattle.law_eras.specs.laws.words.declared.config.Config.{Config}
 use Rattle.law_eras.specs.laws.words.declared.config.SchemeKind.{SchemeKind}
-use Rattle.law_eras.specs.laws.words.declared.config.SchemeKind.TheVariants.{He, Ibr, Wfe}
+use Rattle.law_eras.specs.laws.words.declared.config.SchemeKind.TheVariants.{He, Hp, Ibr, Wfe}
 use Rattle.law_eras.specs.laws.defs.Entry.{Entry}
 use Rattle.law_eras.specs.laws.defs.declared.event.Event.{Event}
 use Rattle.law_eras.specs.laws.defs.declared.event.Event.TheVariants as events
@@ -64,6 +64,7 @@ grown He true x y e n h = absurd (cc)
 grown He false x y e n h = h
 grown Ibr high x y e n h = absurd (cc)
 grown Wfe high x y e n h = absurd (cc)
+grown Hp high x y e n h = absurd (cc)
 
 told_rises : (last span : Option Interval) (before : Bool) → era_grows last span ≡ true → before ≡ true → rises_on last span before ≡ true
 told_rises last None before h b = refl

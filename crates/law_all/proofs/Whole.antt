@@ -9,7 +9,9 @@ use Rattle.law_eras.proofs.reuse.Once.Keeps as once
 use Rattle.law_eras.proofs.reuse.Blocks.Counts as counts
 use Rattle.law_eras.proofs.reuse.Blocks.Keeps as scans
 use Rattle.law_eras.proofs.reuse.Blocks.Shown as reads
+use Rattle.law_eras.proofs.EraLaw.Advances as advances
 use Rattle.law_eras.proofs.EraLaw.Keeps as eras
+use Rattle.law_eras.proofs.EraLaw.Kinds as kinds
 use Rattle.law_eras.proofs.reuse.AnswersTold.Answering as answers
 use Rattle.law_held.proofs.scans.Placing.Keeps as placing
 use Rattle.law_held.proofs.scans.Ordering.Linked as nexts
@@ -20,6 +22,7 @@ use Rattle.law_eras.proofs.reuse.Turns.Counted as turns
 use Rattle.law_held.proofs.turns.Counting.Bounded as bounded
 use Rattle.law_held.proofs.turns.Counting.Counting as numbers
 use Rattle.law_held.proofs.turns.Handovers as handed
+use Rattle.law_held.proofs.turns.HazardCounts as hazards
 use Rattle.law_eras.proofs.reuse.OneStep.OneStep as one_step
 use Rattle.law_held.proofs.turns.TryCounts as tries
 use Rattle.law_eras.proofs.ClockTimes.Timely as times
@@ -104,12 +107,14 @@ kept layout items valid =
         eras = record {
           numbers = eras.records_keep_eras layout items valid;
           moves = plain.records_move_plainly layout items valid;
+          advances = advances.records_advance layout items valid;
           births_current = current.records_give_current layout items valid;
           births = births.records_keep_births layout items valid;
           retires_current = current.records_retire_current layout items valid;
           reserves_current = current.records_reserve_current layout items valid;
           spans_rise = rising.records_raise_spans layout items valid;
           guards = eras.records_keep_guards layout items valid;
+          kinds = kinds.records_keep_kinds layout items valid;
         };
         holds = record {
           throughout = throughout.records_hold_throughout layout items valid;
@@ -134,6 +139,7 @@ kept layout items valid =
           eras_rise = rising.records_raise_eras layout items valid;
           tries = tries.tries_count layout items valid;
           raises = raised.records_keep_raises layout items valid;
+          hazards = hazards.hazards_count layout items valid;
           calls = call_counts.records_keep_ends layout items valid;
           tries_rise = tried.records_raise_tries layout items valid;
           asks = asked.records_ask_late layout items valid;
@@ -162,6 +168,7 @@ histories_are_lawful layout items valid =
         in_calls = open_calls.records_open_calls layout items valid;
         one_step = one_step.turns_tell_one layout items valid;
         numbers = numbers.protections_count layout items valid;
+        loads = numbers.loads_count layout items valid;
         handed = handed.handovers_meet layout items valid;
         ends = λ i. finishes.calls_finish layout items i valid;
       };

@@ -16,8 +16,10 @@ use Rattle.law_logs.specs.inv.model.defs.declared.event.Event.TheVariants as eve
 use Rattle.law_logs.specs.inv.model.defs.declared.fold.Change.{Change}
 use Rattle.law_logs.specs.inv.model.defs.declared.fold.Change.TheVariants as changes
 use Rattle.law_logs.specs.inv.model.defs.declared.lifetime.Lifetime.{Lifetime}
+use Rattle.law_logs.specs.inv.model.words.Schemes.{moves as moves_clock}
 use Rattle.law_logs.specs.inv.model.words.declared.config.Config.{Config}
 use Rattle.law_logs.specs.laws.AnswerLaw.{is_advance, owes, retires_for, suits}
+pub use Rattle.law_logs.specs.laws.AnswerLaw.{is_still}
 use Rattle.law_logs.specs.laws.StateAt.{Filling, bucket_of, is_among, numbered_from, one, without_one}
 use Rattle.law_all.specs.Kept.{Keeping, kept_in, looked_in}
 use Rattle.law_logs.specs.Versions.{number_queued, number_taken, seen_in, version_told}
@@ -137,13 +139,11 @@ retired_in group = one (is_some group.notes.retired)
 abbrev pub retired_by : List Group → ℕ
 retired_by log = sum_by retired_in log
 
--- the clock has to be moved: by an advance, and by a call with whose retirement its seat has retired a multiple of `every` rows
-abbrev pub is_due : (every : ℕ) → (before : List Group) → Group → Bool
-is_due every before group = if is_advance group.call then true else is_some group.notes.retired && (retired_by before + 1) % every == 0
-
-abbrev pub is_still : ClockMove → Bool
-is_still moves.Still = true
-is_still move = false
+-- the clock has to be moved: by an advance; and where retirements move it, by a call with whose retirement its seat has retired a multiple
+-- of `every` rows
+abbrev pub is_due : (by_retires : Bool) → (every : ℕ) → (before : List Group) → Group → Bool
+is_due by_retires every before group =
+    if is_advance group.call then true else by_retires && (is_some group.notes.retired && (retired_by before + 1) % every == 0)
 
 -- what an answer says of the clock
 abbrev pub clock_told : Answer → Option ClockMove
@@ -176,7 +176,10 @@ pub record IsRight (c : Config) (before : List Group) (group : Group) : Type 0 w
   -- it retired as many rows as the answer says
   pub retires : retired_in group ≡ retires_for group.answer
   -- the clock stood still exactly where it had not to be moved
-  pub clock : (move : ClockMove) → clock_told group.answer ≡ Some move → is_still move ≡ (if is_due c.every before group then false else true)
+  pub clock :
+      (move : ClockMove)
+      → clock_told group.answer ≡ Some move
+      → is_still move ≡ (if is_due (moves_clock c.scheme) c.every before group then false else true)
   -- a scan counts what went back
   pub back : (kept back : ℕ) → group.answer ≡ answers.Scanned kept back → back ≡ length group.notes.back
   -- such a call is given no row, and none goes back in it

@@ -2,9 +2,9 @@
 //! all seats, and the table that they leave, say together. Each function here does nothing, and carries a theorem.
 #![tactic(auto)]
 
+ghost use Rattle.law_all.specs.Answers.{CallsAnswer, ChangesAreRead, GetsAgree, HoldsSeeNothing, LogsAnswer, LogsGrow, LogsMeet, LogsRise, LogsTakeFewSteps, ScansTellBacks};
 ghost use Rattle.law_all.specs.Runs.{RunsAddUp, RunsAgree, RunsAreLawful, RunsKeep, RunsList, RunsTick};
 ghost use Rattle.law_all.specs.Whole.{HistoriesLawful};
-ghost use Rattle.law_logs.specs.Records.{CallsAnswer, ChangesAreRead, GetsAgree, HoldsSeeNothing, LogsAnswer, LogsGrow, LogsMeet, LogsRise, LogsTakeFewSteps, ScansTellBacks};
 ghost use Rattle.law_steps.specs.Records.{RecordsCountTries, RecordsRaiseEras, RecordsRaiseSpans, RecordsRaiseTries};
 
 /// Each history of a table with a valid setting is lawful, whatever calls begin and whichever seats
@@ -132,7 +132,7 @@ pub fn scans_tell_backs()
 {}
 
 /// Each call in a seat's log, whatever the other seats did meanwhile: a release and a drop take one
-/// step; a copy that is made two under Hazard Eras and Wait-Free Eras, and any other one; a look that
+/// step; a copy that is made two where index words publish, and any other one; a look that
 /// finds nothing one, and any other three at most and one for each pair that a bucket may have; a
 /// call that only scans one for each guard and one for each row that its notes say went back; an
 /// advance `7 * seats + 3` at most under Wait-Free Eras, and else two at most. Under Wait-Free Eras a

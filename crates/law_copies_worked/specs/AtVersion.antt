@@ -12,7 +12,7 @@ use Rattle.wfe_core.specs.defs.declared.event.Root.TheVariants as roots
 use Rattle.wfe_core.specs.Guards.{from_to}
 use Rattle.model_history.specs.History.{Item}
 use Rattle.model_history.specs.Among.{call, said, to_end}
-use Rattle.law_worked.specs.Judges.Law.{Calls, Clears, Indexes, Copies, Reuse, Free, Placing, Order, Nexts, Retiring, Backs, Lists, Blocks, Reads, Due, Room, Eras, Moves, Births, Retires, Current, Single, Rising, Guards, Throughout, Sources, Finds, Gots, Links, Behind, Bare, Rests, Map, Values, Emptied, Steps, Withdrawals, Tries, Raises, Asks, CallSteps, Told, Reasons, Full, Lacks, Counted, Refusals, Clock, Repeats, Alone, Named, Ranges}
+use Rattle.law_worked.specs.Judges.Law.{Calls, Clears, Indexes, Copies, Reuse, Free, Placing, Order, Nexts, Retiring, Backs, Lists, Blocks, Reads, Due, Room, Eras, Moves, Advances, Births, Retires, Current, Single, Rising, Guards, Kinds, Throughout, Sources, Finds, Gots, Links, Behind, Bare, Rests, Map, Values, Emptied, Steps, Withdrawals, Tries, Raises, Hazards, Asks, CallSteps, Told, Reasons, Full, Lacks, Counted, Refusals, Clock, Repeats, Alone, Named, Ranges}
 use Rattle.law_worked.specs.Refusals.{IsWorked, Row, row}
 use Rattle.law_copies_worked.specs.Settings.{table}
 
@@ -71,12 +71,14 @@ at_version_table =
     ∷ row Room [] [] [] [] []
     ∷ row Eras [] [] [] [] []
     ∷ row Moves [] [] [] [] []
+    ∷ row Advances [] [] [] [] []
     ∷ row Births [] [] [] [] []
     ∷ row Retires (19 ∷ []) [] [] (19 ∷ 23 ∷ []) []
     ∷ row Current [] [] [] (1 ∷ 9 ∷ 15 ∷ []) []
     ∷ row Single [] [] [] [] []
     ∷ row Rising [] [] [] [] []
     ∷ row Guards [] [] [] [] []
+    ∷ row Kinds [] [] [] [] []
     ∷ row Throughout (3 ∷ 9 ∷ 11 ∷ 15 ∷ 21 ∷ []) [] (9 ∷ 10 ∷ 11 ∷ 15 ∷ 21 ∷ []) (2 ∷ 3 ∷ 10 ∷ 11 ∷ 16 ∷ 21 ∷ []) []
     ∷ row Sources (0 ∷ 4 ∷ []) [] [] (2 ∷ 4 ∷ 10 ∷ 16 ∷ []) []
     ∷ row Finds (2 ∷ 10 ∷ 16 ∷ []) [] (7 ∷ 13 ∷ []) [] []
@@ -92,6 +94,7 @@ at_version_table =
     ∷ row Withdrawals [] [] [] [] []
     ∷ row Tries (1 ∷ 6 ∷ 9 ∷ 12 ∷ 15 ∷ []) (1 ∷ 9 ∷ 15 ∷ []) (1 ∷ 9 ∷ 15 ∷ []) (6 ∷ 12 ∷ []) (2 ∷ 10 ∷ 16 ∷ [])
     ∷ row Raises [] [] [] [] []
+    ∷ row Hazards [] [] [] [] []
     ∷ row Asks [] [] [] [] []
     ∷ row CallSteps [] [] [] [] []
     ∷ row Told (0 ∷ 5 ∷ 14 ∷ 20 ∷ []) (5 ∷ 20 ∷ []) (7 ∷ []) (5 ∷ 20 ∷ []) []

@@ -13,7 +13,7 @@ use Rattle.wfe_core.specs.defs.declared.event.Root.TheVariants as roots
 use Rattle.wfe_core.specs.Guards.{from_to}
 use Rattle.model_history.specs.History.{Item}
 use Rattle.model_history.specs.Among.{call, said, to_end}
-use Rattle.law_worked.specs.Judges.Law.{Calls, Clears, Indexes, Copies, Reuse, Free, Placing, Order, Nexts, Retiring, Backs, Lists, Blocks, Reads, Due, Room, Eras, Moves, Births, Retires, Current, Single, Rising, Guards, Throughout, Sources, Finds, Gots, Links, Behind, Bare, Rests, Map, Values, Emptied, Steps, Withdrawals, Tries, Raises, Asks, CallSteps, Told, Reasons, Full, Lacks, Counted, Refusals, Clock, Repeats, Alone, Named, Ranges}
+use Rattle.law_worked.specs.Judges.Law.{Calls, Clears, Indexes, Copies, Reuse, Free, Placing, Order, Nexts, Retiring, Backs, Lists, Blocks, Reads, Due, Room, Eras, Moves, Advances, Births, Retires, Current, Single, Rising, Guards, Kinds, Throughout, Sources, Finds, Gots, Links, Behind, Bare, Rests, Map, Values, Emptied, Steps, Withdrawals, Tries, Raises, Hazards, Asks, CallSteps, Told, Reasons, Full, Lacks, Counted, Refusals, Clock, Repeats, Alone, Named, Ranges}
 use Rattle.law_worked.specs.Refusals.{IsWorked, Row, row}
 use Rattle.law_copies_worked.specs.Settings.{table}
 
@@ -97,12 +97,14 @@ copied_table =
     ∷ row Room (36 ∷ []) [] (36 ∷ []) [] []
     ∷ row Eras [] (13 ∷ []) [] (13 ∷ []) []
     ∷ row Moves (12 ∷ []) (13 ∷ []) [] (12 ∷ []) []
+    ∷ row Advances [] [] [] [] []
     ∷ row Births (13 ∷ []) (13 ∷ []) [] [] []
     ∷ row Retires (13 ∷ 28 ∷ []) (13 ∷ []) [] (28 ∷ 32 ∷ []) []
     ∷ row Current (9 ∷ 13 ∷ []) (13 ∷ []) [] (1 ∷ 9 ∷ 21 ∷ 24 ∷ 31 ∷ 48 ∷ []) []
     ∷ row Single [] [] [] [] []
     ∷ row Rising [] [] [] [] []
     ∷ row Guards [] [] [] [] []
+    ∷ row Kinds [] [] [] [] []
     ∷ row Throughout (3 ∷ 9 ∷ 16 ∷ 20 ∷ 24 ∷ 30 ∷ 47 ∷ []) [] (9 ∷ 16 ∷ 20 ∷ 24 ∷ 30 ∷ 47 ∷ []) (2 ∷ 3 ∷ 10 ∷ 17 ∷ 20 ∷ 25 ∷ 30 ∷ 47 ∷ []) []
     ∷ row Sources (0 ∷ 4 ∷ 8 ∷ 23 ∷ []) [] [] (2 ∷ 4 ∷ 10 ∷ 25 ∷ []) []
     ∷ row Finds (2 ∷ 25 ∷ []) [] [] (8 ∷ []) []
@@ -118,6 +120,7 @@ copied_table =
     ∷ row Withdrawals [] [] [] [] []
     ∷ row Tries (1 ∷ 6 ∷ 9 ∷ 24 ∷ []) (1 ∷ 9 ∷ 24 ∷ []) (1 ∷ 9 ∷ 24 ∷ []) (6 ∷ []) (2 ∷ 10 ∷ 25 ∷ [])
     ∷ row Raises [] [] [] [] []
+    ∷ row Hazards [] [] [] [] []
     ∷ row Asks [] [] [] [] []
     ∷ row CallSteps (23 ∷ 34 ∷ []) [] (18 ∷ 34 ∷ []) (12 ∷ 36 ∷ []) (14 ∷ 18 ∷ 22 ∷ 35 ∷ 45 ∷ 49 ∷ [])
     ∷ row Told (0 ∷ 5 ∷ 8 ∷ 12 ∷ 15 ∷ 17 ∷ 19 ∷ 23 ∷ 29 ∷ 34 ∷ 36 ∷ 46 ∷ []) (5 ∷ 17 ∷ 29 ∷ []) (17 ∷ 18 ∷ 34 ∷ []) (0 ∷ 5 ∷ 8 ∷ 12 ∷ 15 ∷ 17 ∷ 18 ∷ 19 ∷ 22 ∷ 23 ∷ 29 ∷ 36 ∷ 49 ∷ []) []

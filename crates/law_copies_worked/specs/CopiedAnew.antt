@@ -12,7 +12,7 @@ use Rattle.wfe_core.specs.defs.declared.event.Root.TheVariants as roots
 use Rattle.wfe_core.specs.Guards.{from_to}
 use Rattle.model_history.specs.History.{Item}
 use Rattle.model_history.specs.Among.{call, said, to_end}
-use Rattle.law_worked.specs.Judges.Law.{Calls, Clears, Indexes, Copies, Reuse, Free, Placing, Order, Nexts, Retiring, Backs, Lists, Blocks, Reads, Due, Room, Eras, Moves, Births, Retires, Current, Single, Rising, Guards, Throughout, Sources, Finds, Gots, Links, Behind, Bare, Rests, Map, Values, Emptied, Steps, Withdrawals, Tries, Raises, Asks, CallSteps, Told, Reasons, Full, Lacks, Counted, Refusals, Clock, Repeats, Alone, Named, Ranges}
+use Rattle.law_worked.specs.Judges.Law.{Calls, Clears, Indexes, Copies, Reuse, Free, Placing, Order, Nexts, Retiring, Backs, Lists, Blocks, Reads, Due, Room, Eras, Moves, Advances, Births, Retires, Current, Single, Rising, Guards, Kinds, Throughout, Sources, Finds, Gots, Links, Behind, Bare, Rests, Map, Values, Emptied, Steps, Withdrawals, Tries, Raises, Hazards, Asks, CallSteps, Told, Reasons, Full, Lacks, Counted, Refusals, Clock, Repeats, Alone, Named, Ranges}
 use Rattle.law_worked.specs.Refusals.{IsWorked, Row, row}
 use Rattle.law_copies_worked.specs.Settings.{table}
 
@@ -95,12 +95,14 @@ copied_anew_table =
     ∷ row Room [] [] [] [] []
     ∷ row Eras [] (34 ∷ []) [] (34 ∷ []) []
     ∷ row Moves (33 ∷ []) (34 ∷ []) [] (33 ∷ []) []
+    ∷ row Advances [] [] [] [] []
     ∷ row Births [] [] [] [] []
     ∷ row Retires (21 ∷ []) [] [] (21 ∷ 25 ∷ []) []
     ∷ row Current (30 ∷ []) [] (29 ∷ []) (1 ∷ 9 ∷ 13 ∷ 17 ∷ 30 ∷ 43 ∷ []) []
     ∷ row Single [] [] [] [] []
     ∷ row Rising [] [] [] [] []
     ∷ row Guards [] [] [] [] []
+    ∷ row Kinds [] [] [] [] []
     ∷ row Throughout (3 ∷ 9 ∷ 13 ∷ 17 ∷ 19 ∷ 23 ∷ 28 ∷ 30 ∷ 42 ∷ []) [] (9 ∷ 13 ∷ 17 ∷ 23 ∷ 28 ∷ 29 ∷ 30 ∷ 42 ∷ []) (2 ∷ 3 ∷ 9 ∷ 10 ∷ 13 ∷ 14 ∷ 18 ∷ 19 ∷ 23 ∷ 28 ∷ 31 ∷ 39 ∷ 42 ∷ []) []
     ∷ row Sources (0 ∷ 4 ∷ 8 ∷ 20 ∷ 27 ∷ []) [] [] (2 ∷ 4 ∷ 10 ∷ 18 ∷ 20 ∷ 31 ∷ []) []
     ∷ row Finds (2 ∷ 18 ∷ []) [] [] (8 ∷ 27 ∷ []) []
@@ -116,6 +118,7 @@ copied_anew_table =
     ∷ row Withdrawals [] [] [] [] []
     ∷ row Tries [] [] [] [] []
     ∷ row Raises [] [] [] [] []
+    ∷ row Hazards [] [] [] [] []
     ∷ row Asks [] [] [] [] []
     ∷ row CallSteps (27 ∷ []) [] (11 ∷ 40 ∷ []) (33 ∷ []) (15 ∷ 35 ∷ 40 ∷ 44 ∷ 46 ∷ 48 ∷ [])
     ∷ row Told (0 ∷ 5 ∷ 8 ∷ 12 ∷ 14 ∷ 16 ∷ 22 ∷ 27 ∷ 33 ∷ 36 ∷ 39 ∷ 41 ∷ 45 ∷ []) (5 ∷ 14 ∷ 22 ∷ 39 ∷ []) (11 ∷ 14 ∷ 39 ∷ 40 ∷ 44 ∷ 45 ∷ []) (0 ∷ 5 ∷ 8 ∷ 12 ∷ 14 ∷ 15 ∷ 16 ∷ 22 ∷ 27 ∷ 33 ∷ 36 ∷ 39 ∷ 40 ∷ 44 ∷ 46 ∷ []) []

@@ -13,7 +13,7 @@ use Rattle.wfe_core.specs.defs.declared.event.Root.TheVariants as roots
 use Rattle.wfe_core.specs.Guards.{from_to}
 use Rattle.model_history.specs.History.{Item}
 use Rattle.model_history.specs.Among.{call, said, to_end}
-use Rattle.law_worked.specs.Judges.Law.{Calls, Clears, Indexes, Copies, Reuse, Free, Placing, Order, Nexts, Retiring, Backs, Lists, Blocks, Reads, Due, Room, Eras, Moves, Births, Retires, Current, Single, Rising, Guards, Throughout, Sources, Finds, Gots, Links, Behind, Bare, Rests, Map, Values, Emptied, Steps, Withdrawals, Tries, Raises, Asks, CallSteps, Told, Reasons, Full, Lacks, Counted, Refusals, Clock, Repeats, Alone, Named, Ranges}
+use Rattle.law_worked.specs.Judges.Law.{Calls, Clears, Indexes, Copies, Reuse, Free, Placing, Order, Nexts, Retiring, Backs, Lists, Blocks, Reads, Due, Room, Eras, Moves, Advances, Births, Retires, Current, Single, Rising, Guards, Kinds, Throughout, Sources, Finds, Gots, Links, Behind, Bare, Rests, Map, Values, Emptied, Steps, Withdrawals, Tries, Raises, Hazards, Asks, CallSteps, Told, Reasons, Full, Lacks, Counted, Refusals, Clock, Repeats, Alone, Named, Ranges}
 use Rattle.law_worked.specs.Refusals.{IsWorked, Row, row}
 use Rattle.law_copies_worked.specs.Settings.{table}
 
@@ -92,12 +92,14 @@ kept_twice_table =
     ∷ row Room (24 ∷ []) [] [] [] []
     ∷ row Eras [] (25 ∷ []) [] (25 ∷ []) []
     ∷ row Moves [] (25 ∷ []) (25 ∷ []) [] []
+    ∷ row Advances [] [] [] [] []
     ∷ row Births [] [] [] [] []
     ∷ row Retires (20 ∷ []) [] [] (20 ∷ 24 ∷ []) []
     ∷ row Current [] [] [] (1 ∷ 9 ∷ 16 ∷ 36 ∷ []) []
     ∷ row Single [] [] [] [] []
     ∷ row Rising (6 ∷ []) (1 ∷ 9 ∷ 16 ∷ []) [] (6 ∷ 23 ∷ 36 ∷ []) []
     ∷ row Guards [] [] [] [] []
+    ∷ row Kinds [] [] [] [] []
     ∷ row Throughout (3 ∷ 9 ∷ 16 ∷ 22 ∷ 30 ∷ 35 ∷ []) [] (9 ∷ 16 ∷ 22 ∷ 35 ∷ []) (2 ∷ 3 ∷ 9 ∷ 10 ∷ 13 ∷ 17 ∷ 22 ∷ 30 ∷ 35 ∷ []) []
     ∷ row Sources (0 ∷ 4 ∷ 8 ∷ []) [] [] (2 ∷ 4 ∷ 10 ∷ 17 ∷ []) []
     ∷ row Finds (2 ∷ 17 ∷ []) [] [] (8 ∷ []) []
@@ -113,6 +115,7 @@ kept_twice_table =
     ∷ row Withdrawals [] [] [] [] []
     ∷ row Tries [] [] [] [] []
     ∷ row Raises (6 ∷ []) (1 ∷ 9 ∷ 16 ∷ []) [] (6 ∷ []) (2 ∷ 10 ∷ 17 ∷ [])
+    ∷ row Hazards [] [] [] [] []
     ∷ row Asks [] [] [] [] []
     ∷ row CallSteps (32 ∷ 43 ∷ []) (43 ∷ []) (11 ∷ 32 ∷ 33 ∷ 43 ∷ []) (40 ∷ []) (14 ∷ 31 ∷ 33 ∷ 37 ∷ 39 ∷ 44 ∷ [])
     ∷ row Told (0 ∷ 5 ∷ 8 ∷ 12 ∷ 13 ∷ 15 ∷ 21 ∷ 29 ∷ 32 ∷ 34 ∷ 38 ∷ 40 ∷ []) (5 ∷ 13 ∷ 21 ∷ []) (11 ∷ 12 ∷ 13 ∷ 31 ∷ 32 ∷ 33 ∷ 37 ∷ 38 ∷ []) (0 ∷ 5 ∷ 8 ∷ 12 ∷ 13 ∷ 14 ∷ 15 ∷ 21 ∷ 29 ∷ 31 ∷ 37 ∷ 39 ∷ 40 ∷ []) []

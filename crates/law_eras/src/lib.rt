@@ -3,7 +3,7 @@
 #![tactic(auto)]
 
 ghost use Rattle.law_eras.specs.Current.{ClockBetween};
-ghost use Rattle.law_eras.specs.Records.{RecordClock, RecordsGiveCurrent, RecordsKeepEras, RecordsKeepGuards, RecordsNameGuards, RecordsReserveCurrent, RecordsRetireCurrent};
+ghost use Rattle.law_eras.specs.Records.{RecordClock, RecordsAdvance, RecordsGiveCurrent, RecordsKeepEras, RecordsKeepGuards, RecordsKeepKinds, RecordsNameGuards, RecordsReserveCurrent, RecordsRetireCurrent};
 ghost use Rattle.law_scans.specs.Records.{RecordsKeepTimes};
 
 /// The clock's word is 1 plus the number of Era entries.
@@ -18,8 +18,20 @@ pub fn records_keep_eras()
     ensures { RecordsKeepEras }
 {}
 
+/// Where retirements do not move the clock, only an Advance moves it, once at most.
+pub fn records_advance()
+    ensures { RecordsAdvance }
+{}
+
+/// Guards are told to publish rows, and scans to have read rows, of index words, where the scheme
+/// publishes rows; where it does not, both are of intervals.
+pub fn records_keep_kinds()
+    ensures { RecordsKeepKinds }
+{}
+
 /// A seat tells only what its own guards publish, but for one case under Wait-Free Eras: that an
-/// index word publishes the interval which the seat's own helper word then publishes.
+/// index word publishes the interval which the seat's own helper word then publishes. It tells rows
+/// of its own index words alone.
 pub fn records_keep_guards()
     ensures { RecordsKeepGuards }
 {}

@@ -13,7 +13,7 @@ use Rattle.wfe_core.specs.defs.declared.event.Root.TheVariants as roots
 use Rattle.wfe_core.specs.Guards.{from_to}
 use Rattle.model_history.specs.History.{Item}
 use Rattle.model_history.specs.Among.{call, said, to_end}
-use Rattle.law_worked.specs.Judges.Law.{Calls, Clears, Indexes, Copies, Reuse, Free, Placing, Order, Nexts, Retiring, Backs, Lists, Blocks, Reads, Due, Room, Eras, Moves, Births, Retires, Current, Single, Rising, Guards, Throughout, Sources, Finds, Gots, Links, Behind, Bare, Rests, Map, Values, Emptied, Steps, Withdrawals, Tries, Raises, Asks, CallSteps, Told, Reasons, Full, Lacks, Counted, Refusals, Clock, Repeats, Alone, Named, Ranges}
+use Rattle.law_worked.specs.Judges.Law.{Calls, Clears, Indexes, Copies, Reuse, Free, Placing, Order, Nexts, Retiring, Backs, Lists, Blocks, Reads, Due, Room, Eras, Moves, Advances, Births, Retires, Current, Single, Rising, Guards, Kinds, Throughout, Sources, Finds, Gots, Links, Behind, Bare, Rests, Map, Values, Emptied, Steps, Withdrawals, Tries, Raises, Hazards, Asks, CallSteps, Told, Reasons, Full, Lacks, Counted, Refusals, Clock, Repeats, Alone, Named, Ranges}
 use Rattle.law_worked.specs.Refusals.{IsWorked, Row, row}
 use Rattle.law_leaves_worked.specs.Settings.{table}
 
@@ -99,12 +99,14 @@ handed_over_table =
     ∷ row Room [] [] [] [] []
     ∷ row Eras [] [] [] [] []
     ∷ row Moves [] [] [] [] []
+    ∷ row Advances [] [] [] [] []
     ∷ row Births [] [] [] [] []
     ∷ row Retires (15 ∷ []) [] [] (15 ∷ 19 ∷ []) []
     ∷ row Current [] [] [] (3 ∷ 11 ∷ 22 ∷ 26 ∷ []) []
     ∷ row Single [] [] [] [] []
     ∷ row Rising [] [] [] [] []
     ∷ row Guards [] [] [] [] []
+    ∷ row Kinds [] [] [] [] []
     ∷ row Throughout (5 ∷ 11 ∷ 13 ∷ 17 ∷ 22 ∷ 26 ∷ 30 ∷ 32 ∷ []) [] (11 ∷ 17 ∷ 22 ∷ 26 ∷ 30 ∷ 32 ∷ []) (4 ∷ 5 ∷ 12 ∷ 13 ∷ 17 ∷ 23 ∷ 27 ∷ 30 ∷ 32 ∷ []) []
     ∷ row Sources (2 ∷ 6 ∷ 14 ∷ []) [] [] (4 ∷ 6 ∷ 12 ∷ 14 ∷ 23 ∷ []) []
     ∷ row Finds (4 ∷ 12 ∷ []) [] (9 ∷ []) (21 ∷ []) []
@@ -120,6 +122,7 @@ handed_over_table =
     ∷ row Withdrawals [] [] [] [] []
     ∷ row Tries (3 ∷ 8 ∷ 11 ∷ 22 ∷ []) (3 ∷ 11 ∷ 22 ∷ []) (3 ∷ 11 ∷ 22 ∷ []) (8 ∷ []) (4 ∷ 12 ∷ 23 ∷ [])
     ∷ row Raises [] [] [] [] []
+    ∷ row Hazards [] [] [] [] []
     ∷ row Asks [] [] [] [] []
     ∷ row CallSteps (29 ∷ 48 ∷ 50 ∷ []) (48 ∷ []) (24 ∷ 38 ∷ 48 ∷ 50 ∷ []) (29 ∷ 39 ∷ []) (28 ∷ 49 ∷ [])
     ∷ row Told (0 ∷ 2 ∷ 7 ∷ 10 ∷ 16 ∷ 21 ∷ 25 ∷ 27 ∷ 29 ∷ 34 ∷ 37 ∷ 39 ∷ 50 ∷ []) (7 ∷ 16 ∷ 27 ∷ 34 ∷ 37 ∷ []) (0 ∷ 9 ∷ 20 ∷ 24 ∷ 27 ∷ 28 ∷ 34 ∷ 36 ∷ 37 ∷ 38 ∷ 49 ∷ 50 ∷ []) (2 ∷ 7 ∷ 10 ∷ 16 ∷ 21 ∷ 25 ∷ 27 ∷ 28 ∷ 29 ∷ 34 ∷ 35 ∷ 36 ∷ 37 ∷ 38 ∷ 39 ∷ []) []

@@ -13,7 +13,7 @@ use Rattle.wfe_core.specs.defs.declared.event.Root.TheVariants as roots
 use Rattle.wfe_core.specs.Guards.{from_to}
 use Rattle.model_history.specs.History.{Item}
 use Rattle.model_history.specs.Among.{call, said, to_end}
-use Rattle.law_worked.specs.Judges.Law.{Calls, Clears, Indexes, Copies, Reuse, Free, Placing, Order, Nexts, Retiring, Backs, Lists, Blocks, Reads, Due, Room, Eras, Moves, Births, Retires, Current, Single, Rising, Guards, Throughout, Sources, Finds, Gots, Links, Behind, Bare, Rests, Map, Values, Emptied, Steps, Withdrawals, Tries, Raises, Asks, CallSteps, Told, Reasons, Full, Lacks, Counted, Refusals, Clock, Repeats, Alone, Named, Ranges}
+use Rattle.law_worked.specs.Judges.Law.{Calls, Clears, Indexes, Copies, Reuse, Free, Placing, Order, Nexts, Retiring, Backs, Lists, Blocks, Reads, Due, Room, Eras, Moves, Advances, Births, Retires, Current, Single, Rising, Guards, Kinds, Throughout, Sources, Finds, Gots, Links, Behind, Bare, Rests, Map, Values, Emptied, Steps, Withdrawals, Tries, Raises, Hazards, Asks, CallSteps, Told, Reasons, Full, Lacks, Counted, Refusals, Clock, Repeats, Alone, Named, Ranges}
 use Rattle.law_worked.specs.Refusals.{IsWorked, Row, row}
 use Rattle.law_leaves_worked.specs.Settings.{table}
 
@@ -96,12 +96,14 @@ passed_on_table =
     ∷ row Room [] [] [] [] []
     ∷ row Eras [] [] [] [] []
     ∷ row Moves [] [] [] [] []
+    ∷ row Advances [] [] [] [] []
     ∷ row Births [] [] [] [] []
     ∷ row Retires (13 ∷ []) [] [] (13 ∷ 17 ∷ []) []
     ∷ row Current [] [] [] (1 ∷ 9 ∷ 20 ∷ []) []
     ∷ row Single [] [] [] [] []
     ∷ row Rising (6 ∷ 16 ∷ []) (1 ∷ 9 ∷ 20 ∷ []) [] (6 ∷ 16 ∷ 29 ∷ []) []
     ∷ row Guards [] [] [] [] []
+    ∷ row Kinds [] [] [] [] []
     ∷ row Throughout (3 ∷ 9 ∷ 11 ∷ 15 ∷ 20 ∷ 27 ∷ 28 ∷ []) [] (9 ∷ 15 ∷ 20 ∷ 28 ∷ []) (2 ∷ 3 ∷ 10 ∷ 11 ∷ 15 ∷ 21 ∷ 24 ∷ 27 ∷ 28 ∷ []) []
     ∷ row Sources (0 ∷ 4 ∷ 12 ∷ []) [] [] (2 ∷ 4 ∷ 10 ∷ 12 ∷ 21 ∷ []) []
     ∷ row Finds (2 ∷ 10 ∷ []) [] (7 ∷ []) (19 ∷ []) []
@@ -117,6 +119,7 @@ passed_on_table =
     ∷ row Withdrawals [] [] [] [] []
     ∷ row Tries [] [] [] [] []
     ∷ row Raises (6 ∷ 16 ∷ []) (1 ∷ 9 ∷ 20 ∷ []) [] (6 ∷ 16 ∷ []) (2 ∷ 10 ∷ 21 ∷ [])
+    ∷ row Hazards [] [] [] [] []
     ∷ row Asks [] [] [] [] []
     ∷ row CallSteps (26 ∷ 47 ∷ []) (47 ∷ []) (22 ∷ 42 ∷ 47 ∷ []) (26 ∷ 35 ∷ 43 ∷ []) (25 ∷ 48 ∷ [])
     ∷ row Told (0 ∷ 5 ∷ 8 ∷ 14 ∷ 19 ∷ 23 ∷ 24 ∷ 26 ∷ 30 ∷ 32 ∷ 33 ∷ 35 ∷ 36 ∷ 38 ∷ 40 ∷ 41 ∷ 43 ∷ []) (5 ∷ 14 ∷ 24 ∷ 30 ∷ 33 ∷ 36 ∷ 41 ∷ []) (7 ∷ 18 ∷ 22 ∷ 23 ∷ 24 ∷ 25 ∷ 30 ∷ 32 ∷ 33 ∷ 34 ∷ 35 ∷ 36 ∷ 38 ∷ 40 ∷ 41 ∷ 42 ∷ []) (0 ∷ 5 ∷ 8 ∷ 14 ∷ 19 ∷ 23 ∷ 24 ∷ 25 ∷ 26 ∷ 30 ∷ 31 ∷ 32 ∷ 33 ∷ 34 ∷ 35 ∷ 36 ∷ 37 ∷ 40 ∷ 41 ∷ 42 ∷ 43 ∷ []) []

@@ -20,6 +20,7 @@ use Rattle.laws.specs.defs.declared.event.Event.{Event}
 use Rattle.laws.specs.defs.declared.event.Event.TheVariants as events
 use Rattle.laws.specs.records.Record.{Past, Each}
 use Rattle.laws.specs.records.Record.Past.{Start, Then}
+use Rattle.laws.specs.words.Schemes.{moves as moves_clock}
 use Rattle.laws.specs.words.declared.config.Config.{Config}
 use Rattle.law_letter.proofs.Each.{each_weaker, counted_by, times_seen, related}
 use Rattle.law_letter.proofs.Held.{all_right}
@@ -86,6 +87,8 @@ own_clock config i p (events.Era era) m a =
     }
 own_clock config i p (events.Read guard span) m a =
     record { counts = a.counts; due = a.due; none = a.none; some = a.some; reads = λ e. absurd (read_awaits (plain_tally config.every i p).course e) }
+own_clock config i p (events.Saw guard slot) m a =
+    record { counts = a.counts; due = a.due; none = a.none; some = a.some; reads = λ e. absurd (read_awaits (plain_tally config.every i p).course e) }
 own_clock config i p (events.Give slot birth) m a = record { counts = a.counts; due = a.due; none = a.none; some = a.some; reads = λ e. absurd (cc) }
 own_clock config i p event m a = a
 
@@ -115,15 +118,19 @@ outcome_by course last from now t u (moves.EraSpent era) a h g =
     rw (← a.due) (both t.due (not u.told && (era == last && era == now)) (first_of t.due (is_none t.moved && era == last) h)
     (both (not u.told) (era == last && era == now) (not_false u.told (a.none (first_of (is_none t.moved) (era == last) k))) (both (era == last) (era == now) (rest_of (is_none t.moved) (era == last) k) g)))
 
-fits_by : (course : Course) (last from now : ℕ) (t : strong.ClockTally) (u : weak.ClockTally) (answer : Answer) → ClockAgrees course t u → strong.answer_fits last t answer ≡ true → strong.answer_time from now answer ≡ true → weak.answer_fits last from now u answer ≡ true
-fits_by course last from now t u (answers.Done version clock) a h g = outcome_by course last from now t u clock a h g
-fits_by course last from now t u (answers.Taken number value clock) a h g = outcome_by course last from now t u clock a h g
-fits_by course last from now t u (answers.Clock clock) a h g = outcome_by course last from now t u clock a h g
-fits_by course last from now t u answer a h g = refl
+change_by : (by_retires : Bool) (course : Course) (last from now : ℕ) (t : strong.ClockTally) (u : weak.ClockTally) (clock : ClockMove) → ClockAgrees course t u → strong.change_fits by_retires last t clock ≡ true → strong.time_fits from now clock ≡ true → weak.change_fits by_retires last from now u clock ≡ true
+change_by true course last from now t u clock a h g = outcome_by course last from now t u clock a h g
+change_by false course last from now t u clock a h g = h
+
+fits_by : (by_retires : Bool) (course : Course) (last from now : ℕ) (t : strong.ClockTally) (u : weak.ClockTally) (answer : Answer) → ClockAgrees course t u → strong.answer_fits by_retires last t answer ≡ true → strong.answer_time from now answer ≡ true → weak.answer_fits by_retires last from now u answer ≡ true
+fits_by by_retires course last from now t u (answers.Done version clock) a h g = change_by by_retires course last from now t u clock a h g
+fits_by by_retires course last from now t u (answers.Taken number value clock) a h g = change_by by_retires course last from now t u clock a h g
+fits_by by_retires course last from now t u (answers.Clock clock) a h g = outcome_by course last from now t u clock a h g
+fits_by by_retires course last from now t u answer a h g = refl
 
 clock_part : (config : Config) (p : Past) (i : ℕ) (event : Event) → Clock config i p → strong.plain_clocks_ok config p i event ≡ true → strong.times_ok p i event ≡ true → weak.clocks_ok config p i event ≡ true
 clock_part config p i (events.End steps answer) a h g =
-    fits_by (plain_tally config.every i p).course config.last_era (from_of i p) (clock_of p) (plain_clock config.every i p) (weak.clock_tally config.every i p) answer a h g
+    fits_by (moves_clock config.scheme) (plain_tally config.every i p).course config.last_era (from_of i p) (clock_of p) (plain_clock config.every i p) (weak.clock_tally config.every i p) answer a h g
 clock_part config p i event a h g = refl
 
 pub clocks_kept : (config : Config) (r : Past) → Each (plain_moves_ok config) r → Each (strong.plain_clocks_ok config) r → Each strong.times_ok r → Each (weak.clocks_ok config) r
@@ -134,6 +141,7 @@ clocks_kept config (Then p i event) m h g = (clock_part config p i event (clocks
 reads_keeps : (event : Event) (x : Search) (n : ℕ) → x.reads ≡ n → (search_by event x).reads ≡ counted_by is_read event n
 reads_keeps (events.Begin call) x n h = refl
 reads_keeps (events.Read guard span) x n h = ap (λ (m : ℕ). m + 1) h
+reads_keeps (events.Saw guard slot) x n h = ap (λ (m : ℕ). m + 1) h
 reads_keeps event x n h = h
 
 reads_are : (i : ℕ) (p : Past) → (search_of i p).reads ≡ times i is_read p

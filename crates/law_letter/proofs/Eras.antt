@@ -2,7 +2,7 @@
 use Rattle.std.proofs.Common.{ℕ, ◌≡◌, Bool, true, false, refl, None, Some, Option, ◌<◌}
 use Rattle.std.specs.Prelude.{◌==◌, ◌&&◌, ◌||◌, not, nat_le, nat_lt, if◌then◌else◌}
 use Rattle.laws.proofs.records.Entries.{each_of_entries, entries_of_each}
-use Rattle.laws.proofs.records.defs.Facts.{both, or_more, rest_of}
+use Rattle.laws.proofs.records.defs.Facts.{both, first_of, or_left_true, or_more, rest_of}
 use Rattle.laws.specs.EraLaw as weak
 use Rattle.laws.specs.EraLaw.{EraLaw, is_one_era, span_rises, moves_ok}
 use Rattle.laws.specs.HistoryEras as strong
@@ -18,10 +18,10 @@ use Rattle.laws.specs.defs.declared.event.Guard.TheVariants.{Helper, Index, Whol
 use Rattle.laws.specs.defs.declared.lifetime.Interval.{Interval}
 use Rattle.laws.specs.records.Record.{Past, Each, EachEntry, own}
 use Rattle.laws.specs.records.Record.Past.{Start, Then}
-use Rattle.laws.specs.words.Schemes.{has_one_interval, is_wfe, publishes_eras}
+use Rattle.laws.specs.words.Schemes.{has_one_interval, is_wfe}
 use Rattle.laws.specs.words.declared.config.Config.{Config}
 use Rattle.laws.specs.words.declared.config.SchemeKind.{SchemeKind}
-use Rattle.laws.specs.words.declared.config.SchemeKind.TheVariants.{He, Ibr, Wfe}
+use Rattle.laws.specs.words.declared.config.SchemeKind.TheVariants.{He, Hp, Ibr, Wfe}
 use Rattle.law_letter.proofs.Each.{each_weaker, each_both, each_three}
 use Rattle.law_letter.proofs.Scans.{Courses, moves_kept}
 
@@ -68,6 +68,7 @@ one_era : (scheme : SchemeKind) (clock : ℕ) (span : Option Interval) → span_
 one_era scheme clock None h = refl
 one_era He clock (Some span) h = rest_of (nat_le span.lo span.hi && nat_le span.hi clock) (span.lo == span.hi) h
 one_era Ibr clock (Some span) h = refl
+one_era Hp clock (Some span) h = rest_of (nat_le span.lo span.hi && nat_le span.hi clock) (span.lo == span.hi) h
 one_era Wfe clock (Some span) h = rest_of (nat_le span.lo span.hi && nat_le span.hi clock) (span.lo == span.hi) h
 
 single_part : (config : Config) (p : Past) (i : ℕ) (event : Event) → strong.era_ok config p i event ≡ true → weak.single_ok config.scheme p i event ≡ true
@@ -84,13 +85,12 @@ or_one true = refl
 or_one false = refl
 
 -- under 2GE interval words alone are guards
-no_index : (scheme : SchemeKind) (there grows : Bool) → (publishes_eras scheme && there) ≡ true → (not (has_one_interval scheme) || grows) ≡ true
-no_index He there grows h = refl
-no_index Ibr there grows h = absurd (cc)
-no_index Wfe there grows h = refl
+no_index : (scheme : SchemeKind) (there grows : Bool) → (not (has_one_interval scheme) && there) ≡ true → (not (has_one_interval scheme) || grows) ≡ true
+no_index scheme there grows h = or_left_true (not (has_one_interval scheme)) grows (first_of (not (has_one_interval scheme)) there h)
 
 no_helper : (scheme : SchemeKind) (there grows : Bool) → (is_wfe scheme && there) ≡ true → (not (has_one_interval scheme) || grows) ≡ true
 no_helper He there grows h = refl
+no_helper Hp there grows h = absurd (cc)
 no_helper Ibr there grows h = absurd (cc)
 no_helper Wfe there grows h = refl
 
@@ -109,10 +109,12 @@ eras config r low c o g h =
     record {
       numbers = entries_of_each (weak.era_ok config.last_era) r (each_weaker (strong.era_ok config) (weak.era_ok config.last_era) (era_part config) r n);
       moves = entries_of_each (moves_ok config) r (moves_kept config r low c);
+      advances = h.advances;
       births = entries_of_each weak.birth_ok r (each_weaker strong.birth_current weak.birth_ok birth_part r (each_of_entries strong.birth_current r h.births_current));
       retires = entries_of_each weak.retire_ok r (each_three strong.birth_ok (once_ok config.slots) strong.retire_current weak.retire_ok (retire_part config.slots) r (each_of_entries strong.birth_ok r h.births) (each_of_entries (once_ok config.slots) r o) (each_of_entries strong.retire_current r h.retires_current));
       current = entries_of_each weak.current_ok r (each_weaker strong.reserve_current weak.current_ok current_part r (each_of_entries strong.reserve_current r h.reserves_current));
       single = entries_of_each (weak.single_ok config.scheme) r (each_weaker (strong.era_ok config) (weak.single_ok config.scheme) (single_part config) r n);
       rising = entries_of_each (weak.rising_ok config.scheme) r (each_both (guards_ok config) strong.span_rises (weak.rising_ok config.scheme) (rising_part config) r (each_of_entries (guards_ok config) r g) (each_of_entries strong.span_rises r h.spans_rise));
       guards = h.guards;
+      kinds = h.kinds;
     }

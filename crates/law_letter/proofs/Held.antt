@@ -14,18 +14,21 @@ use Rattle.laws.specs.Once.{is_slot}
 use Rattle.laws.specs.NoReuse.{NoReuse, reuse_ok}
 use Rattle.laws.specs.Standing.{Standing, may_hold, may_miss, may_clear}
 use Rattle.laws.specs.Standing as standing
-use Rattle.laws.specs.StateAt.{stood_at, is_row, began_of, null_of, null_by, seen, has_told, row_at, value_of, bucket_at, head_at, tail_at, next_at}
+use Rattle.laws.specs.StateAt.{stood_at, is_row, began_of, null_of, null_by, seen, has_told, row_at, published_at, value_of, bucket_at, head_at, tail_at, next_at}
 use Rattle.laws.specs.defs.Events.{is_null}
+use Rattle.laws.specs.defs.declared.shown.Shown.{Shown}
+use Rattle.laws.specs.defs.declared.shown.Shown.TheVariants.{Eras, Nothing, Row}
+use Rattle.laws.specs.defs.Shown.{shown}
 use Rattle.laws.specs.defs.declared.call.Call.{Call}
 use Rattle.laws.specs.defs.declared.call.Call.TheVariants as calls
 use Rattle.laws.specs.defs.declared.event.Event.{Event}
 use Rattle.laws.specs.defs.declared.event.Event.TheVariants as events
 use Rattle.laws.specs.defs.declared.event.Guard.TheVariants.{Helper, Index, Whole}
 use Rattle.laws.specs.defs.declared.event.Root.TheVariants as roots
-use Rattle.laws.specs.defs.declared.lifetime.Interval.{Interval}
 use Rattle.laws.specs.records.Record.{Past, Each, held_since, begins}
 use Rattle.laws.specs.records.Record.Past.{Start, Then}
 use Rattle.laws.specs.words.declared.config.Config.{Config}
+use Rattle.laws.specs.words.declared.config.SchemeKind.{SchemeKind}
 use Rattle.laws.specs.words.Schemes.{has_one_interval}
 use Rattle.law_letter.proofs.Each.{follows, follow_both, each_weaker, counted_by, times_seen, related}
 use Rattle.law_letter.proofs.Stands.{stands_one, bare_one, one_stands, one_row}
@@ -223,11 +226,13 @@ bare_part : (p : Past) (i : ℕ) (event : Event) → Each lone_ok p → Each cle
 bare_part p i (events.End steps answer) l c h k = rw (bare_one i 0 p l c, bare_one i 1 p l c) (bare_by (is_none (stood_at i 0 p)) (is_none (stood_at i 1 p)) h k)
 bare_part p i event l c h k = refl
 
-alike_by : (x : Option Interval) (y : Option ℕ) → strong.is_alike x y ≡ weak.is_alike x (is_none y)
-alike_by None None = refl
-alike_by None (Some slot) = refl
-alike_by (Some span) None = refl
-alike_by (Some span) (Some slot) = refl
+alike_by : (x : Shown) (y : Option ℕ) → strong.is_alike x y ≡ weak.is_alike x (is_none y)
+alike_by Nothing None = refl
+alike_by Nothing (Some slot) = refl
+alike_by (Eras span) None = refl
+alike_by (Eras span) (Some slot) = refl
+alike_by (Row row) None = refl
+alike_by (Row row) (Some slot) = refl
 
 -- what a seat keeps at indexes from 2 on
 keeps_by : (i : ℕ) (p : Past) (below : ℕ) → Each lone_ok p → Each clears_ok p → weak.keeps_none i p below ≡ is_none (strong.kept_below i p below)
@@ -243,29 +248,29 @@ keeps_by i p (suc j) l c = rw (keeps_by i p j l c, bare_one i j p l c) (one_more
     one_more false (Some other) (Some slot) = refl
 
 span_part : (config : Config) → has_one_interval config.scheme ≡ true → (p : Past) (i : ℕ) (event : Event) → Each lone_ok p → Each clears_ok p → strong.spans_ok config p i event ≡ true → weak.rests_ok config p i event ≡ true
-span_part config one p i (events.End steps answer) l c h = rw (one, keeps_by i p config.indexes l c, ← alike_by (value_of (Whole i) p) (strong.kept_below i p config.indexes)) h
+span_part config one p i (events.End steps answer) l c h = rw (one, keeps_by i p config.indexes l c, ← alike_by (shown (value_of (Whole i) p)) (strong.kept_below i p config.indexes)) h
 span_part config one p i event l c h = refl
 
 -- each index word below a number
-index_by : (i j : ℕ) (p : Past) → Each lone_ok p → Each clears_ok p → strong.index_rests i p j ≡ true → weak.index_rests i p j ≡ true
-index_by i j p l c h = rw (bare_one i j p l c, ← alike_by (value_of (Index i j) p) (stood_at i j p)) h
+index_by : (scheme : SchemeKind) (i j : ℕ) (p : Past) → Each lone_ok p → Each clears_ok p → strong.index_rests scheme i p j ≡ true → weak.index_rests scheme i p j ≡ true
+index_by scheme i j p l c h = rw (bare_one i j p l c, ← alike_by (published_at scheme (Index i j) p) (stood_at i j p)) h
 
-indexes_by : (i : ℕ) (p : Past) (below : ℕ) → Each lone_ok p → Each clears_ok p → ((j : ℕ) → j < below → strong.index_rests i p j ≡ true) → weak.indexes_rest i p below ≡ true
-indexes_by i p zero l c h = refl
-indexes_by i p (suc j) l c h =
-    both (weak.index_rests i p j) (weak.indexes_rest i p j) (index_by i j p l c (h j (omega arith))) (indexes_by i p j l c (λ k low. h k (omega (arith, low))))
+indexes_by : (scheme : SchemeKind) (i : ℕ) (p : Past) (below : ℕ) → Each lone_ok p → Each clears_ok p → ((j : ℕ) → j < below → strong.index_rests scheme i p j ≡ true) → weak.indexes_rest scheme i p below ≡ true
+indexes_by scheme i p zero l c h = refl
+indexes_by scheme i p (suc j) l c h =
+    both (weak.index_rests scheme i p j) (weak.indexes_rest scheme i p j) (index_by scheme i j p l c (h j (omega arith))) (indexes_by scheme i p j l c (λ k low. h k (omega (arith, low))))
 
-words_by : (config : Config) → has_one_interval config.scheme ≡ false → (r : Past) → Each lone_ok r → Each clears_ok r → Each strong.helpers_ok r → ((j : ℕ) → j < config.indexes → Each (strong.words_ok j) r) → Each (weak.rests_ok config) r
+words_by : (config : Config) → has_one_interval config.scheme ≡ false → (r : Past) → Each lone_ok r → Each clears_ok r → Each strong.helpers_ok r → ((j : ℕ) → j < config.indexes → Each (strong.words_ok config.scheme j) r) → Each (weak.rests_ok config) r
 words_by config one Start l c h w = tt
 words_by config one (Then p i event) l c h w = (entry event l.1 c.1 h.0 (λ j low. (w j low).0), words_by config one p l.1 c.1 h.1 (λ j low. (w j low).1))
   where
-    entry : (event : Event) → Each lone_ok p → Each clears_ok p → strong.helpers_ok p i event ≡ true → ((j : ℕ) → j < config.indexes → strong.words_ok j p i event ≡ true) → weak.rests_ok config p i event ≡ true
-    entry (events.End steps answer) l c h w = rw one (both (is_none (value_of (Helper i) p)) (weak.indexes_rest i p config.indexes) h (indexes_by i p config.indexes l c w))
+    entry : (event : Event) → Each lone_ok p → Each clears_ok p → strong.helpers_ok p i event ≡ true → ((j : ℕ) → j < config.indexes → strong.words_ok config.scheme j p i event ≡ true) → weak.rests_ok config p i event ≡ true
+    entry (events.End steps answer) l c h w = rw one (both (is_none (value_of (Helper i) p)) (weak.indexes_rest config.scheme i p config.indexes) h (indexes_by config.scheme i p config.indexes l c w))
     entry event l c h w = refl
 
 rests_by : (config : Config) (r : Past) → Each lone_ok r → Each clears_ok r → strong.RestLaw config r → (one : Bool) → has_one_interval config.scheme ≡ one → Each (weak.rests_ok config) r
 rests_by config r l c h true e = follows (strong.spans_ok config) (weak.rests_ok config) (λ p i event a b x g. span_part config e p i event a b g) r l c (each_of_entries (strong.spans_ok config) r (h.spans e))
-rests_by config r l c h false e = words_by config e r l c (each_of_entries strong.helpers_ok r (h.helpers e)) (λ j low. each_of_entries (strong.words_ok j) r (h.words e j low))
+rests_by config r l c h false e = words_by config e r l c (each_of_entries strong.helpers_ok r (h.helpers e)) (λ j low. each_of_entries (strong.words_ok config.scheme j) r (h.words e j low))
 
 pub holding : (config : Config) (r : Past) → LoneLaw r → HistoryStands r → HistoryHolds config r → HoldLaw config r
 holding config r lone s h =

@@ -76,6 +76,7 @@ laws_follow config history r k =
         withdrawals = λ w. k.withdrawals;
         tries = k.tries;
         raises = k.histories.steps.raises;
+        hazards = k.histories.steps.hazards;
         asks = λ w j. entries_of_each (counts.ask_ok config.tries j) r (asks_kept config.tries j r (each_of_entries (steps.asks_ok config.tries j) r (k.histories.steps.asks w j)));
         calls = entries_of_each (counts.end_ok config) r (ends_kept config r (each_of_entries (steps.end_ok config) r k.histories.steps.calls));
       };

@@ -230,6 +230,13 @@ own_step config i p (events.Read guard span) low o s m g a =
       closed = λ e. absurd (cc);
       single = read_single (guards config) (retires_of i p) (blocks_of config i p) ((blocks_of config i p).left == 0) a.single;
     }
+own_step config i p (events.Saw guard slot) low o s m g a =
+    record {
+      counts = read_counts (guards config) (plain_tally config.every i p) (blocks_of config i p) ((blocks_of config i p).left == 0) a.counts;
+      fits = read_fits (guards config) (began_of i p) (retires_of i p) (search_of i p).seeks (plain_tally config.every i p).course (blocks_of config i p) low s a.fits;
+      closed = λ e. absurd (cc);
+      single = read_single (guards config) (retires_of i p) (blocks_of config i p) ((blocks_of config i p).left == 0) a.single;
+    }
 own_step config i p (events.End steps answer) low o s m g a =
     let t : Settled (began_of i p) (blocks_of config i p) = settled (guards config) (began_of i p) (retires_of i p) (search_of i p).seeks (plain_tally config.every i p).course (blocks_of config i p) s a.fits in
     record { counts = a.counts; fits = a.fits; closed = λ e. t.whole; single = a.single }
@@ -274,6 +281,7 @@ read_right all call retires seeks (Reading reads) y h f = let n = read_on all re
 
 block_part : (config : Config) (p : Past) (i : ℕ) (event : Event) → plain_scans_ok config p i event ≡ true → At config i p → blocks_ok config p i event ≡ true
 block_part config p i (events.Read guard span) h a = read_right (guards config) (began_of i p) (retires_of i p) (search_of i p).seeks (plain_tally config.every i p).course (blocks_of config i p) h a.fits
+block_part config p i (events.Saw guard slot) h a = read_right (guards config) (began_of i p) (retires_of i p) (search_of i p).seeks (plain_tally config.every i p).course (blocks_of config i p) h a.fits
 block_part config p i (events.End steps answer) h a =
     let t : Settled (began_of i p) (blocks_of config i p) = settled (guards config) (began_of i p) (retires_of i p) (search_of i p).seeks (plain_tally config.every i p).course (blocks_of config i p) h a.fits in
     t.scanned
@@ -308,6 +316,8 @@ room_right all call retires seeks (Reading reads) y was h f g = let n = read_on 
 
 room_part : (config : Config) (s : ℕ) (p : Past) (i : ℕ) (event : Event) → plain_scans_ok config p i event ≡ true → strong.room_ok config.slots s p i event ≡ true → At config i p → room_ok config s p i event ≡ true
 room_part config s p i (events.Read guard span) h g a =
+    room_right (guards config) (began_of i p) (retires_of i p) (search_of i p).seeks (plain_tally config.every i p).course (blocks_of config i p) (was_taken config.slots i s p) h a.fits g
+room_part config s p i (events.Saw guard slot) h g a =
     room_right (guards config) (began_of i p) (retires_of i p) (search_of i p).seeks (plain_tally config.every i p).course (blocks_of config i p) (was_taken config.slots i s p) h a.fits g
 room_part config s p i event h g a = refl
 
@@ -352,6 +362,7 @@ retired_begun false y = refl
 own_begun : (config : Config) (i : ℕ) (p : Past) (event : Event) → After config i p event → ReadsBegun config i p → 0 < (search_by event (search_of i p)).reads → 0 < (blocks_by (guards config) config.every event (blocks_of config i p)).begun
 own_begun config i p (events.Begin call) a h g = absurd (omega (arith, g))
 own_begun config i p (events.Read guard span) a h g = reading_begun (guards config) (began_of i p) (retires_of i p) (search_of i p).seeks (plain_tally config.every i p).course (blocks_by (guards config) config.every (events.Read guard span) (blocks_of config i p)) a.fits
+own_begun config i p (events.Saw guard slot) a h g = reading_begun (guards config) (began_of i p) (retires_of i p) (search_of i p).seeks (plain_tally config.every i p).course (blocks_by (guards config) config.every (events.Saw guard slot) (blocks_of config i p)) a.fits
 own_begun config i p (events.Retire slot birth retire) a h g = rw (retired_begun (((blocks_of config i p).retired + 1) % config.every == 0) (blocks_of config i p)) (h g)
 own_begun config i p event a h g = h g
 

@@ -16,7 +16,7 @@ use Rattle.law_scans.specs.laws.defs.declared.call.Answer.{Answer}
 use Rattle.law_scans.specs.laws.defs.declared.call.Answer.TheVariants as answers
 use Rattle.law_scans.specs.inv.model.Phases.Base.{Clear, Finish}
 use Rattle.law_scans.specs.inv.model.Posts.{stands, withdrawn}
-use Rattle.law_scans.specs.laws.words.Schemes.{has_one_interval}
+use Rattle.law_scans.specs.laws.words.Schemes.{has_one_interval, publishes_rows}
 use Rattle.law_scans.specs.laws.words.declared.layout.Layout.{Layout}
 use Rattle.law_scans.proofs.inv.model.Standing.{stands-withdrawn_same}
 use Rattle.law_scans.specs.inv.covers.Rests.{Vacant, vacant, vacant_why}
@@ -125,15 +125,15 @@ clearing_by_missed key answer post desk told None h =
     finishing_missed key (Answering answer) (rounds.clear_post (scheme_of post) post 2) desk (told ++ rounds.clear_told (scheme_of post) post 2) refl (h refl)
 clearing_by_missed key answer post desk told (Some base) h = tt
 
-cleared_none : (post : Post) (one : Bool) → (if one then None else Some (Clear 2)) ≡ None → stands (if one then withdrawn post 2 else post) 2 ≡ None
-cleared_none post true h = stands-withdrawn_same post 2
-cleared_none post false h = absurd (cc)
+cleared_none : (post : Post) (one rows : Bool) → (if one then None else Some (Clear rows 2)) ≡ None → stands (if one then withdrawn post 2 else post) 2 ≡ None
+cleared_none post true rows h = stands-withdrawn_same post 2
+cleared_none post false rows h = absurd (cc)
 
 pub opened_missed : (key : ℕ) (ending : Ending) (post : Post) (desk : Desk) (told : List Event)
     → Missed (steps.opened (Holds key) ending post desk told).post (steps.opened (Holds key) ending post desk told).outcome
 opened_missed key (Protected (protect_ends.Held slot era)) post desk told = tt
 opened_missed key (Protected protect_ends.Null) post desk told =
-    clearing_by_missed key answers.Nothing post desk told (rounds.clear_base (scheme_of post) 2) (λ h. cleared_none post (has_one_interval (scheme_of post)) h)
+    clearing_by_missed key answers.Nothing post desk told (rounds.clear_base (scheme_of post) 2) (λ h. cleared_none post (has_one_interval (scheme_of post)) (publishes_rows (scheme_of post)) h)
 opened_missed key ending post desk told = tt
 
 abbrev MissedAfter : Why → Base → Post → Desk → (found : ℕ) → Type 0
@@ -151,7 +151,7 @@ releases_missed key post desk told (Ends ending) = tt
 
 clears_missed : (layout : Layout) (key : ℕ) (next : Next) (base : Base) (last post : Post) (desk : Desk) (found : ℕ) → next_answers next ≡ true → suits base (kind_of (Clears (Holds key) next)) ≡ true
     → Run layout (Clears (Holds key) next) base last → MissedAfter (Clears (Holds key) next) base post desk found
-clears_missed layout key next (Clear index) last post desk found h u r = rw r.shape (finishing_missed key next (withdrawn post 2) desk _ h (stands-withdrawn_same post 2))
+clears_missed layout key next (Clear rows index) last post desk found h u r = rw r.shape (finishing_missed key next (withdrawn post 2) desk _ h (stands-withdrawn_same post 2))
 clears_missed layout key next base last post desk found h u r = absurd (cc)
 
 finishes_missed : (key : ℕ) (next : Next) (base : Base) (post : Post) (desk : Desk) (found : ℕ) → next_answers next ≡ true → suits base (kind_of (Finishes (Holds key) next)) ≡ true → stands post 2 ≡ None

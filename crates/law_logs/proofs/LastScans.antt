@@ -1,5 +1,7 @@
 -- What a seat keeps of its last scan is what its last block has read by the record.
 use Rattle.std.proofs.Common.{ℕ, zero, suc, ◌≡◌, Bool, true, false, List, [], ◌∷◌, ◌++◌, length, Option, Some, None, refl, sym, ap, ◌∙◌, subst, arith}
+use Rattle.law_scans.specs.inv.model.Rounds.{scheme_of}
+use Rattle.law_scans.specs.laws.words.Schemes.{publishes_rows}
 use Rattle.std.proofs.lemmas.Bool.Decides.{nat_tests}
 use Rattle.std.specs.Prelude.{◌==◌, ◌||◌}
 use Rattle.law_scans.specs.inv.model.Calls.{AfterScan, Answered, Repeated, Counted, ScanAt, ReadGuard, GiveBack, Phase, Idle, Runs, Scans, Works, CallTurn, CallOutcome, GoesOn, Answers}
@@ -155,7 +157,7 @@ after_reads : (all i : ℕ) (l : Local) (found : ℕ) (p : Past) → Told all i 
 after_reads all i l found p h =
     let t : CallTurn = turn l found in
     let d : (after l found).desk.report.read ≡ t.desk.report.read = ap (λ (x : Desk). x.report.read) (after_desk l found) in
-    let e : (after l found).phase ≡ phase_left t.outcome = settled_phase l t.post (noting t.desk (told_by t)) (rounds_told l.rounds (told_by t)) t.outcome in
+    let e : (after l found).phase ≡ phase_left t.outcome = settled_phase l t.post (noting t.desk (told_by t)) (rounds_told (publishes_rows (scheme_of t.post)) l.rounds (told_by t)) t.outcome in
     record {
       reads = h.reads ∙ sym d;
       stands = subst (λ (phase : Phase). ReadIn all phase (after l found).desk.report.read) (sym e) (subst (ReadIn all (phase_left t.outcome)) (sym d) h.stands);

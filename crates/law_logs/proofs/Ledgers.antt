@@ -1,5 +1,7 @@
 -- The log of each seat, its notes and its call are those of the record.
 use Rattle.std.proofs.Common.{ℕ, ◌≡◌, Bool, true, false, List, [], ◌∷◌, ◌++◌, Option, Some, refl, sym, ap, ◌∙◌, subst, arith}
+use Rattle.law_scans.specs.laws.words.Schemes.{publishes_rows}
+use Rattle.law_scans.specs.inv.model.Rounds.{scheme_of}
 use Rattle.std.proofs.lemmas.Bool.Decides.{nat_tests}
 use Rattle.std.specs.Prelude.{◌==◌, if◌then◌else◌}
 use Rattle.law_scans.proofs.laws.records.defs.Facts.{first_of, rest_of}
@@ -103,16 +105,16 @@ settled_matches l post desk rounds (Answers answer) x g c n s = record {
 }
 
 turn_matches : (l : Local) (t : CallTurn) (x : Ledger) → t.desk.notes ≡ l.desk.notes → all_of is_within t.told ≡ true → all_of owed.is_open t.told ≡ true → OutServes l.call t.outcome → busy_in l.phase ≡ true → Matches l x true
-    → Matches (settled_by l t.post (noting t.desk (told_by t)) (rounds_told l.rounds (told_by t)) t.outcome) (along ledger_by (told_by t) x) (along opened_by (told_by t) true)
+    → Matches (settled_by l t.post (noting t.desk (told_by t)) (rounds_told (publishes_rows (scheme_of t.post)) l.rounds (told_by t)) t.outcome) (along ledger_by (told_by t) x) (along opened_by (told_by t) true)
 turn_matches l t x s w o v b g =
     let e : List Event = told_end t.post t.outcome in
     let y : Ledger = record { call = x.call; notes = noted_all x.notes t.told; log = x.log } in
     let a : along ledger_by (told_by t) x ≡ along ledger_by e y = along_both ledger_by t.told e x ∙ ap (along ledger_by e) (within_all t.told x w o) in
     let q : along opened_by (told_by t) true ≡ along opened_by e true = along_both opened_by t.told e true ∙ ap (along opened_by e) (opened_all t.told true w o) in
     let n : noted_all y.notes e ≡ noted_all t.desk.notes (told_by t) = ap (λ (notes : Notes). noted_all (noted_all notes t.told) e) (g.notes ∙ sym s) ∙ sym (noted_both t.told e t.desk.notes) in
-    let r = settled_matches l t.post (noting t.desk (told_by t)) (rounds_told l.rounds (told_by t)) t.outcome y g.log (g.call b) n v in
-    subst (λ (z : Ledger). Matches (settled_by l t.post (noting t.desk (told_by t)) (rounds_told l.rounds (told_by t)) t.outcome) z (along opened_by (told_by t) true)) (sym a)
-    (subst (λ (z : Bool). Matches (settled_by l t.post (noting t.desk (told_by t)) (rounds_told l.rounds (told_by t)) t.outcome) (along ledger_by e y) z) (sym q) r)
+    let r = settled_matches l t.post (noting t.desk (told_by t)) (rounds_told (publishes_rows (scheme_of t.post)) l.rounds (told_by t)) t.outcome y g.log (g.call b) n v in
+    subst (λ (z : Ledger). Matches (settled_by l t.post (noting t.desk (told_by t)) (rounds_told (publishes_rows (scheme_of t.post)) l.rounds (told_by t)) t.outcome) z (along opened_by (told_by t) true)) (sym a)
+    (subst (λ (z : Bool). Matches (settled_by l t.post (noting t.desk (told_by t)) (rounds_told (publishes_rows (scheme_of t.post)) l.rounds (told_by t)) t.outcome) (along ledger_by e y) z) (sym q) r)
 
 -- at a position of the record
 abbrev MatchesAt : Local → ℕ → Past → Type 0
@@ -140,8 +142,8 @@ own_matches n made i b g =
     let y : Matches l (ledger_of i made.past) true = record { log = h.log; notes = h.notes; call = h.call; busy = sym b } in
     let r = turn_matches l t (ledger_of i made.past) (turns_leave_notes l (finds w i)) (first_all is_within t.told (told_end t.post t.outcome) (within_of w i)) o.told.goes o.serves b y in
     subst (λ (m : Local). MatchesAt m i (tells_of made.past i (told_in w i))) (sym (seat_steps w i))
-    (subst (λ (x : Ledger). Matches (settled_by l t.post (noting t.desk (told_by t)) (rounds_told l.rounds (told_by t)) t.outcome) x (seen opened_by false i (tells_of made.past i (told_in w i)))) (sym (seen_tells ledger_by no_ledger i (told_in w i) made.past))
-    (subst (λ (x : Bool). Matches (settled_by l t.post (noting t.desk (told_by t)) (rounds_told l.rounds (told_by t)) t.outcome) (along ledger_by (told_by t) (ledger_of i made.past)) x)
+    (subst (λ (x : Ledger). Matches (settled_by l t.post (noting t.desk (told_by t)) (rounds_told (publishes_rows (scheme_of t.post)) l.rounds (told_by t)) t.outcome) x (seen opened_by false i (tells_of made.past i (told_in w i)))) (sym (seen_tells ledger_by no_ledger i (told_in w i) made.past))
+    (subst (λ (x : Bool). Matches (settled_by l t.post (noting t.desk (told_by t)) (rounds_told (publishes_rows (scheme_of t.post)) l.rounds (told_by t)) t.outcome) (along ledger_by (told_by t) (ledger_of i made.past)) x)
     (sym (seen_tells opened_by false i (told_in w i) made.past ∙ ap (along opened_by (told_in w i)) (h.busy ∙ b))) r))
 
 step_matches : (n : ℕ) (made : Made) (i k : ℕ) (same : Bool) → (k == i) ≡ same → is_busy made.world i ≡ true → Keeps n made → MatchesAt ((step made.world i).seat k) k (tells_of made.past i (told_in made.world i))

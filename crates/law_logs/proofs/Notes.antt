@@ -3,7 +3,7 @@ use Rattle.std.proofs.Common.{ℕ, ◌≡◌, ◌+◌, Bool, true, false, List, 
 use Rattle.std.specs.Prelude.{◌==◌, nat_lt}
 use Rattle.law_scans.specs.inv.model.Calls.{AfterScan, Answered, Repeated, Counted, ScanAt, ReadGuard, GiveBack, Why, Retires, KeepAt, TakeList, Work, Keeping, Phase, Idle, Runs, Scans, Works}
 use Rattle.law_scans.specs.inv.model.Desks.{Desk}
-use Rattle.law_scans.specs.inv.model.Guards.{guards, guard_at, eras_in}
+use Rattle.law_scans.specs.inv.model.Guards.{guards, guard_at, published}
 use Rattle.law_scans.specs.inv.model.Keep.{keep_turn, taking}
 use Rattle.law_scans.specs.inv.model.Machine as machine
 use Rattle.law_scans.specs.inv.model.Phases.{Ending, Outcome, Goes, Ends}
@@ -13,7 +13,7 @@ use Rattle.law_scans.specs.inv.model.Scan as scan
 use Rattle.law_scans.specs.inv.model.Scan.{Entry}
 use Rattle.law_scans.specs.inv.model.Steps.{phase_turn, work_turn}
 use Rattle.law_scans.specs.inv.model.declared.post.Post.{Post}
-use Rattle.law_scans.specs.laws.defs.Shown.{shown}
+use Rattle.law_scans.specs.laws.words.Schemes.{publishes_rows}
 use Rattle.law_scans.specs.laws.defs.declared.event.Event.{Event}
 use Rattle.law_scans.specs.laws.defs.declared.event.Event.TheVariants as events
 use Rattle.law_scans.proofs.reuse.Once.Desks.{left_at, left_desk, resumed_desk, work_desk}
@@ -43,8 +43,9 @@ reading_notes later number post desk told false = giving_notes later post desk t
 
 scan_notes : (later : AfterScan) (at : ScanAt) (post : Post) (desk : Desk) (found : ℕ) → (scan.scan_turn later at post desk found).desk.notes ≡ desk.notes
 scan_notes later (ReadGuard number) post desk found =
+    let rows = publishes_rows post.layout.config.scheme in
     let guard = guard_at post.layout.config number in
-    reading_notes later number post (scan.with_read desk number (guard, shown (eras_in guard found))) (events.Read guard (eras_in guard found) ∷ []) (nat_lt (number + 1) (guards post.layout.config))
+    reading_notes later number post (scan.with_read desk number (guard, published rows guard found)) (scan.reads_guard rows guard found ∷ []) (nat_lt (number + 1) (guards post.layout.config))
 scan_notes later (GiveBack place slot) post desk found = giving_notes later post (scan.with_back desk place) (events.Back slot ∷ []) (scan.unmet_from (scan.with_back desk place) place)
 
 -- a step of a call

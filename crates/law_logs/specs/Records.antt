@@ -1,26 +1,22 @@
 -- What the record of each history says of the logs, the book and the scans of seats, and what the answers in a log say of the record.
-use Rattle.std.specs.Prelude.{ℕ, ◌≡◌, ◌==◌, ◌-◌, true, false, if◌then◌else◌, List, [], ◌∷◌, ◌++◌, length, Option, None, Some}
-use Rattle.law_scans.specs.inv.model.Desks.{Notes, noted}
+use Rattle.std.specs.Prelude.{ℕ, ◌≡◌, true, false, List, [], ◌∷◌, ◌++◌, Some}
+use Rattle.law_scans.specs.inv.model.Desks.{noted}
 use Rattle.law_scans.specs.inv.model.Guards.{guards}
 use Rattle.law_scans.specs.inv.model.Locals.{Group, Local, turn}
 use Rattle.law_scans.specs.inv.model.World.{World, is_busy}
 use Rattle.law_scans.specs.laws.defs.Entry.{Entry}
-use Rattle.law_scans.specs.laws.defs.declared.call.Answer.TheVariants as answers
-use Rattle.law_scans.specs.laws.defs.declared.call.Call.TheVariants as calls
 use Rattle.law_scans.specs.laws.defs.declared.call.Call.{Call}
-use Rattle.law_scans.specs.laws.defs.declared.call.ClockMove.{ClockMove}
 use Rattle.law_scans.specs.laws.defs.declared.event.Event.TheVariants as events
 use Rattle.law_scans.specs.laws.words.Place.{is_valid}
 use Rattle.law_scans.specs.laws.words.declared.config.Config.{Config}
 use Rattle.law_scans.specs.laws.words.declared.layout.Layout.{Layout}
-use Rattle.law_scans.specs.laws.StateAt.{began_of, bucket_of, is_open, read_of, value_at}
-use Rattle.law_scans.specs.laws.StepLaw.{steps_right}
+use Rattle.law_scans.specs.laws.StateAt.{began_of, is_open, read_of}
 use Rattle.law_scans.specs.inv.history.History.{Item, record_of, world_of}
 use Rattle.law_scans.specs.laws.records.Record.{Past, tells}
 use Rattle.law_scans.specs.laws.records.Record.Past.{Then}
 use Rattle.law_logs.specs.Answered.{Says, SaysOfRows}
 use Rattle.law_logs.specs.Ledgers.{log_of, notes_of}
-use Rattle.law_logs.specs.Versions.{AtMost, counts_of, met_by, met_in, seen_in}
+use Rattle.law_logs.specs.Versions.{AtMost, counts_of, met_by, met_in}
 
 -- a turn leaves the notes as they were: what it tells is noted where the seat is settled
 abbrev pub TurnsLeaveNotes : Type 0
@@ -85,113 +81,11 @@ pub record IsAnswered (c : Config) (k : ℕ) (r : Past) (before : List Group) (g
   pub after_it : AtMost (met_in c.buckets (before ++ group ∷ [])) (counts_of end.at)
   pub rises : AtMost (met_in c.buckets before) (met_in c.buckets (before ++ group ∷ []))
 
--- so with each call in the log of a seat
-abbrev pub LogsAnswer : Type 0
-LogsAnswer =
-    (layout : Layout) (items : List Item) (k : ℕ) (before later : List Group) (group : Group)
-    → is_valid layout ≡ true
-    → ((world_of layout items).seat k).log ≡ before ++ group ∷ later
-    → IsAnswered layout.config k (record_of layout items) before group
-
--- each call in the log of a seat has taken the steps that the law allows it with its answer, where so many rows went back in it as its
--- notes tell
-abbrev pub LogsTakeFewSteps : Type 0
-LogsTakeFewSteps =
-    (layout : Layout) (items : List Item) (k : ℕ) (before later : List Group) (group : Group)
-    → is_valid layout ≡ true
-    → ((world_of layout items).seat k).log ≡ before ++ group ∷ later
-    → steps_right layout.config group.call (length group.notes.back) group.answer group.notes.steps ≡ true
-
--- a scan answers how many rows went back in it: as many as its notes tell
-abbrev pub ScansTellBacks : Type 0
-ScansTellBacks =
-    (layout : Layout) (items : List Item) (k : ℕ) (before later : List Group) (kept back : ℕ) (notes : Notes)
-    → is_valid layout ≡ true
-    → ((world_of layout items).seat k).log ≡ before ++ record { call = calls.Scan; answer = answers.Scanned kept back; notes = notes } ∷ later
-    → length notes.back ≡ back
-
--- the first call that a seat ends after a World in which it is in none, by the counts in that World's record
-abbrev pub CallsAnswer : Type 0
-CallsAnswer =
-    (layout : Layout) (items more : List Item) (k : ℕ) (later : List Group) (group : Group)
-    → is_valid layout ≡ true
-    → is_busy (world_of layout items) k ≡ false
-    → ((world_of layout (items ++ more)).seat k).log ≡ ((world_of layout items).seat k).log ++ group ∷ later
-    → Says layout.config (counts_of (record_of layout items)) (record_of layout (items ++ more)) group.call group.answer
-
--- a hold that finds nothing: its seat had seen no version of that bucket
-abbrev pub HoldsSeeNothing : Type 0
-HoldsSeeNothing =
-    (layout : Layout) (items : List Item) (k : ℕ) (before later : List Group) (key : ℕ) (notes : Notes)
-    → is_valid layout ≡ true
-    → ((world_of layout items).seat k).log ≡ before ++ record { call = calls.Hold key; answer = answers.Nothing; notes = notes } ∷ later
-    → seen_in layout.config.buckets (bucket_of layout.config.buckets key) before ≡ 0
-
--- the group stands in the log
-pub record IsIn (log : List Group) (group : Group) : Type 0 where
-  pub before : List Group
-  pub later : List Group
-  pub cut : log ≡ before ++ group ∷ later
-
--- A get at the version of a change that is done, of the same seat or of another, tells what the change left: its own key's value, or
--- none where it was removed, and for another key what the version before had.
-pub record ChangesAreRead : Type 0 where
-  pub puts :
-      (layout : Layout) (items : List Item) (k m : ℕ) (key value other version : ℕ) (clock : ClockMove) (found : Option ℕ) (put get : Notes)
-      → is_valid layout ≡ true
-      → bucket_of layout.config.buckets other ≡ bucket_of layout.config.buckets key
-      → IsIn ((world_of layout items).seat k).log (record { call = calls.Put key value; answer = answers.Done version clock; notes = put })
-      → IsIn ((world_of layout items).seat m).log (record { call = calls.Get other; answer = answers.Got version found; notes = get })
-      → found ≡ (if key == other then Some value else value_at (bucket_of layout.config.buckets key) (version - 1) other (record_of layout items))
-  pub puts_at :
-      (layout : Layout) (items : List Item) (k m : ℕ) (key value wanted other version : ℕ) (clock : ClockMove) (found : Option ℕ) (put get : Notes)
-      → is_valid layout ≡ true
-      → bucket_of layout.config.buckets other ≡ bucket_of layout.config.buckets key
-      → IsIn ((world_of layout items).seat k).log (record { call = calls.PutIf key value wanted; answer = answers.Done version clock; notes = put })
-      → IsIn ((world_of layout items).seat m).log (record { call = calls.Get other; answer = answers.Got version found; notes = get })
-      → found ≡ (if key == other then Some value else value_at (bucket_of layout.config.buckets key) (version - 1) other (record_of layout items))
-  pub removes :
-      (layout : Layout) (items : List Item) (k m : ℕ) (key other version : ℕ) (clock : ClockMove) (found : Option ℕ) (removal get : Notes)
-      → is_valid layout ≡ true
-      → bucket_of layout.config.buckets other ≡ bucket_of layout.config.buckets key
-      → IsIn ((world_of layout items).seat k).log (record { call = calls.Remove key; answer = answers.Done version clock; notes = removal })
-      → IsIn ((world_of layout items).seat m).log (record { call = calls.Get other; answer = answers.Got version found; notes = get })
-      → found ≡ (if key == other then None else value_at (bucket_of layout.config.buckets key) (version - 1) other (record_of layout items))
-
--- two gets of a key at one version, of one seat or of two, tell the same
-abbrev pub GetsAgree : Type 0
-GetsAgree =
-    (layout : Layout) (items : List Item) (k m : ℕ) (key version : ℕ) (found again : Option ℕ) (one two : Notes)
-    → is_valid layout ≡ true
-    → IsIn ((world_of layout items).seat k).log (record { call = calls.Get key; answer = answers.Got version found; notes = one })
-    → IsIn ((world_of layout items).seat m).log (record { call = calls.Get key; answer = answers.Got version again; notes = two })
-    → found ≡ again
-
 -- the log of a seat begins with what it was after the first items
 pub record Extends (first last : List Group) : Type 0 where
   pub more : List Group
   pub cut : last ≡ first ++ more
 
-abbrev pub LogsGrow : Type 0
-LogsGrow =
-    (layout : Layout) (items more : List Item) (k : ℕ)
-    → is_valid layout ≡ true
-    → Extends ((world_of layout items).seat k).log ((world_of layout (items ++ more)).seat k).log
-
 -- what a log has met, with one call more
 abbrev pub LogsExtend : Type 0
 LogsExtend = (buckets : ℕ) (log : List Group) (group : Group) → met_in buckets (log ++ group ∷ []) ≡ met_by buckets group.call group.answer (met_in buckets log)
-
--- what a seat has met is no more than the record counts
-abbrev pub LogsMeet : Type 0
-LogsMeet =
-    (layout : Layout) (items : List Item) (k : ℕ)
-    → is_valid layout ≡ true
-    → AtMost (met_in layout.config.buckets ((world_of layout items).seat k).log) (counts_of (record_of layout items))
-
--- and it never falls
-abbrev pub LogsRise : Type 0
-LogsRise =
-    (layout : Layout) (items more : List Item) (k : ℕ)
-    → is_valid layout ≡ true
-    → AtMost (met_in layout.config.buckets ((world_of layout items).seat k).log) (met_in layout.config.buckets ((world_of layout (items ++ more)).seat k).log)

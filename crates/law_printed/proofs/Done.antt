@@ -16,7 +16,7 @@ use Rattle.wfe_server_replay.specs.Given.{Given, given_out, given_record, lines_
 use Rattle.wfe_server_replay.specs.Replay.{IsReplayed}
 use Rattle.wfe_server_replay.specs.Sunk.{Outside}
 use Rattle.wfe_server_replay.specs.Watched.{WatchersFit, watch_text}
-use Rattle.law_versions.specs.Versions.{AreOf}
+use Rattle.law_versions.specs.Versions.{AreOf, HasScheme}
 use Rattle.laws.specs.HistoryTable.{guards_ok, ranges_ok}
 use Rattle.wfe_defs.specs.Entry.{Entry, entry}
 use Rattle.wfe_defs.specs.declared.call.Call.{Call}
@@ -24,10 +24,13 @@ use Rattle.laws.specs.records.Record.{Past, tells}
 use Rattle.laws.specs.records.Record.Past.{Start, Then}
 use Rattle.laws.specs.words.Config.{bad_field}
 use Rattle.laws.specs.words.declared.config.Config.{Config}
+use Rattle.laws.specs.words.declared.config.SchemeKind.{SchemeKind}
+use Rattle.laws.specs.words.declared.config.SchemeKind.TheVariants.{He, Hp, Ibr, Wfe}
 use Rattle.wfe_server_out.proofs.Sizes.{sized_along}
 use Rattle.wfe_server_out.proofs.Texts.{heard_of-append, text_of-append}
 use Rattle.wfe_outside.specs.declared.watcher.WatchRow.{WatchRow}
 use Rattle.wfe_trace.specs.Record.{header_line}
+use Rattle.wfe_trace.specs.Setting.{scheme_version}
 use Rattle.law_printed.specs.Printed.{IsKept, IsPutOut, PrintsLawful, WritesLawful}
 use Rattle.law_printed.proofs.First.{history_good}
 use Rattle.law_printed.proofs.Pieces.{AreIn, entries_in, printed_of, texts_along}
@@ -66,8 +69,15 @@ body_text given watched =
 body_past : (given : Given) (watched text : List ℕ) → IsPutOut given watched text → past_of (body_of given watched) ≡ given_record given
 body_past given watched text is = ap (tells Start) (body_heard given watched ∙ is.record_is) ∙ tells_all (given_record given)
 
+-- a later version has the schemes of the earlier ones
+has_scheme : (version : ℕ) (scheme : SchemeKind) → scheme_version scheme ≤ version → HasScheme version scheme
+has_scheme version Hp h = h
+has_scheme version He h = tt
+has_scheme version Ibr h = tt
+has_scheme version Wfe h = tt
+
 all_of : (given : Given) (watched text : List ℕ) → IsPutOut given watched text → AreOf given.version (given_record given)
-all_of given watched text is = records_are_of given.version given.config (given_record given) is.kept.laws is.begins.versions
+all_of given watched text is = records_are_of given.version given.config (given_record given) (has_scheme given.version given.config.scheme is.versions.scheme) is.kept.laws is.begins.versions
 
 body_printed : (given : Given) (watched text : List ℕ) → IsPutOut given watched text → ArePrinted given.version given.config (body_of given watched)
 body_printed given watched text is =
@@ -86,6 +96,7 @@ whole_of given watched text is short = record {
   last = is.versions.last;
   within = is.config;
   pairs = is.versions.pairs;
+  known = is.versions.scheme;
   printed = body_printed given watched text is;
   is = is.is ∙ body_text given watched;
   short = short;

@@ -1,16 +1,16 @@
 -- An event is one of a record of the version and the setting, where its numbers have the bits of their types, it names what the setting
 -- has, and the version has it.
-use Rattle.std.proofs.Common.{◌≡◌, ◌&&◌, ℕ, Bool, false, true, Option, None, Some, arith, nat_le, refl}
+use Rattle.std.proofs.Common.{◌≡◌, ℕ, true, Option, None, Some, arith, nat_le}
 use Rattle.std.proofs.lemmas.Bool.Decides.{nat_tests}
 use Rattle.wfe_defs.proofs.Facts.{first_of}
 use Rattle.wfe_check_printed.specs.lines.out.Sizes.{AnswerSized, CallSized, ClockSized, EventSized, SpanSized}
 use Rattle.wfe_check_printed.specs.lines.records.Entry.{IsEvent}
 use Rattle.wfe_check_printed.specs.lines.records.record_answers.Answers.{IsAnswer, IsClock}
 use Rattle.wfe_check_printed.specs.lines.records.record_calls.Calls.{IsCall}
-use Rattle.wfe_check_printed.specs.lines.records.record_words.Within.{IsGuard, IsRoot, IsSpan}
+use Rattle.wfe_check_printed.specs.lines.records.record_words.Within.{IsGuard, IsRoot, IsShown, IsSpan}
 use Rattle.law_printed.specs.Versions.{CallNames}
 use Rattle.law_versions.specs.Versions.{HasAnswer, HasCall, HasEvent}
-use Rattle.laws.specs.HistoryTable.{is_answer, is_guard, is_guarded, is_in_range, is_root}
+use Rattle.laws.specs.HistoryTable.{is_answer, is_guard, is_guarded, is_in_range, is_root, is_row_or_none}
 use Rattle.wfe_defs.specs.declared.call.Answer.{Answer}
 use Rattle.wfe_defs.specs.declared.call.Answer.TheVariants as answers
 use Rattle.wfe_defs.specs.declared.call.Call.{Call}
@@ -35,6 +35,10 @@ guard_of : (config : Config) (guard : Guard) → is_guard config guard ≡ true 
 guard_of config (guards.Helper seat) h = grind (arith, nat_tests)
 guard_of config (guards.Index seat index) h = (grind (arith, nat_tests), grind (arith, nat_tests))
 guard_of config (guards.Whole seat) h = grind (arith, nat_tests)
+
+row_of : (config : Config) (slot : Option ℕ) → is_row_or_none config slot ≡ true → IsShown config slot
+row_of config None h = tt
+row_of config (Some slot) h = grind (arith, nat_tests)
 
 span_of : (span : Option Interval) → SpanSized span → IsSpan span
 span_of None h = tt
@@ -99,6 +103,8 @@ event_of version config (events.End steps answer) sized names told guarded has =
 event_of version config (events.Era era) sized names told guarded has = sized
 event_of version config (events.Reserve guard span) sized names told guarded has = (guard_of config guard guarded, span_of span sized.1)
 event_of version config (events.Read guard span) sized names told guarded has = (guard_of config guard guarded, span_of span sized.1)
+event_of version config (events.Hazard guard slot) sized names told guarded has = (has, guard_of config guard guarded, row_of config slot told)
+event_of version config (events.Saw guard slot) sized names told guarded has = (has, guard_of config guard guarded, row_of config slot told)
 event_of version config (events.Give slot birth) sized names told guarded has = (grind (arith, nat_tests), sized.1)
 event_of version config (events.Unused slot) sized names told guarded has = grind (arith, nat_tests)
 event_of version config (events.Link root slot) sized names told guarded has =

@@ -10,6 +10,7 @@ use Rattle.laws.specs.HistoryHolds.{IndexLaw, indexes_ok, protects_at}
 use Rattle.laws.specs.HoldLaw.{guards_rest, indexes_rest, index_rests, is_alike, keeps_none, rests_ok, words_rest}
 use Rattle.laws.specs.Laws.{Laws}
 use Rattle.laws.specs.StateAt.{began_of, is_bare, is_empty, standing_by, standing_of, value_of, without_row}
+use Rattle.wfe_defs.specs.Shown.{shown}
 use Rattle.wfe_defs.specs.declared.call.Call.{Call}
 use Rattle.wfe_defs.specs.declared.call.Call.TheVariants as calls
 use Rattle.wfe_defs.specs.declared.event.Event.{Event}
@@ -19,6 +20,7 @@ use Rattle.laws.specs.records.Record.{Each, Past}
 use Rattle.laws.specs.records.Record.Past.{Start, Then}
 use Rattle.laws.specs.words.Schemes.{has_one_interval}
 use Rattle.laws.specs.words.declared.config.Config.{Config}
+use Rattle.laws.specs.words.declared.config.SchemeKind.{SchemeKind}
 use Rattle.laws.proofs.records.Entries.{each_of_entries, entries_of_each}
 
 low : (call : Option Call) (index : ℕ) → protects_at call index ≡ true → index ≤ 2
@@ -72,11 +74,11 @@ keeps_first i p (suc n) high bare = elim (cases_lt 2 n) [
   | inr last ↦ let here : suc n ≡ 3 = omega (arith, high, last) in ap (keeps_none i p) here
 ]
 
-rest_first : (i : ℕ) (p : Past) (n : ℕ) → 3 ≤ n → indexes_rest i p n ≡ true → indexes_rest i p 3 ≡ true
-rest_first i p zero high h = absurd (omega (arith, high))
-rest_first i p (suc n) high h = elim (cases_lt 2 n) [
-  | inl more ↦ rest_first i p n (omega (arith, more)) (rest_of (index_rests i p n) (indexes_rest i p n) h)
-  | inr last ↦ let here : suc n ≡ 3 = omega (arith, high, last) in subst (λ m. indexes_rest i p m ≡ true) here h
+rest_first : (scheme : SchemeKind) (i : ℕ) (p : Past) (n : ℕ) → 3 ≤ n → indexes_rest scheme i p n ≡ true → indexes_rest scheme i p 3 ≡ true
+rest_first scheme i p zero high h = absurd (omega (arith, high))
+rest_first scheme i p (suc n) high h = elim (cases_lt 2 n) [
+  | inl more ↦ rest_first scheme i p n (omega (arith, more)) (rest_of (index_rests scheme i p n) (indexes_rest scheme i p n) h)
+  | inr last ↦ let here : suc n ≡ 3 = omega (arith, high, last) in subst (λ m. indexes_rest scheme i p m ≡ true) here h
 ]
 
 and_first : (a b c : Bool) → (b ≡ true → c ≡ true) → (a && b) ≡ true → (a && c) ≡ true
@@ -89,9 +91,9 @@ either false a b c d f g h = g h
 
 guards_first : (config : Config) (i : ℕ) (p : Past) → 3 ≤ config.indexes → ((j : ℕ) → 3 ≤ j → standing_of i j p ≡ []) → guards_rest config i p ≡ true → guards_rest (record config { indexes = 3 }) i p ≡ true
 guards_first config i p high bare h =
-    either (has_one_interval config.scheme) (is_alike (value_of (Whole i) p) (keeps_none i p config.indexes)) (words_rest config i p) (is_alike (value_of (Whole i) p) (keeps_none i p 3)) (words_rest (record config { indexes = 3 }) i p)
-    (λ spans. subst (λ b. is_alike (value_of (Whole i) p) b ≡ true) (keeps_first i p config.indexes high bare) spans)
-    (and_first (is_none (value_of (Helper i) p)) (indexes_rest i p config.indexes) (indexes_rest i p 3) (rest_first i p config.indexes high))
+    either (has_one_interval config.scheme) (is_alike (shown (value_of (Whole i) p)) (keeps_none i p config.indexes)) (words_rest config i p) (is_alike (shown (value_of (Whole i) p)) (keeps_none i p 3)) (words_rest (record config { indexes = 3 }) i p)
+    (λ spans. subst (λ b. is_alike (shown (value_of (Whole i) p)) b ≡ true) (keeps_first i p config.indexes high bare) spans)
+    (and_first (is_none (value_of (Helper i) p)) (indexes_rest config.scheme i p config.indexes) (indexes_rest config.scheme i p 3) (rest_first config.scheme i p config.indexes high))
     h
 
 end_first : (config : Config) (i : ℕ) (p : Past) (event : Event) → 3 ≤ config.indexes → Each indexes_ok p → AreOf 1 p → rests_ok config p i event ≡ true → rests_of 1 config p i event ≡ true

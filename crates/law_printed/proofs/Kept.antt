@@ -20,7 +20,7 @@ use Rattle.wfe_trace.specs.declared.reason.Reason.TheVariants as reasons
 use Rattle.wfe_trace.specs.Body.{command_in}
 use Rattle.wfe_trace.specs.Good.{IsRead, is_body, version_of}
 use Rattle.wfe_trace.specs.Reading.{IsVersioned, Reading, gives_pairs, judged, judged_at, stage_after, version_after}
-use Rattle.wfe_trace.specs.Setting.{pairs_in, number_line, scheme_line, version_line}
+use Rattle.wfe_trace.specs.Setting.{pairs_in, number_line, scheme_known, scheme_version, version_line}
 use Rattle.wfe_trace.specs.Words.{need, words}
 use Rattle.wfe_trace.proofs.Judged.{both_good, judged-read}
 use Rattle.wfe_trace.proofs.Versions.{begins-version}
@@ -54,7 +54,7 @@ same_item r a item found is_a is_item says = let same : a ≡ item = cc in subst
 
 says_at : (stage : Stage) (r : Reading) (bytes : List ℕ) (item : Item) → judged_at stage r bytes ≡ Ok item → SaysAt r item
 says_at stages.First r bytes item h = let (version, _, g) = both_good (version_line bytes) _ item h in same_item r items.Setting item _ refl g tt
-says_at stages.Scheme r bytes item h = let (scheme, _, g) = both_good (scheme_line (words bytes)) _ item h in same_item r items.Setting item _ refl g tt
+says_at stages.Scheme r bytes item h = let (scheme, _, g) = both_good (scheme_known r.version (words bytes)) _ item h in same_item r items.Setting item _ refl g tt
 says_at (stages.Number field) r bytes item h = let (number, _, g) = both_good (number_line field (words bytes)) _ item h in same_item r items.Setting item _ refl g tt
 says_at stages.Begin r bytes item h =
     let (u, _, g) = both_good (need (bytes_eq bytes (codes "begin")) reasons.Config) _ item h in
@@ -81,7 +81,7 @@ lines_more version [] line h g = (g, tt)
 lines_more version (first ∷ lines) line h g = (h.0, lines_more version lines line h.1 g)
 
 given_more : (given : Given) (line : Command) → IsOfVersion given → CallsSuch (HasCall given.version) line → IsOfVersion (with_line line given)
-given_more given line h g = record { first = h.first; last = h.last; pairs = h.pairs; calls = lines_more given.version given.lines line h.calls g }
+given_more given line h g = record { first = h.first; last = h.last; pairs = h.pairs; scheme = h.scheme; calls = lines_more given.version given.lines line h.calls g }
 
 -- the lines so far are of the version that was read
 abbrev KeptAt : (stage : Stage) (version : ℕ) → Option Given → Type 0
@@ -101,10 +101,11 @@ none_kept stage after version next (Some given) e h = absurd (true≢false (sym 
 ready_kept : (p : Progress Given) (version : ℕ) (config : Config) (bytes : List ℕ) → IsRead p.reading p.reading.stage bytes (items.Ready version config) → SaysAt p.reading (items.Ready version config) → IsVersioned p.reading.version p.reading.config
     → KeptAt (stage_after p.reading.stage) (version_after p.reading.stage p.reading.version bytes) (Some (no_lines version config))
 ready_kept p version config bytes read says v =
-    let pairs : config.pairs ≡ pairs_in version = ap (λ (c : Config). c.pairs) says.1 ∙ v.2 ∙ sym (ap pairs_in says.0) in (
+    let pairs : config.pairs ≡ pairs_in version = ap (λ (c : Config). c.pairs) says.1 ∙ v.2 ∙ sym (ap pairs_in says.0) in
+    let known : scheme_version config.scheme ≤ version = subst (λ (n : ℕ). scheme_version config.scheme ≤ n) (sym says.0) (subst (λ (c : Config). scheme_version c.scheme ≤ p.reading.version) (sym says.1) v.3) in (
       read.placed.1,
       says.0 ∙ version_stays p.reading.stage p.reading.version bytes read.placed.1,
-      record { first = subst (λ (n : ℕ). 1 ≤ n) (sym says.0) v.0; last = subst (λ (n : ℕ). n ≤ 4) (sym says.0) v.1; pairs = pairs; calls = tt },
+      record { first = subst (λ (n : ℕ). 1 ≤ n) (sym says.0) v.0; last = subst (λ (n : ℕ). n ≤ 5) (sym says.0) v.1; pairs = pairs; scheme = known; calls = tt },
     )
 
 -- a line of the body
@@ -186,7 +187,7 @@ finished_kept makes (Ok p) k = end_kept (after_last (keeper makes) p) (last_kept
 finished_kept makes (Err bad) k = tt
 
 start_kept : Kept (progress_start modes.Replay)
-start_kept = record { plain = refl; versioned = (omega arith, omega arith, refl); given = tt }
+start_kept = record { plain = refl; versioned = (omega arith, omega arith, refl, omega arith); given = tt }
 
 whole_kept : (makes : Call → Bool) (bytes : List ℕ) → KeptIn (whole makes bytes)
 whole_kept makes bytes = finished_kept makes (after_bytes (keeper makes) (Ok (progress_start modes.Replay)) bytes) (bytes_kept makes (Ok (progress_start modes.Replay)) bytes start_kept)

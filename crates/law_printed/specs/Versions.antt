@@ -1,11 +1,11 @@
--- The version of the lines that a trace gives, its pairs, and the calls that it has.
+-- The version of the lines that a trace gives, its pairs, and the schemes and the calls that it has.
 use Rattle.std.specs.Prelude.{ℕ, ◌<◌, ◌≤◌, ◌≡◌, Bool, List, [], ◌∷◌, Ok, Some}
 use Rattle.law_versions.specs.Versions.{BeginsAll, BeginsOf, HasCall}
 use Rattle.law_versions.specs.laws.defs.declared.call.Call.{Call}
 use Rattle.law_versions.specs.laws.defs.declared.call.Call.TheVariants as calls
 use Rattle.law_versions.specs.laws.defs.declared.command.Command.{Command}
 use Rattle.law_versions.specs.laws.defs.declared.command.Command.TheVariants as commands
-use Rattle.wfe_trace.specs.Setting.{pairs_in}
+use Rattle.wfe_trace.specs.Setting.{pairs_in, scheme_version}
 use Rattle.wfe_trace.specs.words.declared.config.Config.{Config}
 use Rattle.wfe_server_replay.specs.Given.{Given, IsTaken, given_record}
 use Rattle.wfe_server_replay.specs.Replay.{whole}
@@ -25,11 +25,12 @@ CallAll such (line ∷ lines) = CallsSuch such line × CallAll such lines
 abbrev pub HasLines : (version : ℕ) → List Command → Type 0
 HasLines version lines = CallAll (HasCall version) lines
 
--- lines of a version that is read, with its number of pairs, and with calls that it has
+-- lines of a version that is read, with its number of pairs, and with a scheme and calls that it has
 pub record IsOfVersion (given : Given) : Type 0 where
   pub first : 1 ≤ given.version
-  pub last : given.version ≤ 4
+  pub last : given.version ≤ 5
   pub pairs : given.config.pairs ≡ pairs_in given.version
+  pub scheme : scheme_version given.config.scheme ≤ given.version
   pub calls : HasLines given.version given.lines
 
 -- so are those of each trace

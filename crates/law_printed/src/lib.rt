@@ -11,8 +11,8 @@ pub fn prints_a_lawful_record()
     ensures { PrintsLawful }
 {}
 
-/// The lines that a trace gives are of a version that is read: their setting has its number of pairs, and they begin
-/// only calls that it has.
+/// The lines that a trace gives are of a version that is read: their setting has its number of pairs and a scheme of it,
+/// and they begin only calls that it has.
 pub fn lines_are_of_their_version()
     ensures { GivenOfVersion }
 {}

@@ -1,4 +1,5 @@
 pub mod Finds
+pub mod Hazards
 pub mod Lists
 pub mod Records
 pub mod Rows

@@ -1,7 +1,7 @@
 pub mod Finds
 pub mod Gets
 pub mod Keeps
-pub mod Losing
+pub mod Opens
 pub mod Paces
 pub mod Records
 pub mod Shift

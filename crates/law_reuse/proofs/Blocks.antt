@@ -1,8 +1,11 @@
 pub mod Calm
 pub mod Counts
 pub mod Found
+pub mod Hazards
 pub mod Keeps
+pub mod Kinds
 pub mod Placed
+pub mod Published
 pub mod Reserves
 pub mod Shown
 pub mod Words

@@ -11,5 +11,6 @@ pub mod Leaving
 pub mod Once
 pub mod OneStep
 pub mod OpenCalls
+pub mod ReadGuards
 pub mod Reuse
 pub mod Turns

@@ -1,17 +1,19 @@
 -- What the record and the turns of each history keep, whatever calls begin and whichever seats make their steps.
-use Rattle.std.specs.Prelude.{List, true, ◌≡◌, ℕ, Some}
+use Rattle.std.specs.Prelude.{List, false, true, ◌≡◌, ℕ, Some}
 use Rattle.inv_all.specs.model.Posts.{stands}
 use Rattle.laws.specs.defs.declared.event.Guard.{Guard}
 use Rattle.laws.specs.words.Place.{is_valid}
 use Rattle.laws.specs.words.declared.layout.Layout.{Layout}
-use Rattle.inv_all.specs.covers.Covers.{eras_shown}
+use Rattle.inv_all.specs.covers.Covers.{eras_shown, shown}
+use Rattle.inv_all.specs.model.Guards.{guard_place, linked_row}
 use Rattle.inv_all.specs.history.History.{Item, record_of, world_of}
 use Rattle.laws.specs.HistoryEras.{BirthLaw}
 use Rattle.laws.specs.HoldLaw.{is_held}
 use Rattle.laws.specs.HistoryHolds.{BareLaw, ReuseLaw}
 use Rattle.laws.specs.HistoryRows.{FreeLaw, BackOnce, ListLaw}
 use Rattle.laws.specs.HistoryScans.{BlockLaw, CountLaw, ReadLaw}
-use Rattle.laws.specs.StateAt.{stood_at, value_of}
+use Rattle.laws.specs.StateAt.{hazard_of, published_at, stood_at, value_of}
+use Rattle.laws.specs.words.Schemes.{publishes_rows}
 
 -- each history's record keeps it, whatever calls begin and whichever seats make their steps
 abbrev pub RecordsKeepReuse : Type 0
@@ -64,7 +66,23 @@ abbrev pub RecordValues : Type 0
 RecordValues =
     (layout : Layout) (items : List Item) (guard : Guard)
     → is_valid layout ≡ true
+    → publishes_rows layout.config.scheme ≡ false
     → value_of guard (record_of layout items) ≡ eras_shown (world_of layout items) guard
+
+-- where rows are published, the row that a guard publishes by the record is that of the link in its word
+abbrev pub RecordHazards : Type 0
+RecordHazards =
+    (layout : Layout) (items : List Item) (guard : Guard)
+    → is_valid layout ≡ true
+    → publishes_rows layout.config.scheme ≡ true
+    → hazard_of guard (record_of layout items) ≡ linked_row ((world_of layout items).mem (guard_place guard))
+
+-- so whatever a guard publishes by the record is what its word shows
+abbrev pub RecordPublishes : Type 0
+RecordPublishes =
+    (layout : Layout) (items : List Item) (guard : Guard)
+    → is_valid layout ≡ true
+    → published_at layout.config.scheme guard (record_of layout items) ≡ shown (world_of layout items) guard
 
 -- each history's record keeps it, whatever calls begin and whichever seats make their steps
 abbrev pub RecordsEndBare : Type 0

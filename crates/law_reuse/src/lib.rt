@@ -7,7 +7,7 @@ ghost use Rattle.law_reuse.specs.Heard.{HistoriesCount};
 ghost use Rattle.law_reuse.specs.MapKept.{RecordsKeepMap};
 ghost use Rattle.law_reuse.specs.Answers.{RecordBooks, RecordPlaces, RecordsKeepAnswers, RecordsKeepQueue, RecordsKeepSteps, RecordsOpenCalls, TurnsTellOne};
 ghost use Rattle.law_reuse.specs.Holds.{AlwaysShown, StandsShown};
-ghost use Rattle.law_reuse.specs.Records.{RecordStands, RecordValues, RecordsCountScans, RecordsEndBare, RecordsGoBackOnce, RecordsHold, RecordsKeepBirths, RecordsKeepLists, RecordsKeepOnce, RecordsKeepReuse, RecordsKeepScans, RecordsReadGuards};
+ghost use Rattle.law_reuse.specs.Records.{RecordHazards, RecordPublishes, RecordStands, RecordValues, RecordsCountScans, RecordsEndBare, RecordsGoBackOnce, RecordsHold, RecordsKeepBirths, RecordsKeepLists, RecordsKeepOnce, RecordsKeepReuse, RecordsKeepScans, RecordsReadGuards};
 ghost use Rattle.law_reuse.specs.Reuse.{NeverReused, NoReuse};
 ghost use Rattle.law_reuse.specs.Rows.{RecordShows};
 
@@ -23,8 +23,8 @@ pub fn never_reused()
     ensures { NeverReused }
 {}
 
-/// A row that stands at an index of a seat is taken, and the guard of that index publishes an
-/// interval that meets the row's life, as the words show them.
+/// A row that stands at an index of a seat is taken, and the guard of that index publishes
+/// what keeps the row's life, as the words show them.
 pub fn stands_shown()
     ensures { StandsShown }
 {}
@@ -102,8 +102,19 @@ pub fn record_values()
     ensures { RecordValues }
 {}
 
-/// A row that stands at an index of a seat is taken, and the guard of that index publishes an
-/// interval that meets the row's life, all as the record says.
+/// Where rows are published, what a guard publishes is the row of its last Hazard by any seat, and
+/// none before the first.
+pub fn record_hazards()
+    ensures { RecordHazards }
+{}
+
+/// Under each scheme what a guard publishes by the record is what its word shows.
+pub fn record_publishes()
+    ensures { RecordPublishes }
+{}
+
+/// A row that stands at an index of a seat is taken, and the guard of that index publishes
+/// what keeps the row's life, all as the record says.
 pub fn records_hold()
     ensures { RecordsHold }
 {}

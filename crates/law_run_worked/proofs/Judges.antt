@@ -11,6 +11,7 @@ use Rattle.law_all.specs.inv.model.defs.Pairs.{pairs_after}
 use Rattle.law_all.specs.inv.model.defs.declared.call.Answer.TheVariants as answers
 use Rattle.law_all.specs.inv.model.defs.declared.call.ClockMove.{ClockMove}
 use Rattle.law_all.specs.inv.model.defs.declared.fold.Change.{Change}
+use Rattle.law_all.specs.inv.model.words.Schemes.{moves}
 use Rattle.law_all.specs.laws.AnswerLaw.{retires_for, suits}
 use Rattle.law_all.specs.laws.StateAt.{bucket_of, is_among, numbered_from, one}
 use Rattle.law_all.specs.logs.Versions.{version_told}
@@ -65,12 +66,12 @@ retires_all run =
 clock_all : (run : Run)
     → Decides (reads run Sentence.Clock)
     ((before : List Group) (group : Group) → law.IsCall run.logs before group
-    → (move : ClockMove) → law.clock_told group.answer ≡ Some move → law.is_still move ≡ (if law.is_due run.config.every before group then false else true))
+    → (move : ClockMove) → law.clock_told group.answer ≡ Some move → law.is_still move ≡ (if law.is_due (moves run.config.scheme) run.config.every before group then false else true))
 clock_all run =
-    decides_call (λ before group. clock_ok (law.clock_told group.answer) (law.is_due run.config.every before group))
+    decides_call (λ before group. clock_ok (law.clock_told group.answer) (law.is_due (moves run.config.scheme) run.config.every before group))
     (λ before group.
-    (move : ClockMove) → law.clock_told group.answer ≡ Some move → law.is_still move ≡ (if law.is_due run.config.every before group then false else true))
-    (λ before group. decides_clock (law.clock_told group.answer) (law.is_due run.config.every before group)) run.logs
+    (move : ClockMove) → law.clock_told group.answer ≡ Some move → law.is_still move ≡ (if law.is_due (moves run.config.scheme) run.config.every before group then false else true))
+    (λ before group. decides_clock (law.clock_told group.answer) (law.is_due (moves run.config.scheme) run.config.every before group)) run.logs
 
 counted_all : (run : Run)
     → Decides (reads run Sentence.Counted)

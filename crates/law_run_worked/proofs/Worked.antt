@@ -5,6 +5,7 @@ use Rattle.std.specs.Prelude.{nat_le, ◌&&◌}
 use Rattle.law_all.proofs.inv.model.Facts.{first_of, rest_of}
 use Rattle.law_run_worked.specs.Crowded.{CrowdedWorked, crowded}
 use Rattle.law_run_worked.specs.Handed.{HandedWorked, handed}
+use Rattle.law_run_worked.specs.Hazards.{HazardsWorked, hazards}
 use Rattle.law_run_worked.specs.Kept.{KeptWorked, kept}
 use Rattle.law_run_worked.specs.Loose.{LooseTaken, loose}
 use Rattle.law_run_worked.specs.Readers.{bullets, takes}
@@ -46,6 +47,12 @@ unfolding halves pending_word answered_word read_request read_reservation read_s
 handed_worked =
     let law = (readers_judge.whole handed (omega arith)).0 refl in
     record { logs = refl; closed = refl; idle = refl; lawful = law; is_run = record { logs = handed.logs; texts = refl; scripts_are = refl; law = law } }
+
+pub hazards_worked : HazardsWorked
+unfolding halves pending_word answered_word read_request read_reservation read_span read_life claim_mask claim_others claim_start number place_at
+hazards_worked =
+    let law = (readers_judge.whole hazards (omega arith)).0 refl in
+    record { logs = refl; closed = refl; idle = refl; lawful = law; is_run = record { logs = hazards.logs; texts = refl; scripts_are = refl; law = law } }
 
 -- each of these runs
 

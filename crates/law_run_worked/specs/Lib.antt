@@ -1,5 +1,6 @@
 pub mod Crowded
 pub mod Handed
+pub mod Hazards
 pub mod Kept
 pub mod Loose
 pub mod Readers

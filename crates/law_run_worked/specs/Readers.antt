@@ -11,6 +11,7 @@ use Rattle.law_all.specs.inv.model.defs.declared.call.Call.TheVariants as calls
 use Rattle.law_all.specs.inv.model.defs.declared.call.ClockMove.{ClockMove}
 use Rattle.law_all.specs.inv.model.defs.declared.fold.Change.{Change}
 use Rattle.law_all.specs.inv.model.defs.declared.fold.Change.TheVariants as changes
+use Rattle.law_all.specs.inv.model.words.Schemes.{moves}
 use Rattle.law_all.specs.inv.model.words.declared.config.Config.{Config}
 use Rattle.law_all.specs.laws.AnswerLaw.{retires_for, suits}
 use Rattle.law_all.specs.laws.StateAt.{bucket_of, is_among, numbered_from, one, same_value}
@@ -364,7 +365,7 @@ reads run Sentence.Suits = each_call (λ before group. suits group.call group.an
 reads run Sentence.Allowed = each_call (λ before group. law.is_allowed run.config.last_version group.answer) run.logs
 reads run Sentence.Full = each_call (λ before group. full_ok group.answer group.notes.given) run.logs
 reads run Sentence.Retires = each_call (λ before group. law.retired_in group == retires_for group.answer) run.logs
-reads run Sentence.Clock = each_call (λ before group. clock_ok (law.clock_told group.answer) (law.is_due run.config.every before group)) run.logs
+reads run Sentence.Clock = each_call (λ before group. clock_ok (law.clock_told group.answer) (law.is_due (moves run.config.scheme) run.config.every before group)) run.logs
 reads run Sentence.Counted = each_call (λ before group. back_ok group.answer (length group.notes.back)) run.logs
 reads run Sentence.Bare = each_call (λ before group. bare_ok (law.is_bare group.call) group.notes.given group.notes.back) run.logs
 reads run Sentence.Buckets = length run.closed.buckets == run.config.buckets

@@ -4,6 +4,7 @@ use Rattle.law_all.specs.inv.model.Desks.{no_notes}
 use Rattle.law_all.specs.inv.model.defs.declared.call.Answer.TheVariants as answers
 use Rattle.law_all.specs.inv.model.defs.declared.call.Call.TheVariants as calls
 use Rattle.law_all.specs.inv.model.defs.declared.call.ClockMove.TheVariants as moves
+use Rattle.law_all.specs.inv.model.words.declared.config.SchemeKind.TheVariants.{Hp}
 use Rattle.law_all.specs.RunLaw.{no_bucket}
 use Rattle.law_run_worked.specs.Crowded.{crowded}
 use Rattle.law_run_worked.specs.Handed.{handed}
@@ -78,6 +79,8 @@ wrong_answers =
     ∷ wrong spent (answering 0 4 (answers.Clock moves.Still) ∷ []) Bullet.Answers (Sentence.Clock ∷ [])
     -- the clock had not to be moved, and was
     ∷ wrong shared (answering 1 0 (answers.Done 2 (moves.Moved 2)) ∷ []) Bullet.Answers (Sentence.Clock ∷ [])
+    -- where no retirement moves the clock, a change did
+    ∷ wrong shared (setting_as (λ c. record c { scheme = Hp }) ∷ []) Bullet.Answers (Sentence.Clock ∷ [])
     -- a scan counts a row that did not go back
     ∷ wrong shared (answering 1 2 (answers.Scanned 1 1) ∷ []) Bullet.Answers (Sentence.Counted ∷ [])
     -- a call for a list answers that its seat leaves, and one by which its seat leaves that it takes a list over

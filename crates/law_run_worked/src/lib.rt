@@ -4,6 +4,7 @@
 
 ghost use Rattle.law_run_worked.specs.Crowded.{CrowdedWorked};
 ghost use Rattle.law_run_worked.specs.Handed.{HandedWorked};
+ghost use Rattle.law_run_worked.specs.Hazards.{HazardsWorked};
 ghost use Rattle.law_run_worked.specs.Kept.{KeptWorked};
 ghost use Rattle.law_run_worked.specs.Loose.{LooseTaken};
 ghost use Rattle.law_run_worked.specs.Readers.{ReadersJudge};
@@ -48,6 +49,11 @@ pub fn kept_rows_are_worked()
 /// A list that a seat leaves goes by way of another seat to a third one.
 pub fn a_list_handed_over_is_worked()
     ensures { HandedWorked }
+{}
+
+/// Under hazard pointers rows are kept while they stand, and changes leave the clock alone.
+pub fn hazards_are_worked()
+    ensures { HazardsWorked }
 {}
 
 /// Runs that are wrong by a sentence on answers: that bullet alone refuses each of them.

@@ -10,17 +10,17 @@ use Rattle.law_reuse.specs.inv.model.Keep as keeps
 use Rattle.law_reuse.specs.inv.model.Phases.Base.{Clear}
 use Rattle.law_reuse.specs.inv.model.Posts.{standing_from}
 use Rattle.law_reuse.specs.inv.model.Rounds.{scheme_of}
-use Rattle.law_reuse.specs.laws.words.Schemes.{has_one_interval}
+use Rattle.law_reuse.specs.laws.words.Schemes.{has_one_interval, publishes_rows}
 
 -- a seat that leaves lets go of what stands, by one index after the other or with its interval, and then marks its place
 pub record Parts (P : Phase → Type 0) : Type 0 where
-  pub clears : (index : ℕ) → P (Runs (Releases (Parting index)) (Clear index))
+  pub clears : (rows : Bool) (index : ℕ) → P (Runs (Releases (Parting index)) (Clear rows index))
   pub hides : P (Works (Keeping HideSpan))
   pub marks : P (Works (Keeping MarkLeft))
 
-by_index : (P : Phase → Type 0) → Parts P → (x : Option ℕ) → P (keeps.parting_index x)
-by_index P c None = c.marks
-by_index P c (Some index) = c.clears index
+by_index : (P : Phase → Type 0) → Parts P → (rows : Bool) (x : Option ℕ) → P (keeps.parting_index rows x)
+by_index P c rows None = c.marks
+by_index P c rows (Some index) = c.clears rows index
 
 by_span : (P : Phase → Type 0) → Parts P → (x : Option Interval) → P (keeps.parting_span x)
 by_span P c None = c.marks
@@ -28,7 +28,7 @@ by_span P c (Some span) = c.hides
 
 -- from an index on
 pub parts_on : (P : Phase → Type 0) → Parts P → (index : ℕ) (post : Post) → P (keeps.parting_from index post)
-parts_on P c index post = by_index P c (standing_from index (drop index post.standing))
+parts_on P c index post = by_index P c (publishes_rows (scheme_of post)) (standing_from index (drop index post.standing))
 
 -- where the call begins
 pub parts_all : (P : Phase → Type 0) → Parts P → (post : Post) → P (keeps.parting post)

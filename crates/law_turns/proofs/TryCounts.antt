@@ -1,9 +1,9 @@
 -- Under Hazard Eras a protection's number is that of its tries.
 use Rattle.std.proofs.Common.{ℕ, ◌≡◌, ◌<◌, ◌+◌, Bool, true, false, List, [], ◌∷◌, ◌++◌, refl, ap, ◌∙◌, arith}
 use Rattle.std.proofs.lemmas.Bool.Decides.{nat_tests}
-use Rattle.std.specs.Prelude.{◌==◌, ◌&&◌, ◌||◌, ◌*◌, not, nat_le, if◌then◌else◌}
+use Rattle.std.specs.Prelude.{◌==◌, ◌&&◌, ◌*◌, not, nat_le, if◌then◌else◌}
 use Rattle.law_reuse.specs.laws.words.declared.config.SchemeKind.{SchemeKind}
-use Rattle.law_reuse.specs.laws.words.declared.config.SchemeKind.TheVariants.{He, Ibr, Wfe}
+use Rattle.law_reuse.specs.laws.words.declared.config.SchemeKind.TheVariants.{He, Hp, Ibr, Wfe}
 use Rattle.law_reuse.specs.laws.words.declared.layout.Layout.{Layout}
 use Rattle.law_reuse.specs.laws.defs.declared.event.Event.{Event}
 use Rattle.law_reuse.specs.laws.defs.declared.event.Event.TheVariants as events
@@ -17,12 +17,15 @@ use Rattle.law_reuse.specs.inv.model.Protect.{held_post, told_held, concluded}
 use Rattle.law_reuse.specs.inv.model.Rounds.{scheme_of, clear_told, index_of}
 use Rattle.law_reuse.specs.inv.model.World.{World, finds, is_busy, offered, told_in}
 use Rattle.law_reuse.specs.inv.model.Phases.{Aim, ProtectAt, Base, Turn, ends}
-use Rattle.law_reuse.specs.inv.model.Phases.ProtectAt.{CheckClock, CheckOwnClock, AnswerOwn, TakeAnswer, WithdrawHelper, LoadWithin, CheckUpper, RaiseUpper}
+use Rattle.law_reuse.specs.inv.model.Phases.ProtectAt.{CheckClock, CheckOwnClock, AnswerOwn, TakeAnswer, WithdrawHelper, LoadWithin, CheckUpper, RaiseUpper, ByHazard}
 use Rattle.law_reuse.specs.inv.model.Phases.Base.{Begin, Protect, Reload, Release}
 use Rattle.law_reuse.specs.inv.model.Phases.Ending.{Followed}
 use Rattle.law_reuse.specs.inv.model.Calls.{Task, Gets, Changes, Holds, Enqueues, Dequeues, Why, Opens, FollowsHead, ReadGuard, GiveBack, Phase, Idle, Runs, Scans, Works}
 use Rattle.law_reuse.proofs.laws.records.defs.Facts.{both, first_of, rest_of, false_not_true, and_true, three_more, le_of_test}
-use Rattle.law_reuse.specs.laws.words.Schemes.{is_ibr, is_he}
+use Rattle.law_reuse.specs.laws.words.Schemes.{is_ibr, is_he, publishes_rows}
+use Rattle.law_reuse.specs.inv.model.Guards.{guard_at}
+use Rattle.law_reuse.proofs.ReadGuards.{reads_are}
+use Rattle.law_turns.proofs.Counting.Protects.{rows_not_he}
 use Rattle.law_reuse.specs.inv.shapes.Seats.{protects, reloads, kind_of, index_by, root_by}
 use Rattle.law_reuse.proofs.history.Passes.{Closed, First, step_goes, work_told}
 use Rattle.law_reuse.specs.laws.records.Turns as schedule
@@ -34,8 +37,8 @@ use Rattle.law_reuse.specs.laws.StepLaw.{event_tried}
 use Rattle.law_turns.specs.Records.{TriesCount}
 use Rattle.law_reuse.proofs.OneStep.Along.{Around, Kept, history_keeps}
 use Rattle.law_turns.proofs.Counting.Counting.{Keeps, published, since_of, seat_of, published_here, begin_kept, step_kept, first_kept}
-use Rattle.law_turns.proofs.Counting.Fits.{since, tried}
-use Rattle.law_turns.proofs.Counting.Passing.{he_tried, or_he}
+use Rattle.law_turns.proofs.Counting.Fits.{reload_paced, since, tried}
+use Rattle.law_turns.proofs.Counting.Passing.{he_tried, reload_he}
 use Rattle.law_turns.proofs.Counting.Protects.{Site, x_next}
 use Rattle.law_turns.proofs.Counting.Runs.{x_after, phase_x, Stage, Seat, bump_low, site_of, stage_of}
 use Rattle.law_reuse.proofs.history.MayTell.{concluded_told, held_any, is_find, no_find, work_all}
@@ -103,9 +106,10 @@ protect_tried x u buckets why aim index root steps n count (WithdrawHelper link 
 protect_tried x u buckets why aim index root steps n count LoadWithin post found e s = absurd (false_not_true (is_ibr (scheme_of post)) s.scheme s.fits)
 protect_tried x u buckets why aim index root steps n count (CheckUpper link) post found e s = absurd (false_not_true (is_ibr (scheme_of post)) s.scheme s.fits)
 protect_tried x u buckets why aim index root steps n count (RaiseUpper era) post found e s = absurd (false_not_true (is_ibr (scheme_of post)) s.scheme s.fits)
+protect_tried x u buckets why aim index root steps n count (ByHazard at) post found e s = absurd (false_not_true (is_he (scheme_of post)) (rows_not_he (scheme_of post) s.fits) e)
 protect_tried x u buckets why aim index root steps n count at post found e s = refl
 
-reload_index : (why : Why) → reloads (kind_of why) ≡ true → (index_by why == 1) ≡ true
+pub reload_index : (why : Why) → reloads (kind_of why) ≡ true → (index_by why == 1) ≡ true
 reload_index (FollowsHead head tail) h = refl
 reload_index why h = absurd (cc)
 
@@ -116,9 +120,9 @@ run_tried : (x u : ℕ → ℕ) (layout : Layout) (why : Why) (base : Base) (pos
 run_tried x u layout why (Begin at) post found count e s = absurd (false_not_true (is_ibr layout.config.scheme) s.scheme s.run.fits)
 run_tried x u layout why (Protect aim index root made at) post found count e s = protect_tried x u layout.config.buckets why aim index root made (bump made) count at post found e (site_of layout why aim index root made at post found count s)
 run_tried x u layout why (Reload parent index slot era made) post found count e s =
-    let o : (nat_le made count && (not (is_he (scheme_of post)) || made == 3 * x index + 1)) ≡ true = rest_of (since made (x index) (u index)) (nat_le made count && (not (is_he (scheme_of post)) || made == 3 * x index + 1)) s.own in
-    let f : nat_le made count ≡ true = first_of (nat_le made count) (not (is_he (scheme_of post)) || made == 3 * x index + 1) o in
-    let m : (made == 3 * x index + 1) ≡ true = or_he (is_he (scheme_of post)) (made == 3 * x index + 1) (rest_of (nat_le made count) (not (is_he (scheme_of post)) || made == 3 * x index + 1) o) e in
+    let o : (nat_le made count && reload_paced (scheme_of post) made (x index)) ≡ true = rest_of (since made (x index) (u index)) (nat_le made count && reload_paced (scheme_of post) made (x index)) s.own in
+    let f : nat_le made count ≡ true = first_of (nat_le made count) (reload_paced (scheme_of post) made (x index)) o in
+    let m : (made == 3 * x index + 1) ≡ true = reload_he (scheme_of post) made (x index) (rest_of (nat_le made count) (reload_paced (scheme_of post) made (x index)) o) e in
     let b : bump made ≡ made + 1 = bump_low made count (le_of_test made count f) s.low in
     let r = s.run in
     let a = r.shape in
@@ -131,9 +135,9 @@ run_tried x u layout why base post found count e s = unfound_tried (x_after x ba
 turn_tried : (x u : ℕ → ℕ) (layout : Layout) (i : ℕ) (phase : Phase) (post : Post) (found : ℕ) → is_he (scheme_of post) ≡ true → Seat x u layout i phase post → First (λ p told. events_tried (λ j. phase_x phase j (x j)) told ≡ true) phase (counted post) found
 turn_tried x u layout i Idle post found e s = refl
 turn_tried x u layout i (Runs why base) post found e s = run_tried x u layout why base (counted post) found post.steps e (stage_of x u layout i why base post found s)
-turn_tried x u layout i (Scans later (ReadGuard number)) post found e s = refl
+turn_tried x u layout i (Scans later (ReadGuard number)) post found e s = reads_are (λ event. events_tried x (event ∷ []) ≡ true) (publishes_rows (scheme_of post)) (guard_at post.layout.config number) found (λ span. refl) (λ slot. refl)
 turn_tried x u layout i (Scans later (GiveBack place slot)) post found e s = refl
-turn_tried x u layout i (Works work) post found e s = unfound_tried (λ j. phase_x (Works work) j (x j)) (work_told work (counted post)) (work_all (λ event. not (is_find event)) (λ index slot. refl) (λ from index slot. refl) (λ seat index era. refl) (λ seat. refl) work (counted post))
+turn_tried x u layout i (Works work) post found e s = unfound_tried (λ j. phase_x (Works work) j (x j)) (work_told work (counted post)) (work_all (λ event. not (is_find event)) (λ index slot. refl) (λ from index slot. refl) (λ seat index era. refl) (λ seat. refl) (λ seat index link. refl) work (counted post))
 
 event_same : (x y : ℕ → ℕ) (event : Event) → ((j : ℕ) → y j ≡ x j) → event_tried x event ≡ true → event_tried y event ≡ true
 event_same x y (events.Held index slot n) p h = rw (p index) h
@@ -146,33 +150,40 @@ events_same x y (event ∷ told) p h = both (event_tried y event) (events_tried 
 
 -- along a history
 pub record Tries (layout : Layout) (made : Made) (h : schedule.History) : Type 0 where
-  pub keeps : Keeps layout made h
+  pub keeps : Keeps false layout made h
   pub law : EachTurn tries_right h
+
+not_rows : (scheme : SchemeKind) → is_he scheme ≡ true → publishes_rows scheme ≡ false
+not_rows He h = refl
+not_rows Ibr h = refl
+not_rows Wfe h = refl
+not_rows Hp h = absurd (cc)
 
 not_ibr : (scheme : SchemeKind) → is_he scheme ≡ true → is_ibr scheme ≡ false
 not_ibr He h = refl
 not_ibr Ibr h = absurd (cc)
+not_ibr Hp h = absurd (cc)
 not_ibr Wfe h = refl
 
-step_law : (layout : Layout) (made : Made) (h : schedule.History) (i : ℕ) → is_he layout.config.scheme ≡ true → Around made h → i < made.world.layout.config.seats → is_busy made.world i ≡ true → Keeps layout made h → tries_right h i (told_in made.world i) ≡ true
+step_law : (layout : Layout) (made : Made) (h : schedule.History) (i : ℕ) → is_he layout.config.scheme ≡ true → Around made h → i < made.world.layout.config.seats → is_busy made.world i ≡ true → Keeps false layout made h → tries_right h i (told_in made.world i) ≡ true
 step_law layout made h i e a b y g =
     let w : World = made.world in
-    let s = seat_of layout made h i (not_ibr layout.config.scheme e) a y g in
+    let s = seat_of false layout made h i (not_ibr layout.config.scheme e) a y g in
     let o = s.owned in
     let q : is_he (scheme_of (w.seat i).post) ≡ true = ap (λ (table : Layout). is_he table.config.scheme) o.layout ∙ e in
-    let x : ℕ → ℕ = λ j. phase_x (w.seat i).phase j (published h i j) in
+    let x : ℕ → ℕ = λ j. phase_x (w.seat i).phase j (published false h i j) in
     let r : events_tried x (told_in w i) ≡ true =
-    step_goes (λ p told. events_tried x told ≡ true) (tried_closed x) (w.seat i).phase (counted (w.seat i).post) (offered w i).desk (finds w i) (turn_tried (published h i) (since_of h i) layout i (w.seat i).phase (w.seat i).post (finds w i) q s) in
-    events_same x (published (Turns h i (told_in w i)) i) (told_in w i) (λ j. published_here w i j h a.known b) r
+    step_goes (λ p told. events_tried x told ≡ true) (tried_closed x) (w.seat i).phase (counted (w.seat i).post) (offered w i).desk (finds w i) (turn_tried (published false h i) (since_of false h i) layout i (w.seat i).phase (w.seat i).post (finds w i) q s) in
+    events_same x (published false (Turns h i (told_in w i)) i) (told_in w i) (λ j. published_here false layout made i j h a.known b g) r
 
 pub kept : (layout : Layout) → is_he layout.config.scheme ≡ true → Kept (Tries layout)
 kept layout e = record {
-  begins = λ made h i call a b f m g. record { keeps = begin_kept layout made h i call f g.keeps; law = g.law };
-  steps = λ made h i a b y g. record { keeps = step_kept layout made h i (not_ibr layout.config.scheme e) a b y g.keeps; law = (step_law layout made h i e a b y g.keeps, g.law) };
+  begins = λ made h i call a b f m g. record { keeps = begin_kept false layout made h i call f g.keeps; law = g.law };
+  steps = λ made h i a b y g. record { keeps = step_kept false layout made h i (not_ibr layout.config.scheme e) a b y g.keeps; law = (step_law layout made h i e a b y g.keeps, g.law) };
 }
 
 pub first_tries : (layout : Layout) → is_he layout.config.scheme ≡ true → Tries layout (first_made layout) Blank
-first_tries layout e = record { keeps = first_kept layout (not_ibr layout.config.scheme e); law = tt }
+first_tries layout e = record { keeps = first_kept false layout (not_ibr layout.config.scheme e) (not_rows layout.config.scheme e); law = tt }
 
 pub tries_count : TriesCount
 tries_count layout items d e = let g = history_keeps layout (Tries layout) (kept layout e) d items (first_tries layout e) in g.law

@@ -1,19 +1,18 @@
 -- Under Hazard Eras the number of a protection is that of its tries at the very entry that tells it.
 use Rattle.std.proofs.Common.{ℕ, ◌≡◌, Bool, true, false, List, [], ◌∷◌, refl, sym, ap, ◌∙◌, subst}
-use Rattle.std.specs.Prelude.{not}
 use Rattle.law_reuse.specs.laws.words.Place.{is_valid}
 use Rattle.law_reuse.specs.laws.words.Schemes.{helps, is_he}
 use Rattle.law_reuse.specs.laws.words.declared.config.Config.{Config}
 use Rattle.law_reuse.specs.laws.words.declared.config.SchemeKind.{SchemeKind}
-use Rattle.law_reuse.specs.laws.words.declared.config.SchemeKind.TheVariants.{He, Ibr, Wfe}
+use Rattle.law_reuse.specs.laws.words.declared.config.SchemeKind.TheVariants.{He, Hp, Ibr, Wfe}
 use Rattle.law_reuse.specs.laws.words.declared.layout.Layout.{Layout}
 use Rattle.law_reuse.specs.laws.defs.declared.event.Event.{Event}
 use Rattle.law_reuse.specs.laws.defs.declared.event.Event.TheVariants as events
 use Rattle.law_reuse.specs.laws.defs.declared.event.Guard.TheVariants.{Helper, Index, Whole}
-use Rattle.law_reuse.specs.inv.model.declared.post.Post.{Post}
-use Rattle.law_reuse.specs.inv.model.Calls.{ReadGuard, GiveBack, Phase, Idle, Runs, Scans, Works}
+use Rattle.law_reuse.specs.inv.model.Calls.{Phase}
 use Rattle.law_reuse.specs.inv.model.Phases.{Base}
-use Rattle.law_reuse.specs.inv.model.Phases.ProtectAt.{CheckClock, CheckUpper, TakeAnswer}
+use Rattle.law_reuse.specs.inv.model.Phases.ProtectAt.{CheckClock, CheckUpper, TakeAnswer, ByHazard}
+use Rattle.law_reuse.specs.inv.model.Phases.HazardAt.{FirstLink, CheckLink}
 use Rattle.law_reuse.specs.inv.model.Phases.Base.{Protect, Reload}
 use Rattle.law_reuse.specs.inv.model.Posts.{counted}
 use Rattle.law_reuse.specs.inv.model.World.{World, finds, offered, told_in}
@@ -24,35 +23,27 @@ use Rattle.law_reuse.specs.laws.records.Record.{Past, Test, Each, EachEntry, tel
 use Rattle.law_reuse.specs.laws.records.Record.Past.{Then}
 use Rattle.law_reuse.specs.laws.records.Turns as schedule
 use Rattle.law_reuse.specs.laws.records.Turns.{record_of}
-use Rattle.law_reuse.specs.inv.shapes.Seats.{PhaseFits, base_fits}
+use Rattle.law_reuse.specs.inv.shapes.Seats.{base_fits}
 use Rattle.law_reuse.proofs.history.AllOf.{all_of}
 use Rattle.law_reuse.proofs.laws.records.Entries.{entries_of_each}
 use Rattle.law_reuse.proofs.history.MayTell as may
 use Rattle.law_reuse.proofs.history.MayTell.{Passes, is_find, is_index, no_find, no_index, step_all, stores_index, work_all}
-use Rattle.law_reuse.proofs.history.Passes.{First, is_quiet}
 use Rattle.law_reuse.proofs.OneStep.Along.{Around, Kept, history_keeps}
 use Rattle.law_reuse.proofs.Turns.Counted.{histories_count}
 use Rattle.law_reuse.specs.Heard.{IsCounted}
 use Rattle.law_reuse.specs.laws.StateAt.{reserves_by, reserves_of}
 use Rattle.law_reuse.specs.laws.HistorySteps.{events_tried}
 use Rattle.law_reuse.specs.laws.StepLaw.{event_tried}
+use Rattle.law_turns.proofs.Finds.{phase_finds, phase_unfound, phase_unindexed, unfound, unfound_passes, unindexed, unindexed_passes}
 use Rattle.law_turns.proofs.TryCounts as counts
 use Rattle.law_turns.proofs.TryCounts.{Tries, events_same, unfound_one}
 
 abbrev pub tried_ok : Test
 tried_ok p i event = event_tried (λ j. reserves_of i j p) event
 
--- a turn that ends no protection
-abbrev unfound : Event → Bool
-unfound event = not (is_find event)
-
 unfound_each : (i : ℕ) (told : List Event) (p : Past) → all_of unfound told ≡ true → Each tried_ok p → Each tried_ok (tells_of p i told)
 unfound_each i [] p h g = g
 unfound_each i (event ∷ told) p h g = unfound_each i told (Then p i event) (rest_of (unfound event) (all_of unfound told) h) (unfound_one (λ j. reserves_of i j p) event (first_of (unfound event) (all_of unfound told) h), g)
-
--- a turn that tells of no index word
-abbrev unindexed : Event → Bool
-unindexed event = not (is_index event)
 
 one_reserved : (i j : ℕ) (event : Event) (n : ℕ) → unindexed event ≡ true → reserves_by i j event n ≡ n
 one_reserved i j (events.Reserve (Index seat index) span) n h = absurd (cc)
@@ -75,51 +66,22 @@ unindexed_each i (event ∷ told) p h t g =
     (events_same (λ j. reserves_of i j p) (λ j. reserves_of i j (Then p i event)) told (λ j. own_reserves i j p event (first_of (unindexed event) (all_of unindexed told) h)) e)
     (first_of (event_tried (λ j. reserves_of i j p) event) (events_tried (λ j. reserves_of i j p) told) t, g)
 
--- a step that ends a protection under Hazard Eras stores no index word
-abbrev phase_finds : Phase → Bool
-phase_finds (Runs why base) = may.finds base
-phase_finds phase = false
-
 no_help : (scheme : SchemeKind) → is_he scheme ≡ true → helps scheme ≡ true → true ≡ false
 no_help He e h = sym h
+no_help Hp e h = sym h
 no_help Ibr e h = sym h
 no_help Wfe e h = sym e
 
+-- a step that ends a protection under Hazard Eras stores no index word
 find_stores : (c : Config) (base : Base) → is_he c.scheme ≡ true → base_fits c base ≡ true → may.finds base ≡ true → stores_index base ≡ false
 find_stores c (Protect aim index root made (CheckClock era tries link)) e f h = refl
 find_stores c (Protect aim index root made (CheckUpper link)) e f h = refl
 find_stores c (Protect aim index root made (TakeAnswer link era)) e f h = no_help c.scheme e f
+find_stores c (Protect aim index root made (ByHazard FirstLink)) e f h = refl
+find_stores c (Protect aim index root made (ByHazard (CheckLink link))) e f h = refl
 find_stores c (Protect aim index root made at) e f h = absurd (cc)
 find_stores c (Reload parent index slot era made) e f h = refl
 find_stores c base e f h = absurd (cc)
-
-unfound_passes : Passes unfound
-unfound_passes = record { quiet = quiet_one; clears = λ index slot. refl }
-  where
-    quiet_one : (event : Event) → is_quiet event ≡ true → unfound event ≡ true
-    quiet_one (events.Held index slot steps) q = absurd (cc)
-    quiet_one (events.Null index steps) q = absurd (cc)
-    quiet_one event q = refl
-
-unindexed_passes : Passes unindexed
-unindexed_passes = record { quiet = quiet_one; clears = λ index slot. refl }
-  where
-    quiet_one : (event : Event) → is_quiet event ≡ true → unindexed event ≡ true
-    quiet_one (events.Reserve guard span) q = absurd (cc)
-    quiet_one event q = refl
-
-phase_unfound : (phase : Phase) (post : Post) (there : ℕ) → phase_finds phase ≡ false → First (λ p told. all_of unfound told ≡ true) phase post there
-phase_unfound Idle post there h = refl
-phase_unfound (Runs why base) post there h = no_find base post there h
-phase_unfound (Scans later (ReadGuard number)) post there h = refl
-phase_unfound (Scans later (GiveBack place slot)) post there h = refl
-phase_unfound (Works work) post there h = work_all unfound (λ index slot. refl) (λ from index slot. refl) (λ seat index era. refl) (λ seat. refl) work post
-
-phase_unindexed : (layout : Layout) (phase : Phase) (post last : Post) (there : ℕ) → is_he layout.config.scheme ≡ true → PhaseFits layout last phase → phase_finds phase ≡ true → First (λ p told. all_of unindexed told ≡ true) phase post there
-phase_unindexed layout (Runs why base) post last there e f h = no_index base post there (find_stores layout.config base e f.fits h)
-phase_unindexed layout Idle post last there e f h = absurd (cc)
-phase_unindexed layout (Scans later at) post last there e f h = absurd (cc)
-phase_unindexed layout (Works work) post last there e f h = absurd (cc)
 
 -- along a history
 record Entries (layout : Layout) (made : Made) (h : schedule.History) : Type 0 where
@@ -141,7 +103,7 @@ step_entries layout made h i e a t r g = by (phase_finds phase) refl
         let k = a.known.known in
         let s = k.seats.fits i in
         let q : is_he w.layout.config.scheme ≡ true = ap (λ (table : Layout). is_he table.config.scheme) t ∙ e in
-        let n : all_of unindexed (told_in w i) ≡ true = step_all unindexed unindexed_passes phase (counted (w.seat i).post) (offered w i).desk (finds w i) (phase_unindexed w.layout phase (counted (w.seat i).post) (w.seat i).post (finds w i) q s.phase f) in
+        let n : all_of unindexed (told_in w i) ≡ true = step_all unindexed unindexed_passes phase (counted (w.seat i).post) (offered w i).desk (finds w i) (phase_unindexed w.layout phase (counted (w.seat i).post) (w.seat i).post (finds w i) (λ base. find_stores w.layout.config base q) s.phase f) in
         unindexed_each i (told_in w i) (record_of h) n (events_same (λ j. reserves_of i j (tells_of (record_of h) i (told_in w i))) (λ j. reserves_of i j (record_of h)) (told_in w i) (λ j. sym (told_reserves i j (told_in w i) (record_of h) n)) r) g
 
 kept : (layout : Layout) → is_he layout.config.scheme ≡ true → Kept (Entries layout)

@@ -2,7 +2,7 @@
 //! a theorem.
 #![tactic(auto)]
 
-ghost use Rattle.law_turns.specs.Records.{HandoversMeet, ProtectionsCount, ProtectionsEnd, ProtectionsLast, RecordsWithdrawNext, TriesCount, WithdrawalsFollow, TurnsFindLast};
+ghost use Rattle.law_turns.specs.Records.{HandoversMeet, HazardsCount, LoadsCount, ProtectionsCount, ProtectionsEnd, ProtectionsLast, RecordsWithdrawNext, TriesCount, WithdrawalsFollow, TurnsFindLast};
 
 /// Under Hazard Eras and Wait-Free Eras the number in a Held or Null is that of the seat's turns from
 /// the first of the protection to the one that tells it. The first is the turn before the one with
@@ -10,6 +10,20 @@ ghost use Rattle.law_turns.specs.Records.{HandoversMeet, ProtectionsCount, Prote
 /// present call.
 pub fn protections_count()
     ensures { ProtectionsCount }
+{}
+
+/// Under hazard pointers the number in a Held or Null is that of the seat's turns from the first of the
+/// protection to the one that tells it. The first is the turn before the one with which the seat's index
+/// word, which published nothing, published a row; where a Null is told before that, it is that turn itself.
+pub fn loads_count()
+    ensures { LoadsCount }
+{}
+
+/// Under hazard pointers the number of a protection is one more than twice the number of rows that the seat's
+/// index word published since it published nothing; for a row that was followed it is one more still. In a
+/// protection each of these rows is another than the one before it.
+pub fn hazards_count()
+    ensures { HazardsCount }
 {}
 
 /// Under Wait-Free Eras a whole protection takes `3 * tries + 12` turns of its seat at most, from its

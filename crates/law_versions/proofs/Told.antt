@@ -11,10 +11,14 @@ use Rattle.laws.specs.defs.declared.event.Event.TheVariants as events
 use Rattle.laws.specs.records.Record.{Past, Each}
 use Rattle.laws.specs.records.Record.Past.{Start, Then}
 use Rattle.laws.specs.AnswerLaw.{answer_right, answers_ok, suits}
+use Rattle.laws.specs.EraLaw.{kind_ok}
 use Rattle.laws.specs.Once.{is_adopt, lists_ok}
 use Rattle.laws.specs.Standing.{copies_ok, is_copy, is_leave}
 use Rattle.laws.specs.StateAt.{began_by, began_of}
-use Rattle.law_versions.specs.Versions.{AreOf, BeginsOf, HasAnswer, HasCall, HasEvent, RecordsAreOf}
+use Rattle.laws.specs.words.Schemes.{publishes_rows}
+use Rattle.laws.specs.words.declared.config.SchemeKind.{SchemeKind}
+use Rattle.laws.specs.words.declared.config.SchemeKind.TheVariants.{He, Hp, Ibr, Wfe}
+use Rattle.law_versions.specs.Versions.{AreOf, BeginsOf, HasAnswer, HasCall, HasEvent, HasScheme, RecordsAreOf}
 
 -- the version has the call, if there is one
 abbrev HasBegan : (version : ℕ) → Option Call → Type 0
@@ -102,21 +106,31 @@ adopt_has version place None e h = absurd (cc)
 adopt_has version place (Some (calls.Adopt other)) e h = h
 adopt_has version place (Some call) e h = absurd (cc)
 
-event_has : (version n : ℕ) (p : Past) (i : ℕ) (event : Event) → answers_ok n p i event ≡ true → copies_ok p i event ≡ true → lists_ok p i event ≡ true → BeginsOf version (Then p i event) → HasEvent version event
-event_has version n p i (events.Begin call) a c l h = h.1
-event_has version n p i (events.End steps answer) a c l h = end_has version n i p (began_of i p) answer a (began_has version i p h)
-event_has version n p i (events.Copied from index slot) a c l h = copy_has version from index (began_of i p) (first_of (is_copy from index (began_of i p)) _ c) (began_has version i p h)
-event_has version n p i (events.Left count) a c l h = leave_has version (began_of i p) (first_of (is_leave (began_of i p)) _ l) (began_has version i p h)
-event_has version n p i (events.Adopted place count) a c l h = adopt_has version place (began_of i p) (first_of (is_adopt place (began_of i p)) _ l) (began_has version i p h)
-event_has version n p i event a c l h = tt
+row_has : (version : ℕ) (scheme : SchemeKind) → publishes_rows scheme ≡ true → HasScheme version scheme → 5 ≤ version
+row_has version Hp e h = h
+row_has version He e h = absurd (cc)
+row_has version Ibr e h = absurd (cc)
+row_has version Wfe e h = absurd (cc)
 
-all_has : (version n : ℕ) (p : Past) → Each (answers_ok n) p → Each copies_ok p → Each lists_ok p → BeginsOf version p → AreOf version p
-all_has version n Start a c l h = tt
-all_has version n (Then p i event) a c l h = (all_has version n p a.1 c.1 l.1 (begins_before version i event p h), event_has version n p i event a.0 c.0 l.0 h)
+event_has : (version n : ℕ) (scheme : SchemeKind) (p : Past) (i : ℕ) (event : Event) → HasScheme version scheme → kind_ok scheme p i event ≡ true → answers_ok n p i event ≡ true → copies_ok p i event ≡ true → lists_ok p i event ≡ true → BeginsOf version (Then p i event) → HasEvent version event
+event_has version n scheme p i (events.Begin call) s k a c l h = h.1
+event_has version n scheme p i (events.End steps answer) s k a c l h = end_has version n i p (began_of i p) answer a (began_has version i p h)
+event_has version n scheme p i (events.Copied from index slot) s k a c l h = copy_has version from index (began_of i p) (first_of (is_copy from index (began_of i p)) _ c) (began_has version i p h)
+event_has version n scheme p i (events.Left count) s k a c l h = leave_has version (began_of i p) (first_of (is_leave (began_of i p)) _ l) (began_has version i p h)
+event_has version n scheme p i (events.Adopted place count) s k a c l h = adopt_has version place (began_of i p) (first_of (is_adopt place (began_of i p)) _ l) (began_has version i p h)
+event_has version n scheme p i (events.Hazard guard slot) s k a c l h = row_has version scheme k s
+event_has version n scheme p i (events.Saw guard slot) s k a c l h = row_has version scheme (first_of (publishes_rows scheme) _ k) s
+event_has version n scheme p i event s k a c l h = tt
+
+all_has : (version n : ℕ) (scheme : SchemeKind) (p : Past) → HasScheme version scheme → Each (kind_ok scheme) p → Each (answers_ok n) p → Each copies_ok p → Each lists_ok p → BeginsOf version p → AreOf version p
+all_has version n scheme Start s k a c l h = tt
+all_has version n scheme (Then p i event) s k a c l h =
+    (all_has version n scheme p s k.1 a.1 c.1 l.1 (begins_before version i event p h), event_has version n scheme p i event s k.0 a.0 c.0 l.0 h)
 
 pub records_are_of : RecordsAreOf
-records_are_of version config r laws h =
-    all_has version config.buckets r
+records_are_of version config r s laws h =
+    all_has version config.buckets config.scheme r s
+    (each_of_entries (kind_ok config.scheme) r laws.eras.kinds)
     (each_of_entries (answers_ok config.buckets) r laws.answers.told)
     (each_of_entries copies_ok r laws.standing.copies)
     (each_of_entries lists_ok r laws.once.lists) h

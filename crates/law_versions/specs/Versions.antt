@@ -1,6 +1,8 @@
--- Calls, answers and events of a version: later versions have more of them.
+-- Schemes, calls, answers and events of a version: later versions have more of them.
 use Rattle.std.specs.Prelude.{ℕ, ◌≤◌}
 use Rattle.laws.specs.words.declared.config.Config.{Config}
+use Rattle.laws.specs.words.declared.config.SchemeKind.{SchemeKind}
+use Rattle.laws.specs.words.declared.config.SchemeKind.TheVariants.{Hp}
 use Rattle.laws.specs.defs.declared.call.Answer.{Answer}
 use Rattle.laws.specs.defs.declared.call.Answer.TheVariants as answers
 use Rattle.laws.specs.defs.declared.call.Call.{Call}
@@ -10,6 +12,11 @@ use Rattle.laws.specs.defs.declared.event.Event.TheVariants as events
 use Rattle.laws.specs.records.Record.{Past}
 use Rattle.laws.specs.records.Record.Past.{Start, Then}
 use Rattle.laws.specs.Laws.{Laws}
+
+-- the version has the scheme
+abbrev pub HasScheme : (version : ℕ) → SchemeKind → Type 0
+HasScheme version Hp = 5 ≤ version
+HasScheme version scheme = Unit {0}
 
 -- the version has the call
 abbrev pub HasCall : (version : ℕ) → Call → Type 0
@@ -38,6 +45,8 @@ abbrev pub HasEvent : (version : ℕ) → Event → Type 0
 HasEvent version (events.Begin call) = HasCall version call
 HasEvent version (events.End steps answer) = HasAnswer version answer
 HasEvent version (events.Copied from index slot) = 2 ≤ version
+HasEvent version (events.Hazard guard slot) = 5 ≤ version
+HasEvent version (events.Saw guard slot) = 5 ≤ version
 HasEvent version (events.Left count) = 4 ≤ version
 HasEvent version (events.Adopted place count) = 4 ≤ version
 HasEvent version event = Unit {0}
@@ -57,6 +66,7 @@ abbrev pub AreOf : (version : ℕ) → Past → Type 0
 AreOf version Start = Unit {0}
 AreOf version (Then p i event) = AreOf version p × HasEvent version event
 
--- a record that keeps all laws tells only what the version has, where it begins only calls that the version has
+-- a record that keeps all laws of a scheme that the version has tells only what the version has, where it begins only calls that the
+-- version has
 abbrev pub RecordsAreOf : Type 0
-RecordsAreOf = (version : ℕ) (config : Config) (r : Past) → Laws config r → BeginsOf version r → AreOf version r
+RecordsAreOf = (version : ℕ) (config : Config) (r : Past) → HasScheme version config.scheme → Laws config r → BeginsOf version r → AreOf version r

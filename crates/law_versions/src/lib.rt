@@ -1,11 +1,11 @@
-//! Which calls, answers and events the records of a version have.
+//! Which schemes, calls, answers and events the records of a version have.
 //! The function here does nothing, and carries a theorem.
 #![tactic(auto)]
 
 ghost use Rattle.law_versions.specs.Versions.{RecordsAreOf};
 
-/// A record that keeps all laws, and begins only calls that the version has, tells only events and answers that
-/// the version has.
+/// A record that keeps all laws of a scheme that the version has, and begins only calls that the version has, tells
+/// only events and answers that the version has.
 pub fn records_are_of_their_version()
     ensures { RecordsAreOf }
 {}

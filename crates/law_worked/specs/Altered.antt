@@ -1,5 +1,5 @@
 -- Lines with another number.
-use Rattle.std.specs.Prelude.{◌+◌, List, [], ◌∷◌, Option, Some, None}
+use Rattle.std.specs.Prelude.{ℕ, ◌+◌, List, [], ◌∷◌, Option, Some, None}
 use Rattle.wfe_core.specs.defs.Entry.{Entry}
 use Rattle.wfe_core.specs.defs.declared.call.Answer.{Answer}
 use Rattle.wfe_core.specs.defs.declared.call.Answer.TheVariants as answers
@@ -66,6 +66,11 @@ abbrev pub other_span : Option Interval → Option Interval
 other_span None = from_to 1 1
 other_span (Some span) = from_to (span.lo + 1) (span.hi + 1)
 
+-- the next row, or the first where there is none
+abbrev pub other_row : Option ℕ → Option ℕ
+other_row None = Some 0
+other_row (Some slot) = Some (slot + 1)
+
 -- an event with its row, version, number, era or count raised by one
 abbrev pub other_event : Event → Event
 other_event (events.Begin call) = events.Begin (other_call call)
@@ -73,6 +78,8 @@ other_event (events.End steps answer) = events.End steps (other_answer answer)
 other_event (events.Era era) = events.Era (era + 1)
 other_event (events.Reserve guard span) = events.Reserve guard (other_span span)
 other_event (events.Read guard span) = events.Read guard (other_span span)
+other_event (events.Hazard guard slot) = events.Hazard guard (other_row slot)
+other_event (events.Saw guard slot) = events.Saw guard (other_row slot)
 other_event (events.Give slot birth) = events.Give (slot + 1) birth
 other_event (events.Unused slot) = events.Unused (slot + 1)
 other_event (events.Link root slot) = events.Link root (slot + 1)

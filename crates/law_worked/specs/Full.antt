@@ -12,7 +12,7 @@ use Rattle.wfe_core.specs.defs.declared.event.Root.TheVariants as roots
 use Rattle.wfe_core.specs.Guards.{from_to}
 use Rattle.model_history.specs.History.{Item}
 use Rattle.model_history.specs.Among.{call, said, setting, to_end}
-use Rattle.law_worked.specs.Judges.Law.{Calls, Clears, Indexes, Copies, Reuse, Free, Placing, Order, Nexts, Retiring, Backs, Lists, Blocks, Reads, Due, Room, Eras, Moves, Births, Retires, Current, Single, Rising, Guards, Throughout, Sources, Finds, Gots, Links, Behind, Bare, Rests, Map, Values, Emptied, Steps, Withdrawals, Tries, Raises, Asks, CallSteps, Told, Reasons, Full, Lacks, Counted, Refusals, Clock, Repeats, Alone, Named, Ranges}
+use Rattle.law_worked.specs.Judges.Law.{Calls, Clears, Indexes, Copies, Reuse, Free, Placing, Order, Nexts, Retiring, Backs, Lists, Blocks, Reads, Due, Room, Eras, Moves, Advances, Births, Retires, Current, Single, Rising, Guards, Kinds, Throughout, Sources, Finds, Gots, Links, Behind, Bare, Rests, Map, Values, Emptied, Steps, Withdrawals, Tries, Raises, Hazards, Asks, CallSteps, Told, Reasons, Full, Lacks, Counted, Refusals, Clock, Repeats, Alone, Named, Ranges}
 use Rattle.law_worked.specs.Refusals.{IsWorked, Row, row}
 
 abbrev pub full_setting : Layout
@@ -110,12 +110,14 @@ full_table =
     ∷ row Room (3 ∷ 15 ∷ []) [] [] (3 ∷ 15 ∷ []) []
     ∷ row Eras (28 ∷ []) (28 ∷ 46 ∷ []) [] (28 ∷ 46 ∷ []) []
     ∷ row Moves [] (28 ∷ 46 ∷ []) (28 ∷ 46 ∷ []) [] []
+    ∷ row Advances [] [] [] [] []
     ∷ row Births (28 ∷ 46 ∷ []) [] [] [] []
     ∷ row Retires (17 ∷ 28 ∷ 46 ∷ 55 ∷ []) (28 ∷ 46 ∷ []) [] (17 ∷ 21 ∷ 53 ∷ 55 ∷ 59 ∷ []) []
     ∷ row Current (28 ∷ 46 ∷ []) (28 ∷ []) [] (1 ∷ 9 ∷ 13 ∷ 24 ∷ 32 ∷ 39 ∷ 42 ∷ 45 ∷ 51 ∷ 58 ∷ []) []
     ∷ row Single [] [] [] [] []
     ∷ row Rising [] [] [] [] []
     ∷ row Guards [] [] [] [] []
+    ∷ row Kinds [] [] [] [] []
     ∷ row Throughout (3 ∷ 9 ∷ 13 ∷ 15 ∷ 19 ∷ 24 ∷ 26 ∷ 32 ∷ 34 ∷ 38 ∷ 42 ∷ 44 ∷ 51 ∷ 57 ∷ []) [] (9 ∷ 13 ∷ 19 ∷ 24 ∷ 25 ∷ 26 ∷ 32 ∷ 33 ∷ 34 ∷ 38 ∷ 42 ∷ 43 ∷ 44 ∷ 51 ∷ 57 ∷ []) (2 ∷ 3 ∷ 9 ∷ 10 ∷ 14 ∷ 15 ∷ 19 ∷ 25 ∷ 26 ∷ 33 ∷ 34 ∷ 38 ∷ 43 ∷ 44 ∷ 50 ∷ 52 ∷ 57 ∷ []) []
     ∷ row Sources (0 ∷ 4 ∷ 16 ∷ 41 ∷ []) [] [] (2 ∷ 4 ∷ 10 ∷ 14 ∷ 16 ∷ 25 ∷ 33 ∷ 43 ∷ 52 ∷ []) []
     ∷ row Finds (2 ∷ 14 ∷ []) [] (11 ∷ 22 ∷ 40 ∷ []) (8 ∷ []) []
@@ -131,6 +133,7 @@ full_table =
     ∷ row Withdrawals [] [] [] [] []
     ∷ row Tries (1 ∷ 6 ∷ 9 ∷ 13 ∷ 20 ∷ 24 ∷ 27 ∷ 32 ∷ 35 ∷ 42 ∷ 45 ∷ 51 ∷ []) (1 ∷ 9 ∷ 13 ∷ 24 ∷ 32 ∷ 42 ∷ 51 ∷ []) (1 ∷ 9 ∷ 13 ∷ 24 ∷ 32 ∷ 42 ∷ 51 ∷ []) (6 ∷ 20 ∷ 27 ∷ 35 ∷ 45 ∷ []) (2 ∷ 10 ∷ 14 ∷ 25 ∷ 33 ∷ 43 ∷ 52 ∷ [])
     ∷ row Raises [] [] [] [] []
+    ∷ row Hazards [] [] [] [] []
     ∷ row Asks [] [] [] [] []
     ∷ row CallSteps (41 ∷ []) [] (36 ∷ []) [] (40 ∷ [])
     ∷ row Told (0 ∷ 5 ∷ 8 ∷ 12 ∷ 18 ∷ 37 ∷ 41 ∷ 56 ∷ []) (5 ∷ 18 ∷ 56 ∷ []) (7 ∷ 11 ∷ 22 ∷ 36 ∷ 40 ∷ []) (0 ∷ 5 ∷ 8 ∷ 12 ∷ 18 ∷ 37 ∷ 40 ∷ 41 ∷ 56 ∷ []) []

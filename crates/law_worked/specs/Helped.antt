@@ -12,7 +12,7 @@ use Rattle.wfe_core.specs.defs.declared.event.Root.TheVariants as roots
 use Rattle.wfe_core.specs.Guards.{from_to}
 use Rattle.model_history.specs.History.{Item, times}
 use Rattle.model_history.specs.Among.{call, said, setting, to_end}
-use Rattle.law_worked.specs.Judges.Law.{Calls, Clears, Indexes, Copies, Reuse, Free, Placing, Order, Nexts, Retiring, Backs, Lists, Blocks, Reads, Due, Room, Eras, Moves, Births, Retires, Current, Single, Rising, Guards, Throughout, Sources, Finds, Gots, Links, Behind, Bare, Rests, Map, Values, Emptied, Steps, Withdrawals, Tries, Raises, Asks, CallSteps, Told, Reasons, Full, Lacks, Counted, Refusals, Clock, Repeats, Alone, Named, Ranges}
+use Rattle.law_worked.specs.Judges.Law.{Calls, Clears, Indexes, Copies, Reuse, Free, Placing, Order, Nexts, Retiring, Backs, Lists, Blocks, Reads, Due, Room, Eras, Moves, Advances, Births, Retires, Current, Single, Rising, Guards, Kinds, Throughout, Sources, Finds, Gots, Links, Behind, Bare, Rests, Map, Values, Emptied, Steps, Withdrawals, Tries, Raises, Hazards, Asks, CallSteps, Told, Reasons, Full, Lacks, Counted, Refusals, Clock, Repeats, Alone, Named, Ranges}
 use Rattle.law_worked.specs.Refusals.{IsWorked, Row, row}
 
 abbrev pub helped_setting : Layout
@@ -88,12 +88,14 @@ helped_table =
     ∷ row Room [] [] [] [] []
     ∷ row Eras (11 ∷ 15 ∷ []) (11 ∷ 15 ∷ 32 ∷ []) [] (11 ∷ 15 ∷ 32 ∷ []) []
     ∷ row Moves (10 ∷ 13 ∷ 28 ∷ []) (11 ∷ 15 ∷ 32 ∷ []) [] (10 ∷ 13 ∷ 28 ∷ []) []
+    ∷ row Advances [] [] [] [] []
     ∷ row Births (11 ∷ 15 ∷ []) (11 ∷ 15 ∷ []) [] [] []
     ∷ row Retires (11 ∷ 15 ∷ 22 ∷ []) (11 ∷ 15 ∷ []) [] (22 ∷ 26 ∷ []) []
     ∷ row Current (11 ∷ 15 ∷ 32 ∷ []) (11 ∷ 15 ∷ []) [] (1 ∷ 9 ∷ 14 ∷ 18 ∷ 25 ∷ 29 ∷ 30 ∷ 31 ∷ 34 ∷ 41 ∷ []) []
     ∷ row Single [] [] [] [] []
     ∷ row Rising [] [] [] [] []
     ∷ row Guards (29 ∷ []) [] (29 ∷ 30 ∷ []) (29 ∷ 30 ∷ []) []
+    ∷ row Kinds [] [] [] [] []
     ∷ row Throughout (3 ∷ 18 ∷ 20 ∷ 24 ∷ 40 ∷ []) [] (18 ∷ 24 ∷ 40 ∷ []) (2 ∷ 3 ∷ 19 ∷ 20 ∷ 24 ∷ 36 ∷ 40 ∷ []) []
     ∷ row Sources (0 ∷ 4 ∷ 8 ∷ 21 ∷ []) [] [] (2 ∷ 4 ∷ 19 ∷ 21 ∷ 36 ∷ []) []
     ∷ row Finds (2 ∷ 19 ∷ []) [] [] (8 ∷ []) []
@@ -109,6 +111,7 @@ helped_table =
     ∷ row Withdrawals (37 ∷ []) (36 ∷ []) (35 ∷ 37 ∷ []) (37 ∷ []) []
     ∷ row Tries [] [] [] [] []
     ∷ row Raises [] [] [] [] []
+    ∷ row Hazards [] [] [] [] []
     ∷ row Asks (9 ∷ 14 ∷ []) (9 ∷ 14 ∷ []) [] (9 ∷ []) []
     ∷ row CallSteps [] [] (38 ∷ []) (10 ∷ 13 ∷ 28 ∷ []) (38 ∷ 42 ∷ [])
     ∷ row Told (0 ∷ 5 ∷ 8 ∷ 10 ∷ 13 ∷ 17 ∷ 23 ∷ 39 ∷ []) (5 ∷ 23 ∷ []) (38 ∷ []) (0 ∷ 5 ∷ 8 ∷ 10 ∷ 13 ∷ 17 ∷ 23 ∷ 28 ∷ 39 ∷ 42 ∷ []) []

@@ -12,7 +12,7 @@ use Rattle.wfe_core.specs.defs.declared.event.Root.TheVariants as roots
 use Rattle.wfe_core.specs.Guards.{from_to}
 use Rattle.model_history.specs.History.{Item}
 use Rattle.model_history.specs.Among.{call, said, setting, to_end}
-use Rattle.law_worked.specs.Judges.Law.{Calls, Clears, Indexes, Copies, Reuse, Free, Placing, Order, Nexts, Retiring, Backs, Lists, Blocks, Reads, Due, Room, Eras, Moves, Births, Retires, Current, Single, Rising, Guards, Throughout, Sources, Finds, Gots, Links, Behind, Bare, Rests, Map, Values, Emptied, Steps, Withdrawals, Tries, Raises, Asks, CallSteps, Told, Reasons, Full, Lacks, Counted, Refusals, Clock, Repeats, Alone, Named, Ranges}
+use Rattle.law_worked.specs.Judges.Law.{Calls, Clears, Indexes, Copies, Reuse, Free, Placing, Order, Nexts, Retiring, Backs, Lists, Blocks, Reads, Due, Room, Eras, Moves, Advances, Births, Retires, Current, Single, Rising, Guards, Kinds, Throughout, Sources, Finds, Gots, Links, Behind, Bare, Rests, Map, Values, Emptied, Steps, Withdrawals, Tries, Raises, Hazards, Asks, CallSteps, Told, Reasons, Full, Lacks, Counted, Refusals, Clock, Repeats, Alone, Named, Ranges}
 use Rattle.law_worked.specs.Refusals.{IsWorked, Row, row}
 
 abbrev pub intervals_setting : Layout
@@ -89,12 +89,14 @@ intervals_table =
     ∷ row Room (30 ∷ []) [] [] [] []
     ∷ row Eras (13 ∷ []) (13 ∷ 31 ∷ []) [] (13 ∷ 31 ∷ []) []
     ∷ row Moves (12 ∷ []) (13 ∷ 31 ∷ []) (31 ∷ []) (12 ∷ []) []
+    ∷ row Advances [] [] [] [] []
     ∷ row Births (13 ∷ []) (13 ∷ []) [] [] []
     ∷ row Retires (13 ∷ 26 ∷ []) (13 ∷ []) [] (26 ∷ 30 ∷ []) []
     ∷ row Current (13 ∷ []) (13 ∷ []) [] (1 ∷ 9 ∷ 16 ∷ 22 ∷ 29 ∷ 37 ∷ []) []
     ∷ row Single [] [] [] [] []
     ∷ row Rising (6 ∷ []) (1 ∷ 9 ∷ 16 ∷ 22 ∷ []) [] (6 ∷ 9 ∷ 16 ∷ 29 ∷ 37 ∷ []) []
     ∷ row Guards [] [] [] [] []
+    ∷ row Kinds [] [] [] [] []
     ∷ row Throughout (3 ∷ 9 ∷ 19 ∷ 22 ∷ 28 ∷ 36 ∷ []) [] (9 ∷ 22 ∷ 28 ∷ 36 ∷ []) (2 ∷ 3 ∷ 10 ∷ 17 ∷ 19 ∷ 23 ∷ 28 ∷ 36 ∷ []) []
     ∷ row Sources (0 ∷ 4 ∷ 8 ∷ 21 ∷ []) [] [] (2 ∷ 4 ∷ 10 ∷ 17 ∷ 23 ∷ []) []
     ∷ row Finds (2 ∷ 17 ∷ 23 ∷ []) [] [] (8 ∷ []) []
@@ -110,6 +112,7 @@ intervals_table =
     ∷ row Withdrawals [] [] [] [] []
     ∷ row Tries [] [] [] [] []
     ∷ row Raises (6 ∷ 9 ∷ 16 ∷ []) (1 ∷ 9 ∷ 16 ∷ 17 ∷ 22 ∷ []) (15 ∷ 16 ∷ []) (6 ∷ []) (2 ∷ 10 ∷ 17 ∷ 23 ∷ [])
+    ∷ row Hazards [] [] [] [] []
     ∷ row Asks [] [] [] [] []
     ∷ row CallSteps (21 ∷ 42 ∷ []) (42 ∷ []) (42 ∷ []) (39 ∷ []) (14 ∷ 38 ∷ 43 ∷ [])
     ∷ row Told (0 ∷ 5 ∷ 8 ∷ 12 ∷ 15 ∷ 18 ∷ 21 ∷ 27 ∷ 35 ∷ 39 ∷ []) (5 ∷ 18 ∷ 27 ∷ []) [] (0 ∷ 5 ∷ 8 ∷ 12 ∷ 15 ∷ 18 ∷ 20 ∷ 21 ∷ 27 ∷ 35 ∷ 38 ∷ 39 ∷ []) []

@@ -3,7 +3,7 @@
 use Rattle.std.specs.Prelude.{ℕ, zero, suc, ◌&&◌, Bool, true, List, [], ◌∷◌, Option, Some, None}
 use Rattle.wfe_core.specs.words.declared.config.Config.{Config}
 use Rattle.wfe_core.specs.words.declared.config.SchemeKind.{SchemeKind}
-use Rattle.wfe_core.specs.words.declared.config.SchemeKind.TheVariants.{He, Ibr, Wfe}
+use Rattle.wfe_core.specs.words.declared.config.SchemeKind.TheVariants.{He, Hp, Ibr, Wfe}
 use Rattle.wfe_core.specs.defs.declared.event.Event.{Event}
 use Rattle.wfe_core.specs.defs.declared.event.Event.TheVariants as events
 use Rattle.laws.specs.AnswerLaw as answers
@@ -43,12 +43,14 @@ pub data Law : Type 0 where
   Room : Law
   Eras : Law
   Moves : Law
+  Advances : Law
   Births : Law
   Retires : Law
   Current : Law
   Single : Law
   Rising : Law
   Guards : Law
+  Kinds : Law
   Throughout : Law
   Sources : Law
   Finds : Law
@@ -64,6 +66,7 @@ pub data Law : Type 0 where
   Withdrawals : Law
   Tries : Law
   Raises : Law
+  Hazards : Law
   Asks : Law
   CallSteps : Law
   Told : Law
@@ -117,6 +120,7 @@ abbrev pub held_by : Config → Event → Past → Bool
 held_by c (events.Held index slot steps) p = all_held c c.seats p
 held_by c (events.Copied from index slot) p = all_held c c.seats p
 held_by c (events.Reserve guard span) p = all_held c c.seats p
+held_by c (events.Hazard guard slot) p = all_held c c.seats p
 held_by c (events.Give slot birth) p = all_held c c.seats p
 held_by c (events.Unused slot) p = all_held c c.seats p
 held_by c (events.Retire slot birth retire) p = all_held c c.seats p
@@ -129,25 +133,41 @@ all_rows ok zero p i e = ok 0 p i e
 all_rows ok (suc s) p i e = ok (suc s) p i e && all_rows ok s p i e
 
 -- what is asked of one scheme alone
+abbrev advances_by : SchemeKind → Test
+advances_by Hp p i e = eras.advances_ok p i e
+advances_by He p i e = true
+advances_by Ibr p i e = true
+advances_by Wfe p i e = true
+
 abbrev steps_by : SchemeKind → ℕ → Test
 steps_by Wfe tries p i e = steps.steps_ok tries p i e
 steps_by He tries p i e = true
 steps_by Ibr tries p i e = true
+steps_by Hp tries p i e = true
 
 abbrev withdrawals_by : SchemeKind → Test
 withdrawals_by Wfe p i e = steps.withdraw_ok p i e
 withdrawals_by He p i e = true
 withdrawals_by Ibr p i e = true
+withdrawals_by Hp p i e = true
 
 abbrev tries_by : SchemeKind → Test
 tries_by He p i e = steps.tries_ok p i e
 tries_by Ibr p i e = true
 tries_by Wfe p i e = true
+tries_by Hp p i e = true
 
 abbrev raises_by : SchemeKind → Test
 raises_by Ibr p i e = steps.raise_ok p i e
 raises_by He p i e = true
 raises_by Wfe p i e = true
+raises_by Hp p i e = true
+
+abbrev hazards_by : SchemeKind → Test
+hazards_by Hp p i e = steps.hazards_ok p i e
+hazards_by He p i e = true
+hazards_by Ibr p i e = true
+hazards_by Wfe p i e = true
 
 -- at each of so many indexes
 abbrev asks_at : (tries indexes : ℕ) → Test
@@ -158,6 +178,7 @@ abbrev asks_by : SchemeKind → (tries indexes : ℕ) → Test
 asks_by Wfe tries indexes p i e = asks_at tries indexes p i e
 asks_by He tries indexes p i e = true
 asks_by Ibr tries indexes p i e = true
+asks_by Hp tries indexes p i e = true
 
 abbrev pub test_of : Config → Law → Test
 test_of c Calls p i e = open_ok p i e
@@ -178,12 +199,14 @@ test_of c Due p i e = blocks_ok c p i e
 test_of c Room p i e = all_rows (room_ok c) c.slots p i e
 test_of c Eras p i e = eras.era_ok c.last_era p i e
 test_of c Moves p i e = eras.moves_ok c p i e
+test_of c Advances p i e = advances_by c.scheme p i e
 test_of c Births p i e = eras.birth_ok p i e
 test_of c Retires p i e = eras.retire_ok p i e
 test_of c Current p i e = eras.current_ok p i e
 test_of c Single p i e = eras.single_ok c.scheme p i e
 test_of c Rising p i e = eras.rising_ok c.scheme p i e
 test_of c Guards p i e = eras.guard_ok c.scheme p i e
+test_of c Kinds p i e = eras.kind_ok c.scheme p i e
 test_of c Throughout p i e = held_by c e (Then p i e)
 test_of c Sources p i e = holds.sources_ok c p i e
 test_of c Finds p i e = holds.finds_ok p i e
@@ -199,6 +222,7 @@ test_of c Steps p i e = steps_by c.scheme c.tries p i e
 test_of c Withdrawals p i e = withdrawals_by c.scheme p i e
 test_of c Tries p i e = tries_by c.scheme p i e
 test_of c Raises p i e = raises_by c.scheme p i e
+test_of c Hazards p i e = hazards_by c.scheme p i e
 test_of c Asks p i e = asks_by c.scheme c.tries c.indexes p i e
 test_of c CallSteps p i e = steps.end_ok c p i e
 test_of c Told p i e = answers.answers_ok c.buckets p i e

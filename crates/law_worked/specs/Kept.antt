@@ -12,7 +12,7 @@ use Rattle.wfe_core.specs.defs.declared.event.Root.TheVariants as roots
 use Rattle.wfe_core.specs.Guards.{from_to}
 use Rattle.model_history.specs.History.{Item}
 use Rattle.model_history.specs.Among.{call, said, setting, to_end}
-use Rattle.law_worked.specs.Judges.Law.{Calls, Clears, Indexes, Copies, Reuse, Free, Placing, Order, Nexts, Retiring, Backs, Lists, Blocks, Reads, Due, Room, Eras, Moves, Births, Retires, Current, Single, Rising, Guards, Throughout, Sources, Finds, Gots, Links, Behind, Bare, Rests, Map, Values, Emptied, Steps, Withdrawals, Tries, Raises, Asks, CallSteps, Told, Reasons, Full, Lacks, Counted, Refusals, Clock, Repeats, Alone, Named, Ranges}
+use Rattle.law_worked.specs.Judges.Law.{Calls, Clears, Indexes, Copies, Reuse, Free, Placing, Order, Nexts, Retiring, Backs, Lists, Blocks, Reads, Due, Room, Eras, Moves, Advances, Births, Retires, Current, Single, Rising, Guards, Kinds, Throughout, Sources, Finds, Gots, Links, Behind, Bare, Rests, Map, Values, Emptied, Steps, Withdrawals, Tries, Raises, Hazards, Asks, CallSteps, Told, Reasons, Full, Lacks, Counted, Refusals, Clock, Repeats, Alone, Named, Ranges}
 use Rattle.law_worked.specs.Refusals.{IsWorked, Row, row}
 
 abbrev pub kept_setting : Layout
@@ -88,12 +88,14 @@ kept_table =
     ∷ row Room (21 ∷ []) [] [] [] []
     ∷ row Eras [] (22 ∷ []) [] (22 ∷ []) []
     ∷ row Moves [] (22 ∷ []) (22 ∷ []) [] []
+    ∷ row Advances [] [] [] [] []
     ∷ row Births [] [] [] [] []
     ∷ row Retires (17 ∷ []) [] [] (17 ∷ 21 ∷ []) []
     ∷ row Current [] [] [] (1 ∷ 9 ∷ 13 ∷ 32 ∷ []) []
     ∷ row Single [] [] [] [] []
     ∷ row Rising [] [] [] [] []
     ∷ row Guards [] [] [] [] []
+    ∷ row Kinds [] [] [] [] []
     ∷ row Throughout (3 ∷ 9 ∷ 13 ∷ 19 ∷ 31 ∷ []) [] (9 ∷ 13 ∷ 19 ∷ 31 ∷ []) (2 ∷ 3 ∷ 9 ∷ 10 ∷ 14 ∷ 19 ∷ 31 ∷ []) []
     ∷ row Sources (0 ∷ 4 ∷ 8 ∷ []) [] [] (2 ∷ 4 ∷ 10 ∷ 14 ∷ []) []
     ∷ row Finds (2 ∷ 14 ∷ []) [] [] (8 ∷ []) []
@@ -109,6 +111,7 @@ kept_table =
     ∷ row Withdrawals [] [] [] [] []
     ∷ row Tries (1 ∷ 6 ∷ 9 ∷ 13 ∷ []) (1 ∷ 9 ∷ 13 ∷ []) (1 ∷ 9 ∷ 13 ∷ []) (6 ∷ []) (2 ∷ 10 ∷ 14 ∷ [])
     ∷ row Raises [] [] [] [] []
+    ∷ row Hazards [] [] [] [] []
     ∷ row Asks [] [] [] [] []
     ∷ row CallSteps (41 ∷ []) (41 ∷ []) (41 ∷ []) (34 ∷ []) (33 ∷ 42 ∷ [])
     ∷ row Told (0 ∷ 5 ∷ 8 ∷ 12 ∷ 18 ∷ 30 ∷ 34 ∷ []) (5 ∷ 18 ∷ []) [] (0 ∷ 5 ∷ 8 ∷ 12 ∷ 18 ∷ 30 ∷ 33 ∷ 34 ∷ []) []

@@ -9,7 +9,7 @@ use Rattle.wfe_core.specs.defs.declared.call.ClockMove.TheVariants as moves
 use Rattle.wfe_core.specs.defs.declared.event.Event.TheVariants as events
 use Rattle.model_history.specs.History.{Item, times}
 use Rattle.model_history.specs.Among.{call, said, setting, to_end}
-use Rattle.law_worked.specs.Judges.Law.{Calls, Clears, Indexes, Copies, Reuse, Free, Placing, Order, Nexts, Retiring, Backs, Lists, Blocks, Reads, Due, Room, Eras, Moves, Births, Retires, Current, Single, Rising, Guards, Throughout, Sources, Finds, Gots, Links, Behind, Bare, Rests, Map, Values, Emptied, Steps, Withdrawals, Tries, Raises, Asks, CallSteps, Told, Reasons, Full, Lacks, Counted, Refusals, Clock, Repeats, Alone, Named, Ranges}
+use Rattle.law_worked.specs.Judges.Law.{Calls, Clears, Indexes, Copies, Reuse, Free, Placing, Order, Nexts, Retiring, Backs, Lists, Blocks, Reads, Due, Room, Eras, Moves, Advances, Births, Retires, Current, Single, Rising, Guards, Kinds, Throughout, Sources, Finds, Gots, Links, Behind, Bare, Rests, Map, Values, Emptied, Steps, Withdrawals, Tries, Raises, Hazards, Asks, CallSteps, Told, Reasons, Full, Lacks, Counted, Refusals, Clock, Repeats, Alone, Named, Ranges}
 use Rattle.law_worked.specs.Refusals.{IsWorked, Row, row}
 
 abbrev pub moved_setting : Layout
@@ -52,12 +52,14 @@ moved_table =
     ∷ row Room [] [] [] [] []
     ∷ row Eras (2 ∷ []) (2 ∷ 6 ∷ []) [] (2 ∷ 6 ∷ []) []
     ∷ row Moves (1 ∷ 5 ∷ []) (2 ∷ 6 ∷ []) [] (1 ∷ 5 ∷ []) []
+    ∷ row Advances [] [] [] [] []
     ∷ row Births [] [] [] [] []
     ∷ row Retires [] [] [] [] []
     ∷ row Current [] [] [] [] []
     ∷ row Single [] [] [] [] []
     ∷ row Rising [] [] [] [] []
     ∷ row Guards [] [] [] [] []
+    ∷ row Kinds [] [] [] [] []
     ∷ row Throughout [] [] [] [] []
     ∷ row Sources [] [] [] [] []
     ∷ row Finds [] [] [] [] []
@@ -73,6 +75,7 @@ moved_table =
     ∷ row Withdrawals [] [] [] [] []
     ∷ row Tries [] [] [] [] []
     ∷ row Raises [] [] [] [] []
+    ∷ row Hazards [] [] [] [] []
     ∷ row Asks [] [] [] [] []
     ∷ row CallSteps [] [] [] (0 ∷ 1 ∷ 5 ∷ 8 ∷ []) (3 ∷ 4 ∷ 7 ∷ 9 ∷ [])
     ∷ row Told (0 ∷ 1 ∷ []) [] [] (0 ∷ 1 ∷ 5 ∷ 8 ∷ []) []

@@ -12,7 +12,7 @@ use Rattle.wfe_core.specs.defs.declared.event.Root.TheVariants as roots
 use Rattle.wfe_core.specs.Guards.{from_to}
 use Rattle.model_history.specs.History.{Item}
 use Rattle.model_history.specs.Among.{call, said, setting, to_end}
-use Rattle.law_worked.specs.Judges.Law.{Calls, Clears, Indexes, Copies, Reuse, Free, Placing, Order, Nexts, Retiring, Backs, Lists, Blocks, Reads, Due, Room, Eras, Moves, Births, Retires, Current, Single, Rising, Guards, Throughout, Sources, Finds, Gots, Links, Behind, Bare, Rests, Map, Values, Emptied, Steps, Withdrawals, Tries, Raises, Asks, CallSteps, Told, Reasons, Full, Lacks, Counted, Refusals, Clock, Repeats, Alone, Named, Ranges}
+use Rattle.law_worked.specs.Judges.Law.{Calls, Clears, Indexes, Copies, Reuse, Free, Placing, Order, Nexts, Retiring, Backs, Lists, Blocks, Reads, Due, Room, Eras, Moves, Advances, Births, Retires, Current, Single, Rising, Guards, Kinds, Throughout, Sources, Finds, Gots, Links, Behind, Bare, Rests, Map, Values, Emptied, Steps, Withdrawals, Tries, Raises, Hazards, Asks, CallSteps, Told, Reasons, Full, Lacks, Counted, Refusals, Clock, Repeats, Alone, Named, Ranges}
 use Rattle.law_worked.specs.Refusals.{IsWorked, Row, row}
 
 abbrev pub put_then_get_setting : Layout
@@ -60,12 +60,14 @@ put_then_get_table =
     ∷ row Room [] [] [] [] []
     ∷ row Eras [] [] [] [] []
     ∷ row Moves [] [] [] [] []
+    ∷ row Advances [] [] [] [] []
     ∷ row Births [] [] [] [] []
     ∷ row Retires [] [] [] [] []
     ∷ row Current [] [] [] (1 ∷ 9 ∷ []) []
     ∷ row Single [] [] [] [] []
     ∷ row Rising [] [] [] [] []
     ∷ row Guards [] [] [] [] []
+    ∷ row Kinds [] [] [] [] []
     ∷ row Throughout (3 ∷ 9 ∷ 12 ∷ []) [] (9 ∷ 12 ∷ []) (2 ∷ 3 ∷ 10 ∷ 12 ∷ []) []
     ∷ row Sources (0 ∷ 4 ∷ []) [] [] (2 ∷ 4 ∷ 10 ∷ []) []
     ∷ row Finds (2 ∷ 10 ∷ []) [] (7 ∷ []) [] []
@@ -81,6 +83,7 @@ put_then_get_table =
     ∷ row Withdrawals [] [] [] [] []
     ∷ row Tries (1 ∷ 6 ∷ 9 ∷ []) (1 ∷ 9 ∷ []) (1 ∷ 9 ∷ []) (6 ∷ []) (2 ∷ 10 ∷ [])
     ∷ row Raises [] [] [] [] []
+    ∷ row Hazards [] [] [] [] []
     ∷ row Asks [] [] [] [] []
     ∷ row CallSteps [] [] [] [] []
     ∷ row Told (0 ∷ 5 ∷ 8 ∷ 11 ∷ []) (5 ∷ 11 ∷ []) (7 ∷ []) (0 ∷ 5 ∷ 8 ∷ 11 ∷ 14 ∷ []) []

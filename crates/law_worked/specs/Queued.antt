@@ -12,7 +12,7 @@ use Rattle.wfe_core.specs.defs.declared.event.Root.TheVariants as roots
 use Rattle.wfe_core.specs.Guards.{from_to}
 use Rattle.model_history.specs.History.{Item}
 use Rattle.model_history.specs.Among.{call, said, setting, to_end}
-use Rattle.law_worked.specs.Judges.Law.{Calls, Clears, Indexes, Copies, Reuse, Free, Placing, Order, Nexts, Retiring, Backs, Lists, Blocks, Reads, Due, Room, Eras, Moves, Births, Retires, Current, Single, Rising, Guards, Throughout, Sources, Finds, Gots, Links, Behind, Bare, Rests, Map, Values, Emptied, Steps, Withdrawals, Tries, Raises, Asks, CallSteps, Told, Reasons, Full, Lacks, Counted, Refusals, Clock, Repeats, Alone, Named, Ranges}
+use Rattle.law_worked.specs.Judges.Law.{Calls, Clears, Indexes, Copies, Reuse, Free, Placing, Order, Nexts, Retiring, Backs, Lists, Blocks, Reads, Due, Room, Eras, Moves, Advances, Births, Retires, Current, Single, Rising, Guards, Kinds, Throughout, Sources, Finds, Gots, Links, Behind, Bare, Rests, Map, Values, Emptied, Steps, Withdrawals, Tries, Raises, Hazards, Asks, CallSteps, Told, Reasons, Full, Lacks, Counted, Refusals, Clock, Repeats, Alone, Named, Ranges}
 use Rattle.law_worked.specs.Refusals.{IsWorked, Row, row}
 
 abbrev pub queued_setting : Layout
@@ -102,12 +102,14 @@ queued_table =
     ∷ row Room [] [] [] [] []
     ∷ row Eras [] [] [] [] []
     ∷ row Moves [] [] [] [] []
+    ∷ row Advances [] [] [] [] []
     ∷ row Births [] [] [] [] []
     ∷ row Retires (26 ∷ 40 ∷ []) [] [] (26 ∷ 32 ∷ 40 ∷ 46 ∷ []) []
     ∷ row Current [] [] [] (1 ∷ 11 ∷ 21 ∷ 23 ∷ 35 ∷ 37 ∷ 49 ∷ 51 ∷ []) []
     ∷ row Single [] [] [] [] []
     ∷ row Rising [] [] [] [] []
     ∷ row Guards [] [] [] [] []
+    ∷ row Kinds [] [] [] [] []
     ∷ row Throughout (1 ∷ 3 ∷ 7 ∷ 11 ∷ 13 ∷ 17 ∷ 21 ∷ 23 ∷ 28 ∷ 30 ∷ 35 ∷ 37 ∷ 42 ∷ 44 ∷ 49 ∷ 54 ∷ []) [] (1 ∷ 7 ∷ 11 ∷ 17 ∷ 21 ∷ 23 ∷ 28 ∷ 30 ∷ 35 ∷ 37 ∷ 42 ∷ 44 ∷ 49 ∷ 54 ∷ []) (2 ∷ 3 ∷ 7 ∷ 12 ∷ 13 ∷ 17 ∷ 22 ∷ 24 ∷ 28 ∷ 30 ∷ 36 ∷ 38 ∷ 42 ∷ 44 ∷ 50 ∷ 52 ∷ 54 ∷ []) []
     ∷ row Sources (0 ∷ 6 ∷ 20 ∷ 25 ∷ 39 ∷ []) [] [] (2 ∷ 6 ∷ 12 ∷ 20 ∷ 22 ∷ 25 ∷ 34 ∷ 36 ∷ 39 ∷ 48 ∷ 50 ∷ []) []
     ∷ row Finds (2 ∷ 12 ∷ 22 ∷ 36 ∷ 50 ∷ []) [] (9 ∷ 19 ∷ 33 ∷ 47 ∷ []) [] []
@@ -123,6 +125,7 @@ queued_table =
     ∷ row Withdrawals [] [] [] [] []
     ∷ row Tries (1 ∷ 8 ∷ 11 ∷ 18 ∷ 21 ∷ 23 ∷ 29 ∷ 31 ∷ 35 ∷ 37 ∷ 43 ∷ 45 ∷ 49 ∷ 51 ∷ []) (1 ∷ 11 ∷ 21 ∷ 23 ∷ 35 ∷ 37 ∷ 49 ∷ 51 ∷ []) (1 ∷ 11 ∷ 21 ∷ 23 ∷ 35 ∷ 37 ∷ 49 ∷ 51 ∷ 52 ∷ []) (8 ∷ 18 ∷ 29 ∷ 31 ∷ 43 ∷ 45 ∷ 52 ∷ []) (2 ∷ 12 ∷ 22 ∷ 24 ∷ 36 ∷ 38 ∷ 50 ∷ 52 ∷ [])
     ∷ row Raises [] [] [] [] []
+    ∷ row Hazards [] [] [] [] []
     ∷ row Asks [] [] [] [] []
     ∷ row CallSteps [] [] [] (20 ∷ 34 ∷ 48 ∷ []) []
     ∷ row Told (0 ∷ 5 ∷ 10 ∷ 15 ∷ 20 ∷ 27 ∷ 41 ∷ []) (5 ∷ 15 ∷ 27 ∷ 41 ∷ []) (9 ∷ 19 ∷ 33 ∷ 47 ∷ []) (0 ∷ 5 ∷ 9 ∷ 10 ∷ 15 ∷ 19 ∷ 20 ∷ 27 ∷ 33 ∷ 34 ∷ 41 ∷ 47 ∷ 48 ∷ 56 ∷ []) []

@@ -10,11 +10,11 @@ use Rattle.model_history.specs.Among.{entries}
 use Rattle.law_worked.specs.Altered.{altered, slowed}
 use Rattle.law_worked.specs.Changed.{doubled, dropped, reads, refused, swapped}
 use Rattle.law_worked.specs.Judges.{Law, test_of}
-use Rattle.law_worked.specs.Judges.Law.{Calls, Clears, Indexes, Copies, Reuse, Free, Placing, Order, Nexts, Retiring, Backs, Lists, Blocks, Reads, Due, Room, Eras, Moves, Births, Retires, Current, Single, Rising, Guards, Throughout, Sources, Finds, Gots, Links, Behind, Bare, Rests, Map, Values, Emptied, Steps, Withdrawals, Tries, Raises, Asks, CallSteps, Told, Reasons, Full, Lacks, Counted, Refusals, Clock, Repeats, Alone, Named, Ranges}
+use Rattle.law_worked.specs.Judges.Law.{Calls, Clears, Indexes, Copies, Reuse, Free, Placing, Order, Nexts, Retiring, Backs, Lists, Blocks, Reads, Due, Room, Eras, Moves, Advances, Births, Retires, Current, Single, Rising, Guards, Kinds, Throughout, Sources, Finds, Gots, Links, Behind, Bare, Rests, Map, Values, Emptied, Steps, Withdrawals, Tries, Raises, Hazards, Asks, CallSteps, Told, Reasons, Full, Lacks, Counted, Refusals, Clock, Repeats, Alone, Named, Ranges}
 
 -- all laws on records
 abbrev pub laws : List Law
-laws = Calls ∷ Clears ∷ Indexes ∷ Copies ∷ Reuse ∷ Free ∷ Placing ∷ Order ∷ Nexts ∷ Retiring ∷ Backs ∷ Lists ∷ Blocks ∷ Reads ∷ Due ∷ Room ∷ Eras ∷ Moves ∷ Births ∷ Retires ∷ Current ∷ Single ∷ Rising ∷ Guards ∷ Throughout ∷ Sources ∷ Finds ∷ Gots ∷ Links ∷ Behind ∷ Bare ∷ Rests ∷ Map ∷ Values ∷ Emptied ∷ Steps ∷ Withdrawals ∷ Tries ∷ Raises ∷ Asks ∷ CallSteps ∷ Told ∷ Reasons ∷ Full ∷ Lacks ∷ Counted ∷ Refusals ∷ Clock ∷ Repeats ∷ Alone ∷ Named ∷ Ranges ∷ []
+laws = Calls ∷ Clears ∷ Indexes ∷ Copies ∷ Reuse ∷ Free ∷ Placing ∷ Order ∷ Nexts ∷ Retiring ∷ Backs ∷ Lists ∷ Blocks ∷ Reads ∷ Due ∷ Room ∷ Eras ∷ Moves ∷ Advances ∷ Births ∷ Retires ∷ Current ∷ Single ∷ Rising ∷ Guards ∷ Kinds ∷ Throughout ∷ Sources ∷ Finds ∷ Gots ∷ Links ∷ Behind ∷ Bare ∷ Rests ∷ Map ∷ Values ∷ Emptied ∷ Steps ∷ Withdrawals ∷ Tries ∷ Raises ∷ Hazards ∷ Asks ∷ CallSteps ∷ Told ∷ Reasons ∷ Full ∷ Lacks ∷ Counted ∷ Refusals ∷ Clock ∷ Repeats ∷ Alone ∷ Named ∷ Ranges ∷ []
 
 -- of a law the places of a record, counted from 0, at which it refuses the record once the line there is changed
 pub record Row : Type 0 where

@@ -12,7 +12,7 @@ use Rattle.wfe_core.specs.defs.declared.event.Root.TheVariants as roots
 use Rattle.wfe_core.specs.Guards.{from_to}
 use Rattle.model_history.specs.History.{Item}
 use Rattle.model_history.specs.Among.{call, said, setting, to_end}
-use Rattle.law_worked.specs.Judges.Law.{Calls, Clears, Indexes, Copies, Reuse, Free, Placing, Order, Nexts, Retiring, Backs, Lists, Blocks, Reads, Due, Room, Eras, Moves, Births, Retires, Current, Single, Rising, Guards, Throughout, Sources, Finds, Gots, Links, Behind, Bare, Rests, Map, Values, Emptied, Steps, Withdrawals, Tries, Raises, Asks, CallSteps, Told, Reasons, Full, Lacks, Counted, Refusals, Clock, Repeats, Alone, Named, Ranges}
+use Rattle.law_worked.specs.Judges.Law.{Calls, Clears, Indexes, Copies, Reuse, Free, Placing, Order, Nexts, Retiring, Backs, Lists, Blocks, Reads, Due, Room, Eras, Moves, Advances, Births, Retires, Current, Single, Rising, Guards, Kinds, Throughout, Sources, Finds, Gots, Links, Behind, Bare, Rests, Map, Values, Emptied, Steps, Withdrawals, Tries, Raises, Hazards, Asks, CallSteps, Told, Reasons, Full, Lacks, Counted, Refusals, Clock, Repeats, Alone, Named, Ranges}
 use Rattle.law_worked.specs.Refusals.{IsWorked, Row, row}
 
 abbrev pub spent_setting : Layout
@@ -101,12 +101,14 @@ spent_table =
     ∷ row Room [] [] [] [] []
     ∷ row Eras [] [] [] [] []
     ∷ row Moves [] [] [] [] []
+    ∷ row Advances [] [] [] [] []
     ∷ row Births [] [] [] [] []
     ∷ row Retires (18 ∷ []) [] [] (18 ∷ 22 ∷ []) []
     ∷ row Current [] [] [] (1 ∷ 6 ∷ 14 ∷ 25 ∷ 31 ∷ 37 ∷ 47 ∷ []) []
     ∷ row Single [] [] [] [] []
     ∷ row Rising [] [] [] [] []
     ∷ row Guards [] [] [] [] []
+    ∷ row Kinds [] [] [] [] []
     ∷ row Throughout (8 ∷ 14 ∷ 16 ∷ 20 ∷ 25 ∷ 27 ∷ 31 ∷ 33 ∷ 37 ∷ 39 ∷ 43 ∷ 47 ∷ 53 ∷ []) [] (14 ∷ 20 ∷ 25 ∷ 26 ∷ 27 ∷ 31 ∷ 32 ∷ 33 ∷ 37 ∷ 43 ∷ 47 ∷ 53 ∷ []) (2 ∷ 7 ∷ 8 ∷ 15 ∷ 16 ∷ 20 ∷ 26 ∷ 27 ∷ 32 ∷ 33 ∷ 38 ∷ 39 ∷ 43 ∷ 48 ∷ 53 ∷ []) []
     ∷ row Sources (0 ∷ 9 ∷ 17 ∷ 36 ∷ 42 ∷ []) [] [] (2 ∷ 7 ∷ 9 ∷ 15 ∷ 17 ∷ 26 ∷ 32 ∷ 38 ∷ 42 ∷ 48 ∷ []) []
     ∷ row Finds (7 ∷ 15 ∷ 26 ∷ 32 ∷ 38 ∷ 48 ∷ []) [] (4 ∷ 12 ∷ 23 ∷ 29 ∷ 35 ∷ 45 ∷ []) (0 ∷ []) []
@@ -122,6 +124,7 @@ spent_table =
     ∷ row Withdrawals [] [] [] [] []
     ∷ row Tries (1 ∷ 6 ∷ 11 ∷ 14 ∷ 21 ∷ 25 ∷ 28 ∷ 31 ∷ 34 ∷ 37 ∷ 44 ∷ 47 ∷ []) (1 ∷ 6 ∷ 14 ∷ 25 ∷ 31 ∷ 37 ∷ 47 ∷ []) (1 ∷ 2 ∷ 6 ∷ 14 ∷ 25 ∷ 31 ∷ 37 ∷ 47 ∷ []) (11 ∷ 21 ∷ 28 ∷ 34 ∷ 44 ∷ []) (2 ∷ 7 ∷ 15 ∷ 26 ∷ 32 ∷ 38 ∷ 48 ∷ [])
     ∷ row Raises [] [] [] [] []
+    ∷ row Hazards [] [] [] [] []
     ∷ row Asks [] [] [] [] []
     ∷ row CallSteps [] [] [] [] []
     ∷ row Told (0 ∷ 5 ∷ 10 ∷ 13 ∷ 19 ∷ 24 ∷ 36 ∷ 41 ∷ 46 ∷ 51 ∷ []) (10 ∷ 19 ∷ 41 ∷ 51 ∷ []) (4 ∷ 12 ∷ 23 ∷ 45 ∷ []) (0 ∷ 4 ∷ 5 ∷ 10 ∷ 13 ∷ 19 ∷ 36 ∷ 41 ∷ 45 ∷ 46 ∷ 51 ∷ 55 ∷ []) []

@@ -11,6 +11,7 @@ use Rattle.model_record.specs.defs.declared.call.ClockMove.{ClockMove}
 use Rattle.model_record.specs.defs.declared.call.ClockMove.TheVariants as moves
 use Rattle.model_record.specs.defs.declared.event.Event.{Event}
 use Rattle.model_record.specs.defs.declared.event.Event.TheVariants as events
+use Rattle.wfe_words.specs.Schemes.{moves as moves_clock}
 use Rattle.wfe_words.specs.declared.config.Config.{Config}
 use Rattle.laws.specs.ScanLaw.{guards, blocks_of}
 use Rattle.laws.specs.Lists.{adopts, has_left, is_adopted, list_of}
@@ -306,14 +307,18 @@ abbrev pub is_advance : Call → Bool
 is_advance calls.Advance = true
 is_advance call = false
 
+-- a guard is read
+abbrev pub read_clock : ClockTally → ClockTally
+read_clock before = record { retired = before.retired; due = before.due; eras = before.eras; told = before.told; reads = true }
+
 abbrev pub clock_by : (every : ℕ) → Event → ClockTally → ClockTally
 clock_by every (events.Begin call) before = record { retired = before.retired; due = is_advance call; eras = []; told = false; reads = false }
 clock_by every (events.Retire slot birth retire) before =
     record { retired = before.retired + 1; due = (before.retired + 1) % every == 0; eras = []; told = false; reads = false }
 clock_by every (events.Era era) before =
     record { retired = before.retired; due = before.due; eras = if before.reads then before.eras else era ∷ before.eras; told = true; reads = before.reads }
-clock_by every (events.Read guard span) before =
-    record { retired = before.retired; due = before.due; eras = before.eras; told = before.told; reads = true }
+clock_by every (events.Read guard span) before = read_clock before
+clock_by every (events.Saw guard slot) before = read_clock before
 clock_by every event before = before
 
 abbrev pub clock_tally : (every : ℕ) → ℕ → Past → ClockTally
@@ -337,15 +342,24 @@ outcome_fits last from now t (moves.Moved era) = t.due && is_among era t.eras
 outcome_fits last from now t (moves.Other seen) = t.due && (not t.told && (nat_lt from seen && nat_le seen now))
 outcome_fits last from now t (moves.EraSpent era) = t.due && (not t.told && (era == last && era == now))
 
-abbrev pub answer_fits : (last from now : ℕ) → ClockTally → Answer → Bool
-answer_fits last from now t (answers.Done version clock) = outcome_fits last from now t clock
-answer_fits last from now t (answers.Taken number value clock) = outcome_fits last from now t clock
-answer_fits last from now t (answers.Clock clock) = outcome_fits last from now t clock
-answer_fits last from now t answer = true
+abbrev pub is_still : ClockMove → Bool
+is_still moves.Still = true
+is_still clock = false
+
+-- what a change answers: where retirements do not move the clock, always Still
+abbrev pub change_fits : (by_retires : Bool) → (last from now : ℕ) → ClockTally → ClockMove → Bool
+change_fits by_retires last from now t clock = if by_retires then outcome_fits last from now t clock else is_still clock
+
+abbrev pub answer_fits : (by_retires : Bool) → (last from now : ℕ) → ClockTally → Answer → Bool
+answer_fits by_retires last from now t (answers.Done version clock) = change_fits by_retires last from now t clock
+answer_fits by_retires last from now t (answers.Taken number value clock) = change_fits by_retires last from now t clock
+answer_fits by_retires last from now t (answers.Clock clock) = outcome_fits last from now t clock
+answer_fits by_retires last from now t answer = true
 
 -- what a call answers of the clock is what it has told of it
 abbrev pub clocks_ok : Config → Test
-clocks_ok config p i (events.End steps answer) = answer_fits config.last_era (from_of i p) (clock_of p) (clock_tally config.every i p) answer
+clocks_ok config p i (events.End steps answer) =
+    answer_fits (moves_clock config.scheme) config.last_era (from_of i p) (clock_of p) (clock_tally config.every i p) answer
 clocks_ok config p i event = true
 
 -- what makes a call begin anew: changes of the bucket of a put or a remove; values queued and links to the tail for an enqueue, values

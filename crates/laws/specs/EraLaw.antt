@@ -1,5 +1,5 @@
 -- Which eras are told.
-use Rattle.std.specs.Prelude.{Bool, false, true, None, Option, Some, nat_le, ℕ, ◌==◌, ◌&&◌, ◌||◌, ◌+◌, nat_lt, not, if◌then◌else◌}
+use Rattle.std.specs.Prelude.{Bool, false, true, None, Option, Some, nat_le, ℕ, ◌==◌, ◌&&◌, ◌||◌, ◌+◌, nat_lt, not, if◌then◌else◌, ◌≡◌}
 use Rattle.model_record.specs.Record.{Test, EachEntry, Past, begins, own}
 use Rattle.model_record.specs.defs.declared.call.Call.{Call}
 use Rattle.model_record.specs.defs.declared.call.Call.TheVariants as calls
@@ -7,11 +7,11 @@ use Rattle.model_record.specs.defs.declared.event.Event.{Event}
 use Rattle.model_record.specs.defs.declared.event.Event.TheVariants as events
 use Rattle.model_record.specs.defs.declared.event.Guard.TheVariants.{Helper, Index}
 use Rattle.model_record.specs.defs.declared.lifetime.Interval.{Interval}
-use Rattle.wfe_words.specs.Schemes.{has_one_interval, is_wfe}
+use Rattle.wfe_words.specs.Schemes.{has_one_interval, is_wfe, publishes_rows, moves as moves_clock}
 use Rattle.wfe_words.specs.declared.config.Config.{Config}
 use Rattle.wfe_words.specs.declared.config.SchemeKind.{SchemeKind}
 use Rattle.laws.specs.ScanLaw.{Blocks, blocks_of}
-use Rattle.laws.specs.StateAt.{birth_of, clock_of, value_of, is_index, seat_of, was_clock, cuts, has_cut, began_of}
+use Rattle.laws.specs.StateAt.{birth_of, clock_of, value_of, is_index, seat_of, was_clock, cuts, has_cut, has_told, began_of}
 
 -- The clock is moved to the next era, up to the last one.
 abbrev pub era_ok : (last_era : ℕ) → Test
@@ -30,6 +30,16 @@ moves_right call event blocks = true
 
 abbrev pub moves_ok : Config → Test
 moves_ok config p i event = moves_right (began_of i p) event (blocks_of config i p)
+
+-- the event moves the clock
+abbrev pub is_era : Event → Bool
+is_era (events.Era era) = true
+is_era event = false
+
+-- Where retirements do not move the clock, it is moved only by an Advance, once.
+abbrev pub advances_ok : Test
+advances_ok p i (events.Era era) = is_of_advance (began_of i p) && not (has_told i is_era p)
+advances_ok p i event = true
 
 -- a row's birth era was the clock at a position of the call that the row is given to
 abbrev pub birth_ok : Test
@@ -80,10 +90,19 @@ rising_ok scheme p i (events.Reserve guard span) = not (has_one_interval scheme)
 rising_ok scheme p i event = true
 
 -- A seat tells of its own guards, but for one case under Wait-Free Eras: an index word, of the interval that the seat's own helper
--- word publishes.
+-- word publishes. It tells rows of its own index words alone.
 abbrev pub guard_ok : SchemeKind → Test
 guard_ok scheme p i (events.Reserve guard span) = seat_of guard == i || (is_index guard && (is_wfe scheme && same_interval span (value_of (Helper i) p)))
+guard_ok scheme p i (events.Hazard guard slot) = is_index guard && seat_of guard == i
 guard_ok scheme p i event = true
+
+-- guards publish rows, and scans read rows of index words, where the scheme publishes rows, and intervals where it does not
+abbrev pub kind_ok : SchemeKind → Test
+kind_ok scheme p i (events.Reserve guard span) = not (publishes_rows scheme)
+kind_ok scheme p i (events.Read guard span) = not (publishes_rows scheme)
+kind_ok scheme p i (events.Hazard guard slot) = publishes_rows scheme
+kind_ok scheme p i (events.Saw guard slot) = publishes_rows scheme && is_index guard
+kind_ok scheme p i event = true
 
 -- The clock, lifetimes and reservations.
 pub record EraLaw (config : Config) (r : Past) : Type 0 where
@@ -91,6 +110,8 @@ pub record EraLaw (config : Config) (r : Past) : Type 0 where
   pub numbers : EachEntry (era_ok config.last_era) r
   -- the clock is moved only by an Advance or before a block of the call, once at most for each
   pub moves : EachEntry (moves_ok config) r
+  -- where retirements do not move it, only by an Advance, once at most
+  pub advances : moves_clock config.scheme ≡ false → EachEntry advances_ok r
   -- a row's birth era was the clock at a position of the call that the row is given to
   pub births : EachEntry birth_ok r
   -- a row is retired with its birth era, and a retire era that was the clock at a position after its cut
@@ -104,3 +125,5 @@ pub record EraLaw (config : Config) (r : Past) : Type 0 where
   pub rising : EachEntry (rising_ok config.scheme) r
   -- a seat publishes at its own guards, but that a helper hands an index word what its own helper word publishes
   pub guards : EachEntry (guard_ok config.scheme) r
+  -- under hazard pointers guards publish rows, and under no other scheme
+  pub kinds : EachEntry (kind_ok config.scheme) r

@@ -10,8 +10,9 @@ use Rattle.model_record.specs.defs.declared.call.ClockMove.TheVariants as moves
 use Rattle.model_record.specs.defs.declared.call.ClockMove.{ClockMove}
 use Rattle.model_record.specs.defs.declared.event.Event.TheVariants as events
 use Rattle.model_record.specs.defs.declared.event.Event.{Event}
+use Rattle.wfe_words.specs.Schemes.{moves as moves_clock}
 use Rattle.wfe_words.specs.declared.config.Config.{Config}
-use Rattle.laws.specs.AnswerLaw.{adopt_reason, enqueue_reason, from_of, is_advance, lacks_ok, moves_before, moves_of, retires_for, same_event, suits, shows_value, tells_none}
+use Rattle.laws.specs.AnswerLaw.{adopt_reason, enqueue_reason, from_of, is_advance, is_still, lacks_ok, moves_before, moves_of, retires_for, same_event, suits, shows_value, tells_none}
 use Rattle.laws.specs.HistoryScans.{Search, search_of}
 use Rattle.laws.specs.ScanLaw.{guards}
 use Rattle.laws.specs.StateAt.{began_of, begun_at, bucket_of, changed_of, clock_of, count_of, finds_of, had_version, has_told, is_row, is_there, pairs_at, retires_of, seen, stood_at, taken_since, told, told_of, was_current, was_empty, shows_of}
@@ -77,19 +78,24 @@ outcome_fits last t (moves.Moved era) = t.due && is_era era t.moved
 outcome_fits last t (moves.Other seen) = t.due && is_none t.moved
 outcome_fits last t (moves.EraSpent era) = t.due && (is_none t.moved && era == last)
 
-abbrev pub answer_fits : (last : ℕ) → ClockTally → Answer → Bool
-answer_fits last t (answers.Done version clock) = outcome_fits last t clock
-answer_fits last t (answers.Taken number value clock) = outcome_fits last t clock
-answer_fits last t (answers.Clock clock) = outcome_fits last t clock
-answer_fits last t answer = true
+-- what a change answers: where retirements do not move the clock, always Still
+abbrev pub change_fits : (by_retires : Bool) → (last : ℕ) → ClockTally → ClockMove → Bool
+change_fits by_retires last t clock = if by_retires then outcome_fits last t clock else is_still clock
 
-abbrev pub clock_right : (last : ℕ) → Event → ClockTally → Bool
-clock_right last (events.End steps answer) before = answer_fits last before answer
-clock_right last event before = true
+abbrev pub answer_fits : (by_retires : Bool) → (last : ℕ) → ClockTally → Answer → Bool
+answer_fits by_retires last t (answers.Done version clock) = change_fits by_retires last t clock
+answer_fits by_retires last t (answers.Taken number value clock) = change_fits by_retires last t clock
+answer_fits by_retires last t (answers.Clock clock) = outcome_fits last t clock
+answer_fits by_retires last t answer = true
 
--- a call answers that the clock is still just where it is no Advance and that number did not become such a multiple in it
+abbrev pub clock_right : (by_retires : Bool) → (last : ℕ) → Event → ClockTally → Bool
+clock_right by_retires last (events.End steps answer) before = answer_fits by_retires last before answer
+clock_right by_retires last event before = true
+
+-- a call answers that the clock is still just where it is no Advance and that number did not become such a multiple in it, or where
+-- retirements do not move the clock
 abbrev pub plain_clocks_ok : Config → Test
-plain_clocks_ok config p i event = clock_right config.last_era event (plain_clock config.every i p)
+plain_clocks_ok config p i event = clock_right (moves_clock config.scheme) config.last_era event (plain_clock config.every i p)
 
 abbrev pub PlainOutcomes : Config → Past → Type 0
 PlainOutcomes config r = EachEntry (plain_clocks_ok config) r

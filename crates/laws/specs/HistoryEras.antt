@@ -1,14 +1,14 @@
 -- Which eras are told.
-use Rattle.std.specs.Prelude.{Bool, None, Option, Some, false, nat_le, nat_lt, true, ℕ, ◌&&◌, ◌+◌, ◌==◌, ◌||◌}
+use Rattle.std.specs.Prelude.{Bool, None, Option, Some, false, nat_le, nat_lt, true, ℕ, ◌&&◌, ◌+◌, ◌==◌, ◌||◌, ◌≡◌}
 use Rattle.model_record.specs.Record.{EachEntry, Past, Test, begins, own}
 use Rattle.model_record.specs.defs.declared.event.Event.TheVariants as events
 use Rattle.model_record.specs.defs.declared.event.Event.{Event}
 use Rattle.model_record.specs.defs.declared.event.Guard.TheVariants.{Whole}
 use Rattle.model_record.specs.defs.declared.lifetime.Interval.{Interval}
-use Rattle.wfe_words.specs.Schemes.{is_ibr}
+use Rattle.wfe_words.specs.Schemes.{is_ibr, moves as moves_clock}
 use Rattle.wfe_words.specs.declared.config.Config.{Config}
 use Rattle.wfe_words.specs.declared.config.SchemeKind.{SchemeKind}
-use Rattle.laws.specs.EraLaw.{guard_ok, upper_current, is_copied}
+use Rattle.laws.specs.EraLaw.{advances_ok, guard_ok, kind_ok, upper_current, is_copied}
 use Rattle.laws.specs.HistoryScans.Course.{Advancing, MayScan, MustScan, Plain, Reading}
 use Rattle.laws.specs.HistoryScans.{Course, plain_tally}
 use Rattle.laws.specs.StateAt.{birth_of, clock_of, cuts, value_of, was_clock, began_of}
@@ -100,6 +100,8 @@ pub record HistoryEras (config : Config) (r : Past) : Type 0 where
   pub numbers : ClockLaw config r
   -- the clock is moved only by an Advance or before a scan of the call, once at most for each
   pub moves : PlainMoves config r
+  -- where retirements do not move it, only by an Advance, once at most
+  pub advances : moves_clock config.scheme ≡ false → EachEntry advances_ok r
   -- a row's birth era was the clock somewhere in the call that the row is given to
   pub births_current : BirthsCurrent r
   -- a row is retired with the birth era of its last Give
@@ -112,3 +114,5 @@ pub record HistoryEras (config : Config) (r : Past) : Type 0 where
   pub spans_rise : SpansRise r
   -- a seat publishes at its own guards, but that a helper hands an index word what its own helper word publishes
   pub guards : GuardLaw config.scheme r
+  -- under hazard pointers guards publish rows, and under no other scheme
+  pub kinds : EachEntry (kind_ok config.scheme) r

@@ -4,17 +4,20 @@ use Rattle.wfe_words.specs.Schemes.{has_one_interval}
 use Rattle.std.specs.Prelude.{Bool, List, None, Option, Some, false, if◌then◌else◌, is_none, is_some, not, true, ℕ, ◌&&◌, ◌==◌, ◌||◌, ◌≡◌, nat_le, nat_lt, suc, zero, ◌<◌}
 use Rattle.model_record.specs.Record.{EachEntry, Past, Test, begins, held_since, tells}
 use Rattle.model_record.specs.defs.Entry.{Entry}
+use Rattle.model_record.specs.defs.declared.shown.Shown.{Shown}
+use Rattle.model_record.specs.defs.declared.shown.Shown.TheVariants.{Eras, Nothing, Row}
+use Rattle.model_record.specs.defs.Shown.{shown}
 use Rattle.model_record.specs.defs.declared.call.Call.TheVariants as calls
 use Rattle.model_record.specs.defs.declared.call.Call.{Call}
 use Rattle.model_record.specs.defs.declared.event.Event.TheVariants as events
 use Rattle.model_record.specs.defs.declared.event.Guard.TheVariants.{Helper, Index, Whole}
 use Rattle.model_record.specs.defs.declared.event.Root.TheVariants as roots
-use Rattle.model_record.specs.defs.declared.lifetime.Interval.{Interval}
 use Rattle.wfe_words.specs.declared.config.Config.{Config}
-use Rattle.laws.specs.HoldLaw.{finds_ok, has_had, is_held, is_last}
+use Rattle.wfe_words.specs.declared.config.SchemeKind.{SchemeKind}
+use Rattle.laws.specs.HoldLaw.{finds_ok, has_had, is_blank, is_held, is_last}
 use Rattle.laws.specs.NoReuse.{is_reuse}
 use Rattle.laws.specs.Once.{is_slot}
-use Rattle.laws.specs.StateAt.{began_of, bucket_at, head_at, is_dequeue, is_row, next_at, null_of, row_at, stood_at, tail_at, value_of}
+use Rattle.laws.specs.StateAt.{began_of, bucket_at, head_at, is_dequeue, is_row, next_at, null_of, row_at, stood_at, tail_at, published_at, value_of}
 
 -- the entry does not reuse row s, or the row does not stand at index j of seat k
 abbrev pub reuse_ok : ℕ → ℕ → ℕ → Test
@@ -81,8 +84,7 @@ copies_ok p i event = true
 abbrev pub CopyLaw : Past → Type 0
 CopyLaw r = EachEntry copies_ok r
 
--- wherever the record is cut, a row that stands at an index of a seat is taken, and the guard of that index publishes an interval that
--- meets the row's life
+-- wherever the record is cut, a row that stands at an index of a seat is taken, and what the guard of that index publishes keeps its life
 abbrev pub StoodThroughout : Config → Past → Type 0
 StoodThroughout config r =
     (before : Past) (later : List Entry) (k j s : ℕ)
@@ -175,15 +177,18 @@ abbrev pub first_of : Option ℕ → Option ℕ → Option ℕ
 first_of None other = other
 first_of (Some slot) other = Some slot
 
--- an interval is published exactly where a row stands
-abbrev pub is_alike : Option Interval → Option ℕ → Bool
-is_alike None None = true
-is_alike (Some span) (Some slot) = true
-is_alike span slot = false
+-- something is published exactly where a row stands
+abbrev pub is_alike : Shown → Option ℕ → Bool
+is_alike Nothing None = true
+is_alike (Eras span) (Some slot) = true
+is_alike (Row row) (Some slot) = true
+is_alike value slot = false
 
 -- an index word publishes where a row stands, and those of 0 and 1 publish nothing
-abbrev pub index_rests : ℕ → Past → (index : ℕ) → Bool
-index_rests i p j = if nat_lt j 2 then is_none (value_of (Index i j) p) else is_alike (value_of (Index i j) p) (stood_at i j p)
+abbrev pub index_rests : SchemeKind → ℕ → Past → (index : ℕ) → Bool
+index_rests scheme i p j =
+    let value : Shown = published_at scheme (Index i j) p in
+    if nat_lt j 2 then is_blank value else is_alike value (stood_at i j p)
 
 -- what stands at the first index from 2 up to below a number at which something stands
 abbrev pub kept_below : ℕ → Past → (below : ℕ) → Option ℕ
@@ -192,7 +197,7 @@ kept_below i p (suc j) = first_of (kept_below i p j) (if nat_lt j 2 then None el
 
 -- where a call ends, under 2GE the seat's interval word publishes where a row stands at an index from 2 on
 abbrev pub spans_ok : Config → Test
-spans_ok config p i (events.End steps answer) = is_alike (value_of (Whole i) p) (kept_below i p config.indexes)
+spans_ok config p i (events.End steps answer) = is_alike (shown (value_of (Whole i) p)) (kept_below i p config.indexes)
 spans_ok config p i event = true
 
 -- under the other schemes its helper word publishes nothing
@@ -201,14 +206,14 @@ helpers_ok p i (events.End steps answer) = is_none (value_of (Helper i) p)
 helpers_ok p i event = true
 
 -- and an index word where a row stands at the index
-abbrev pub words_ok : (index : ℕ) → Test
-words_ok j p i (events.End steps answer) = index_rests i p j
-words_ok j p i event = true
+abbrev pub words_ok : SchemeKind → (index : ℕ) → Test
+words_ok scheme j p i (events.End steps answer) = index_rests scheme i p j
+words_ok scheme j p i event = true
 
 pub record RestLaw (config : Config) (r : Past) : Type 0 where
   pub spans : has_one_interval config.scheme ≡ true → EachEntry (spans_ok config) r
   pub helpers : has_one_interval config.scheme ≡ false → EachEntry helpers_ok r
-  pub words : has_one_interval config.scheme ≡ false → (j : ℕ) → j < config.indexes → EachEntry (words_ok j) r
+  pub words : has_one_interval config.scheme ≡ false → (j : ℕ) → j < config.indexes → EachEntry (words_ok config.scheme j) r
 
 -- A row stands at an index of a seat from the Held that tells so to the Clear. While it does, it is not used again.
 pub record HistoryStands (r : Past) : Type 0 where
@@ -223,7 +228,7 @@ pub record HistoryStands (r : Past) : Type 0 where
 
 -- What stands is covered, and was there to be found.
 pub record HistoryHolds (config : Config) (r : Past) : Type 0 where
-  -- at each position what stands is taken, and the guard of its index publishes an interval that meets its life
+  -- at each position what stands is taken, and what the guard of its index publishes keeps its life
   pub throughout : StoodThroughout config r
   -- what a call holds at its root, or that there is nothing, the root had at a position of the call
   pub sources : SourceLaw config r

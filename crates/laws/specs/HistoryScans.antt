@@ -76,6 +76,7 @@ abbrev pub plain_by : (every : ℕ) → Event → Tally → Tally
 plain_by every (events.Begin call) before = record { retired = before.retired; course = first_course call }
 plain_by every (events.Era era) before = record { retired = before.retired; course = moved_course before.course }
 plain_by every (events.Read guard span) before = record { retired = before.retired; course = read_course before.course }
+plain_by every (events.Saw guard slot) before = record { retired = before.retired; course = read_course before.course }
 plain_by every (events.Give slot birth) before = record { retired = before.retired; course = Plain }
 plain_by every (events.Retire slot birth retire) before = record { retired = before.retired + 1; course = retired_course ((before.retired + 1) % every == 0) }
 plain_by every event before = before
@@ -104,6 +105,7 @@ is_settled all (Reading reads) = reads == all
 -- before it ends. No guard is read elsewhere.
 abbrev pub scan_right : (all : ℕ) → Event → Course → Bool
 scan_right all (events.Read guard span) before = may_read all before
+scan_right all (events.Saw guard slot) before = may_read all before
 scan_right all (events.Give slot birth) before = is_settled all before
 scan_right all (events.Retire slot birth retire) before = is_settled all before
 scan_right all (events.End steps answer) before = is_settled all before
@@ -148,6 +150,7 @@ search_by (events.Begin call) before = record { seeks = seeks_row call; reads = 
 search_by (events.Give slot birth) before = record { seeks = false; reads = before.reads }
 search_by (events.Retire slot birth retire) before = record { seeks = false; reads = before.reads }
 search_by (events.Read guard span) before = record { seeks = before.seeks; reads = before.reads + 1 }
+search_by (events.Saw guard slot) before = record { seeks = before.seeks; reads = before.reads + 1 }
 search_by event before = before
 
 abbrev pub no_search : Search
@@ -160,15 +163,16 @@ search_of i p = seen search_by no_search i p
 -- a guard that a call reads while it seeks a row is read only where the row was taken at a position of the call so far
 abbrev pub room_ok : (slots s : ℕ) → Test
 room_ok slots s p i (events.Read guard span) = let x : Search = search_of i p in not x.seeks || was_taken slots i s p
+room_ok slots s p i (events.Saw guard slot) = let x : Search = search_of i p in not x.seeks || was_taken slots i s p
 room_ok slots s p i event = true
 
 -- so it is with each row
 abbrev pub RoomScans : Config → Past → Type 0
 RoomScans config r = (s : ℕ) → s ≤ config.slots → EachEntry (room_ok config.slots s) r
 
--- Each scan keeps just the rows whose lives meet reservations that it read.
+-- Each scan keeps just the rows that something which it read keeps.
 pub record HistoryScans (config : Config) (r : Past) : Type 0 where
-  -- a seat reads all guards, in order, and then just the rows of its list go back whose lives meet nothing that it read
+  -- a seat reads all guards, in order, and then just the rows of its list go back that nothing which it read keeps
   pub blocks : BlockLaw config r
   -- a guard that is read shows what was last told that it publishes, whichever seat told it
   pub reads : ReadLaw r

@@ -12,7 +12,7 @@ use Rattle.model_record.specs.defs.declared.call.ClockMove.TheVariants as moves
 use Rattle.model_record.specs.defs.declared.event.Event.TheVariants as events
 use Rattle.model_record.specs.defs.declared.event.Event.{Event}
 use Rattle.model_record.specs.defs.declared.event.Guard.TheVariants.{Helper, Index}
-use Rattle.wfe_words.specs.Schemes.{is_he, is_ibr, is_wfe, has_one_interval}
+use Rattle.wfe_words.specs.Schemes.{is_he, is_ibr, is_wfe, has_one_interval, publishes_rows}
 use Rattle.wfe_words.specs.declared.config.Config.{Config}
 use Rattle.wfe_words.specs.declared.config.SchemeKind.{SchemeKind}
 use Rattle.laws.specs.HistoryEras.{may_move}
@@ -20,7 +20,7 @@ use Rattle.laws.specs.HistoryScans.{plain_tally}
 use Rattle.laws.specs.HistoryTurns.{turns_since}
 use Rattle.laws.specs.ScanLaw.{guards}
 use Rattle.laws.specs.StateAt.{backs_of, began_of, era_grows, is_found, is_helper, last_of, reserves_of, shown_by, shown_of, times, told, tried_of, value_of}
-use Rattle.laws.specs.StepLaw.{event_tried, few_steps, has_tried, raise_ok, is_made, is_nothing}
+use Rattle.laws.specs.StepLaw.{event_tried, few_steps, has_tried, hazards_ok, raise_ok, is_made, is_nothing}
 
 -- so are those that a seat whose helper word publishes nothing tells of an index word, until that publishes nothing
 abbrev pub era_rises : Test
@@ -224,6 +224,9 @@ pub record HistorySteps (config : Config) (history : History) (r : Past) : Type 
   pub tries : is_he config.scheme ≡ true → EachTurn tries_right history
   -- under 2GE a Held or Null tells two steps, and three for each time that the interval was raised, and a Held at index 1 one more
   pub raises : is_ibr config.scheme ≡ true → RaiseLaw r
+  -- under hazard pointers a Held or Null tells two steps for each row that its index word published, and one, and a Held at index 1 one
+  -- more; in a protection each of these rows is another than the one before it
+  pub hazards : publishes_rows config.scheme ≡ true → EachEntry hazards_ok r
   -- the steps of releases, scans and advances, and under Wait-Free Eras of holds and gets
   pub calls : EndLaw config r
   -- each era that a seat tells of an index word is later than the one that the word publishes, but for those that it tells under

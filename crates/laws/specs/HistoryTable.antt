@@ -1,5 +1,5 @@
 -- What an entry names is in the table: its seat, and the guards, indexes, rows and buckets that its event tells of.
-use Rattle.std.specs.Prelude.{Bool, true, ◌&&◌, ◌+◌, nat_le, nat_lt}
+use Rattle.std.specs.Prelude.{Bool, None, Option, Some, not, true, ℕ, ◌&&◌, ◌+◌, nat_le, nat_lt}
 use Rattle.model_record.specs.Record.{Test, EachEntry, Past}
 use Rattle.model_record.specs.defs.declared.call.Answer.{Answer}
 use Rattle.model_record.specs.defs.declared.call.Answer.TheVariants as answers
@@ -9,19 +9,21 @@ use Rattle.model_record.specs.defs.declared.event.Guard.{Guard}
 use Rattle.model_record.specs.defs.declared.event.Guard.TheVariants.{Helper, Index, Whole}
 use Rattle.model_record.specs.defs.declared.event.Root.{Root}
 use Rattle.model_record.specs.defs.declared.event.Root.TheVariants as roots
-use Rattle.wfe_words.specs.Schemes.{is_wfe, publishes_eras, has_one_interval}
+use Rattle.wfe_words.specs.Schemes.{is_wfe, has_one_interval}
 use Rattle.wfe_words.specs.declared.config.Config.{Config}
 
 -- the table has this guard: its scheme has guards of this kind, and its seat and index are there
 abbrev pub is_guard : Config → Guard → Bool
 is_guard config (Helper seat) = is_wfe config.scheme && nat_lt seat config.seats
-is_guard config (Index seat index) = publishes_eras config.scheme && (nat_lt seat config.seats && nat_lt index config.indexes)
+is_guard config (Index seat index) = not (has_one_interval config.scheme) && (nat_lt seat config.seats && nat_lt index config.indexes)
 is_guard config (Whole seat) = has_one_interval config.scheme && nat_lt seat config.seats
 
 -- a guard that is told to publish, or that is read, is one of the table
 abbrev pub is_guarded : Config → Event → Bool
 is_guarded config (events.Reserve guard span) = is_guard config guard
 is_guarded config (events.Read guard span) = is_guard config guard
+is_guarded config (events.Hazard guard slot) = is_guard config guard
+is_guarded config (events.Saw guard slot) = is_guard config guard
 is_guarded config event = true
 
 abbrev pub guards_ok : Config → Test
@@ -44,9 +46,16 @@ is_answer config (answers.Left count) = nat_le count (config.slots + 1)
 is_answer config (answers.Adopted count) = nat_le count (config.slots + 1)
 is_answer config answer = true
 
+-- a row of the table, or none
+abbrev pub is_row_or_none : Config → Option ℕ → Bool
+is_row_or_none config None = true
+is_row_or_none config (Some slot) = nat_le slot config.slots
+
 -- the indexes, rows and buckets of an event are those of the table
 abbrev pub is_in_range : Config → Event → Bool
 is_in_range config (events.End steps answer) = is_answer config answer
+is_in_range config (events.Hazard guard slot) = is_row_or_none config slot
+is_in_range config (events.Saw guard slot) = is_row_or_none config slot
 is_in_range config (events.Give slot birth) = nat_le slot config.slots
 is_in_range config (events.Unused slot) = nat_le slot config.slots
 is_in_range config (events.Link root slot) = is_root config root && nat_le slot config.slots

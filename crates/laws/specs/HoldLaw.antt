@@ -3,6 +3,8 @@ use Rattle.std.specs.Prelude.{Bool, ℕ, ◌&&◌, List, Some, true, ◌≡◌, 
 use Rattle.model_record.specs.Record.{Past, tells, begins, held_since, Test, EachEntry}
 use Rattle.model_record.specs.defs.Entry.{Entry}
 use Rattle.model_record.specs.defs.Events.{is_null}
+use Rattle.model_record.specs.defs.declared.shown.Shown.{Shown}
+use Rattle.model_record.specs.defs.declared.shown.Shown.TheVariants.{Eras, Nothing, Row}
 use Rattle.model_record.specs.defs.Shown.{keeps, shown}
 use Rattle.model_record.specs.defs.declared.call.Call.{Call}
 use Rattle.model_record.specs.defs.declared.call.Call.TheVariants as calls
@@ -10,23 +12,22 @@ use Rattle.model_record.specs.defs.declared.event.Event.TheVariants as events
 use Rattle.model_record.specs.defs.declared.event.Guard.{Guard}
 use Rattle.model_record.specs.defs.declared.event.Guard.TheVariants.{Helper, Index, Whole}
 use Rattle.model_record.specs.defs.declared.event.Root.TheVariants as roots
-use Rattle.model_record.specs.defs.declared.lifetime.Interval.{Interval}
 use Rattle.wfe_words.specs.Schemes.{has_one_interval}
 use Rattle.wfe_words.specs.declared.config.Config.{Config}
 use Rattle.wfe_words.specs.declared.config.SchemeKind.{SchemeKind}
 use Rattle.laws.specs.Once.{is_slot}
-use Rattle.laws.specs.StateAt.{taken_at, life_at, value_of, stands, standing_of, is_bare, bucket_at, head_at, same_value, tail_at, began_of, has_root, has_told, is_dequeue, rooted_of, row_at, next_at}
+use Rattle.laws.specs.StateAt.{taken_at, life_at, value_of, published_at, stands, standing_of, is_bare, bucket_at, head_at, same_value, tail_at, began_of, has_root, has_told, is_dequeue, rooted_of, row_at, next_at}
 
 -- the guard of a seat's index: its index word, or under 2GE the seat's interval word
 abbrev pub own_guard : SchemeKind → (seat index : ℕ) → Guard
 own_guard scheme seat index = if has_one_interval scheme then Whole seat else Index seat index
 
--- the row is taken, and the guard of index j of seat k publishes an interval that meets the row's life
+-- the row is taken, and what the guard of index j of seat k publishes keeps the row's life
 abbrev pub is_held : Config → (k j s : ℕ) → Past → Bool
-is_held config k j s p = taken_at config.slots s p && keeps (life_at s p) (shown (value_of (own_guard config.scheme k j) p))
+is_held config k j s p = taken_at config.slots s p && keeps (life_at s p) (published_at config.scheme (own_guard config.scheme k j) p)
 
--- wherever the record is cut, a row that stands at an index of a seat is taken, and the guard of that index publishes an interval that
--- meets the row's life
+-- wherever the record is cut, a row that stands at an index of a seat is taken, and what the guard of that index publishes keeps its life:
+-- an interval that meets it, or the row itself
 abbrev pub HeldThroughout : Config → Past → Type 0
 HeldThroughout config r =
     (before : Past) (later : List Entry) (k j s : ℕ)
@@ -109,22 +110,31 @@ abbrev pub bare_ok : Test
 bare_ok p i (events.End steps answer) = is_bare i 0 p && is_bare i 1 p
 bare_ok p i event = true
 
--- an interval is published exactly where a row stands
-abbrev pub is_alike : Option Interval → (bare : Bool) → Bool
-is_alike None bare = bare
-is_alike (Some span) bare = not bare
+-- nothing is published
+abbrev pub is_blank : Shown → Bool
+is_blank Nothing = true
+is_blank (Eras span) = false
+is_blank (Row slot) = false
+
+-- something is published exactly where a row stands
+abbrev pub is_alike : Shown → (bare : Bool) → Bool
+is_alike Nothing bare = bare
+is_alike (Eras span) bare = not bare
+is_alike (Row slot) bare = not bare
 
 -- of the seat's indexes below a number, 0 and 1 publish nothing, and each other where a row stands there
-abbrev pub index_rests : ℕ → Past → (index : ℕ) → Bool
-index_rests i p j = if nat_lt j 2 then is_none (value_of (Index i j) p) else is_alike (value_of (Index i j) p) (is_bare i j p)
+abbrev pub index_rests : SchemeKind → ℕ → Past → (index : ℕ) → Bool
+index_rests scheme i p j =
+    let value : Shown = published_at scheme (Index i j) p in
+    if nat_lt j 2 then is_blank value else is_alike value (is_bare i j p)
 
-abbrev pub indexes_rest : ℕ → Past → (below : ℕ) → Bool
-indexes_rest i p zero = true
-indexes_rest i p (suc j) = index_rests i p j && indexes_rest i p j
+abbrev pub indexes_rest : SchemeKind → ℕ → Past → (below : ℕ) → Bool
+indexes_rest scheme i p zero = true
+indexes_rest scheme i p (suc j) = index_rests scheme i p j && indexes_rest scheme i p j
 
 -- the helper word of seat i publishes nothing, nor do its index words 0 and 1, and each other where a row stands there
 abbrev pub words_rest : Config → ℕ → Past → Bool
-words_rest config i p = is_none (value_of (Helper i) p) && indexes_rest i p config.indexes
+words_rest config i p = is_none (value_of (Helper i) p) && indexes_rest config.scheme i p config.indexes
 
 -- no row stands at an index of the seat from 2 up to below a number
 abbrev pub keeps_none : ℕ → Past → (below : ℕ) → Bool
@@ -134,7 +144,7 @@ keeps_none i p (suc j) = (nat_lt j 2 || is_bare i j p) && keeps_none i p j
 -- under 2GE the seat's interval word publishes where a row stands at an index from 2 on
 abbrev pub guards_rest : Config → ℕ → Past → Bool
 guards_rest config i p =
-    if has_one_interval config.scheme then is_alike (value_of (Whole i) p) (keeps_none i p config.indexes) else words_rest config i p
+    if has_one_interval config.scheme then is_alike (shown (value_of (Whole i) p)) (keeps_none i p config.indexes) else words_rest config i p
 
 -- so it is where a call of the seat ends
 abbrev pub rests_ok : Config → Test
@@ -143,7 +153,7 @@ rests_ok config p i event = true
 
 -- What stands is covered, and was there to be found.
 pub record HoldLaw (config : Config) (r : Past) : Type 0 where
-  -- at each position what stands is taken, and the guard of its index publishes an interval that meets its life
+  -- at each position what stands is taken, and what the guard of its index publishes keeps its life
   pub throughout : HeldThroughout config r
   -- what a call holds at its root, or that there is nothing, the root had at a position of the call
   pub sources : EachEntry (sources_ok config) r

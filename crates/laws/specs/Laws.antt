@@ -22,7 +22,7 @@ pub record Laws (config : Config) (r : Past) : Type 0 where
   pub no_reuse : NoReuse r
   -- each row is given, linked, cut, retired and given back in this order, each retired row once at most
   pub once : Once config.slots r
-  -- each scan keeps just the rows whose lives meet reservations that it read
+  -- each scan keeps just the rows that something which it read keeps
   pub scans : ScanLaw config r
   -- the clock, lifetimes and reservations
   pub eras : EraLaw config r

@@ -11,9 +11,9 @@ use Rattle.model_record.specs.defs.declared.event.Guard.TheVariants.{Helper, Ind
 use Rattle.model_record.specs.defs.declared.lifetime.Lifetime.{Lifetime}
 use Rattle.wfe_words.specs.declared.config.Config.{Config}
 use Rattle.wfe_words.specs.declared.config.SchemeKind.{SchemeKind}
-use Rattle.wfe_words.specs.declared.config.SchemeKind.TheVariants.{He, Ibr, Wfe}
+use Rattle.wfe_words.specs.declared.config.SchemeKind.TheVariants.{He, Hp, Ibr, Wfe}
 use Rattle.laws.specs.Lists.{list_of}
-use Rattle.laws.specs.StateAt.{same_guard, read_of, scans_of, value_of, same_span, seen, began_of, was_taken}
+use Rattle.laws.specs.StateAt.{same_guard, read_of, scans_of, value_of, hazard_of, same_span, same_value, seen, began_of, was_taken}
 
 -- the index word of this number, by seat and then index
 abbrev pub index_at : Config → ℕ → Guard
@@ -25,6 +25,7 @@ abbrev pub guard_by : SchemeKind → Config → ℕ → Guard
 guard_by He config k = index_at config k
 guard_by Ibr config k = Whole k
 guard_by Wfe config k = if nat_lt k config.seats then Helper k else index_at config (k - config.seats)
+guard_by Hp config k = index_at config k
 
 abbrev pub guard_at : Config → ℕ → Guard
 guard_at config k = guard_by config.scheme config k
@@ -34,6 +35,7 @@ abbrev pub guards_by : SchemeKind → Config → ℕ
 guards_by He config = config.seats * config.indexes
 guards_by Ibr config = config.seats
 guards_by Wfe config = config.seats + config.seats * config.indexes
+guards_by Hp config = config.seats * config.indexes
 
 abbrev pub guards : Config → ℕ
 guards config = guards_by config.scheme config
@@ -62,19 +64,24 @@ next_number all read = if length read == all then 0 else length read
 -- A guard is the next one of its block, which goes on with nothing between, or begins where no scan is left undone. A row goes
 -- back in a scan whose block is whole, and it is the first of the seat's list that nothing read keeps. Where the seat tells
 -- anything else, no scan is left undone: no such row is on its list any more.
-abbrev pub scan_by : Config → (read : List Seen) → (list : List Lifetime) → (scans : Bool) → Event → Bool
-scan_by config read list scans (events.Read guard span) =
+abbrev pub read_next : Config → (read : List Seen) → (list : List Lifetime) → (scans : Bool) → Guard → Bool
+read_next config read list scans guard =
     same_guard guard (guard_at config (next_number (guards config) read))
     && (if is_partial (guards config) read then scans else (not scans || is_over (guards config) read list))
+
+abbrev pub scan_by : Config → (read : List Seen) → (list : List Lifetime) → (scans : Bool) → Event → Bool
+scan_by config read list scans (events.Read guard span) = read_next config read list scans guard
+scan_by config read list scans (events.Saw guard slot) = read_next config read list scans guard
 scan_by config read list scans (events.Back slot) = scans && (length read == guards config && is_life_of slot (next_back read list))
 scan_by config read list scans event = not scans || is_over (guards config) read list
 
 abbrev pub scan_ok : Config → Test
 scan_ok config p i event = scan_by config (read_of (guards config) i p) (list_of i p) (scans_of i p) event
 
--- A guard that is read shows what it publishes.
+-- A guard that is read shows what it publishes, an interval or a row.
 abbrev pub read_ok : Test
 read_ok p i (events.Read guard span) = same_span span (value_of guard p)
+read_ok p i (events.Saw guard slot) = same_value slot (hazard_of guard p)
 read_ok p i event = true
 
 -- What the blocks of a seat's call come to. `retired`: the rows that the seat has retired in all its calls. `given`: the call was given
@@ -114,14 +121,18 @@ retired_block every before =
     then record before { retired = before.retired + 1; due = due_block before.due; last = 0 }
     else record before { retired = before.retired + 1 }
 
+-- a guard is read: the first of a block, or one more
+abbrev pub read_block : (all : ℕ) → Blocks → Blocks
+read_block all before = if before.left == 0 then begun_block all before else record before { left = before.left - 1 }
+
 abbrev pub blocks_by : (all every : ℕ) → Event → Blocks → Blocks
 blocks_by all every (events.Begin call) before =
     record { retired = before.retired; given = false; begun = 0; due = None; last = 0; left = before.left; moves = 0 }
 blocks_by all every (events.Give slot birth) before = record before { given = true }
 blocks_by all every (events.Retire slot birth retire) before = retired_block every before
 blocks_by all every (events.Era era) before = record before { moves = before.moves + 1 }
-blocks_by all every (events.Read guard span) before =
-    if before.left == 0 then begun_block all before else record before { left = before.left - 1 }
+blocks_by all every (events.Read guard span) before = read_block all before
+blocks_by all every (events.Saw guard slot) before = read_block all before
 blocks_by all every event before = before
 
 abbrev pub blocks_of : Config → ℕ → Past → Blocks
@@ -152,10 +163,15 @@ may_begin call blocks (Some since) = since == 0 && (not (is_scan_call call) || b
 abbrev pub is_scanned : Option Call → Blocks → Bool
 is_scanned call blocks = (is_none blocks.due || blocks.last == 1) && (not (is_scan_call call) || blocks.begun == 1)
 
+-- a guard may be read: of a block that has begun, or of one that may begin
+abbrev pub may_go_on : Option Call → Blocks → Bool
+may_go_on call blocks = not (blocks.left == 0) || may_begin call blocks blocks.due
+
 -- A call that only scans has one block. A call in which the number of its seat's retirements came to a multiple of `every` has one after
 -- that Retire. A put, a remove or an enqueue may have one more before it is given a row. There are no others.
 abbrev pub blocks_right : Option Call → Event → Blocks → Bool
-blocks_right call (events.Read guard span) blocks = not (blocks.left == 0) || may_begin call blocks blocks.due
+blocks_right call (events.Read guard span) blocks = may_go_on call blocks
+blocks_right call (events.Saw guard slot) blocks = may_go_on call blocks
 blocks_right call (events.End steps answer) blocks = is_scanned call blocks
 blocks_right call event blocks = true
 
@@ -167,13 +183,17 @@ abbrev pub seeks_room : Option Call → Blocks → Bool
 seeks_room call blocks = blocks.left == 0 && (is_none blocks.due && is_given_one call)
 
 -- such a block begins only where the row was taken at a position of the call before
+abbrev pub has_sought : Config → (s : ℕ) → Past → (seat : ℕ) → Bool
+has_sought config s p i = not (seeks_room (began_of i p) (blocks_of config i p)) || was_taken config.slots i s p
+
 abbrev pub room_ok : Config → (s : ℕ) → Test
-room_ok config s p i (events.Read guard span) = not (seeks_room (began_of i p) (blocks_of config i p)) || was_taken config.slots i s p
+room_ok config s p i (events.Read guard span) = has_sought config s p i
+room_ok config s p i (events.Saw guard slot) = has_sought config s p i
 room_ok config s p i event = true
 
--- Each scan keeps just the rows whose lives meet reservations that it read.
+-- Each scan keeps just the rows that something which it read keeps.
 pub record ScanLaw (config : Config) (r : Past) : Type 0 where
-  -- a seat reads all guards, in order, and then just the rows of its list go back whose lives meet nothing that it read
+  -- a seat reads all guards, in order, and then just the rows of its list go back that nothing which it read keeps
   pub blocks : EachEntry (scan_ok config) r
   -- a guard that is read shows what was last told that it publishes, whichever seat told it
   pub reads : EachEntry read_ok r

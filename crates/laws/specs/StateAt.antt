@@ -1,8 +1,8 @@
 -- What is read off a record at a position, that is off the entries before it. What one law alone counts stands with that law.
-use Rattle.std.specs.Prelude.{None, Option, Some, ℕ, ◌==◌, if◌then◌else◌, Bool, false, not, true, List, [], ◌∷◌, ◌++◌, ◌||◌, ◌+◌, length, ◌&&◌, nat_le, ◌%◌, take, is_some, nat_lt}
+use Rattle.std.specs.Prelude.{None, Option, Some, ℕ, ◌==◌, if◌then◌else◌, Bool, false, true, List, [], ◌∷◌, ◌++◌, ◌||◌, ◌+◌, length, ◌&&◌, nat_le, ◌%◌, take, is_some, nat_lt}
 use Rattle.model_record.specs.Record.{Past, begins, own, told_since, Test, held_since, value_since}
 use Rattle.model_record.specs.Record.Past.{Start, Then}
-use Rattle.model_record.specs.defs.Shown.{Seen, shown}
+use Rattle.model_record.specs.defs.Shown.{Seen, shown, shown_row}
 use Rattle.model_record.specs.defs.Pairs.{pairs_after, value_in, Pair}
 use Rattle.model_record.specs.defs.declared.call.Call.{Call}
 use Rattle.model_record.specs.defs.declared.call.Call.TheVariants as calls
@@ -13,8 +13,11 @@ use Rattle.model_record.specs.defs.declared.event.Guard.TheVariants.{Helper, Ind
 use Rattle.model_record.specs.defs.declared.event.Root.TheVariants as roots
 use Rattle.model_record.specs.defs.declared.fold.Change.{Change}
 use Rattle.model_record.specs.defs.declared.fold.Change.TheVariants as changes
+use Rattle.model_record.specs.defs.declared.shown.Shown.{Shown}
 use Rattle.model_record.specs.defs.declared.lifetime.Interval.{Interval}
 use Rattle.model_record.specs.defs.declared.lifetime.Lifetime.{Lifetime}
+use Rattle.wfe_words.specs.Schemes.{publishes_rows}
+use Rattle.wfe_words.specs.declared.config.SchemeKind.{SchemeKind}
 
 -- Counts of entries, and what a seat's own entries come to.
 
@@ -224,6 +227,7 @@ was_taken slots i s p = held_since (begins i) (taken_at slots s) p
 abbrev pub is_mark : Event → Bool
 is_mark (events.Begin call) = true
 is_mark (events.Read guard span) = true
+is_mark (events.Saw guard slot) = true
 is_mark (events.Back slot) = true
 is_mark event = false
 
@@ -469,6 +473,19 @@ abbrev pub value_of : Guard → Past → Option Interval
 value_of guard Start = None
 value_of guard (Then p i event) = reserved_by guard event (value_of guard p)
 
+-- under hazard pointers a guard publishes the row of its last Hazard, whichever seat told it, and nothing before
+abbrev pub hazard_by : Guard → Event → Option ℕ → Option ℕ
+hazard_by guard (events.Hazard other slot) before = if same_guard guard other then slot else before
+hazard_by guard event before = before
+
+abbrev pub hazard_of : Guard → Past → Option ℕ
+hazard_of guard Start = None
+hazard_of guard (Then p i event) = hazard_by guard event (hazard_of guard p)
+
+-- what a guard publishes under a scheme: a row, or an interval
+abbrev pub published_at : SchemeKind → Guard → Past → Shown
+published_at scheme guard p = if publishes_rows scheme then shown_row (hazard_of guard p) else shown (value_of guard p)
+
 -- whether the helper word publishes after an event of its seat
 abbrev pub shown_by : (seat : ℕ) → Event → Bool → Bool
 shown_by i (events.Reserve guard span) before = if is_helper i guard then is_some span else before
@@ -572,6 +589,33 @@ abbrev pub spanned_of : (seat : ℕ) → Past → Bool
 spanned_of i Start = false
 spanned_of i (Then p k event) = if i == k then spanned_by i event (spanned_of i p) else spanned_of i p
 
+-- a row is one more, none begins anew
+abbrev pub one_hazard : Option ℕ → ℕ → ℕ
+one_hazard None before = 0
+one_hazard (Some slot) before = before + 1
+
+abbrev pub hazards_by : (seat index : ℕ) → Event → ℕ → ℕ
+hazards_by i j (events.Hazard guard slot) before = if is_index_word i j guard then one_hazard slot before else before
+hazards_by i j event before = before
+
+-- how many rows seat i has told of its index word j since it told none
+abbrev pub hazards_of : (seat index : ℕ) → Past → ℕ
+hazards_of i j Start = 0
+hazards_of i j (Then p k event) = if i == k then hazards_by i j event (hazards_of i j p) else hazards_of i j p
+
+-- what a protection ends with, and a copy, which is no protection, begin anew
+abbrev pub own_hazard_by : (seat index : ℕ) → Event → Option ℕ → Option ℕ
+own_hazard_by i j (events.Hazard guard slot) before = if is_index_word i j guard then slot else before
+own_hazard_by i j (events.Held index slot steps) before = if index == j then None else before
+own_hazard_by i j (events.Null index steps) before = if index == j then None else before
+own_hazard_by i j (events.Copied from index slot) before = if index == j then None else before
+own_hazard_by i j event before = before
+
+-- the row that seat i told last of its index word j, in the protection that is under way there
+abbrev pub own_hazard_of : (seat index : ℕ) → Past → Option ℕ
+own_hazard_of i j Start = None
+own_hazard_of i j (Then p k event) = if i == k then own_hazard_by i j event (own_hazard_of i j p) else own_hazard_of i j p
+
 -- an interval that comes while one is published is one more; a call, a protection's end and a Clear begin anew
 abbrev pub raised_by : (seat : ℕ) → Event → (spanned : Bool) → ℕ → ℕ
 raised_by i (events.Begin call) spanned before = 0
@@ -590,6 +634,7 @@ raised_of i (Then p k event) = if i == k then raised_by i event (spanned_of i p)
 
 abbrev pub is_read : Event → Bool
 is_read (events.Read guard span) = true
+is_read (events.Saw guard slot) = true
 is_read event = false
 
 abbrev pub is_back : Event → Bool
@@ -599,6 +644,7 @@ is_back event = false
 -- the entries that scans tell
 abbrev pub is_scan : Event → Bool
 is_scan (events.Read guard span) = true
+is_scan (events.Saw guard slot) = true
 is_scan (events.Back slot) = true
 is_scan event = false
 
@@ -608,8 +654,12 @@ scans_of i Start = false
 scans_of i (Then p k event) = if i == k then is_scan event else scans_of i p
 
 -- what a seat has read of its block: after a whole block, of `all` guards, the next one begins
+abbrev pub with_read : (all : ℕ) → Seen → List Seen → List Seen
+with_read all seen read = (if length read == all then [] else read) ++ seen ∷ []
+
 abbrev pub read_by : ℕ → Event → List Seen → List Seen
-read_by all (events.Read guard span) read = (if length read == all then [] else read) ++ (guard, shown span) ∷ []
+read_by all (events.Read guard span) read = with_read all (guard, shown span) read
+read_by all (events.Saw guard slot) read = with_read all (guard, shown_row slot) read
 read_by all event read = read
 
 abbrev pub read_of : ℕ → ℕ → Past → List Seen

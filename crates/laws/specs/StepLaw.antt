@@ -9,11 +9,11 @@ use Rattle.model_record.specs.defs.declared.call.Call.TheVariants as calls
 use Rattle.model_record.specs.defs.declared.call.Call.{Call}
 use Rattle.model_record.specs.defs.declared.event.Event.TheVariants as events
 use Rattle.model_record.specs.defs.declared.event.Event.{Event}
-use Rattle.model_record.specs.defs.declared.event.Guard.TheVariants.{Helper}
-use Rattle.wfe_words.specs.Schemes.{has_one_interval, is_he, is_ibr, is_wfe}
+use Rattle.model_record.specs.defs.declared.event.Guard.TheVariants.{Helper, Index}
+use Rattle.wfe_words.specs.Schemes.{has_one_interval, is_he, is_ibr, is_wfe, publishes_rows}
 use Rattle.wfe_words.specs.declared.config.Config.{Config}
 use Rattle.laws.specs.ScanLaw.{guards}
-use Rattle.laws.specs.StateAt.{backs_of, began_of, is_found, is_helper, own_rising_of, raised_of, reserves_of, rising_of, tried_of, value_of}
+use Rattle.laws.specs.StateAt.{backs_of, began_of, hazards_of, is_found, is_helper, is_row, own_hazard_of, own_rising_of, raised_of, reserves_of, rising_of, tried_of, value_of}
 
 -- with so many tries: three steps more at index 1, whose row stands only after the head was loaded again
 abbrev pub few_steps : ℕ → Event → Bool
@@ -70,6 +70,23 @@ tries_ok p i event = event_tried (λ j. reserves_of i j p) event && found_rising
 abbrev pub TryLaw : Past → Type 0
 TryLaw r = EachEntry tries_ok r
 
+-- by the rows told of the index word since it published nothing: two steps for each, and one; a row held at index 1 was followed, which is
+-- one step more
+abbrev pub number_loaded : (hazards : ℕ → ℕ) → Event → Bool
+number_loaded hazards (events.Held index slot steps) = steps == (if index == 1 then 2 * hazards index + 2 else 2 * hazards index + 1)
+number_loaded hazards (events.Null index steps) = steps == 2 * hazards index + 1
+number_loaded hazards event = true
+
+-- a row told of an index word is another than the one that its seat told there before it in the same protection
+abbrev pub shows_another : Past → Event → Bool
+shows_another p (events.Hazard (Index k j) (Some slot)) = not (is_row slot (own_hazard_of k j p))
+shows_another p event = true
+
+-- where a protection is told to end its number is that of the rows that its index word has published since it published nothing, and each
+-- of these is another than the one before it
+abbrev pub hazards_ok : Test
+hazards_ok p i event = number_loaded (λ j. hazards_of i j p) event && shows_another p event
+
 -- no protection of seat i at the index is under way, or it has published more often than it has tries, at eras that rose
 abbrev pub has_tried : (tries seat index : ℕ) → Past → Bool
 has_tried tries i j p = tried_of i j p == 0 || (nat_le (tries + 1) (tried_of i j p) && own_rising_of i j p)
@@ -121,6 +138,9 @@ pub record StepLaw (config : Config) (r : Past) : Type 0 where
   pub tries : is_he config.scheme ≡ true → EachEntry tries_ok r
   -- under 2GE a Held or Null tells two steps, and three for each time that the interval was raised, and a Held at index 1 one more
   pub raises : is_ibr config.scheme ≡ true → EachEntry raise_ok r
+  -- under hazard pointers a Held or Null tells two steps for each row that its index word has published, and one, and a Held at index 1 one
+  -- more; in a protection each of these rows is another than the one before it
+  pub hazards : publishes_rows config.scheme ≡ true → EachEntry hazards_ok r
   -- under Wait-Free Eras a seat whose protection at an index is under way publishes its helper word only after it has published tries + 1
   -- rising eras there itself
   pub asks : is_wfe config.scheme ≡ true → (j : ℕ) → EachEntry (ask_ok config.tries j) r

@@ -39,12 +39,14 @@ cuts_good version config p later g = record {
   eras = record {
     numbers = entries_cut _ p later g.eras.numbers;
     moves = entries_cut _ p later g.eras.moves;
+    advances = λ w. entries_cut _ p later (g.eras.advances w);
     births = entries_cut _ p later g.eras.births;
     retires = entries_cut _ p later g.eras.retires;
     current = entries_cut _ p later g.eras.current;
     single = entries_cut _ p later g.eras.single;
     rising = entries_cut _ p later g.eras.rising;
     guards = entries_cut _ p later g.eras.guards;
+    kinds = entries_cut _ p later g.eras.kinds;
   };
   throughout = held_cut config p later g.throughout;
   sources = entries_cut _ p later g.sources;
@@ -61,6 +63,7 @@ cuts_good version config p later g = record {
     withdrawals = λ w. entries_cut _ p later (g.steps.withdrawals w);
     tries = λ w. entries_cut _ p later (g.steps.tries w);
     raises = λ w. entries_cut _ p later (g.steps.raises w);
+    hazards = λ w. entries_cut _ p later (g.steps.hazards w);
     asks = λ w j. entries_cut _ p later (g.steps.asks w j);
     calls = entries_cut _ p later g.steps.calls;
   };

@@ -55,7 +55,7 @@ blank_good version config = record {
   no_reuse = record { reuse = λ k j s. none _ };
   once = record { free = none _; placing = none _; order = none _; nexts = none _; retiring = none _; backs = none _; lists = none _ };
   scans = record { blocks = none _; reads = none _; due = none _; room = λ s l. none _ };
-  eras = record { numbers = none _; moves = none _; births = none _; retires = none _; current = none _; single = none _; rising = none _; guards = none _ };
+  eras = record { numbers = none _; moves = none _; advances = λ w. none _; births = none _; retires = none _; current = none _; single = none _; rising = none _; guards = none _; kinds = none _ };
   throughout = held_blank config;
   sources = none _;
   finds = none _;
@@ -66,7 +66,7 @@ blank_good version config = record {
   rests = none _;
   map = none _;
   queue = record { values = none _; empty = none _ };
-  steps = record { numbers = λ w. none _; withdrawals = λ w. none _; tries = λ w. none _; raises = λ w. none _; asks = λ w j. none _; calls = none _ };
+  steps = record { numbers = λ w. none _; withdrawals = λ w. none _; tries = λ w. none _; raises = λ w. none _; hazards = λ w. none _; asks = λ w j. none _; calls = none _ };
 }
 
 fits_last : (version : ℕ) (config : Config) (p : Past) (i : ℕ) (event : Event) → Good version config (Then p i event) → Fits version config p i event
@@ -86,12 +86,14 @@ fits_last version config p i event g = record {
   room = λ s l. last _ p i event (g.scans.room s l);
   numbers = last _ p i event g.eras.numbers;
   moves = last _ p i event g.eras.moves;
+  advances = λ w. last _ p i event (g.eras.advances w);
   births = last _ p i event g.eras.births;
   retires = last _ p i event g.eras.retires;
   current = last _ p i event g.eras.current;
   single = last _ p i event g.eras.single;
   rising = last _ p i event g.eras.rising;
   guards = last _ p i event g.eras.guards;
+  kinds = last _ p i event g.eras.kinds;
   covered = λ k j s. g.throughout (Then p i event) [] k j s refl;
   sources = last _ p i event g.sources;
   finds = last _ p i event g.finds;
@@ -107,6 +109,7 @@ fits_last version config p i event g = record {
   withdrawals = λ w. last _ p i event (g.steps.withdrawals w);
   tries = λ w. last _ p i event (g.steps.tries w);
   raises = λ w. last _ p i event (g.steps.raises w);
+  hazards = λ w. last _ p i event (g.steps.hazards w);
   asks = λ w j. last _ p i event (g.steps.asks w j);
   ends = last _ p i event g.steps.calls;
 }
@@ -135,12 +138,14 @@ good_more version config p i event g f = record {
   eras = record {
     numbers = more _ p i event g.eras.numbers f.numbers;
     moves = more _ p i event g.eras.moves f.moves;
+    advances = λ w. more _ p i event (g.eras.advances w) (f.advances w);
     births = more _ p i event g.eras.births f.births;
     retires = more _ p i event g.eras.retires f.retires;
     current = more _ p i event g.eras.current f.current;
     single = more _ p i event g.eras.single f.single;
     rising = more _ p i event g.eras.rising f.rising;
     guards = more _ p i event g.eras.guards f.guards;
+    kinds = more _ p i event g.eras.kinds f.kinds;
   };
   throughout = held_more config p i event g.throughout f.covered;
   sources = more _ p i event g.sources f.sources;
@@ -160,6 +165,7 @@ good_more version config p i event g f = record {
     withdrawals = λ w. more _ p i event (g.steps.withdrawals w) (f.withdrawals w);
     tries = λ w. more _ p i event (g.steps.tries w) (f.tries w);
     raises = λ w. more _ p i event (g.steps.raises w) (f.raises w);
+    hazards = λ w. more _ p i event (g.steps.hazards w) (f.hazards w);
     asks = λ w j. more _ p i event (g.steps.asks w j) (f.asks w j);
     calls = more _ p i event g.steps.calls f.ends;
   };

@@ -1,11 +1,11 @@
 -- What one entry more has to meet, so that a good record stays good.
-use Rattle.std.specs.Prelude.{ℕ, true, ◌≡◌, ◌≤◌}
+use Rattle.std.specs.Prelude.{ℕ, false, true, ◌≡◌, ◌≤◌}
 use Rattle.laws.specs.words.declared.config.Config.{Config}
 use Rattle.laws.specs.defs.declared.event.Event.{Event}
 use Rattle.laws.specs.records.Record.{Past}
 use Rattle.laws.specs.records.Record.Past.{Start, Then}
 use Rattle.laws.specs.StateAt.{stands}
-use Rattle.laws.specs.EraLaw.{era_ok, moves_ok, birth_ok, retire_ok, current_ok, single_ok, rising_ok, guard_ok}
+use Rattle.laws.specs.EraLaw.{era_ok, moves_ok, advances_ok, kind_ok, birth_ok, retire_ok, current_ok, single_ok, rising_ok, guard_ok}
 use Rattle.laws.specs.HoldLaw.{is_held, sources_ok, finds_ok, gots_ok, links_ok, behind_ok, bare_ok}
 use Rattle.laws.specs.MapLaw.{map_ok}
 use Rattle.laws.specs.NoReuse.{reuse_ok}
@@ -13,11 +13,11 @@ use Rattle.laws.specs.Once.{free_ok, placing_ok, order_ok, nexts_ok, retiring_ok
 use Rattle.laws.specs.QueueLaw.{queue_ok, empty_ok}
 use Rattle.laws.specs.ScanLaw.{scan_ok, read_ok, blocks_ok, room_ok}
 use Rattle.laws.specs.Standing.{open_ok}
-use Rattle.laws.specs.StepLaw.{steps_ok, withdraw_ok, tries_ok, raise_ok, ask_ok, end_ok}
-use Rattle.laws.specs.words.Schemes.{is_he, is_ibr, is_wfe}
+use Rattle.laws.specs.StepLaw.{steps_ok, withdraw_ok, tries_ok, raise_ok, hazards_ok, ask_ok, end_ok}
+use Rattle.laws.specs.words.Schemes.{is_he, is_ibr, is_wfe, publishes_rows, moves as moves_clock}
 use Rattle.laws_good.specs.Good.{Good, rests_of}
 
--- at the end of the record what stands is taken, and the guard of its index publishes an interval that meets its life
+-- at the end of the record what stands is taken, and what the guard of its index publishes keeps its life
 abbrev pub IsCovered : Config → Past → Type 0
 IsCovered config p = (k j s : ℕ) → stands k j s p ≡ true → is_held config k j s p ≡ true
 
@@ -39,12 +39,14 @@ pub record Fits (version : ℕ) (config : Config) (p : Past) (i : ℕ) (event : 
   pub room : (s : ℕ) → s ≤ config.slots → room_ok config s p i event ≡ true
   pub numbers : era_ok config.last_era p i event ≡ true
   pub moves : moves_ok config p i event ≡ true
+  pub advances : moves_clock config.scheme ≡ false → advances_ok p i event ≡ true
   pub births : birth_ok p i event ≡ true
   pub retires : retire_ok p i event ≡ true
   pub current : current_ok p i event ≡ true
   pub single : single_ok config.scheme p i event ≡ true
   pub rising : rising_ok config.scheme p i event ≡ true
   pub guards : guard_ok config.scheme p i event ≡ true
+  pub kinds : kind_ok config.scheme p i event ≡ true
   pub covered : IsCovered config (Then p i event)
   pub sources : sources_ok config p i event ≡ true
   pub finds : finds_ok p i event ≡ true
@@ -60,6 +62,7 @@ pub record Fits (version : ℕ) (config : Config) (p : Past) (i : ℕ) (event : 
   pub withdrawals : is_wfe config.scheme ≡ true → withdraw_ok p i event ≡ true
   pub tries : is_he config.scheme ≡ true → tries_ok p i event ≡ true
   pub raises : is_ibr config.scheme ≡ true → raise_ok p i event ≡ true
+  pub hazards : publishes_rows config.scheme ≡ true → hazards_ok p i event ≡ true
   pub asks : is_wfe config.scheme ≡ true → (j : ℕ) → ask_ok config.tries j p i event ≡ true
   pub ends : end_ok config p i event ≡ true
 

@@ -34,11 +34,11 @@ pub record Good (version : ℕ) (config : Config) (r : Past) : Type 0 where
   pub no_reuse : NoReuse r
   -- each row is given, linked, cut, retired and given back in this order
   pub once : Once config.slots r
-  -- each scan keeps just the rows whose lives meet reservations that it read
+  -- each scan keeps just the rows that something which it read keeps
   pub scans : ScanLaw config r
   -- the clock, lifetimes and reservations
   pub eras : EraLaw config r
-  -- at each position what stands is taken, and the guard of its index publishes an interval that meets its life
+  -- at each position what stands is taken, and what the guard of its index publishes keeps its life
   pub throughout : HeldThroughout config r
   -- what a call holds at its root, or that there is nothing, the root had at a position of the call
   pub sources : EachEntry (sources_ok config) r

@@ -1,5 +1,5 @@
 -- Entries whose numbers lie in a setting's ranges: seats, indexes, slots with the queue's first row, and buckets.
-use Rattle.std.specs.Prelude.{ℕ, ◌<◌, ◌≤◌}
+use Rattle.std.specs.Prelude.{None, Option, Some, ℕ, ◌<◌, ◌≤◌}
 use Rattle.laws.specs.words.declared.config.Config.{Config}
 use Rattle.laws.specs.defs.declared.call.Call.{Call}
 use Rattle.laws.specs.defs.declared.call.Call.TheVariants as calls
@@ -24,10 +24,17 @@ abbrev pub CallIn : Config → Call → Type 0
 CallIn config (calls.Copy from index) = (from < config.indexes) × (index < config.indexes)
 CallIn config call = Unit {0}
 
+-- a row of the table, or none
+abbrev pub RowIn : Config → Option ℕ → Type 0
+RowIn config None = Unit {0}
+RowIn config (Some slot) = slot ≤ config.slots
+
 abbrev pub EventIn : Config → Event → Type 0
 EventIn config (events.Begin call) = CallIn config call
 EventIn config (events.Reserve guard span) = GuardIn config guard
 EventIn config (events.Read guard span) = GuardIn config guard
+EventIn config (events.Hazard guard slot) = GuardIn config guard × RowIn config slot
+EventIn config (events.Saw guard slot) = GuardIn config guard × RowIn config slot
 EventIn config (events.Give slot birth) = slot ≤ config.slots
 EventIn config (events.Unused slot) = slot ≤ config.slots
 EventIn config (events.Link root slot) = RootIn config root × (slot ≤ config.slots)

@@ -1,7 +1,7 @@
 -- The record of each history keeps the laws on how what a guard publishes grows.
 use Rattle.std.proofs.Common.{ℕ, ◌≡◌, ◌<◌, Bool, true, false, List, [], ◌∷◌, Option, None, refl, sym, ap, ◌∙◌, subst, arith}
 use Rattle.std.proofs.lemmas.Bool.Decides.{nat_tests}
-use Rattle.std.specs.Prelude.{◌==◌, is_some}
+use Rattle.std.specs.Prelude.{◌==◌, is_some, not}
 use Rattle.law_eras.specs.laws.words.Place.Place.{Clock}
 use Rattle.law_eras.specs.laws.words.Place.{is_valid}
 use Rattle.law_eras.specs.laws.words.declared.layout.Layout.{Layout}
@@ -19,12 +19,14 @@ use Rattle.law_eras.specs.inv.model.Phases.{Aim, Tries, ProtectAt, MoveAt, Base}
 use Rattle.law_eras.specs.inv.model.Phases.ProtectAt.{LoadClock, PublishEra, LoadAnswer, TakeAnswer, RaiseUpper}
 use Rattle.law_eras.specs.inv.model.Phases.MoveAt.{HandOver}
 use Rattle.law_eras.specs.inv.model.Phases.Base.{Begin, Protect, Move}
+use Rattle.law_eras.specs.inv.model.Guards.{guard_at}
 use Rattle.law_eras.specs.inv.model.Posts.{counted}
 use Rattle.law_eras.specs.inv.model.World.{World, begin, finds, is_busy, offered, step, told_in, may_start}
 use Rattle.law_held.specs.turns.inv.shapes.Eras.{PhaseEras}
 use Rattle.law_held.proofs.turns.inv.shapes.Frame.{after_seated, begun_seated, seat_stays, seat_steps, begin_stays, begin_begins}
 use Rattle.law_held.proofs.turns.inv.shapes.Kept.{begun_fits}
-use Rattle.law_eras.specs.laws.words.Schemes.{is_ibr}
+use Rattle.law_eras.specs.laws.words.Schemes.{is_ibr, publishes_rows}
+use Rattle.law_eras.specs.laws.words.declared.config.SchemeKind.{SchemeKind}
 use Rattle.law_held.specs.turns.inv.shapes.Frame.{Seated}
 use Rattle.law_held.specs.turns.inv.shapes.Seats.{PostFits, PhaseFits}
 use Rattle.law_held.specs.turns.inv.requests.Roles.{shows}
@@ -49,7 +51,10 @@ use Rattle.law_held.proofs.turns.inv.Inv.Whole.{origins_need, handover_need}
 use Rattle.law_held.proofs.turns.inv.history.Passes.{First, step_goes}
 use Rattle.law_held.specs.turns.inv.shapes.Slots.{PhaseIn, Slots}
 use Rattle.law_eras.specs.laws.StateAt.{value_of}
+use Rattle.law_eras.proofs.EraLaw.Kinds.{records_keep_kinds}
 use Rattle.law_eras.proofs.reuse.Holding.Holds.{record_values}
+use Rattle.law_eras.proofs.reuse.ReadGuards.{reads_are}
+use Rattle.law_eras.specs.laws.EraLaw.{kind_ok}
 use Rattle.law_eras.specs.laws.HistoryEras.{span_rises}
 use Rattle.law_eras.specs.laws.HistorySteps.{era_rises}
 use Rattle.law_steps.specs.Records.{RecordsRaiseSpans, RecordsRaiseEras}
@@ -61,8 +66,9 @@ use Rattle.law_steps.proofs.Rising.RiseSteps.{some_era, SeatRisen, other_phase, 
 use Rattle.law_held.proofs.turns.inv.requests.Known.{stands_as}
 use Rattle.law_held.proofs.turns.inv.steps_left.Rest.Falling.{tries_plain}
 
--- what a history keeps
+-- what a history keeps where guards publish intervals
 record Growing (layout : Layout) (made : Made) : Type 0 where
+  plain : publishes_rows layout.config.scheme ≡ false
   table : made.world.layout ≡ layout
   rows : View
   line : Line
@@ -72,8 +78,8 @@ record Growing (layout : Layout) (made : Made) : Type 0 where
   seats : (k : ℕ) → SeatRisen made.world k
   law : Each growth_ok made.past
 
-values_of : (layout : Layout) (made : Made) (guard : Guard) → is_valid layout ≡ true → OfItems layout made → value_of guard made.past ≡ eras_shown made.world guard
-values_of layout made guard d h = subst (λ (m : Made). value_of guard m.past ≡ eras_shown m.world guard) (sym h.is) (record_values layout h.items guard d)
+values_of : (layout : Layout) (made : Made) (guard : Guard) → is_valid layout ≡ true → publishes_rows layout.config.scheme ≡ false → OfItems layout made → value_of guard made.past ≡ eras_shown made.world guard
+values_of layout made guard d f h = subst (λ (m : Made). value_of guard m.past ≡ eras_shown m.world guard) (sym h.is) (record_values layout h.items guard d f)
 
 -- a protection of tries begins where its index word publishes nothing
 free_by : (layout : Layout) (made : Made) (i : ℕ) (why : Why) (aim : Aim) (index : ℕ) (root : Root) (n : ℕ) (tries : Tries) → is_valid layout ≡ true → is_ibr layout.config.scheme ≡ false → OfItems layout made → (made.world.seat i).phase ≡ Runs why (Protect aim index root n (LoadClock tries))
@@ -89,13 +95,13 @@ tries_of w i why aim index root n tries f q = let r = subst (λ (p : Phase). Pha
 free_at : (layout : Layout) (made : Made) (i : ℕ) (why : Why) (aim : Aim) (index : ℕ) (root : Root) (n : ℕ) (tries : Tries) → is_valid layout ≡ true → Growing layout made → (made.world.seat i).phase ≡ Runs why (Protect aim index root n (LoadClock tries)) → eras_shown made.world (Index i index) ≡ None
 free_at layout made i why aim index root n tries d g q =
     let b : is_ibr layout.config.scheme ≡ false = subst (λ (table : Layout). is_ibr table.config.scheme ≡ false) g.table (tries_of made.world i why aim index root n tries (g.known.seats.fits i).phase q) in
-    sym (values_of layout made (Index i index) d g.of) ∙ free_by layout made i why aim index root n tries d b g.of q
+    sym (values_of layout made (Index i index) d g.plain g.of) ∙ free_by layout made i why aim index root n tries d b g.of q
 
 own_raises : (layout : Layout) (made : Made) (i : ℕ) (phase : Phase) → is_valid layout ≡ true → i < made.world.layout.config.seats → Growing layout made → (made.world.seat i).phase ≡ phase → PhaseRaises (λ (j : ℕ). eras_shown (step made.world i) (Index i j)) (eras_shown (step made.world i) (Helper i)) (counted (made.world.seat i).post) phase (finds made.world i)
 own_raises layout made i (Runs why (Protect aim index root n at)) d b g q =
     let w : World = made.world in
     let k = g.known in
-    own_protect w i g.rows g.asked why aim index root n at (handover_need w i g.rows g.line g.asked b k) (k.seats.fits i).post.seat k.requests (k.eras.seats i).phase (k.eras.seats i).post.span
+    own_protect w i g.rows g.asked why aim index root n at (ap (λ (table : Layout). publishes_rows table.config.scheme) g.table ∙ g.plain) (handover_need w i g.rows g.line g.asked b k) (k.seats.fits i).post.seat k.requests (k.eras.seats i).phase (k.eras.seats i).post.span
     (λ tries e. free_at layout made i why aim index root n tries d g (q ∙ ap (λ (x : ProtectAt). Runs why (Protect aim index root n x)) e)) q (g.seats i)
 own_raises layout made i (Runs why base) d b g q = tt
 own_raises layout made i Idle d b g q = tt
@@ -160,7 +166,9 @@ phase_leads w i z p Idle l n e s q h = tt
 phase_leads w i z p (Runs why base) l n e s q h =
     base_leads i (value_in p) base (counted (w.seat i).post) (finds w i) (record { seat = (n.seats.fits i).post.seat; span = e (Whole i) ∙ s }) (stands_of (value_in p) w i z why base (e (Helper i)) n q)
     (λ aim index root made at b. risen_in (value_in p) w i (w.seat i).post index at e (subst (PhaseRisen (λ (j : ℕ). eras_shown w (Index i j)) (eras_shown w (Helper i)) (w.seat i).post) (q ∙ ap (λ (x : Base). Runs why x) b) h))
-phase_leads w i z p (Scans later (ReadGuard number)) l n e s q h = (refl, refl)
+phase_leads w i z p (Scans later (ReadGuard number)) l n e s q h =
+    let post : Post = counted (w.seat i).post in
+    reads_are (λ (event : Event). Leads i (value_in p) (event ∷ [])) (publishes_rows post.layout.config.scheme) (guard_at post.layout.config number) (finds w i) (λ span. (refl, refl)) (λ slot. (refl, refl))
 phase_leads w i z p (Scans later (GiveBack place slot)) l n e s q h = (refl, refl)
 phase_leads w i z p (Works work) l n e s q h = work_leads w.layout.config i (value_in p) work (counted (w.seat i).post) (subst (PhaseIn w.layout (w.seat i).desk) q (l.seats i).phase)
 
@@ -172,6 +180,7 @@ step_growing layout made i d h b g =
     let w : World = made.world in
     let q = asked_next w i g.rows g.line g.asked b g.known in
     record {
+      plain = g.plain;
       table = g.table;
       rows = rows_after w i g.rows;
       line = line_after w i g.line;
@@ -179,7 +188,7 @@ step_growing layout made i d h b g =
       known = known_kept w i g.rows g.line g.asked q.0 b g.known q.1.facts q.1.deal;
       of = next_items layout made (Steps i) h g.of;
       seats = λ m. step_risen layout made i m (m == i) refl d b g;
-      law = leads_each i (told_in w i) made.past (step_leads w i g.asked made.past g.known.slots (origins_need w i g.rows g.line g.asked b g.known) (λ guard. values_of layout made guard d g.of) (shown_span w i g.known.valid g.known.eras) (g.seats i)) g.law;
+      law = leads_each i (told_in w i) made.past (step_leads w i g.asked made.past g.known.slots (origins_need w i g.rows g.line g.asked b g.known) (λ guard. values_of layout made guard d g.plain g.of) (shown_span w i g.known.valid g.known.eras) (g.seats i)) g.law;
     }
 
 -- a call begins
@@ -198,6 +207,7 @@ begin_growing layout made i call h f may g =
     let k = g.known in
     let q = requests_begin w i call g.asked k.valid f k.seats k.requests in
     record {
+      plain = g.plain;
       table = g.table;
       rows = g.rows;
       line = g.line;
@@ -217,10 +227,11 @@ items_growing : (layout : Layout) (items : List Item) (made : Made) → is_valid
 items_growing layout [] made d g = g
 items_growing layout (item ∷ items) made d g = items_growing layout items (did made item) d (item_growing layout made item (fits made.world item) refl d g)
 
-first_growing : (layout : Layout) → is_valid layout ≡ true → Growing layout (first_made layout)
-first_growing layout d =
+first_growing : (layout : Layout) → is_valid layout ≡ true → publishes_rows layout.config.scheme ≡ false → Growing layout (first_made layout)
+first_growing layout d f =
     let q = requests_start layout d in
     record {
+      plain = f;
       table = refl;
       rows = first_rows layout;
       line = first_line layout;
@@ -231,8 +242,21 @@ first_growing layout d =
       law = tt;
     }
 
+-- where guards publish rows no interval is told
+no_span : (rows told : Bool) → rows ≡ true → not rows ≡ true → told ≡ true
+no_span true told r k = absurd (cc)
+no_span false told r k = absurd (cc)
+
+rows_grow : (scheme : SchemeKind) (p : Past) (i : ℕ) (event : Event) → publishes_rows scheme ≡ true → kind_ok scheme p i event ≡ true → growth_ok p i event ≡ true
+rows_grow scheme p i (events.Reserve guard span) r k = no_span (publishes_rows scheme) (growth_ok p i (events.Reserve guard span)) r k
+rows_grow scheme p i event r k = refl
+
 each_growth : (layout : Layout) (items : List Item) → is_valid layout ≡ true → EachEntry growth_ok (record_of layout items)
-each_growth layout items d = let g = items_growing layout items (first_made layout) d (first_growing layout d) in entries_of_each growth_ok (record_of layout items) g.law
+each_growth layout items d = by (publishes_rows layout.config.scheme) refl
+  where
+    by : (rows : Bool) → publishes_rows layout.config.scheme ≡ rows → EachEntry growth_ok (record_of layout items)
+    by true e = λ before i event later cut. rows_grow layout.config.scheme before i event e (records_keep_kinds layout items d before i event later cut)
+    by false e = let g = items_growing layout items (first_made layout) d (first_growing layout d e) in entries_of_each growth_ok (record_of layout items) g.law
 
 span_of : (p : Past) (i : ℕ) (event : Event) → growth_ok p i event ≡ true → span_rises p i event ≡ true
 span_of p i (events.Reserve (Whole seat) span) h = h

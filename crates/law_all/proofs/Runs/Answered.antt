@@ -13,6 +13,7 @@ use Rattle.law_logs.specs.inv.model.defs.declared.call.ClockMove.TheVariants as 
 use Rattle.law_logs.specs.inv.model.defs.declared.call.ClockMove.{ClockMove}
 use Rattle.law_logs.specs.inv.model.defs.declared.event.Event.TheVariants as events
 use Rattle.law_logs.specs.inv.model.defs.declared.event.Event.{Event}
+use Rattle.law_logs.specs.inv.model.words.Schemes.{moves as moves_clock}
 use Rattle.law_logs.specs.inv.model.words.declared.config.Config.{Config}
 use Rattle.law_logs.specs.inv.model.words.declared.layout.Layout.{Layout}
 use Rattle.law_logs.specs.inv.history.History.{Item, record_of}
@@ -26,10 +27,10 @@ use Rattle.law_logs.specs.Records.{IsEnded}
 use Rattle.law_logs.specs.Versions.{Counts, counts_of}
 use Rattle.law_logs.specs.laws.AnswerLaw as letter
 use Rattle.law_logs.specs.laws.AnswerLaw.{is_advance, retires_for, suits}
-use Rattle.law_logs.specs.laws.HistoryAnswers.{ClockTally, answer_fits, outcome_fits, plain_clock, retires_ok}
+use Rattle.law_logs.specs.laws.HistoryAnswers.{ClockTally, answer_fits, change_fits, outcome_fits, plain_clock, retires_ok}
 use Rattle.law_logs.specs.laws.Lists.{list_of}
 use Rattle.law_logs.specs.laws.StateAt.{has_told, is_back, is_give, one, retires_of, times}
-use Rattle.law_all.specs.RunLaw.{AnswersLaw, IsCall, IsRight, clock_told, is_allowed, is_due, is_still, retired_by}
+use Rattle.law_all.specs.RunLaw.{AnswersLaw, IsCall, IsRight, clock_told, is_allowed, is_still, retired_by}
 use Rattle.law_all.specs.Runs.{AtRest, logs_of}
 use Rattle.law_all.proofs.Runs.Bare.{none_noted}
 use Rattle.law_all.proofs.Runs.Calls.{Called, called, log_at}
@@ -86,17 +87,36 @@ told_still : (last : ℕ) (t : ClockTally) (told move : ClockMove) → ◌≡◌
     → is_still move ≡ (if t.due then false else true)
 told_still last t told move e h = let same : told ≡ move = cc in still_by last t move (subst (λ (x : ClockMove). outcome_fits last t x ≡ true) same h)
 
-clock_by : (last : ℕ) (t : ClockTally) (answer : Answer) (move : ClockMove) → clock_told answer ≡ Some move → answer_fits last t answer ≡ true
-    → is_still move ≡ (if t.due then false else true)
-clock_by last t (answers.Done version clock) move e h = told_still last t clock move e h
-clock_by last t (answers.Taken number value clock) move e h = told_still last t clock move e h
-clock_by last t (answers.Clock clock) move e h = told_still last t clock move e h
-clock_by last t answer move e h = absurd (cc)
+changed_still : (by_retires : Bool) (last : ℕ) (t : ClockTally) (told move : ClockMove) → ◌≡◌ {A = Option ClockMove} (Some told) (Some move)
+    → change_fits by_retires last t told ≡ true → is_still move ≡ (if by_retires && t.due then false else true)
+changed_still true last t told move e h = told_still last t told move e h
+changed_still false last t told move e h = let same : told ≡ move = cc in subst (λ (x : ClockMove). is_still x ≡ true) same h
+
+-- an advance moves it, and no call moves it that answers a change, or a value taken, where retirements do not
+abbrev is_moved : (by_retires : Bool) → Call → ClockTally → Bool
+is_moved by_retires call t = if is_advance call then t.due else by_retires && t.due
+
+clock_by : (by_retires : Bool) (last : ℕ) (t : ClockTally) (call : Call) (answer : Answer) (move : ClockMove) → suits call answer ≡ true
+    → clock_told answer ≡ Some move → answer_fits by_retires last t answer ≡ true → is_still move ≡ (if is_moved by_retires call t then false else true)
+clock_by by_retires last t calls.Advance (answers.Clock clock) move s e h = told_still last t clock move e h
+clock_by by_retires last t call (answers.Clock clock) move s e h = absurd (cc)
+clock_by by_retires last t (calls.Put key value) (answers.Done version clock) move s e h = changed_still by_retires last t clock move e h
+clock_by by_retires last t (calls.PutIf key value wanted) (answers.Done version clock) move s e h = changed_still by_retires last t clock move e h
+clock_by by_retires last t (calls.Remove key) (answers.Done version clock) move s e h = changed_still by_retires last t clock move e h
+clock_by by_retires last t call (answers.Done version clock) move s e h = absurd (cc)
+clock_by by_retires last t calls.Dequeue (answers.Taken number value clock) move s e h = changed_still by_retires last t clock move e h
+clock_by by_retires last t call (answers.Taken number value clock) move s e h = absurd (cc)
+clock_by by_retires last t call answer move s e h = absurd (cc)
+
+moved_due : (advance by_retires told due : Bool) → told ≡ (if advance then true else due)
+    → (if advance then told else by_retires && told) ≡ (if advance then true else by_retires && due)
+moved_due true by_retires told due e = e
+moved_due false by_retires told due e = ap (λ (x : Bool). by_retires && x) e
 
 -- what the laws of a history say of a call that has ended
 record Ended (c : Config) (k steps : ℕ) (p : Past) (call : Call) (answer : Answer) : Type 0 where
   reason : letter.reason c k p (Some call) answer ≡ true
-  clock : answer_fits c.last_era (plain_clock c.every k p) answer ≡ true
+  clock : answer_fits (moves_clock c.scheme) c.last_era (plain_clock c.every k p) answer ≡ true
   retires : Each retires_ok (Then p k (events.End steps answer))
 
 ended : (layout : Layout) (items : List Item) (k : ℕ) (before : List Group) (group : Group) → AtRest layout items
@@ -127,7 +147,8 @@ right layout items rest before group h =
     let l : Ended c k steps p group.call group.answer = ended layout items k before group rest e in
     let retired : is_some group.notes.retired ≡ is_some (notes_of k p).retired = ap (λ (x : Notes). is_some x.retired) e.notes in
     let t : ClockTally = plain_clock c.every k p in
-    let due : t.due ≡ is_due c.every before group =
+    let noted : Bool = is_some group.notes.retired && (retired_by before + 1) % c.every == 0 in
+    let due : t.due ≡ (if is_advance group.call then true else noted) =
     due_right c.every c.buckets k steps p group.call group.answer z.calls z.answers l.retires.1 z.opened l.retires.0 e.call z.suits
     ∙ ap (λ (noted : Bool). if is_advance group.call then true else noted && (retired_by (log_of k p) + 1) % c.every == 0) (sym retired)
     ∙ ap (λ (log : List Group). if is_advance group.call then true else is_some group.notes.retired && (retired_by log + 1) % c.every == 0) e.log in
@@ -136,7 +157,9 @@ right layout items rest before group h =
       allowed = allowed_by c (counts_of a.is.begun.from) r group.call group.answer z.suits a.is.says;
       full = λ f. ap (λ (x : Notes). x.given) e.notes ∙ none_given k p (full_by c k p group.call group.answer f z.suits a.is.rows);
       retires = ap one retired ∙ retires_noted k steps p group.answer l.retires.0 ∙ number_is (retires_of k p) (retires_for group.answer) l.retires.0;
-      clock = λ move f. clock_by c.last_era t group.answer move f l.clock ∙ ap (λ (x : Bool). if x then false else true) due;
+      clock = λ move f.
+          clock_by (moves_clock c.scheme) c.last_era t group.call group.answer move z.suits f l.clock
+          ∙ ap (λ (x : Bool). if x then false else true) (moved_due (is_advance group.call) (moves_clock c.scheme) t.due noted due);
       back = λ kept back f.
           back_by c k p group.call group.answer kept back f z.suits l.reason ∙ backs_noted k p ∙ ap (λ (x : Notes). length x.back) (sym e.notes);
       bare = none_noted layout items before group rest.valid h;

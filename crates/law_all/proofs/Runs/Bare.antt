@@ -8,7 +8,7 @@ use Rattle.law_logs.specs.inv.model.Keep as keeps
 use Rattle.law_logs.specs.inv.model.Locals.{Group, Local, begun, begun_post, rounds_told, settled_by, told_by, turn}
 use Rattle.law_logs.specs.inv.model.Phases.Base.{Clear, Release}
 use Rattle.law_logs.specs.inv.model.Phases.{Base, Outcome, Goes, Ends}
-use Rattle.law_logs.specs.inv.model.Posts.{counted, reserves_index, stands}
+use Rattle.law_logs.specs.inv.model.Posts.{counted, publishes_index, stands}
 use Rattle.law_logs.specs.inv.model.Rounds as rounds
 use Rattle.law_logs.specs.inv.model.Rounds.{scheme_of}
 use Rattle.law_logs.specs.inv.model.Steps as steps
@@ -21,7 +21,7 @@ use Rattle.law_logs.specs.inv.model.defs.declared.event.Event.TheVariants as eve
 use Rattle.law_logs.specs.inv.model.defs.declared.event.Event.{Event}
 use Rattle.law_logs.specs.inv.model.defs.declared.lifetime.Interval.{Interval}
 use Rattle.law_logs.specs.inv.model.words.Place.{is_valid}
-use Rattle.law_logs.specs.inv.model.words.Schemes.{has_one_interval}
+use Rattle.law_logs.specs.inv.model.words.Schemes.{has_one_interval, publishes_rows}
 use Rattle.law_logs.specs.inv.model.words.declared.layout.Layout.{Layout}
 use Rattle.law_logs.specs.inv.Inv.{Inv}
 use Rattle.law_logs.specs.inv.ends.Told.{birth_in, row_events}
@@ -70,9 +70,9 @@ drop_begins : (index : ℕ) (x : Option Base) → bare_phase (rounds.letting_by 
 drop_begins index None = refl
 drop_begins index (Some base) = refl
 
-part_index : (x : Option ℕ) → bare_phase (keeps.parting_index x) ≡ true
-part_index None = refl
-part_index (Some index) = refl
+part_index : (rows : Bool) (x : Option ℕ) → bare_phase (keeps.parting_index rows x) ≡ true
+part_index rows None = refl
+part_index rows (Some index) = refl
 
 part_span : (x : Option Interval) → bare_phase (keeps.parting_span x) ≡ true
 part_span None = refl
@@ -83,7 +83,7 @@ part_begins post = by (has_one_interval (scheme_of post))
   where
     by : (one : Bool) → bare_phase (if one then keeps.parting_span post.span else keeps.parting_from 2 post) ≡ true
     by true = part_span post.span
-    by false = part_index _
+    by false = part_index _ _
 
 call_begins : (call : Call) (post : Post) → is_bare call ≡ true → bare_phase (steps.first_phase call post) ≡ true
 call_begins (calls.Copy from index) post h = copy_begins from index (stands post from)
@@ -121,10 +121,10 @@ take_goes place post desk found false = refl
 
 keep_goes : (at : KeepAt) (post : Post) (desk : Desk) (found : ℕ) → bare_at at ≡ true → bare_phase (phase_left (keeps.keep_turn at post desk found).outcome) ≡ true
 keep_goes (Loosens (Dropped index)) post desk found h = refl
-keep_goes (Loosens (Parting index)) post desk found h = part_index _
+keep_goes (Loosens (Parting index)) post desk found h = part_index _ _
 keep_goes (Loosens let_go) post desk found h = absurd (cc)
 keep_goes (LoadHeld from index) post desk found h = load_goes from index post desk found (has_one_interval (scheme_of post))
-keep_goes (StoreHeld from index era) post desk found h = copied_goes from index post desk (reserves_index post index era) (stands post from)
+keep_goes (StoreHeld from index era) post desk found h = copied_goes from index post desk (publishes_index (publishes_rows (scheme_of post)) post index era) (stands post from)
 keep_goes (Looks index key at) post desk found h = look_goes index key at post desk found
 keep_goes (Misses index) post desk found h = refl
 keep_goes HideSpan post desk found h = refl
@@ -138,7 +138,7 @@ drop_goes index desk post told (Ends ending) = refl
 
 part_goes : (index : ℕ) (desk : Desk) (post : Post) (told : List Event) (outcome : Outcome) → bare_phase (phase_left (steps.resumed (Releases (Parting index)) desk post told outcome).outcome) ≡ true
 part_goes index desk post told (Goes base) = refl
-part_goes index desk post told (Ends ending) = part_index _
+part_goes index desk post told (Ends ending) = part_index _ _
 
 phase_goes : (phase : Phase) (post : Post) (desk : Desk) (found : ℕ) → bare_phase phase ≡ true → bare_phase (phase_left (steps.phase_turn phase post desk found).outcome) ≡ true
 phase_goes Idle post desk found h = refl
@@ -149,12 +149,12 @@ phase_goes phase post desk found h = absurd (cc)
 
 -- they tell of no row
 drop_row : (index birth : ℕ) (base : Base) (found : ℕ) → suits base (kind_of (Releases (Dropped index))) ≡ true → row_events birth (base_row base found) ≡ []
-drop_row index birth (Clear cleared) found r = refl
+drop_row index birth (Clear rows cleared) found r = refl
 drop_row index birth (Release released) found r = refl
 drop_row index birth base found r = absurd (cc)
 
 part_row : (index birth : ℕ) (base : Base) (found : ℕ) → suits base (kind_of (Releases (Parting index))) ≡ true → row_events birth (base_row base found) ≡ []
-part_row index birth (Clear cleared) found r = refl
+part_row index birth (Clear rows cleared) found r = refl
 part_row index birth (Release released) found r = refl
 part_row index birth base found r = absurd (cc)
 
@@ -222,7 +222,7 @@ step_own w i a g =
     let l : Local = offered w i in
     let t : CallTurn = turn l (finds w i) in
     subst Bare (sym (seat_steps w i))
-    (settled_bare l t.post (noting t.desk (told_by t)) (rounds_told l.rounds (told_by t)) t.outcome
+    (settled_bare l t.post (noting t.desk (told_by t)) (rounds_told (publishes_rows (scheme_of t.post)) l.rounds (told_by t)) t.outcome
     (λ c. phase_goes l.phase (counted l.post) l.desk (finds w i) (g.phase c))
     (λ c.
     all_noted (told_by t) t.desk.notes

@@ -11,12 +11,13 @@ use Rattle.law_logs.specs.inv.model.defs.declared.call.ClockMove.TheVariants as 
 use Rattle.law_logs.specs.inv.model.defs.declared.call.ClockMove.{ClockMove}
 use Rattle.law_logs.specs.inv.model.defs.declared.event.Event.TheVariants as events
 use Rattle.law_logs.specs.inv.model.defs.declared.event.Event.{Event}
+use Rattle.law_logs.specs.inv.model.words.Schemes.{moves as moves_clock}
 use Rattle.law_logs.specs.inv.model.words.declared.config.Config.{Config}
 use Rattle.law_eras.proofs.Current.Positions.{ticked_rises}
 use Rattle.law_logs.specs.inv.history.Record.Past.{Start, Then}
 use Rattle.law_logs.specs.inv.history.Record.{Each, Past, tells}
 use Rattle.law_logs.proofs.inv.history.Entries.{each_before}
-use Rattle.law_logs.specs.laws.AnswerLaw.{ClockTally, answer_fits, clock_by, clock_tally, clocks_ok, from_by, from_of, outcome_fits}
+use Rattle.law_logs.specs.laws.AnswerLaw.{ClockTally, answer_fits, change_fits, clock_by, clock_tally, clocks_ok, from_by, from_of, is_still, outcome_fits}
 use Rattle.law_logs.specs.laws.EraLaw.{era_ok}
 use Rattle.law_logs.specs.laws.StateAt.{clock_of, is_among, ticked_by}
 use Rattle.law_all.specs.RunLaw.{clock_told, era_spent, era_told}
@@ -80,6 +81,7 @@ since_own every last k least p (events.Era told) o s =
       eras = told_more least (clock_of p) told t.eras t.reads next s.risen s.eras;
     }
 since_own every last k least p (events.Read guard span) o s = record { risen = s.risen; start = s.start; eras = s.eras }
+since_own every last k least p (events.Saw guard slot) o s = record { risen = s.risen; start = s.start; eras = s.eras }
 since_own every last k least p event o s = s
 
 since_other : (least now later from : ℕ) (t : ClockTally) → now ≤ later → Since least now from t → Since least later from t
@@ -151,13 +153,22 @@ timed_move last least from now t (moves.EraSpent last_one) s h =
           );
     }
 
-timed_answer : (last least from now : ℕ) (t : ClockTally) (answer : Answer) → Since least now from t → answer_fits last from now t answer ≡ true
-    → Timed last least now (clock_told answer)
-timed_answer last least from now t (answers.Done version clock) s h = timed_move last least from now t clock s h
-timed_answer last least from now t (answers.Taken number value clock) s h = timed_move last least from now t clock s h
-timed_answer last least from now t (answers.Clock clock) s h = timed_move last least from now t clock s h
-timed_answer last least from now t answer s h = record { later = λ era e. absurd (cc); spent = λ era e. absurd (cc) }
+timed_still : (last least now : ℕ) (move : ClockMove) → is_still move ≡ true → Timed last least now (Some move)
+timed_still last least now moves.Still h = record { later = λ era e. absurd (cc); spent = λ era e. absurd (cc) }
+timed_still last least now move h = absurd (cc)
+
+timed_change : (by_retires : Bool) (last least from now : ℕ) (t : ClockTally) (move : ClockMove) → Since least now from t
+    → change_fits by_retires last from now t move ≡ true → Timed last least now (Some move)
+timed_change true last least from now t move s h = timed_move last least from now t move s h
+timed_change false last least from now t move s h = timed_still last least now move h
+
+timed_answer : (by_retires : Bool) (last least from now : ℕ) (t : ClockTally) (answer : Answer) → Since least now from t
+    → answer_fits by_retires last from now t answer ≡ true → Timed last least now (clock_told answer)
+timed_answer by_retires last least from now t (answers.Done version clock) s h = timed_change by_retires last least from now t clock s h
+timed_answer by_retires last least from now t (answers.Taken number value clock) s h = timed_change by_retires last least from now t clock s h
+timed_answer by_retires last least from now t (answers.Clock clock) s h = timed_move last least from now t clock s h
+timed_answer by_retires last least from now t answer s h = record { later = λ era e. absurd (cc); spent = λ era e. absurd (cc) }
 
 pub timed : (c : Config) (k steps least : ℕ) (p : Past) (answer : Answer) → SinceAt c.every k least p → clocks_ok c p k (events.End steps answer) ≡ true
     → Timed c.last_era least (clock_of p) (clock_told answer)
-timed c k steps least p answer s h = timed_answer c.last_era least (from_of k p) (clock_of p) (clock_tally c.every k p) answer s h
+timed c k steps least p answer s h = timed_answer (moves_clock c.scheme) c.last_era least (from_of k p) (clock_of p) (clock_tally c.every k p) answer s h

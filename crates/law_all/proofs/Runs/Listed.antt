@@ -289,6 +289,7 @@ never_reads all course e h = let t : may_read all Plain ≡ true = subst (λ (y 
 any_scan : (c : Config) (read : List Seen) (list other : List Lifetime) (scans : Bool) (course : Course) (event : Event) → scans ≡ false → course ≡ Plain
     → scan_right (guards c) event course ≡ true → scan_by c read list scans event ≡ true → scan_by c read other scans event ≡ true
 any_scan c read list other scans course (events.Read guard span) n e r h = absurd (never_reads (guards c) course e r)
+any_scan c read list other scans course (events.Saw guard slot) n e r h = absurd (never_reads (guards c) course e r)
 any_scan c read list other scans course (events.Back slot) n e r h =
     let y : scans ≡ true = first_of scans (length read == guards c && is_life_of slot (next_back read list)) h in
     absurd (let both : true ≡ false = sym y ∙ n in cc)

@@ -9,10 +9,12 @@ use Rattle.law_logs.specs.inv.model.defs.declared.call.ClockMove.{ClockMove}
 use Rattle.law_logs.specs.inv.model.defs.declared.call.ClockMove.TheVariants as moves
 use Rattle.law_logs.specs.inv.model.defs.declared.event.Event.{Event}
 use Rattle.law_logs.specs.inv.model.defs.declared.event.Event.TheVariants as events
+use Rattle.law_logs.specs.inv.model.words.Schemes.{moves as moves_clock}
 use Rattle.law_logs.specs.inv.model.words.declared.config.Config.{Config}
 use Rattle.law_logs.specs.inv.model.words.declared.layout.Layout.{Layout}
 use Rattle.law_logs.proofs.laws.Tells.{seen_other, seen_own}
-use Rattle.law_logs.specs.laws.HistoryAnswers.{ClockTally, answer_fits, is_era, no_clock, outcome_fits, plain_clock, plain_clock_by}
+use Rattle.law_logs.specs.laws.AnswerLaw.{is_still}
+use Rattle.law_logs.specs.laws.HistoryAnswers.{ClockTally, answer_fits, change_fits, is_era, no_clock, outcome_fits, plain_clock, plain_clock_by}
 use Rattle.law_logs.specs.laws.HistoryEras.{era_ok}
 use Rattle.law_logs.specs.laws.StateAt.{clock_of, one, told}
 use Rattle.law_logs.specs.inv.history.History.{Item, record_of}
@@ -49,11 +51,22 @@ move_told last era t (moves.Moved other) h =
     omega arith
 move_told last era t clock h = omega arith
 
-answer_told : (last era : ℕ) (t : ClockTally) (answer : Answer) → answer_fits last t answer ≡ true → says_era era (clock_told answer) ≤ told_last era t
-answer_told last era t (answers.Done version clock) h = move_told last era t clock h
-answer_told last era t (answers.Taken number value clock) h = move_told last era t clock h
-answer_told last era t (answers.Clock clock) h = move_told last era t clock h
-answer_told last era t answer h = omega arith
+-- a change says so only where retirements move the clock
+still_told : (era : ℕ) (t : ClockTally) (clock : ClockMove) → is_still clock ≡ true → says_era era (Some clock) ≤ told_last era t
+still_told era t moves.Still h = omega arith
+still_told era t clock h = absurd (cc)
+
+change_told : (by_retires : Bool) (last era : ℕ) (t : ClockTally) (clock : ClockMove) → change_fits by_retires last t clock ≡ true
+    → says_era era (Some clock) ≤ told_last era t
+change_told true last era t clock h = move_told last era t clock h
+change_told false last era t clock h = still_told era t clock h
+
+answer_told : (by_retires : Bool) (last era : ℕ) (t : ClockTally) (answer : Answer) → answer_fits by_retires last t answer ≡ true
+    → says_era era (clock_told answer) ≤ told_last era t
+answer_told by_retires last era t (answers.Done version clock) h = change_told by_retires last era t clock h
+answer_told by_retires last era t (answers.Taken number value clock) h = change_told by_retires last era t clock h
+answer_told by_retires last era t (answers.Clock clock) h = move_told last era t clock h
+answer_told by_retires last era t answer h = omega arith
 
 -- with one event more
 tally_more : (every era : ℕ) (event : Event) (t : ClockTally) → told_last era (plain_clock_by every event t) ≤ told_last era t + one (is_era_told era event)
@@ -84,7 +97,7 @@ moves_weigh c era = record {
 
     rises : (k : ℕ) (p : Past) (event : Event) → Kept c (Then p k event) → Rises (by_moves c.every era) k p event
     rises k p (events.Begin call) l = ap (told_last era) (own k p (events.Begin call))
-    rises k p (events.End steps answer) l = λ call b. answer_told c.last_era era (plain_clock c.every k p) answer l.clocks.0
+    rises k p (events.End steps answer) l = λ call b. answer_told (moves_clock c.scheme) c.last_era era (plain_clock c.every k p) answer l.clocks.0
     rises k p event l =
         subst (λ (x : ClockTally). told_last era x ≤ told_last era (plain_clock c.every k p) + one (is_era_told era event)) (sym (own k p event))
         (tally_more c.every era event (plain_clock c.every k p))

@@ -5,7 +5,7 @@ use Rattle.std.proofs.lemmas.Bool.Decides.{nat_tests}
 use Rattle.std.specs.Prelude.{◌==◌, ◌&&◌, ◌||◌, if◌then◌else◌, is_none, nat_lt, not}
 use Rattle.law_logs.proofs.inv.model.Facts.{first_of, or_more}
 use Rattle.law_logs.specs.inv.model.CallReady.{slots_of}
-use Rattle.law_logs.specs.inv.model.defs.Shown.{Seen, shown}
+use Rattle.law_logs.specs.inv.model.defs.Shown.{Seen, shown, shown_row}
 use Rattle.law_logs.specs.inv.model.defs.declared.call.Call.{Call}
 use Rattle.law_logs.specs.inv.model.defs.declared.call.Call.TheVariants as calls
 use Rattle.law_logs.specs.inv.model.defs.declared.event.Event.{Event}
@@ -217,6 +217,11 @@ scan_step c (events.Read guard span) x h r s = record {
   under = λ e. read_reads x.tally.course;
   counts = read_counts (guards c) x.read x.scans x.tally.course (guard, shown span) r s;
 }
+scan_step c (events.Saw guard slot) x h r s = record {
+  whole = λ e. absurd (cc);
+  under = λ e. read_reads x.tally.course;
+  counts = read_counts (guards c) x.read x.scans x.tally.course (guard, shown_row slot) r s;
+}
 scan_step c (events.Back slot) x h r s = record {
   whole = λ e. absurd (cc);
   under = λ e. s.under (first_of x.scans (length x.read == guards c && is_life_of slot (next_back x.read x.lives)) h);
@@ -313,6 +318,12 @@ path_step c left (events.Era era) x a p = record {
   quiet = λ q. ap moved_course (p.quiet q);
 }
 path_step c left (events.Read guard span) x a p = record {
+  cut = p.cut;
+  retired = p.retired;
+  plain = λ z o. absurd (read_never (guards c) x.tally.course (p.plain z o) a.course);
+  quiet = λ q. absurd (read_never (guards c) x.tally.course (p.quiet q) a.course);
+}
+path_step c left (events.Saw guard slot) x a p = record {
   cut = p.cut;
   retired = p.retired;
   plain = λ z o. absurd (read_never (guards c) x.tally.course (p.plain z o) a.course);

@@ -18,12 +18,12 @@ use Rattle.law_logs.specs.inv.model.defs.declared.event.Root.TheVariants as root
 use Rattle.law_logs.specs.inv.model.defs.declared.lifetime.Lifetime.{Lifetime}
 use Rattle.law_logs.specs.inv.model.words.declared.config.Config.{Config}
 use Rattle.law_logs.specs.laws.HistoryRows.{cuts_one, is_without}
-use Rattle.law_logs.specs.laws.HistoryScans.{Course, may_read, moved_course}
+use Rattle.law_logs.specs.laws.HistoryScans.{Course, may_read, moved_course, read_course}
 use Rattle.law_logs.specs.laws.HistoryScans.Course.{Advancing, MayScan, MustScan, Plain, Reading}
 use Rattle.law_logs.specs.laws.ScanLaw.{guards, is_given_one, is_life_of, next_back}
 use Rattle.law_logs.specs.laws.Standing.{is_leave}
 use Rattle.law_logs.specs.laws.Lists.{is_handed, is_left, without}
-use Rattle.law_logs.specs.laws.StateAt.{Given, InHand, Placed, Without, is_dequeue, with_told}
+use Rattle.law_logs.specs.laws.StateAt.{Given, InHand, Placed, Without, is_dequeue, read_by, with_told}
 use Rattle.law_logs.specs.inv.rows.Hands.{each_once}
 use Rattle.law_logs.proofs.Knows.{is_inner}
 use Rattle.law_logs.specs.Ledgers.{left_by}
@@ -321,18 +321,24 @@ moved_calm : (all : ℕ) (late : List ℕ) (course : Course) → (late ≡ []) �
 moved_calm all late course (inl h) = inl h
 moved_calm all late course (inr h) = inr (ap moved_course h)
 
-stage_step : (c : Config) (left : ℕ → List Lifetime) (first : List ℕ) (event : Event) (x : Seat) → is_inner event ≡ true → Allowed c left event x
-    → each_once x.lives ≡ true → Scanning (guards c) x.read x.scans x.tally.course → Path x → Stage (guards c) (slots_in left) first x
-    → Stage (guards c) (slots_in left) first (seat_by c left event x)
-stage_step c left first (events.Begin call) x i a o n p s = absurd (cc)
-stage_step c left first (events.End steps answer) x i a o n p s = absurd (cc)
-stage_step c left first (events.Give slot birth) x i a o n p s = give_stage c left first slot birth x a p s
-stage_step c left first (events.Retire slot birth retire) x i a o n p s = retire_stage c left first slot birth retire x a p s
-stage_step c left first (events.Back slot) x i a o n p s = back_stage c left first slot x a o n p s
-stage_step c left first (events.Adopted place count) x i a o n p s = adopt_stage c left first place count x a p s
-stage_step c left first (events.Left count) x i a o n p s = left_stage c left first count x a s
-stage_step c left first (events.Read guard span) x i a o n p s =
-    let e : s.late ≡ [] = unread_late (guards c) s.late x.tally.course a.course s.calm in
+-- a guard is read
+read_stage : (c : Config) (left : ℕ → List Lifetime) (first : List ℕ) (read : List Seen) (x : Seat) → may_read (guards c) x.tally.course ≡ true
+    → Stage (guards c) (slots_in left) first x
+    → Stage (guards c) (slots_in left) first
+    (record {
+      read = read;
+      lives = x.lives;
+      scans = true;
+      tally = record { retired = x.tally.retired; course = read_course x.tally.course };
+      given = x.given;
+      cuts = x.cuts;
+      retires = x.retires;
+      opened = x.opened;
+      told = x.told;
+      ledger = x.ledger;
+    })
+read_stage c left first read x r s =
+    let e : s.late ≡ [] = unread_late (guards c) s.late x.tally.course r s.calm in
     let slots : List ℕ = (without_all s.early first ++ slot_retired x.ledger.notes.retired) ++ gains (slots_in left) x.told in
     let w : slots ≡ slots_of x.lives = subst (λ (xs : List ℕ). Went x.read xs slots x.lives) e s.went in
     record {
@@ -349,6 +355,19 @@ stage_step c left first (events.Read guard span) x i a o n p s =
       stays = s.stays;
       parted = s.parted;
     }
+
+stage_step : (c : Config) (left : ℕ → List Lifetime) (first : List ℕ) (event : Event) (x : Seat) → is_inner event ≡ true → Allowed c left event x
+    → each_once x.lives ≡ true → Scanning (guards c) x.read x.scans x.tally.course → Path x → Stage (guards c) (slots_in left) first x
+    → Stage (guards c) (slots_in left) first (seat_by c left event x)
+stage_step c left first (events.Begin call) x i a o n p s = absurd (cc)
+stage_step c left first (events.End steps answer) x i a o n p s = absurd (cc)
+stage_step c left first (events.Give slot birth) x i a o n p s = give_stage c left first slot birth x a p s
+stage_step c left first (events.Retire slot birth retire) x i a o n p s = retire_stage c left first slot birth retire x a p s
+stage_step c left first (events.Back slot) x i a o n p s = back_stage c left first slot x a o n p s
+stage_step c left first (events.Adopted place count) x i a o n p s = adopt_stage c left first place count x a p s
+stage_step c left first (events.Left count) x i a o n p s = left_stage c left first count x a s
+stage_step c left first (events.Read guard span) x i a o n p s = read_stage c left first (read_by (guards c) (events.Read guard span) x.read) x a.course s
+stage_step c left first (events.Saw guard slot) x i a o n p s = read_stage c left first (read_by (guards c) (events.Saw guard slot) x.read) x a.course s
 stage_step c left first (events.Era era) x i a o n p s = record {
   early = s.early;
   late = s.late;

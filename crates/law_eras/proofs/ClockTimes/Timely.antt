@@ -4,6 +4,9 @@ use Rattle.std.proofs.lemmas.Bool.Decides.{nat_tests}
 use Rattle.std.specs.Prelude.{◌==◌, nat_lt, ◌≤◌, nat_le, if◌then◌else◌}
 use Rattle.law_scans.specs.laws.words.Place.{is_valid, Place}
 use Rattle.law_scans.specs.laws.words.declared.layout.Layout.{Layout}
+use Rattle.law_scans.specs.laws.words.Schemes.{publishes_rows}
+use Rattle.law_scans.specs.inv.model.Guards.{guard_at}
+use Rattle.law_scans.proofs.reuse.ReadGuards.{reads_are}
 use Rattle.law_scans.specs.laws.defs.declared.call.Answer.{Answer}
 use Rattle.law_scans.specs.laws.defs.declared.call.Call.{Call}
 use Rattle.law_scans.specs.laws.defs.declared.event.Event.{Event}
@@ -133,7 +136,7 @@ base_keeps base found n = refl
 front_keeps : (phase : Phase) (post : Post) (found : ℕ) → retires_now phase ≡ false → all_of keeps_from (front phase post found) ≡ true
 front_keeps Idle post found n = refl
 front_keeps (Runs why base) post found n = base_keeps base found n
-front_keeps (Scans later (ReadGuard number)) post found n = refl
+front_keeps (Scans later (ReadGuard number)) post found n = reads_are (λ (event : Event). all_of keeps_from (event ∷ []) ≡ true) (publishes_rows post.layout.config.scheme) (guard_at post.layout.config number) found (λ span. refl) (λ slot. refl)
 front_keeps (Scans later (GiveBack place slot)) post found n = refl
 front_keeps (Works work) post found n = refl
 
@@ -202,7 +205,7 @@ own_in layout made i d k =
     let from : ℕ = from_of i (tells_of made.past i (told_in w i)) in
     let a : own.post.layout ≡ layout = (g.known.seats.fits i).post.layout ∙ g.table in
     let r : PhaseRight own.phase (counted own.post) = phase_right w.layout own.phase own.post (list_in w i) (g.known.seats.fits i).post.layout (g.known.seats.fits i).phase (g.known.whole.both.rows.plays i).right in
-    turn_in layout.config.every last from (clock_of made.past) (clock_tally layout.config.every i made.past) own.phase (counted own.post) own.desk (finds w i)
+    turn_in layout.config layout.config.every from (clock_of made.past) (clock_tally layout.config.every i made.past) own.phase (counted own.post) own.desk (finds w i)
     (record {
       table = ap (λ (x : Layout). x.config.last_era) a;
       low = λ why at e. subst (λ (n : ℕ). n ≤ clock_of made.past) (sym (from_step w i made.past (ap retires_now e))) (low_all i made.past);

@@ -15,12 +15,12 @@ use Rattle.law_scans.specs.laws.defs.declared.event.Root.{Root}
 use Rattle.law_scans.specs.inv.model.declared.post.Post.{Post}
 use Rattle.law_scans.specs.inv.model.Allocate as allocates
 use Rattle.law_scans.specs.inv.model.Desks.{Desk, with_life}
-use Rattle.law_scans.specs.inv.model.Guards.{guards, guard_at, eras_in, published}
+use Rattle.law_scans.specs.inv.model.Guards.{guards, guard_at, published}
 use Rattle.law_scans.specs.inv.model.Machine as machine
 use Rattle.law_scans.specs.inv.model.Posts.{stands}
 use Rattle.law_scans.specs.inv.model.Scan as scan
 use Rattle.law_scans.specs.inv.model.Steps as steps
-use Rattle.law_scans.specs.inv.model.Rounds.{scheme_of, begin_base, round, round_by, with_clock, let_index, letting, letting_by, release_base}
+use Rattle.law_scans.specs.inv.model.Rounds.{scheme_of, tidy_by, begin_base, round, round_by, with_clock, let_index, letting, letting_by, release_base}
 use Rattle.law_scans.specs.inv.model.Phases.{MoveAt, Base, Ending, Outcome, Goes, Ends}
 use Rattle.law_scans.specs.inv.model.Phases.AllocateAt.{ClaimSlot}
 use Rattle.law_scans.specs.inv.model.Phases.MoveAt.{LoadEra, LoadRequest, ShowEra, LoadAsked, CheckEra, AnswerAsked, LoadReserved, HandOver, HideEra, HideLate, ExchangeClock}
@@ -35,10 +35,14 @@ use Rattle.law_scans.specs.inv.model.MoveClock as movers
 use Rattle.law_scans.specs.laws.words.declared.packed.Request.{Request}
 use Rattle.law_scans.specs.laws.words.declared.packed.Request.TheVariants as requests
 use Rattle.law_scans.proofs.laws.records.defs.Facts.{both, first_of, rest_of}
-use Rattle.law_scans.specs.laws.HistoryAnswers.{ClockTally, outcome_fits, answer_fits}
+use Rattle.law_scans.specs.laws.HistoryAnswers.{ClockTally, change_fits, outcome_fits}
 use Rattle.law_scans.specs.Outcomes.{clock_by}
+use Rattle.law_scans.specs.laws.words.Schemes.{publishes_rows, moves as moves_clock}
+use Rattle.law_scans.specs.laws.words.declared.config.Config.{Config}
+use Rattle.law_scans.specs.laws.defs.declared.event.Guard.{Guard}
+use Rattle.law_scans.proofs.reuse.ReadGuards.{reads_are}
 use Rattle.law_scans.proofs.Leaving.{parts_all}
-use Rattle.law_scans.proofs.ClockAnswers.Clocks.{is_plain, NextFits, WhyFits, PhaseFits, OutFits, move_due}
+use Rattle.law_scans.proofs.ClockAnswers.Clocks.{is_plain, fits_answer, NextFits, WhyFits, PhaseFits, OutFits, move_due}
 use Rattle.law_scans.proofs.DueScans.Lands.{PhaseRight}
 use Rattle.law_scans.proofs.DueScans.Still.{claim_front, base_front, front}
 
@@ -269,8 +273,13 @@ resumed_advances : (last from now : ℕ) (desk : Desk) (post : Post) (told : Lis
 resumed_advances last from now desk post told (Goes base) h = h
 resumed_advances last from now desk post told (Ends ending) h = advanced_in last from now ending post desk told h
 
+-- the clock is moved before the scan, or the scan comes at once
+tidy_in : (last from now : ℕ) (answer : Answer) (moving : Bool) (post : Post) → is_plain answer ≡ true → PhaseIn last from now (tidy_by moving (Answered answer) post)
+tidy_in last from now answer true post q = tt
+tidy_in last from now answer false post q = plain_in last from now answer q
+
 tidying_in : (last from now : ℕ) (answer : Answer) (post : Post) (desk : Desk) (told : List Event) (due : Bool) → is_plain answer ≡ true → OutIn last from now (steps.tidying answer post desk told due).outcome
-tidying_in last from now answer post desk told true q = tt
+tidying_in last from now answer post desk told true q = tidy_in last from now answer (moves_clock (scheme_of post)) post q
 tidying_in last from now answer post desk told false q = plain_in last from now answer q
 
 retired_in : (last from now : ℕ) (answer : Answer) (ending : Ending) (post : Post) (desk : Desk) (told : List Event) → is_plain answer ≡ true → OutIn last from now (steps.retired_by answer ending post desk told).outcome
@@ -292,9 +301,18 @@ scanned_in last from now answer post desk told (Some entry) f = f
 scan_in : (last from now : ℕ) (answer : Answer) (at : ScanAt) (post : Post) (desk : Desk) (found : ℕ) → answer_in last from now answer ≡ true → OutIn last from now (scan.scan_turn (Answered answer) at post desk found).outcome
 scan_in last from now answer (ReadGuard n) post desk found f = by (nat_lt (n + 1) (guards post.layout.config))
   where
-    by : (more : Bool) → OutIn last from now (scan.reading (Answered answer) n post (scan.with_read desk n (guard_at post.layout.config n, published (guard_at post.layout.config n) found)) (events.Read (guard_at post.layout.config n) (eras_in (guard_at post.layout.config n) found) ∷ []) more).outcome
+    rows : Bool
+    rows = publishes_rows post.layout.config.scheme
+
+    guard : Guard
+    guard = guard_at post.layout.config n
+
+    seen : Desk
+    seen = scan.with_read desk n (guard, published rows guard found)
+
+    by : (more : Bool) → OutIn last from now (scan.reading (Answered answer) n post seen (scan.reads_guard rows guard found ∷ []) more).outcome
     by true = f
-    by false = scanned_in last from now answer post (scan.with_read desk n (guard_at post.layout.config n, published (guard_at post.layout.config n) found)) (events.Read (guard_at post.layout.config n) (eras_in (guard_at post.layout.config n) found) ∷ []) (scan.unmet_from (scan.with_read desk n (guard_at post.layout.config n, published (guard_at post.layout.config n) found)) 0) f
+    by false = scanned_in last from now answer post seen (scan.reads_guard rows guard found ∷ []) (scan.unmet_from seen 0) f
 scan_in last from now answer (GiveBack place slot) post desk found f = scanned_in last from now answer post (scan.with_back desk place) (events.Back slot ∷ []) (scan.unmet_from (scan.with_back desk place) place) f
 
 -- where no move is due, nothing of this is said
@@ -304,25 +322,32 @@ calm_clock last from now y (moves.Moved era) d h = refl
 calm_clock last from now y (moves.Other seen) d h = let e : y.due ≡ true = first_of y.due _ h in absurd (cc)
 calm_clock last from now y (moves.EraSpent era) d h = let e : y.due ≡ true = first_of y.due _ h in absurd (cc)
 
-calm_answer : (last from now : ℕ) (y : ClockTally) (answer : Answer) → y.due ≡ false → answer_fits last y answer ≡ true → answer_in last from now answer ≡ true
-calm_answer last from now y (the_answers.Done version clock) d h = calm_clock last from now y clock d h
-calm_answer last from now y (the_answers.Taken number value clock) d h = calm_clock last from now y clock d h
-calm_answer last from now y (the_answers.Clock clock) d h = calm_clock last from now y clock d h
-calm_answer last from now y answer d h = refl
+calm_change : (by_retires : Bool) (last from now : ℕ) (y : ClockTally) (clock : ClockMove) → y.due ≡ false → change_fits by_retires last y clock ≡ true → inner_fits last from now clock ≡ true
+calm_change true last from now y clock d h = calm_clock last from now y clock d h
+calm_change false last from now y moves.Still d h = refl
+calm_change false last from now y (moves.Moved era) d h = refl
+calm_change false last from now y (moves.Other seen) d h = absurd (cc)
+calm_change false last from now y (moves.EraSpent era) d h = absurd (cc)
 
-calm_why : (last from now : ℕ) (y : ClockTally) (why : Why) (base : Base) → y.due ≡ false → WhyFits last why y → WhyIn from now why base
-calm_why last from now y (Tidies (Answered answer)) base d f = let m = f.0 in let e : y.due ≡ true = m.due in absurd (cc)
-calm_why last from now y Advances base d f = let e : y.due ≡ true = f.due in absurd (cc)
-calm_why last from now y why base d f = tt
+calm_answer : (config : Config) (from now : ℕ) (y : ClockTally) (answer : Answer) → y.due ≡ false → fits_answer config y answer ≡ true → answer_in config.last_era from now answer ≡ true
+calm_answer config from now y (the_answers.Done version clock) d h = calm_change (moves_clock config.scheme) config.last_era from now y clock d h
+calm_answer config from now y (the_answers.Taken number value clock) d h = calm_change (moves_clock config.scheme) config.last_era from now y clock d h
+calm_answer config from now y (the_answers.Clock clock) d h = calm_clock config.last_era from now y clock d h
+calm_answer config from now y answer d h = refl
 
-calm_out : (last from now : ℕ) (y : ClockTally) (outcome : CallOutcome) → y.due ≡ false → OutFits last outcome y → OutIn last from now outcome
-calm_out last from now y (GoesOn Idle) d f = tt
-calm_out last from now y (GoesOn (Runs why base)) d f = calm_why last from now y why base d f
-calm_out last from now y (GoesOn (Scans (Answered answer) at)) d f = calm_answer last from now y answer d f
-calm_out last from now y (GoesOn (Scans (Repeated task) at)) d f = tt
-calm_out last from now y (GoesOn (Scans Counted at)) d f = tt
-calm_out last from now y (GoesOn (Works work)) d f = tt
-calm_out last from now y (Answers answer) d f = calm_answer last from now y answer d f
+calm_why : (config : Config) (from now : ℕ) (y : ClockTally) (why : Why) (base : Base) → y.due ≡ false → WhyFits config why y → WhyIn from now why base
+calm_why config from now y (Tidies (Answered answer)) base d f = let m = f.0 in let e : y.due ≡ true = m.due in absurd (cc)
+calm_why config from now y Advances base d f = let e : y.due ≡ true = f.due in absurd (cc)
+calm_why config from now y why base d f = tt
+
+calm_out : (config : Config) (from now : ℕ) (y : ClockTally) (outcome : CallOutcome) → y.due ≡ false → OutFits config outcome y → OutIn config.last_era from now outcome
+calm_out config from now y (GoesOn Idle) d f = tt
+calm_out config from now y (GoesOn (Runs why base)) d f = calm_why config from now y why base d f
+calm_out config from now y (GoesOn (Scans (Answered answer) at)) d f = calm_answer config from now y answer d f
+calm_out config from now y (GoesOn (Scans (Repeated task) at)) d f = tt
+calm_out config from now y (GoesOn (Scans Counted at)) d f = tt
+calm_out config from now y (GoesOn (Works work)) d f = tt
+calm_out config from now y (Answers answer) d f = calm_answer config from now y answer d f
 
 -- a machine that retires nothing leaves whether a move is due
 claim_due : (every birth slot : ℕ) (x : ClockTally) (claimed : Bool) → (along (clock_by every) (claim_front birth slot claimed) x).due ≡ x.due
@@ -340,11 +365,11 @@ not_retiring : (base : Base) (kind : Kind) → suits base kind ≡ true → reti
 not_retiring (Retire at) kind s n = absurd (cc)
 not_retiring base kind s n = refl
 
-next_due : (last : ℕ) (task : Task) (next : Next) (x : ClockTally) → NextFits last task next x → x.due ≡ false
-next_due last task Again x f = f
-next_due last task MakeRoom x f = f
-next_due last task (Answering answer) x f = f.0
-next_due last task (Retiring slot answer) x f = f.0
+next_due : (config : Config) (task : Task) (next : Next) (x : ClockTally) → NextFits config task next x → x.due ≡ false
+next_due config task Again x f = f
+next_due config task MakeRoom x f = f
+next_due config task (Answering answer) x f = f.0
+next_due config task (Retiring slot answer) x f = f.0
 
 -- what a step needs
 pub record Needs (last from now : ℕ) (post : Post) (phase : Phase) (found : ℕ) : Type 0 where
@@ -356,47 +381,47 @@ base_move_in : (last from now : ℕ) (why : Why) (base : Base) (post : Post) (fo
 base_move_in last from now why (Move at) post found n f = move_in last from now at post found n.table (n.low why at refl) (λ l. n.loaded why at refl l) f
 base_move_in last from now why base post found n f = absurd f
 
-run_in : (every last from now : ℕ) (x : ClockTally) (why : Why) (base : Base) (post : Post) (desk : Desk) (found : ℕ) → Needs last from now post (Runs why base) found → suits base (kind_of why) ≡ true → WhyFits last why x → WhyIn from now why base
-    → OutFits last (steps.run_turn why desk (machine.after base post found)).outcome (along (clock_by every) (base_front base found) x) → OutIn last from now (steps.run_turn why desk (machine.after base post found)).outcome
-run_in every last from now x (Tidies (Answered answer)) base post desk found n s f w o =
-    let t = machine.after base post found in resumed_tidies last from now answer desk t.post t.told t.outcome f.1 (base_move_in last from now (Tidies (Answered answer)) base post found n w)
-run_in every last from now x Advances base post desk found n s f w o =
-    let t = machine.after base post found in resumed_advances last from now desk t.post t.told t.outcome (base_move_in last from now Advances base post found n w)
-run_in every last from now x (Retires answer) base post desk found n s f w o =
-    let t = machine.after base post found in resumed_retires last from now answer desk t.post t.told t.outcome f.1
-run_in every last from now x (Tidies (Repeated task)) base post desk found n s f w o =
-    calm_out last from now (along (clock_by every) (base_front base found) x) _ (base_due every x base found (not_retiring base (kind_of (Tidies (Repeated task))) s refl) ∙ (f)) o
-run_in every last from now x (Tidies Counted) base post desk found n s f w o =
-    calm_out last from now (along (clock_by every) (base_front base found) x) _ (base_due every x base found (not_retiring base (kind_of (Tidies Counted)) s refl) ∙ (f)) o
-run_in every last from now x (Opens task) base post desk found n s f w o =
-    calm_out last from now (along (clock_by every) (base_front base found) x) _ (base_due every x base found (not_retiring base (kind_of (Opens task)) s refl) ∙ (f)) o
-run_in every last from now x (FollowsHead head tail) base post desk found n s f w o =
-    calm_out last from now (along (clock_by every) (base_front base found) x) _ (base_due every x base found (not_retiring base (kind_of (FollowsHead head tail)) s refl) ∙ (f)) o
-run_in every last from now x (Fills task) base post desk found n s f w o =
-    calm_out last from now (along (clock_by every) (base_front base found) x) _ (base_due every x base found (not_retiring base (kind_of (Fills task)) s refl) ∙ (f)) o
-run_in every last from now x (ClearsNext next) base post desk found n s f w o =
-    calm_out last from now (along (clock_by every) (base_front base found) x) _ (base_due every x base found (not_retiring base (kind_of (ClearsNext next)) s refl) ∙ (next_due last Dequeues next x f)) o
-run_in every last from now x (Clears task next) base post desk found n s f w o =
-    calm_out last from now (along (clock_by every) (base_front base found) x) _ (base_due every x base found (not_retiring base (kind_of (Clears task next)) s refl) ∙ (next_due last task next x f)) o
-run_in every last from now x (Finishes task next) base post desk found n s f w o =
-    calm_out last from now (along (clock_by every) (base_front base found) x) _ (base_due every x base found (not_retiring base (kind_of (Finishes task next)) s refl) ∙ (next_due last task next x f)) o
-run_in every last from now x (GivesUp answer) base post desk found n s f w o =
-    calm_out last from now (along (clock_by every) (base_front base found) x) _ (base_due every x base found (not_retiring base (kind_of (GivesUp answer)) s refl) ∙ (f.0)) o
-run_in every last from now x (Releases let_go) base post desk found n s f w o =
-    calm_out last from now (along (clock_by every) (base_front base found) x) _ (base_due every x base found (not_retiring base (kind_of (Releases let_go)) s refl) ∙ (f)) o
+run_in : (config : Config) (every from now : ℕ) (x : ClockTally) (why : Why) (base : Base) (post : Post) (desk : Desk) (found : ℕ) → Needs config.last_era from now post (Runs why base) found → suits base (kind_of why) ≡ true → WhyFits config why x → WhyIn from now why base
+    → OutFits config (steps.run_turn why desk (machine.after base post found)).outcome (along (clock_by every) (base_front base found) x) → OutIn config.last_era from now (steps.run_turn why desk (machine.after base post found)).outcome
+run_in config every from now x (Tidies (Answered answer)) base post desk found n s f w o =
+    let t = machine.after base post found in resumed_tidies config.last_era from now answer desk t.post t.told t.outcome f.1 (base_move_in config.last_era from now (Tidies (Answered answer)) base post found n w)
+run_in config every from now x Advances base post desk found n s f w o =
+    let t = machine.after base post found in resumed_advances config.last_era from now desk t.post t.told t.outcome (base_move_in config.last_era from now Advances base post found n w)
+run_in config every from now x (Retires answer) base post desk found n s f w o =
+    let t = machine.after base post found in resumed_retires config.last_era from now answer desk t.post t.told t.outcome f.1
+run_in config every from now x (Tidies (Repeated task)) base post desk found n s f w o =
+    calm_out config from now (along (clock_by every) (base_front base found) x) _ (base_due every x base found (not_retiring base (kind_of (Tidies (Repeated task))) s refl) ∙ (f)) o
+run_in config every from now x (Tidies Counted) base post desk found n s f w o =
+    calm_out config from now (along (clock_by every) (base_front base found) x) _ (base_due every x base found (not_retiring base (kind_of (Tidies Counted)) s refl) ∙ (f)) o
+run_in config every from now x (Opens task) base post desk found n s f w o =
+    calm_out config from now (along (clock_by every) (base_front base found) x) _ (base_due every x base found (not_retiring base (kind_of (Opens task)) s refl) ∙ (f)) o
+run_in config every from now x (FollowsHead head tail) base post desk found n s f w o =
+    calm_out config from now (along (clock_by every) (base_front base found) x) _ (base_due every x base found (not_retiring base (kind_of (FollowsHead head tail)) s refl) ∙ (f)) o
+run_in config every from now x (Fills task) base post desk found n s f w o =
+    calm_out config from now (along (clock_by every) (base_front base found) x) _ (base_due every x base found (not_retiring base (kind_of (Fills task)) s refl) ∙ (f)) o
+run_in config every from now x (ClearsNext next) base post desk found n s f w o =
+    calm_out config from now (along (clock_by every) (base_front base found) x) _ (base_due every x base found (not_retiring base (kind_of (ClearsNext next)) s refl) ∙ (next_due config Dequeues next x f)) o
+run_in config every from now x (Clears task next) base post desk found n s f w o =
+    calm_out config from now (along (clock_by every) (base_front base found) x) _ (base_due every x base found (not_retiring base (kind_of (Clears task next)) s refl) ∙ (next_due config task next x f)) o
+run_in config every from now x (Finishes task next) base post desk found n s f w o =
+    calm_out config from now (along (clock_by every) (base_front base found) x) _ (base_due every x base found (not_retiring base (kind_of (Finishes task next)) s refl) ∙ (next_due config task next x f)) o
+run_in config every from now x (GivesUp answer) base post desk found n s f w o =
+    calm_out config from now (along (clock_by every) (base_front base found) x) _ (base_due every x base found (not_retiring base (kind_of (GivesUp answer)) s refl) ∙ (f.0)) o
+run_in config every from now x (Releases let_go) base post desk found n s f w o =
+    calm_out config from now (along (clock_by every) (base_front base found) x) _ (base_due every x base found (not_retiring base (kind_of (Releases let_go)) s refl) ∙ (f)) o
 
 scan_calm : (every : ℕ) (x : ClockTally) (at : ScanAt) (post : Post) (found : ℕ) → (along (clock_by every) (scan_told at post found) x).due ≡ x.due
-scan_calm every x (ReadGuard n) post found = refl
+scan_calm every x (ReadGuard n) post found = reads_are (λ (event : Event). (along (clock_by every) (event ∷ []) x).due ≡ x.due) (publishes_rows post.layout.config.scheme) (guard_at post.layout.config n) found (λ span. refl) (λ slot. refl)
 scan_calm every x (GiveBack place slot) post found = refl
 
-pub turn_in : (every last from now : ℕ) (x : ClockTally) (phase : Phase) (post : Post) (desk : Desk) (found : ℕ) → Needs last from now post phase found → PhaseRight phase post → PhaseFits last phase x → PhaseIn last from now phase
-    → OutFits last (steps.phase_turn phase post desk found).outcome (along (clock_by every) (front phase post found) x) → OutIn last from now (steps.phase_turn phase post desk found).outcome
-turn_in every last from now x Idle post desk found n p f w o = tt
-turn_in every last from now x (Runs why base) post desk found n p f w o = run_in every last from now x why base post desk found n p.0 f w o
-turn_in every last from now x (Scans (Answered answer) at) post desk found n p f w o = scan_in last from now answer at post desk found w
-turn_in every last from now x (Scans (Repeated task) at) post desk found n p f w o = calm_out last from now (along (clock_by every) (scan_told at post found) x) _ (scan_calm every x at post found ∙ f) o
-turn_in every last from now x (Scans Counted at) post desk found n p f w o = calm_out last from now (along (clock_by every) (scan_told at post found) x) _ (scan_calm every x at post found ∙ f) o
-turn_in every last from now x (Works work) post desk found n p f w o = calm_out last from now x _ f o
+pub turn_in : (config : Config) (every from now : ℕ) (x : ClockTally) (phase : Phase) (post : Post) (desk : Desk) (found : ℕ) → Needs config.last_era from now post phase found → PhaseRight phase post → PhaseFits config phase x → PhaseIn config.last_era from now phase
+    → OutFits config (steps.phase_turn phase post desk found).outcome (along (clock_by every) (front phase post found) x) → OutIn config.last_era from now (steps.phase_turn phase post desk found).outcome
+turn_in config every from now x Idle post desk found n p f w o = tt
+turn_in config every from now x (Runs why base) post desk found n p f w o = run_in config every from now x why base post desk found n p.0 f w o
+turn_in config every from now x (Scans (Answered answer) at) post desk found n p f w o = scan_in config.last_era from now answer at post desk found w
+turn_in config every from now x (Scans (Repeated task) at) post desk found n p f w o = calm_out config from now (along (clock_by every) (scan_told at post found) x) _ (scan_calm every x at post found ∙ f) o
+turn_in config every from now x (Scans Counted at) post desk found n p f w o = calm_out config from now (along (clock_by every) (scan_told at post found) x) _ (scan_calm every x at post found ∙ f) o
+turn_in config every from now x (Works work) post desk found n p f w o = calm_out config from now x _ f o
 
 -- a call begins
 round_in : (last from now : ℕ) (task : Task) (post : Post) → PhaseIn last from now (round task post)
@@ -438,6 +463,6 @@ first_in last from now (names.Look index key) post = looking_in (stands post ind
     looking_in : (x : Option ℕ) → PhaseIn last from now (steps.looking_at index key x)
     looking_in None = tt
     looking_in (Some slot) = tt
-first_in last from now names.Leave post = parts_all (λ (phase : Phase). PhaseIn last from now phase) (record { clears = λ index. tt; hides = tt; marks = tt }) post
+first_in last from now names.Leave post = parts_all (λ (phase : Phase). PhaseIn last from now phase) (record { clears = λ rows index. tt; hides = tt; marks = tt }) post
 first_in last from now (names.Adopt place) post = tt
 first_in last from now (names.PutIf key value version) post = round_in last from now _ post

@@ -1,11 +1,11 @@
 -- The eras that a seat has in hand were the clock in its call: no earlier than the clock where the call began.
 use Rattle.std.proofs.Common.{subst, sym, ℕ, ◌≡◌, ◌≤◌, ◌+◌, Bool, true, false, List, Option, Some, None, refl}
-use Rattle.std.specs.Prelude.{◌==◌, nat_le, nat_lt, if◌then◌else◌}
+use Rattle.std.specs.Prelude.{◌==◌, ◌||◌, nat_le, nat_lt, if◌then◌else◌}
 use Rattle.law_scans.specs.laws.words.Packed.{reservation_word, read_request, read_reservation}
 use Rattle.law_scans.specs.laws.words.Place.{is_valid}
 use Rattle.law_scans.specs.laws.words.declared.config.Config.{Config}
 use Rattle.law_scans.specs.laws.words.declared.config.SchemeKind.{SchemeKind}
-use Rattle.law_scans.specs.laws.words.declared.config.SchemeKind.TheVariants.{He, Ibr, Wfe}
+use Rattle.law_scans.specs.laws.words.declared.config.SchemeKind.TheVariants.{He, Hp, Ibr, Wfe}
 use Rattle.law_scans.specs.laws.words.declared.layout.Layout.{Layout}
 use Rattle.law_scans.specs.laws.words.declared.packed.Request.{Request}
 use Rattle.law_scans.specs.laws.words.declared.packed.Request.TheVariants as requests
@@ -19,7 +19,8 @@ use Rattle.law_scans.specs.inv.model.Memory.{bump}
 use Rattle.law_scans.specs.inv.model.MoveClock as movers
 use Rattle.law_scans.specs.inv.model.Phases.{Aim, Alone, Follows, Tries, Endless, Failed, BeginAt, ProtectAt, AllocateAt, RetireAt, MoveAt, Walk, Base, Turn, Outcome, Goes, Ends}
 use Rattle.law_scans.specs.inv.model.Phases.BeginAt.{LoadLower, PublishSpan}
-use Rattle.law_scans.specs.inv.model.Phases.ProtectAt.{LoadClock, PublishEra, LoadLink, CheckClock, PublishRequest, LoadOwnClock, PublishHelper, LoadOwnLink, CheckOwnClock, AnswerOwn, LoadAnswer, TakeAnswer, WithdrawRequest, WithdrawHelper, LoadWithin, CheckUpper, RaiseUpper}
+use Rattle.law_scans.specs.inv.model.Phases.ProtectAt.{LoadClock, PublishEra, LoadLink, CheckClock, PublishRequest, LoadOwnClock, PublishHelper, LoadOwnLink, CheckOwnClock, AnswerOwn, LoadAnswer, TakeAnswer, WithdrawRequest, WithdrawHelper, LoadWithin, CheckUpper, RaiseUpper, ByHazard}
+use Rattle.law_scans.specs.inv.model.Phases.HazardAt.{FirstLink, PublishLink, CheckLink}
 use Rattle.law_scans.specs.inv.model.Phases.AllocateAt.{LoadBirth, ClaimSlot, StoreLife}
 use Rattle.law_scans.specs.inv.model.Phases.RetireAt.{LoadLife, LoadRetire, StoreRetired}
 use Rattle.law_scans.specs.inv.model.Phases.MoveAt.{LoadEra, LoadRequest, ShowEra, LoadAsked, CheckEra, AnswerAsked, LoadReserved, HandOver, HideEra, HideLate, ExchangeClock}
@@ -59,6 +60,7 @@ protect_since from (WithdrawHelper link era) = Unit {0}
 protect_since from LoadWithin = Unit {0}
 protect_since from (CheckUpper link) = Unit {0}
 protect_since from (RaiseUpper era) = from ≤ era
+protect_since from (ByHazard at) = Unit {0}
 
 abbrev pub allocate_since : (from : ℕ) → AllocateAt → Type 0
 allocate_since from LoadBirth = Unit {0}
@@ -87,7 +89,7 @@ abbrev pub base_since : (from : ℕ) (cut : ℕ → ℕ) → Base → Type 0
 base_since from cut (Begin at) = begin_since from at
 base_since from cut (Protect aim index root steps at) = protect_since from at
 base_since from cut (Reload parent index slot era steps) = Unit {0}
-base_since from cut (Clear index) = Unit {0}
+base_since from cut (Clear rows index) = Unit {0}
 base_since from cut Finish = Unit {0}
 base_since from cut (Release index) = Unit {0}
 base_since from cut (Allocate at) = allocate_since from at
@@ -179,6 +181,11 @@ protect_on from cut aim index root n (LoadAnswer first) post found l h f = h
 protect_on from cut aim index root n (WithdrawHelper link era) post found l h f = concluded_since from cut aim index root n link era post (reserves_helper post 0)
 protect_on from cut aim index root n (CheckUpper link) post found l h f =
     out_if from cut _ _ (found == upper post.span) (concluded_since from cut aim index root n link found (protects.held_post post index root link) (protects.told_held index root link n)) (l refl)
+protect_on from cut aim index root n (ByHazard FirstLink) post found l h f =
+    out_if from cut _ _ (found == 0) (concluded_since from cut aim index root n found 0 (protects.held_post post index root found) (protects.told_held index root found n)) tt
+protect_on from cut aim index root n (ByHazard (PublishLink link)) post found l h f = tt
+protect_on from cut aim index root n (ByHazard (CheckLink link)) post found l h f =
+    out_if from cut _ _ (found == link || found == 0) (concluded_since from cut aim index root n found 0 (protects.held_post post index root found) (protects.told_held index root found n)) tt
 protect_on from cut aim index root n at post found l h f = tt
 
 -- a walk for a free row
@@ -250,6 +257,7 @@ opened_since : (from : ℕ) (scheme : SchemeKind) → protect_since from (protec
 opened_since from He = tt
 opened_since from Ibr = tt
 opened_since from Wfe = tt
+opened_since from Hp = tt
 
 abbrev pub Aged : (from : ℕ) (cut : ℕ → ℕ) → Post → Phase → Type 0
 Aged from cut post phase = PhaseSince from cut phase
@@ -270,7 +278,7 @@ since_grows layout k from cut v = let g = shape_grows layout k v in record {
   finishes = λ post task next s e q. tt;
   gives_up = λ post answer slot q. tt;
   retires = λ post answer slot q. tt;
-  tidies = λ post later q. tt;
+  tidies = λ post later m q. tt;
   advances = λ post q. tt;
   clears_kept = λ post let_go s q. tt;
   releases = λ post let_go s e q. tt;

@@ -35,7 +35,7 @@ use Rattle.law_scans.proofs.inv.covers.Scans.{scan_starts}
 use Rattle.law_scans.specs.inv.covers.Tries.{starts_base, is_start}
 use Rattle.law_scans.specs.inv.links.Tracked.{opened_by}
 use Rattle.law_scans.specs.inv.links.Origins.{OriginsNeeds}
-use Rattle.law_scans.proofs.inv.links.Origins.Deals.{answered_is, passed_is}
+use Rattle.law_scans.proofs.inv.links.Origins.Deals.{answered_is, hands_plain, passed_is}
 use Rattle.law_scans.proofs.inv.links.Origins.Plain.{out_plain, plain_after, out_protects, protects_on}
 use Rattle.law_eras.proofs.Current.Ages.{protect_since, base_since, PhaseSince}
 
@@ -102,7 +102,7 @@ helps_era w i z from why e k t j root link n q g h =
 passes_era : (w : World) (i : ℕ) (z : View) (from : ℕ → ℕ) (why : Why) (e k t j : ℕ) (root : Root) (link old : ℕ) → OriginsNeeds w i z → (w.seat i).phase ≡ Runs why (Move (HandOver e k t j root link old)) → DealSince (from k) (z.deal k) → (w.mem (Index k j) == halves old t) ≡ true → from k ≤ e
 passes_era w i z from why e k t j root link old n q g h =
     let a = at_of w i z n.valid n.below n.seats n.needs n.requests in
-    let o = passed_is w.mem w.seat i z why e k t j root link old a q h in
+    let o = passed_is w.mem w.seat i z why e k t j root link old a q (hands_plain w i why e k t j root link old n.seats q) h in
     subst (DealSince (from k)) o g
 
 move_kept : (w : World) (i : ℕ) (z : View) (from : ℕ → ℕ) (why : Why) (at : MoveAt) (k : ℕ) → OriginsNeeds w i z → (w.seat i).phase ≡ Runs why (Move at) → Answers w z from → DealSince (from k) (move_deals w.mem i (w.seat i).post at z.deal k)

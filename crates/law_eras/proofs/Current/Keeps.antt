@@ -3,7 +3,10 @@ use Rattle.std.proofs.Common.{ℕ, ◌≡◌, ◌≤◌, ◌<◌, Bool, true, fa
 use Rattle.std.proofs.lemmas.Bool.Decides.{nat_tests}
 use Rattle.std.specs.Prelude.{◌==◌}
 use Rattle.law_scans.specs.laws.words.Place.{is_valid}
-use Rattle.law_scans.specs.laws.words.Place.Place.{Clock}
+use Rattle.law_scans.specs.laws.words.Place.Place.{Clock, Index as IndexOf}
+use Rattle.law_scans.specs.laws.words.Schemes.{publishes_rows}
+use Rattle.law_scans.specs.inv.model.Keep.{held_number}
+use Rattle.law_scans.specs.inv.model.Rounds.{scheme_of}
 use Rattle.law_scans.specs.laws.words.declared.layout.Layout.{Layout}
 use Rattle.law_scans.specs.laws.defs.declared.call.Call.{Call}
 use Rattle.law_scans.specs.laws.defs.declared.call.Call.TheVariants as names
@@ -73,8 +76,8 @@ next_items layout made item e h =
 pub tie : (layout : Layout) (made : Made) → is_valid layout ≡ true → OfItems layout made → clock_of made.past ≡ made.world.mem Clock
 tie layout made d h = subst (λ (m : Made). clock_of m.past ≡ m.world.mem Clock) (sym h.is) (record_clock layout h.items d)
 
-values_of : (layout : Layout) (made : Made) (guard : Guard) → is_valid layout ≡ true → OfItems layout made → value_of guard made.past ≡ eras_shown made.world guard
-values_of layout made guard d h = subst (λ (m : Made). value_of guard m.past ≡ eras_shown m.world guard) (sym h.is) (record_values layout h.items guard d)
+values_of : (layout : Layout) (made : Made) (guard : Guard) → is_valid layout ≡ true → publishes_rows layout.config.scheme ≡ false → OfItems layout made → value_of guard made.past ≡ eras_shown made.world guard
+values_of layout made guard d e h = subst (λ (m : Made). value_of guard m.past ≡ eras_shown m.world guard) (sym h.is) (record_values layout h.items guard d e)
 
 history_answers : (layout : Layout) (items : List Item) → is_valid layout ≡ true → answering.Keeps layout.config.buckets (made_of layout items)
 history_answers layout items d = items_keep (answering.Keeps layout.config.buckets) steady items (first_made layout) (answering.first_keeps layout d)
@@ -98,15 +101,23 @@ pub record Current (layout : Layout) (made : Made) : Type 0 where
 calls_serve : (layout : Layout) (made : Made) → is_valid layout ≡ true → OfItems layout made → answering.Keeps layout.config.buckets made
 calls_serve layout made d h = subst (answering.Keeps layout.config.buckets) (sym h.is) (history_answers layout h.items d)
 
-copies_of : (layout : Layout) (made : Made) (i from index era : ℕ) → is_valid layout ≡ true → Current layout made → (made.world.seat i).phase ≡ Works (Keeping (StoreHeld from index era)) → Copies made.past i from index era
-copies_of layout made i from index era d g f =
+-- the era that an index word publishes, where it publishes no row
+copied_era : (w : World) (k from era : ℕ) (rows : Bool) → rows ≡ false → held_number rows (w.mem (IndexOf k from)) ≡ era → eras_shown w (Index k from) ≡ one_era era
+copied_era w k from era true f h = absurd (cc)
+copied_era w k from era false f h = ap one_era h
+
+copies_of : (layout : Layout) (made : Made) (i from index era : ℕ) → is_valid layout ≡ true → publishes_rows (scheme_of (made.world.seat i).post) ≡ false → Current layout made → (made.world.seat i).phase ≡ Works (Keeping (StoreHeld from index era)) → Copies made.past i from index era
+copies_of layout made i from index era d r g f =
     let w : World = made.world in
     let a = (calls_serve layout made d g.of).seats i in
     let b : busy_in (w.seat i).phase ≡ true = ap busy_in f in
+    let k = g.known in
+    let here : publishes_rows w.layout.config.scheme ≡ false = sym (ap (λ (table : Layout). publishes_rows table.config.scheme) (k.seats.fits i).post.layout) ∙ r in
+    let plain : publishes_rows layout.config.scheme ≡ false = sym (ap (λ (table : Layout). publishes_rows table.config.scheme) g.table) ∙ here in
     let s : (w.seat i).call ≡ names.Copy from index = subst (Serves (w.seat i).call) f (a.serves b) in
     record {
       began = a.began b ∙ ap (λ (call : Call). Some call) s;
-      shows = values_of layout made (Index i from) d g.of ∙ ap one_era ((copying w g.asked i g.known.valid g.known.requests).publishes from index era f);
+      shows = values_of layout made (Index i from) d plain g.of ∙ copied_era w i from era (publishes_rows w.layout.config.scheme) here ((copying w g.asked i k.valid k.requests k.hazards).publishes from index era f);
     }
 
 -- a step that loads the clock finds it
@@ -188,7 +199,7 @@ step_current layout made i d h b g =
       seats = λ k. step_since w i k made.past g.asked (k == i) refl n e g.seats g.answers;
       answers = same_answers (step w i) q.0 (λ k. begun_at k made.past) (λ k. begun_at k (tells_of made.past i (told_in w i))) (λ k. begun_stays k i (told_in w i) made.past (within_of w i))
           (answers_step w i g.asked q.0 (λ k. begun_at k made.past) (cut_at i made.past) n q.1.deal (λ k. subst (λ (x : ℕ). begun_at k made.past ≤ x) e (since_low _ made.past)) (g.seats i) g.answers);
-      law = step_led w i made.past e (g.known.eras.seats i).phase (g.seats i) (λ from index era f. copies_of layout made i from index era d g f) g.law;
+      law = step_led w i made.past e (g.known.eras.seats i).phase (g.seats i) (λ r from index era f. copies_of layout made i from index era d r g f) g.law;
     }
 
 -- a call begins

@@ -3,12 +3,14 @@ use Rattle.std.proofs.Common.{ℕ, ◌≡◌, ◌≤◌, Bool, true, false, List
 use Rattle.std.proofs.lemmas.Bool.Decides.{nat_tests}
 use Rattle.std.specs.Prelude.{◌==◌, if◌then◌else◌, not, ◌&&◌, ◌||◌}
 use Rattle.law_scans.specs.laws.words.Place.Place.{Clock}
+use Rattle.law_scans.specs.laws.words.Schemes.{publishes_rows}
+use Rattle.law_scans.proofs.reuse.ReadGuards.{reads_are}
 use Rattle.law_scans.specs.laws.words.declared.layout.Layout.{Layout}
 use Rattle.law_scans.specs.laws.defs.declared.event.Event.{Event}
 use Rattle.law_scans.specs.laws.defs.declared.event.Event.TheVariants as events
 use Rattle.law_scans.specs.inv.model.declared.post.Post.{Post}
 use Rattle.law_scans.specs.inv.model.Calls.{ScanAt, Phase, Idle, Runs, Scans, Works, ReadGuard, GiveBack, Work, Getting, Changing, Enqueuing, Dequeuing, Keeping, KeepAt, Loosens, LoadHeld, StoreHeld, Looks, Misses, HideSpan, MarkLeft, TakeList, MarkTaken}
-use Rattle.law_scans.specs.inv.model.Guards.{one_era, from_to}
+use Rattle.law_scans.specs.inv.model.Guards.{guard_at, one_era, from_to}
 use Rattle.law_scans.specs.inv.model.Machine as machine
 use Rattle.law_scans.specs.inv.model.Phases.{Base}
 use Rattle.law_scans.specs.inv.model.Phases.BeginAt.{PublishSpan}
@@ -17,7 +19,7 @@ use Rattle.law_scans.specs.inv.model.Phases.AllocateAt.{ClaimSlot}
 use Rattle.law_scans.specs.inv.model.Phases.RetireAt.{StoreRetired}
 use Rattle.law_scans.specs.inv.model.Phases.MoveAt.{ShowEra, HandOver}
 use Rattle.law_scans.specs.inv.model.Phases.Base.{Begin, Protect, Allocate, Retire, Move}
-use Rattle.law_scans.specs.inv.model.Posts.{counted, cleared, stands, reserves_index}
+use Rattle.law_scans.specs.inv.model.Posts.{counted, cleared, stands, publishes_index}
 use Rattle.law_scans.specs.inv.model.Rounds.{scheme_of, clear_told, let_index}
 use Rattle.law_scans.specs.inv.model.World.{World, finds, offered, told_in}
 use Rattle.law_scans.proofs.laws.records.defs.Facts.{first_of, rest_of, number_is, or_more, same_number}
@@ -30,7 +32,7 @@ use Rattle.law_scans.specs.laws.StateAt.{clock_of, was_clock, cuts, began_of, va
 use Rattle.law_scans.specs.laws.EraLaw.{upper_current, is_copied}
 use Rattle.law_eras.proofs.Current.Ages.{base_since, PhaseSince}
 use Rattle.law_eras.proofs.Current.Positions.{begun_at, cut_at, was_between}
-use Rattle.law_scans.proofs.reuse.history.MayTell.{Tells, Shape, Silent, Single, Clears, Takes, base_shows, span_of, is_find, shape_of, clear_all, cleared_all}
+use Rattle.law_scans.proofs.reuse.history.MayTell.{Tells, Shape, Silent, Single, Clears, Drops, Takes, base_shows, span_of, is_find, shape_of, clear_all, cleared_all}
 use Rattle.law_scans.specs.inv.model.Allocate.{is_claimed}
 use Rattle.law_scans.specs.laws.defs.declared.lifetime.Interval.{Interval}
 use Rattle.law_scans.proofs.laws.Tells.{tells_both}
@@ -142,14 +144,15 @@ shape_led : (p : Past) (i : ℕ) (base : Base) (post : Post) (found : ℕ) (told
 shape_led p i base post found told (Silent e) h = rw e (λ g. g)
 shape_led p i base post found told (Single event e t) h = rw e (λ g. (h event t, g))
 shape_led p i base post found told (Clears index slot guard e a b) h = rw e (λ g. (refl, (refl, g)))
+shape_led p i base post found told (Drops index slot guard e a b) h = rw e (λ g. (refl, (refl, g)))
 shape_led p i base post found told (Takes guard span event e t q a b) h = rw e (λ g. idle_led i (event ∷ []) (Then p i (events.Reserve guard span)) (find_idle event q) (h (events.Reserve guard span) a, g))
 
 base_led : (layout : Layout) (p : Past) (i from : ℕ) (cut : ℕ → ℕ) (base : Base) (post last : Post) (found : ℕ) → from ≡ begun_at i p → ((s : ℕ) → cut s ≡ cut_at i p s) → base_eras layout (clock_of p) last base → base_since from cut base → Led p i (machine.after base post found).told
 base_led layout p i from cut base post last found e k c f = shape_led p i base post found (machine.after base post found).told (shape_of base post found) (λ event. event_current layout p i from cut base post last found event e k c f)
 
 scan_led : (p : Past) (i : ℕ) (at : ScanAt) (post : Post) (found : ℕ) → Led p i (scan_told at post found)
-scan_led p i (ReadGuard number) post found g = (refl, g)
-scan_led p i (GiveBack place slot) post found g = (refl, g)
+scan_led p i (ReadGuard number) post found = reads_are (λ (event : Event). Led p i (event ∷ [])) (publishes_rows post.layout.config.scheme) (guard_at post.layout.config number) found (λ span g. (refl, g)) (λ slot g. (refl, g))
+scan_led p i (GiveBack place slot) post found = λ g. (refl, g)
 
 -- a copy publishes what the index publishes from which it copies
 pub record Copies (p : Past) (i from index era : ℕ) : Type 0 where
@@ -171,18 +174,22 @@ cleared_copies : (p : Past) (i from index era j : ℕ) (x : Option ℕ) → Copi
 cleared_copies p i from index era j None h = h
 cleared_copies p i from index era j (Some slot) h = record { began = rw (same_number i) h.began; shows = h.shows }
 
-copied_led : (p : Past) (i from index era : ℕ) (post : Post) (x : Option ℕ) → Copies p i from index era → Led p i (copied_told from index post (reserves_index post index era) x)
-copied_led p i from index era post None h = λ g. g
-copied_led p i from index era post (Some slot) h =
+published_led : (p : Past) (i from index number : ℕ) (post : Post) (rows : Bool) → (rows ≡ false → Copies p i from index number) → Led p i (publishes_index rows post index number)
+published_led p i from index number post false h = λ g. (copied_current p i from index number (Index post.seat index) (h refl), g)
+published_led p i from index number post true h = λ g. (refl, g)
+
+copied_led : (p : Past) (i from index number : ℕ) (post : Post) (x : Option ℕ) → (publishes_rows (scheme_of post) ≡ false → Copies p i from index number) → Led p i (copied_told from index post (publishes_index (publishes_rows (scheme_of post)) post index number) x)
+copied_led p i from index number post None h = λ g. g
+copied_led p i from index number post (Some slot) h =
     let gone : List Event = cleared index (stands post index) in
-    let reserved : List Event = reserves_index post index era in
+    let reserved : List Event = publishes_index (publishes_rows (scheme_of post)) post index number in
     more_led p i (gone ++ reserved) (events.Copied from index slot ∷ [])
     (more_led p i gone reserved (idle_led i gone p (cleared_all is_idle index (stands post index) (λ index slot. refl)))
-    (λ g. (copied_current (tells_of p i gone) i from index era (Index post.seat index) (cleared_copies p i from index era index (stands post index) h), g)))
+    (published_led (tells_of p i gone) i from index number post (publishes_rows (scheme_of post)) (λ e. cleared_copies p i from index number index (stands post index) (h e))))
     (λ g. (refl, g))
 
-keep_led : (p : Past) (i : ℕ) (at : KeepAt) (post : Post) → ((from index era : ℕ) → at ≡ StoreHeld from index era → Copies p i from index era) → Led p i (keep_told at post)
-keep_led p i (StoreHeld from index era) post h = copied_led p i from index era post (stands post from) (h from index era refl)
+keep_led : (p : Past) (i : ℕ) (at : KeepAt) (post : Post) → (publishes_rows (scheme_of post) ≡ false → (from index era : ℕ) → at ≡ StoreHeld from index era → Copies p i from index era) → Led p i (keep_told at post)
+keep_led p i (StoreHeld from index era) post h = copied_led p i from index era post (stands post from) (λ e. h e from index era refl)
 keep_led p i (LoadHeld from index) post h = idle_led i (keep_told (LoadHeld from index) post) p (work_passes is_idle (λ index slot. refl) (λ from index slot. refl) (Keeping (LoadHeld from index)) post (λ a b era e. absurd (cc)) (λ e. refl))
 keep_led p i (Loosens let_go) post h = idle_led i (keep_told (Loosens let_go) post) p (cleared_all is_idle (let_index let_go) (stands post (let_index let_go)) (λ index slot. refl))
 keep_led p i (Looks index key at) post h = λ g. g
@@ -192,21 +199,21 @@ keep_led p i MarkLeft post h = λ g. g
 keep_led p i (TakeList place) post h = λ g. g
 keep_led p i (MarkTaken place count) post h = λ g. g
 
-work_led : (p : Past) (i : ℕ) (work : Work) (post : Post) → ((from index era : ℕ) → work ≡ Keeping (StoreHeld from index era) → Copies p i from index era) → Led p i (work_told work post)
+work_led : (p : Past) (i : ℕ) (work : Work) (post : Post) → (publishes_rows (scheme_of post) ≡ false → (from index era : ℕ) → work ≡ Keeping (StoreHeld from index era) → Copies p i from index era) → Led p i (work_told work post)
 work_led p i (Getting key at) post h = λ g. g
 work_led p i (Changing kept at) post h = λ g. g
 work_led p i (Enqueuing kept at) post h = λ g. g
 work_led p i (Dequeuing at) post h = λ g. g
-work_led p i (Keeping at) post h = keep_led p i at post (λ from index era e. h from index era (ap (λ (x : KeepAt). Keeping x) e))
+work_led p i (Keeping at) post h = keep_led p i at post (λ r from index era e. h r from index era (ap (λ (x : KeepAt). Keeping x) e))
 
-first_led : (layout : Layout) (p : Past) (i : ℕ) (phase : Phase) (post last : Post) (found : ℕ) → PhaseEras layout (clock_of p) last phase → PhaseSince (begun_at i p) (cut_at i p) phase → ((from index era : ℕ) → phase ≡ Works (Keeping (StoreHeld from index era)) → Copies p i from index era) → First (λ q told. Led p i told) phase post found
+first_led : (layout : Layout) (p : Past) (i : ℕ) (phase : Phase) (post last : Post) (found : ℕ) → PhaseEras layout (clock_of p) last phase → PhaseSince (begun_at i p) (cut_at i p) phase → (publishes_rows (scheme_of post) ≡ false → (from index era : ℕ) → phase ≡ Works (Keeping (StoreHeld from index era)) → Copies p i from index era) → First (λ q told. Led p i told) phase post found
 first_led layout p i Idle post last found c f h = λ g. g
 first_led layout p i (Runs why base) post last found c f h = base_led layout p i (begun_at i p) (cut_at i p) base post last found refl (λ s. refl) c f
 first_led layout p i (Scans later at) post last found c f h = scan_led p i at post found
-first_led layout p i (Works work) post last found c f h = work_led p i work post (λ from index era e. h from index era (ap (λ (x : Work). Works x) e))
+first_led layout p i (Works work) post last found c f h = work_led p i work post (λ r from index era e. h r from index era (ap (λ (x : Work). Works x) e))
 
 -- a step
-pub step_led : (w : World) (i : ℕ) (p : Past) → clock_of p ≡ w.mem Clock → PhaseEras w.layout (w.mem Clock) (w.seat i).post (w.seat i).phase → PhaseSince (begun_at i p) (cut_at i p) (w.seat i).phase → ((from index era : ℕ) → (w.seat i).phase ≡ Works (Keeping (StoreHeld from index era)) → Copies p i from index era) → Led p i (told_in w i)
+pub step_led : (w : World) (i : ℕ) (p : Past) → clock_of p ≡ w.mem Clock → PhaseEras w.layout (w.mem Clock) (w.seat i).post (w.seat i).phase → PhaseSince (begun_at i p) (cut_at i p) (w.seat i).phase → (publishes_rows (scheme_of (w.seat i).post) ≡ false → (from index era : ℕ) → (w.seat i).phase ≡ Works (Keeping (StoreHeld from index era)) → Copies p i from index era) → Led p i (told_in w i)
 step_led w i p e c f h =
     step_goes (λ q told. Led p i told) (led_closed p i) (w.seat i).phase (counted (w.seat i).post) (offered w i).desk (finds w i)
     (first_led w.layout p i (w.seat i).phase (counted (w.seat i).post) (w.seat i).post (finds w i) (subst (λ (x : ℕ). PhaseEras w.layout x (w.seat i).post (w.seat i).phase) (sym e) c) f h)

@@ -15,14 +15,15 @@ use Rattle.law_scans.specs.inv.model.Change.{change_move}
 use Rattle.law_scans.specs.inv.model.Dequeue.{dequeue_move}
 use Rattle.law_scans.specs.inv.model.Enqueue.{enqueue_move}
 use Rattle.law_scans.specs.inv.model.Get.{get_move}
-use Rattle.law_scans.specs.inv.model.Guards.{one_era, from_to}
+use Rattle.law_scans.specs.inv.model.Guards.{guard_at, one_era, from_to}
 use Rattle.law_scans.specs.inv.model.Machine as machine
 use Rattle.law_scans.specs.inv.model.Memory as memory
 use Rattle.law_scans.specs.inv.model.Memory.{written, place_in}
 use Rattle.law_scans.specs.inv.model.MoveClock as movers
 use Rattle.law_scans.specs.inv.model.Phases.{Base}
 use Rattle.law_scans.specs.inv.model.Phases.BeginAt.{LoadLower, PublishSpan}
-use Rattle.law_scans.specs.inv.model.Phases.ProtectAt.{LoadClock, PublishEra, PublishHelper, TakeAnswer, RaiseUpper}
+use Rattle.law_scans.specs.inv.model.Phases.ProtectAt.{LoadClock, PublishEra, PublishHelper, TakeAnswer, RaiseUpper, ByHazard}
+use Rattle.law_scans.specs.inv.model.Phases.HazardAt.{FirstLink, PublishLink, CheckLink}
 use Rattle.law_scans.specs.inv.model.Phases.AllocateAt.{LoadBirth, ClaimSlot}
 use Rattle.law_scans.specs.inv.model.Phases.RetireAt.{LoadLife, StoreRetired}
 use Rattle.law_scans.specs.inv.model.Phases.MoveAt.{ShowEra, HandOver, ExchangeClock}
@@ -30,13 +31,13 @@ use Rattle.law_scans.specs.inv.model.Phases.Base.{Begin, Protect, Allocate, Reti
 use Rattle.law_scans.specs.inv.model.Posts.{counted, lower, upper}
 use Rattle.law_scans.specs.inv.model.Steps as steps
 use Rattle.law_scans.specs.inv.model.World.{World, step, told_in}
-use Rattle.law_scans.specs.laws.words.Schemes.{is_ibr}
-use Rattle.law_scans.specs.inv.shapes.Eras.{TurnIn, SpanIn, work_eras}
+use Rattle.law_scans.specs.laws.words.Schemes.{is_ibr, publishes_rows}
+use Rattle.law_scans.specs.inv.shapes.Eras.{HeldIn, TurnIn, SpanIn, work_eras}
 use Rattle.std.specs.List.{filter}
 use Rattle.law_scans.specs.laws.records.Record.{Past}
 use Rattle.law_scans.specs.laws.records.Record.Past.{Then}
 use Rattle.law_scans.proofs.laws.Along.{along, Single, OfKind, along_kind}
-use Rattle.law_eras.proofs.EraLaw.Shapes.{shape_single, work_single}
+use Rattle.law_eras.proofs.EraLaw.Shapes.{published_event, shape_single, work_single}
 use Rattle.law_scans.proofs.inv.ends.Told.Rows.{own_told, step_filter}
 use Rattle.law_scans.proofs.inv.ends.Told.Turns.{is_later}
 use Rattle.law_scans.specs.laws.StateAt.{born_by, birth_of, ticked_by, clock_of}
@@ -44,6 +45,7 @@ use Rattle.law_scans.proofs.reuse.Holding.Values.{Ranges}
 use Rattle.law_scans.specs.laws.HistoryEras.{span_ok, era_ok}
 use Rattle.law_scans.proofs.reuse.history.MayTell.{Tells, base_shows, span_of, is_find, shape_of, base_all, work_all}
 use Rattle.law_scans.proofs.reuse.history.Passes.{work_told}
+use Rattle.law_scans.proofs.reuse.ReadGuards.{reads_are}
 use Rattle.law_scans.proofs.reuse.history.AllOf.{all_of}
 use Rattle.law_scans.proofs.laws.records.defs.Facts.{first_of, rest_of, number_is}
 use Rattle.law_scans.specs.inv.model.Allocate.{is_claimed}
@@ -191,6 +193,9 @@ clock_kept : (mem : Place → ℕ) (base : Base) (post : Post) → is_clock base
 clock_kept mem (Begin LoadLower) post n = refl
 clock_kept mem (Begin at) post n = refl
 clock_kept mem (Protect aim index root steps (LoadClock tries)) post n = refl
+clock_kept mem (Protect aim index root steps (ByHazard FirstLink)) post n = refl
+clock_kept mem (Protect aim index root steps (ByHazard (PublishLink link))) post n = refl
+clock_kept mem (Protect aim index root steps (ByHazard (CheckLink link))) post n = refl
 clock_kept mem (Protect aim index root steps at) post n = refl
 clock_kept mem (Allocate LoadBirth) post n = refl
 clock_kept mem (Allocate at) post n = refl
@@ -255,32 +260,38 @@ work_clock mem (Keeping MarkLeft) post = refl
 work_clock mem (Keeping (TakeList place)) post = refl
 work_clock mem (Keeping (MarkTaken place count)) post = refl
 
--- a copy publishes an era that the clock has shown
-stored_most : (clock from index era : ℕ) (work : Work) → work ≡ Keeping (StoreHeld from index era) → work_eras clock work → era ≤ clock
-stored_most clock from index era work e h = subst (work_eras clock) e h
+-- a copy publishes an era that the clock has shown, or a row
+copied_ok : (config : Config) (layout : Layout) (clock : ℕ) (p : Past) (i : ℕ) (rows : Bool) (post : Post) (index number : ℕ) → clock_of p ≡ clock → HeldIn rows layout clock number → era_ok config p i (published_event rows post index number) ≡ true
+copied_ok config layout clock p i false post index number c h = one_ok config.scheme number clock (clock_of p) c h
+copied_ok config layout clock p i true post index number c h = refl
 
-work_dates : (layout : Layout) (mem : Place → ℕ) (p : Past) (i : ℕ) (work : Work) (post : Post) → clock_of p ≡ mem places.Clock → work_eras (mem places.Clock) work
+stored_in : (layout table : Layout) (clock from index number : ℕ) (work : Work) → table ≡ layout → work ≡ Keeping (StoreHeld from index number) → work_eras layout clock work → HeldIn (publishes_rows table.config.scheme) layout clock number
+stored_in layout table clock from index number work l e h = subst (λ (x : Layout). HeldIn (publishes_rows x.config.scheme) layout clock number) (sym l) (subst (work_eras layout clock) e h)
+
+work_dates : (layout : Layout) (mem : Place → ℕ) (p : Past) (i : ℕ) (work : Work) (post : Post) → post.layout ≡ layout → clock_of p ≡ mem places.Clock → work_eras layout (mem places.Clock) work
     → Dates layout.config p i (mem places.Clock) (dated (work_told work (counted post))) (written mem (steps.work_move work post) places.Clock)
-work_dates layout mem p i work post c h =
+work_dates layout mem p i work post l c h =
     let told : List Event = work_told work (counted post) in
     record {
       single = work_single is_dated (era_ok layout.config) p i (λ index slot. refl) (λ from index slot. refl) work (counted post)
-          (λ from index era e. one_ok layout.config.scheme era (mem places.Clock) (clock_of p) c (stored_most (mem places.Clock) from index era work e h)) (λ e. refl);
+          (λ from index number e. copied_ok layout.config layout (mem places.Clock) p i (publishes_rows post.layout.config.scheme) (counted post) index number c (stored_in layout post.layout (mem places.Clock) from index number work l e h)) (λ e. refl);
       ticks = sym (along_kind ticked_by is_dated ticks_quiet told (mem places.Clock))
-          ∙ no_ticks told (mem places.Clock) (work_all (λ event. not (is_tick event)) (λ index slot. refl) (λ from index slot. refl) (λ seat index era. refl) (λ seat. refl) work (counted post))
+          ∙ no_ticks told (mem places.Clock) (work_all (λ event. not (is_tick event)) (λ index slot. refl) (λ from index slot. refl) (λ seat index era. refl) (λ seat. refl) (λ seat index link. refl) work (counted post))
           ∙ sym (work_clock mem work post);
     }
 
-phase_dates : (layout : Layout) (mem : Place → ℕ) (p : Past) (i : ℕ) (phase : Phase) (post : Post) → clock_of p ≡ mem places.Clock → ((why : Why) (base : Base) → phase ≡ Runs why base → Ranges layout (mem places.Clock) post base × Retired p base) → ((work : Work) → phase ≡ Works work → work_eras (mem places.Clock) work)
+phase_dates : (layout : Layout) (mem : Place → ℕ) (p : Past) (i : ℕ) (phase : Phase) (post : Post) → post.layout ≡ layout → clock_of p ≡ mem places.Clock → ((why : Why) (base : Base) → phase ≡ Runs why base → Ranges layout (mem places.Clock) post base × Retired p base) → ((work : Work) → phase ≡ Works work → work_eras layout (mem places.Clock) work)
     → Dates layout.config p i (mem places.Clock) (dated (own_told phase (counted post) (memory.found (steps.phase_move phase post) (mem (place_in (steps.phase_move phase post)))))) (written mem (steps.phase_move phase post) places.Clock)
-phase_dates layout mem p i Idle post c r h = record { single = tt; ticks = refl }
-phase_dates layout mem p i (Runs why base) post c r h = let x = r why base refl in base_dates layout mem p i base post c x.0 x.1
-phase_dates layout mem p i (Scans later (ReadGuard number)) post c r h = record { single = tt; ticks = refl }
-phase_dates layout mem p i (Scans later (GiveBack place slot)) post c r h = record { single = tt; ticks = refl }
-phase_dates layout mem p i (Works work) post c r h = work_dates layout mem p i work post c (h work refl)
+phase_dates layout mem p i Idle post l c r h = record { single = tt; ticks = refl }
+phase_dates layout mem p i (Runs why base) post l c r h = let x = r why base refl in base_dates layout mem p i base post c x.0 x.1
+phase_dates layout mem p i (Scans later (ReadGuard number)) post l c r h =
+    reads_are (λ (event : Event). Dates layout.config p i (mem places.Clock) (dated (event ∷ [])) (mem places.Clock)) (publishes_rows post.layout.config.scheme) (guard_at post.layout.config number)
+    (memory.found (steps.phase_move (Scans later (ReadGuard number)) post) (mem (place_in (steps.phase_move (Scans later (ReadGuard number)) post)))) (λ span. record { single = tt; ticks = refl }) (λ slot. record { single = tt; ticks = refl })
+phase_dates layout mem p i (Scans later (GiveBack place slot)) post l c r h = record { single = tt; ticks = refl }
+phase_dates layout mem p i (Works work) post l c r h = work_dates layout mem p i work post l c (h work refl)
 
 -- a step
-pub step_dates : (w : World) (i : ℕ) (p : Past) → clock_of p ≡ w.mem places.Clock → ((why : Why) (base : Base) → (w.seat i).phase ≡ Runs why base → Ranges w.layout (w.mem places.Clock) (w.seat i).post base × Retired p base) → ((work : Work) → (w.seat i).phase ≡ Works work → work_eras (w.mem places.Clock) work)
+pub step_dates : (w : World) (i : ℕ) (p : Past) → (w.seat i).post.layout ≡ w.layout → clock_of p ≡ w.mem places.Clock → ((why : Why) (base : Base) → (w.seat i).phase ≡ Runs why base → Ranges w.layout (w.mem places.Clock) (w.seat i).post base × Retired p base) → ((work : Work) → (w.seat i).phase ≡ Works work → work_eras w.layout (w.mem places.Clock) work)
     → Dates w.layout.config p i (w.mem places.Clock) (filter is_dated (told_in w i)) ((step w i).mem places.Clock)
-step_dates w i p c r h =
-    subst (λ (es : List Event). Dates w.layout.config p i (w.mem places.Clock) es ((step w i).mem places.Clock)) (sym (step_filter is_dated w i later_undated)) (phase_dates w.layout w.mem p i (w.seat i).phase (w.seat i).post c r h)
+step_dates w i p l c r h =
+    subst (λ (es : List Event). Dates w.layout.config p i (w.mem places.Clock) es ((step w i).mem places.Clock)) (sym (step_filter is_dated w i later_undated)) (phase_dates w.layout w.mem p i (w.seat i).phase (w.seat i).post l c r h)

@@ -1,14 +1,14 @@
 -- Each guard that is told, or read, is one of the table.
-use Rattle.std.proofs.Common.{ℕ, ◌≡◌, ◌<◌, ◌≤◌, ◌-◌, ◌*◌, ◌/◌, ◌%◌, Bool, true, false, List, [], ◌∷◌, refl, sym, ap, subst, arith}
+use Rattle.std.proofs.Common.{ℕ, ◌≡◌, ◌<◌, ◌≤◌, ◌-◌, ◌*◌, ◌/◌, ◌%◌, Bool, true, false, List, [], ◌∷◌, Option, refl, sym, ap, subst, arith}
 use Rattle.std.proofs.Math.Nat.{div-lt_iff_lt-mul, mod-lt}
 use Rattle.std.proofs.lemmas.Bool.Decides.{nat_tests}
 use Rattle.std.specs.Prelude.{◌==◌, ◌&&◌, not, nat_lt, nat_le, if◌then◌else◌}
 use Rattle.law_scans.specs.laws.words.Place.{is_valid}
 use Rattle.law_scans.specs.laws.words.Place.Place.{Clock}
-use Rattle.law_scans.specs.laws.words.Schemes.{is_wfe, publishes_eras, has_one_interval, helps, counts_tries}
+use Rattle.law_scans.specs.laws.words.Schemes.{is_wfe, publishes_eras, publishes_rows, has_one_interval, helps, counts_tries}
 use Rattle.law_scans.specs.laws.words.declared.config.Config.{Config}
 use Rattle.law_scans.specs.laws.words.declared.config.SchemeKind.{SchemeKind}
-use Rattle.law_scans.specs.laws.words.declared.config.SchemeKind.TheVariants.{He, Ibr, Wfe}
+use Rattle.law_scans.specs.laws.words.declared.config.SchemeKind.TheVariants.{He, Hp, Ibr, Wfe}
 use Rattle.law_scans.specs.laws.words.declared.layout.Layout.{Layout}
 use Rattle.law_scans.specs.laws.defs.declared.event.Event.{Event}
 use Rattle.law_scans.specs.laws.defs.declared.event.Event.TheVariants as events
@@ -19,29 +19,30 @@ use Rattle.law_scans.specs.inv.model.Calls.{ReadGuard, GiveBack, Why, StoreHeld,
 use Rattle.law_scans.specs.inv.model.Guards.{guard_at, guards_by, guard_by, index_at}
 use Rattle.law_scans.specs.inv.model.Phases.{Base, Endless, Failed}
 use Rattle.law_scans.specs.inv.model.Phases.BeginAt.{LoadLower, PublishSpan}
-use Rattle.law_scans.specs.inv.model.Phases.ProtectAt.{PublishEra, PublishHelper, TakeAnswer, WithdrawHelper, RaiseUpper}
+use Rattle.law_scans.specs.inv.model.Phases.ProtectAt.{PublishEra, PublishHelper, TakeAnswer, WithdrawHelper, RaiseUpper, ByHazard}
 use Rattle.law_scans.specs.inv.model.Phases.MoveAt.{ShowEra, HandOver, HideEra, HideLate}
 use Rattle.law_scans.specs.inv.model.Phases.Base.{Begin, Protect, Clear, Finish, Release, Move}
 use Rattle.law_scans.specs.inv.model.Posts.{counted}
-use Rattle.law_scans.specs.inv.model.Rounds.{scheme_of}
 use Rattle.law_scans.specs.inv.model.World.{World, finds, offered, told_in}
-use Rattle.law_scans.proofs.laws.records.defs.Facts.{both, first_of, rest_of, and_true, false_of_not, lt_test, number_is}
+use Rattle.law_scans.proofs.laws.records.defs.Facts.{both, first_of, rest_of, and_true, lt_test, number_is}
 use Rattle.law_scans.proofs.inv.model.Ranges.{bounds_of}
-use Rattle.law_scans.proofs.reuse.shapes.words.Schemes.{clock_eras, counts_eras, helps_eras, other_eras}
+use Rattle.law_scans.proofs.reuse.shapes.words.Schemes.{clock_eras, counts_eras, helps_eras, eras_not_interval, rows_not_interval}
 use Rattle.law_scans.specs.inv.covers.Held.{index_base}
 use Rattle.law_scans.specs.inv.history.History.{Made, first_made, record_of}
 use Rattle.law_scans.specs.laws.records.Record.{Past, Each, tells_of}
 use Rattle.law_scans.specs.laws.records.Record.Past.{Then}
 use Rattle.law_scans.specs.inv.shapes.Eras.{base_eras}
 use Rattle.law_scans.specs.inv.shapes.Frame.{Copied, Hides, WorkFits}
-use Rattle.law_scans.specs.inv.shapes.Seats.{PhaseFits, base_fits}
+use Rattle.law_scans.specs.inv.shapes.Seats.{PhaseFits, agree, base_fits}
 use Rattle.law_scans.specs.inv.shapes.Slots.{CopyIn, PhaseIn, WorkIn}
-use Rattle.law_eras.proofs.EraLaw.Shapes.{work_passes}
+use Rattle.law_eras.proofs.EraLaw.Shapes.{published_event, work_passes}
+use Rattle.law_scans.proofs.reuse.ReadGuards.{reads_are}
+use Rattle.law_scans.proofs.reuse.shapes.Kept.{work_counted}
 use Rattle.law_scans.proofs.inv.Inv.Shapes.{index_in}
 use Rattle.law_scans.proofs.reuse.history.AllOf.{all_of}
 use Rattle.law_scans.proofs.reuse.history.Along.{Steady, items_keep}
 use Rattle.law_scans.proofs.laws.records.Entries.{entries_of_each}
-use Rattle.law_scans.proofs.reuse.history.MayTell.{Tells, may_store, base_helper, base_index, base_whole, base_shows, hands, same_span, base_all, Passes, step_all}
+use Rattle.law_scans.proofs.reuse.history.MayTell.{Tells, may_store, may_hazard, base_hazards, base_row, hazard_stores, same_row, base_helper, base_index, base_whole, base_shows, hands, same_span, base_all, Passes, step_all}
 use Rattle.law_scans.proofs.reuse.history.Passes.{is_quiet, First}
 use Rattle.law_scans.proofs.reuse.Holding.Holds.{Held, begin_held, step_held, first_held, ranges_of}
 use Rattle.law_scans.proofs.reuse.Holding.Values.{Ranges}
@@ -53,12 +54,16 @@ helps_wfe : (scheme : SchemeKind) → helps scheme ≡ true → is_wfe scheme �
 helps_wfe He h = h
 helps_wfe Ibr h = h
 helps_wfe Wfe h = h
+helps_wfe Hp h = h
 
-bare_eras : (scheme : SchemeKind) → not (has_one_interval scheme) ≡ true → publishes_eras scheme ≡ true
-bare_eras scheme h = other_eras scheme (false_of_not (has_one_interval scheme) h)
+eras_plain : (scheme : SchemeKind) → publishes_eras scheme ≡ true → not (has_one_interval scheme) ≡ true
+eras_plain scheme e = ap not (eras_not_interval scheme e)
+
+rows_plain : (scheme : SchemeKind) → publishes_rows scheme ≡ true → not (has_one_interval scheme) ≡ true
+rows_plain scheme e = ap not (rows_not_interval scheme e)
 
 -- a step that stores a helper word, an index word or an interval word is one of a scheme that has such words
-stores_helper : (c : Config) (base : Base) → base_fits c base ≡ true → base_helper base ≡ true → helps c.scheme ≡ true
+pub stores_helper : (c : Config) (base : Base) → base_fits c base ≡ true → base_helper base ≡ true → helps c.scheme ≡ true
 stores_helper c (Protect aim index root made (PublishHelper first era last)) f h = f
 stores_helper c (Protect aim index root made (WithdrawHelper link era)) f h = f
 stores_helper c (Protect aim index root made at) f h = absurd (cc)
@@ -68,22 +73,36 @@ stores_helper c (Move (HideLate seen)) f h = f
 stores_helper c (Move at) f h = absurd (cc)
 stores_helper c base f h = absurd (cc)
 
-stores_index : (c : Config) (base : Base) (index : ℕ) → base_fits c base ≡ true → base_index base index ≡ true → publishes_eras c.scheme ≡ true
-stores_index c (Protect aim own root made (PublishEra era Endless)) index f h = clock_eras c.scheme f
-stores_index c (Protect aim own root made (PublishEra era (Failed count))) index f h = counts_eras c.scheme (first_of (counts_tries c.scheme) (nat_le count c.tries) f)
-stores_index c (Protect aim own root made (TakeAnswer link era)) index f h = helps_eras c.scheme f
+stores_index : (c : Config) (base : Base) (index : ℕ) → base_fits c base ≡ true → base_index base index ≡ true → not (has_one_interval c.scheme) ≡ true
+stores_index c (Protect aim own root made (PublishEra era Endless)) index f h = eras_plain c.scheme (clock_eras c.scheme f)
+stores_index c (Protect aim own root made (PublishEra era (Failed count))) index f h = eras_plain c.scheme (counts_eras c.scheme (first_of (counts_tries c.scheme) (nat_le count c.tries) f))
+stores_index c (Protect aim own root made (TakeAnswer link era)) index f h = eras_plain c.scheme (helps_eras c.scheme f)
 stores_index c (Protect aim own root made at) index f h = absurd (cc)
-stores_index c (Clear own) index f h = bare_eras c.scheme f
+stores_index c (Clear rows own) index f h = first_of (not (has_one_interval c.scheme)) (agree rows (publishes_rows c.scheme)) f
 stores_index c base index f h = absurd (cc)
+
+hazards_index : (c : Config) (base : Base) (index : ℕ) → base_fits c base ≡ true → base_hazards base index ≡ true → not (has_one_interval c.scheme) ≡ true
+hazards_index c (Protect aim own root made (ByHazard at)) index f h = rows_plain c.scheme f
+hazards_index c (Protect aim own root made at) index f h = absurd (cc)
+hazards_index c (Clear rows own) index f h = first_of (not (has_one_interval c.scheme)) (agree rows (publishes_rows c.scheme)) f
+hazards_index c base index f h = absurd (cc)
 
 own_index : (base : Base) (index : ℕ) → base_index base index ≡ true → index ≡ index_base base
 own_index (Protect aim own root made (PublishEra era tries)) index h = number_is index own h
 own_index (Protect aim own root made (TakeAnswer link era)) index h = number_is index own h
 own_index (Protect aim own root made at) index h = absurd (cc)
-own_index (Clear own) index h = number_is index own h
+own_index (Clear false own) index h = number_is index own h
+own_index (Clear true own) index h = absurd (cc)
 own_index base index h = absurd (cc)
 
-stores_whole : (c : Config) (base : Base) → base_fits c base ≡ true → base_whole base ≡ true → has_one_interval c.scheme ≡ true
+hazard_index : (base : Base) (index : ℕ) → base_hazards base index ≡ true → index ≡ index_base base
+hazard_index (Protect aim own root made (ByHazard at)) index h = number_is index own (rest_of (hazard_stores at) (index == own) h)
+hazard_index (Protect aim own root made at) index h = absurd (cc)
+hazard_index (Clear true own) index h = number_is index own h
+hazard_index (Clear false own) index h = absurd (cc)
+hazard_index base index h = absurd (cc)
+
+pub stores_whole : (c : Config) (base : Base) → base_fits c base ≡ true → base_whole base ≡ true → has_one_interval c.scheme ≡ true
 stores_whole c (Begin (PublishSpan era)) f h = f
 stores_whole c (Begin LoadLower) f h = absurd (cc)
 stores_whole c (Protect aim index root made (RaiseUpper era)) f h = f
@@ -96,15 +115,15 @@ stores_whole c base f h = absurd (cc)
 same_below : (m k n : ℕ) → (m == k) ≡ true → k < n → nat_lt m n ≡ true
 same_below m k n e h = subst (λ (x : ℕ). nat_lt x n ≡ true) (sym (number_is m k e)) (lt_test k n h)
 
-index_there : (c : Config) (seat index : ℕ) → publishes_eras c.scheme ≡ true → nat_lt seat c.seats ≡ true → nat_lt index c.indexes ≡ true → is_guard c (Index seat index) ≡ true
-index_there c seat index e a b = both (publishes_eras c.scheme) (nat_lt seat c.seats && nat_lt index c.indexes) e (both (nat_lt seat c.seats) (nat_lt index c.indexes) a b)
+index_there : (c : Config) (seat index : ℕ) → not (has_one_interval c.scheme) ≡ true → nat_lt seat c.seats ≡ true → nat_lt index c.indexes ≡ true → is_guard c (Index seat index) ≡ true
+index_there c seat index e a b = both (not (has_one_interval c.scheme)) (nat_lt seat c.seats && nat_lt index c.indexes) e (both (nat_lt seat c.seats) (nat_lt index c.indexes) a b)
 
 handed_guard : (layout : Layout) (clock : ℕ) (base : Base) (post : Post) (found seat index : ℕ) → base_fits layout.config base ≡ true → base_eras layout clock post base → hands base found seat index ≡ true → is_guard layout.config (Index seat index) ≡ true
 handed_guard layout clock (Move (HandOver era asker tag own root link old)) post found seat index f e h =
     let s : (seat == asker && index == own) ≡ true = rest_of _ (seat == asker && index == own) h in
     let a : nat_lt asker layout.config.seats ≡ true = rest_of (helps layout.config.scheme) (nat_lt asker layout.config.seats) f in
     let q : seat ≡ asker = number_is seat asker (first_of (seat == asker) (index == own) s) in
-    index_there layout.config seat index (helps_eras layout.config.scheme (first_of (helps layout.config.scheme) (nat_lt asker layout.config.seats) f))
+    index_there layout.config seat index (eras_plain layout.config.scheme (helps_eras layout.config.scheme (first_of (helps layout.config.scheme) (nat_lt asker layout.config.seats) f)))
     (subst (λ (x : ℕ). nat_lt x layout.config.seats ≡ true) (sym q) a)
     (same_below index own layout.config.indexes (rest_of (seat == asker) (index == own) s) e.helps.asked.at)
 handed_guard layout clock (Move at) post found seat index f e h = absurd (cc)
@@ -126,6 +145,16 @@ stored_guard layout clock base post found (Whole seat) d b r h =
     both (has_one_interval layout.config.scheme) (nat_lt seat layout.config.seats) (stores_whole layout.config base r.run.fits (first_of (base_whole base) (seat == post.seat) h))
     (same_below seat post.seat layout.config.seats (rest_of (base_whole base) (seat == post.seat) h) b)
 
+-- so is the index word of a row that is told
+hazard_guard : (layout : Layout) (clock : ℕ) (base : Base) (post : Post) (guard : Guard) (slot : Option ℕ) → is_valid layout ≡ true → post.seat < layout.config.seats → Ranges layout clock post base → may_hazard base (counted post) guard slot ≡ true → is_guard layout.config guard ≡ true
+hazard_guard layout clock base post (Index seat index) slot d b r h =
+    let s : base_hazards base index ≡ true = first_of (base_hazards base index) (seat == post.seat && same_row slot (base_row base)) h in
+    index_there layout.config seat index (hazards_index layout.config base index r.run.fits s)
+    (same_below seat post.seat layout.config.seats (first_of (seat == post.seat) (same_row slot (base_row base)) (rest_of (base_hazards base index) (seat == post.seat && same_row slot (base_row base)) h)) b)
+    (subst (λ (x : ℕ). nat_lt x layout.config.indexes ≡ true) (sym (hazard_index base index s)) (lt_test (index_base base) layout.config.indexes (index_in layout r.why base post d r.within r.run)))
+hazard_guard layout clock base post (Helper seat) slot d b r h = absurd (cc)
+hazard_guard layout clock base post (Whole seat) slot d b r h = absurd (cc)
+
 told_guard : (layout : Layout) (clock : ℕ) (base : Base) (post : Post) (found : ℕ) (event : Event) → is_valid layout ≡ true → post.seat < layout.config.seats → Ranges layout clock post base → Tells base (counted post) found event → is_guarded layout.config event ≡ true
 told_guard layout clock base post found (events.Reserve guard span) d b r t = stored_guard layout clock base post found guard d b r (stored guard (first_of (may_store base (counted post) found guard) (same_span span (base_shows base (counted post))) t))
   where
@@ -133,17 +162,23 @@ told_guard layout clock base post found (events.Reserve guard span) d b r t = st
     stored (Helper seat) h = h
     stored (Index seat index) h = h
     stored (Whole seat) h = h
+told_guard layout clock base post found (events.Hazard guard slot) d b r t = hazard_guard layout clock base post guard slot d b r t
 told_guard layout clock base post found (events.Read guard span) d b r t = absurd (cc)
+told_guard layout clock base post found (events.Saw guard slot) d b r t = absurd (cc)
 told_guard layout clock base post found event d b r t = refl
 
 -- and the one of the index that a copy goes to
-copied_guard : (layout : Layout) (work : Work) (post : Post) (from index era : ℕ) → post.seat < layout.config.seats → post.layout ≡ layout → work ≡ Keeping (StoreHeld from index era) → WorkFits post work → WorkIn layout.config work → is_guard layout.config (Index post.seat index) ≡ true
-copied_guard layout work post from index era b t e f m =
+copied_guard : (layout : Layout) (work : Work) (post : Post) (from index era : ℕ) (rows : Bool) → post.seat < layout.config.seats → post.layout ≡ layout → work ≡ Keeping (StoreHeld from index era) → WorkFits post work → WorkIn layout.config work → is_guarded layout.config (published_event rows post index era) ≡ true
+copied_guard layout work post from index era rows b t e f m =
     let kept : Copied from post = subst (WorkFits post) e f in
     let within : CopyIn layout.config from index = subst (WorkIn layout.config) e m in
-    index_there layout.config post.seat index
-    (subst (λ (table : Layout). publishes_eras table.config.scheme ≡ true) t (other_eras (scheme_of post) kept.plain))
-    (lt_test post.seat layout.config.seats b) (lt_test index layout.config.indexes within.below)
+    by rows (index_there layout.config post.seat index
+    (subst (λ (table : Layout). not (has_one_interval table.config.scheme) ≡ true) t (ap not kept.plain))
+    (lt_test post.seat layout.config.seats b) (lt_test index layout.config.indexes within.below))
+  where
+    by : (rows : Bool) → is_guard layout.config (Index post.seat index) ≡ true → is_guarded layout.config (published_event rows post index era) ≡ true
+    by true h = h
+    by false h = h
 
 -- and the interval that a seat withdraws which leaves
 hidden_guard : (layout : Layout) (work : Work) (post : Post) → post.seat < layout.config.seats → post.layout ≡ layout → work ≡ Keeping HideSpan → WorkFits post work → is_guard layout.config (Whole post.seat) ≡ true
@@ -152,17 +187,18 @@ hidden_guard layout work post b t e f =
     both (has_one_interval layout.config.scheme) (nat_lt post.seat layout.config.seats) (subst (λ (table : Layout). has_one_interval table.config.scheme ≡ true) t hides.interval) (lt_test post.seat layout.config.seats b)
 
 -- a guard that is read
-index_read : (c : Config) (k : ℕ) → publishes_eras c.scheme ≡ true → 1 ≤ c.indexes → k < c.seats * c.indexes → is_guard c (index_at c k) ≡ true
+index_read : (c : Config) (k : ℕ) → not (has_one_interval c.scheme) ≡ true → 1 ≤ c.indexes → k < c.seats * c.indexes → is_guard c (index_at c k) ≡ true
 index_read c k e b h = index_there c (k / c.indexes) (k % c.indexes) e (lt_test (k / c.indexes) c.seats ((div-lt_iff_lt-mul b).1 h)) (lt_test (k % c.indexes) c.indexes (mod-lt k b))
 
 read_guard : (c : Config) (k : ℕ) (scheme : SchemeKind) → c.scheme ≡ scheme → 1 ≤ c.indexes → k < guards_by scheme c → is_guard c (guard_by scheme c k) ≡ true
-read_guard c k He e b h = index_read c k (ap publishes_eras e) b h
+read_guard c k He e b h = index_read c k (ap (λ (s : SchemeKind). not (has_one_interval s)) e) b h
+read_guard c k Hp e b h = index_read c k (ap (λ (s : SchemeKind). not (has_one_interval s)) e) b h
 read_guard c k Ibr e b h = both (has_one_interval c.scheme) (nat_lt k c.seats) (ap has_one_interval e) (lt_test k c.seats h)
 read_guard c k Wfe e b h = by (nat_lt k c.seats) refl
   where
     by : (x : Bool) → nat_lt k c.seats ≡ x → is_guard c (if x then Helper k else index_at c (k - c.seats)) ≡ true
     by true q = both (is_wfe c.scheme) (nat_lt k c.seats) (ap is_wfe e) q
-    by false q = index_read c (k - c.seats) (ap publishes_eras e) b (grind (arith, nat_tests))
+    by false q = index_read c (k - c.seats) (ap (λ (s : SchemeKind). not (has_one_interval s)) e) b (grind (arith, nat_tests))
 
 -- a step
 guard_passes : (c : Config) → Passes (is_guarded c)
@@ -171,6 +207,8 @@ guard_passes c = record { quiet = quiet_one; clears = λ index slot. refl }
     quiet_one : (event : Event) → is_quiet event ≡ true → is_guarded c event ≡ true
     quiet_one (events.Reserve guard span) q = absurd (cc)
     quiet_one (events.Read guard span) q = absurd (cc)
+    quiet_one (events.Hazard guard slot) q = absurd (cc)
+    quiet_one (events.Saw guard slot) q = absurd (cc)
     quiet_one event q = refl
 
 phase_guards : (layout : Layout) (clock : ℕ) (phase : Phase) (post : Post) (found : ℕ) → is_valid layout ≡ true → post.seat < layout.config.seats → post.layout ≡ layout → PhaseFits layout post phase → ((why : Why) (base : Base) → phase ≡ Runs why base → Ranges layout clock post base) → ((work : Work) → phase ≡ Works work → WorkIn layout.config work)
@@ -178,14 +216,15 @@ phase_guards : (layout : Layout) (clock : ℕ) (phase : Phase) (post : Post) (fo
 phase_guards layout clock Idle post found d b t f r m = refl
 phase_guards layout clock (Runs why base) post found d b t f r m = base_all (is_guarded layout.config) base (counted post) found (λ event. told_guard layout clock base post found event d b (r why base refl))
 phase_guards layout clock (Scans later (ReadGuard number)) post found d b t f r m =
-    and_true (is_guard layout.config (guard_at post.layout.config number))
-    (subst (λ (table : Layout). is_guard layout.config (guard_at table.config number) ≡ true) (sym t)
-    (read_guard layout.config number layout.config.scheme refl (let i = (bounds_of layout d).indexes in omega (arith, i.0)) (grind (arith, nat_tests))))
+    let guard : Guard = guard_at post.layout.config number in
+    let there : is_guard layout.config guard ≡ true = (subst (λ (table : Layout). is_guard layout.config (guard_at table.config number) ≡ true) (sym t)
+    (read_guard layout.config number layout.config.scheme refl (let i = (bounds_of layout d).indexes in omega (arith, i.0)) (grind (arith, nat_tests)))) in
+    reads_are (λ (event : Event). all_of (is_guarded layout.config) (event ∷ []) ≡ true) (publishes_rows post.layout.config.scheme) guard found (λ span. and_true (is_guard layout.config guard) there) (λ slot. and_true (is_guard layout.config guard) there)
 phase_guards layout clock (Scans later (GiveBack place slot)) post found d b t f r m = refl
 phase_guards layout clock (Works work) post found d b t f r m =
-    work_passes (is_guarded layout.config) (λ index slot. refl) (λ from index slot. refl) work (counted post) (λ from index era e. copied_guard layout work post from index era b t e f (m work refl)) (λ e. hidden_guard layout work post b t e f)
+    work_passes (is_guarded layout.config) (λ index slot. refl) (λ from index slot. refl) work (counted post) (λ from index era e. copied_guard layout work (counted post) from index era (publishes_rows post.layout.config.scheme) b t e (work_counted work post f) (m work refl)) (λ e. hidden_guard layout work post b t e f)
 
-told_all : (ok : Event → Bool) (i : ℕ) (told : List Event) (p : Past) → all_of ok told ≡ true → Each (λ q k event. ok event) p → Each (λ q k event. ok event) (tells_of p i told)
+pub told_all : (ok : Event → Bool) (i : ℕ) (told : List Event) (p : Past) → all_of ok told ≡ true → Each (λ q k event. ok event) p → Each (λ q k event. ok event) (tells_of p i told)
 told_all ok i [] p h g = g
 told_all ok i (event ∷ told) p h g = told_all ok i told (Then p i event) (rest_of (ok event) (all_of ok told) h) (first_of (ok event) (all_of ok told) h, g)
 

@@ -52,7 +52,7 @@ dates_of layout made i g =
     let w : World = made.world in
     let h = g.held in
     subst (λ (table : Layout). Dates table.config made.past i (w.mem Clock) (filter is_dated (told_in w i)) ((step w i).mem Clock)) h.table
-    (step_dates w i made.past g.clock (λ why base e. (ranges_of w i h.rows h.line h.asked why base h.known e, retired_of layout made i why base h e))
+    (step_dates w i made.past (h.known.seats.fits i).post.layout g.clock (λ why base e. (ranges_of w i h.rows h.line h.asked why base h.known e, retired_of layout made i why base h e))
     (λ work e. subst (PhaseEras w.layout (w.mem Clock) (w.seat i).post) e (h.known.eras.seats i).phase))
 
 owned_of : (layout : Layout) (made : Made) (i : ℕ) → Held layout made → Single (guard_ok layout.config.scheme) made.past i (filter is_reserve (told_in made.world i))
@@ -60,7 +60,7 @@ owned_of layout made i h =
     let w : World = made.world in
     subst (λ (table : Layout). Single (guard_ok table.config.scheme) made.past i (filter is_reserve (told_in w i))) h.table
     (step_owned w i made.past (h.known.seats.fits i).post.seat
-    (λ why base e. hands_of w i h.asked made.past why base h.known.requests (h.tied.values (Helper i)) e (ranges_of w i h.rows h.line h.asked why base h.known e)))
+    (λ why base e. hands_of w i h.asked made.past why base h.known.requests (λ f. h.tied.values.eras f (Helper i)) e (ranges_of w i h.rows h.line h.asked why base h.known e)))
 
 begin_dated : (layout : Layout) (made : Made) (i : ℕ) (call : Call) → is_busy made.world i ≡ false → may_start made.world i call ≡ true → Dated layout made → Dated layout (done made (Begins i call))
 begin_dated layout made i call f m g = record { held = begin_held layout made i call f m g.held; clock = g.clock; law = (refl, g.law); guards = (refl, g.guards) }

@@ -8,16 +8,16 @@ use Rattle.law_scans.specs.inv.model.Phases.{Base}
 use Rattle.law_scans.specs.inv.model.declared.post.Post.{Post}
 use Rattle.law_scans.specs.laws.defs.declared.event.Event.{Event}
 use Rattle.law_scans.specs.laws.defs.declared.event.Event.TheVariants as events
-use Rattle.law_scans.proofs.reuse.history.MayTell.{Shape, Silent, Clears, Takes, Tells, is_find, cleared_all, cleared_from_all}
+use Rattle.law_scans.proofs.reuse.history.MayTell.{Shape, Silent, Clears, Drops, Takes, Tells, is_find, cleared_all, cleared_from_all}
 use Rattle.law_scans.proofs.reuse.history.AllOf.{all_of, of_along}
 use Rattle.law_scans.proofs.reuse.history.Passes.{copied_told, keep_told, work_told}
 use Rattle.law_scans.proofs.laws.records.defs.Facts.{and_true}
 use Rattle.law_scans.specs.inv.model.Calls.{KeepAt, Loosens, LoadHeld, StoreHeld, Looks, Misses, HideSpan, MarkLeft, TakeList, MarkTaken, Work, Getting, Changing, Enqueuing, Dequeuing, Keeping}
-use Rattle.law_scans.specs.inv.model.Guards.{one_era}
-use Rattle.law_scans.specs.inv.model.Posts.{cleared, cleared_from, stands, reserves_index, reserves_span}
+use Rattle.law_scans.specs.inv.model.Guards.{linked_row, one_era}
+use Rattle.law_scans.specs.inv.model.Posts.{cleared, cleared_from, publishes_index, stands, reserves_span}
 use Rattle.law_scans.specs.inv.model.Rounds.{scheme_of, let_index}
 use Rattle.law_scans.specs.laws.defs.declared.event.Guard.TheVariants.{Index, Whole}
-use Rattle.law_scans.specs.laws.words.Schemes.{has_one_interval}
+use Rattle.law_scans.specs.laws.words.Schemes.{has_one_interval, publishes_rows}
 use Rattle.law_scans.specs.laws.records.Record.{Past, Test}
 use Rattle.law_scans.proofs.laws.Along.{Single}
 
@@ -35,6 +35,8 @@ shape_single kind ok p i c f base post found told (Silent e) h = rw e tt
 shape_single kind ok p i c f base post found told (Shape.Single event e t) h = rw e (kept_one kind ok p i event (kind event) refl (h event t))
 shape_single kind ok p i c f base post found told (Clears index slot guard e a b) h =
     rw (e, kept_none kind (events.Clear index slot) (events.Reserve guard None ∷ []) (c index slot)) (kept_one kind ok p i (events.Reserve guard None) (kind (events.Reserve guard None)) refl (h (events.Reserve guard None) b))
+shape_single kind ok p i c f base post found told (Drops index slot guard e a b) h =
+    rw (e, kept_none kind (events.Clear index slot) (events.Hazard guard None ∷ []) (c index slot)) (kept_one kind ok p i (events.Hazard guard None) (kind (events.Hazard guard None)) refl (h (events.Hazard guard None) b))
 shape_single kind ok p i c f base post found told (Takes guard span event e t q a b) h =
     rw e (subst (λ (es : List Event). Single ok p i es) (sym (kept_first kind (events.Reserve guard span) event (f event q))) (kept_one kind ok p i (events.Reserve guard span) (kind (events.Reserve guard span)) refl (h (events.Reserve guard span) a)))
   where
@@ -44,6 +46,15 @@ shape_single kind ok p i c f base post found told (Takes guard span event e t q 
         by : (b : Bool) → (if b then event ∷ filter kind (other ∷ []) else filter kind (other ∷ [])) ≡ (if b then event ∷ [] else [])
         by true = ap (λ (es : List Event). event ∷ es) (kept_none kind other [] k)
         by false = kept_none kind other [] k
+
+-- what the second step of a copy tells of its index word: an era, or where rows are published a row
+abbrev pub published_event : (rows : Bool) → Post → ℕ → ℕ → Event
+published_event false post index era = events.Reserve (Index post.seat index) (one_era era)
+published_event true post index link = events.Hazard (Index post.seat index) (linked_row link)
+
+published_one : (rows : Bool) (post : Post) (index number : ℕ) → publishes_index rows post index number ≡ published_event rows post index number ∷ []
+published_one false post index number = refl
+published_one true post index number = refl
 
 -- the same of a call's own step: of such a kind it tells at most what the second step of a copy publishes, or that one interval no more
 -- stands
@@ -88,12 +99,14 @@ load_single kind ok p i from index post true c d = copied_single kind ok p i fro
 load_single kind ok p i from index post false c d = tt
 
 keep_single : (kind : Event → Bool) (ok : Test) (p : Past) (i : ℕ) → ((index slot : ℕ) → kind (events.Clear index slot) ≡ false) → ((from index slot : ℕ) → kind (events.Copied from index slot) ≡ false)
-    → (at : KeepAt) (post : Post) → ((from index era : ℕ) → at ≡ StoreHeld from index era → ok p i (events.Reserve (Index post.seat index) (one_era era)) ≡ true) → (at ≡ HideSpan → ok p i (events.Reserve (Whole post.seat) None) ≡ true) → Single ok p i (filter kind (keep_told at post))
+    → (at : KeepAt) (post : Post) → ((from index number : ℕ) → at ≡ StoreHeld from index number → ok p i (published_event (publishes_rows (scheme_of post)) post index number) ≡ true) → (at ≡ HideSpan → ok p i (events.Reserve (Whole post.seat) None) ≡ true) → Single ok p i (filter kind (keep_told at post))
 keep_single kind ok p i c d (Loosens let_go) post h w = rw (cleared_filter kind (let_index let_go) (stands post (let_index let_go)) c) tt
 keep_single kind ok p i c d (LoadHeld from index) post h w = load_single kind ok p i from index post (has_one_interval (scheme_of post)) c d
-keep_single kind ok p i c d (StoreHeld from index era) post h w =
-    let event : Event = events.Reserve (Index post.seat index) (one_era era) in
-    copied_single kind ok p i from index post (reserves_index post index era) (stands post from) c d (kept_one kind ok p i event (kind event) refl (h from index era refl))
+keep_single kind ok p i c d (StoreHeld from index number) post h w =
+    let rows : Bool = publishes_rows (scheme_of post) in
+    let event : Event = published_event rows post index number in
+    copied_single kind ok p i from index post (publishes_index rows post index number) (stands post from) c d
+    (subst (λ (es : List Event). Single ok p i (filter kind es)) (sym (published_one rows post index number)) (kept_one kind ok p i event (kind event) refl (h from index number refl)))
 keep_single kind ok p i c d (Looks index key at) post h w = tt
 keep_single kind ok p i c d (Misses index) post h w = tt
 keep_single kind ok p i c d HideSpan post h w =
@@ -104,7 +117,7 @@ keep_single kind ok p i c d (TakeList place) post h w = tt
 keep_single kind ok p i c d (MarkTaken place count) post h w = tt
 
 pub work_single : (kind : Event → Bool) (ok : Test) (p : Past) (i : ℕ) → ((index slot : ℕ) → kind (events.Clear index slot) ≡ false) → ((from index slot : ℕ) → kind (events.Copied from index slot) ≡ false)
-    → (work : Work) (post : Post) → ((from index era : ℕ) → work ≡ Keeping (StoreHeld from index era) → ok p i (events.Reserve (Index post.seat index) (one_era era)) ≡ true) → (work ≡ Keeping HideSpan → ok p i (events.Reserve (Whole post.seat) None) ≡ true) → Single ok p i (filter kind (work_told work post))
+    → (work : Work) (post : Post) → ((from index number : ℕ) → work ≡ Keeping (StoreHeld from index number) → ok p i (published_event (publishes_rows (scheme_of post)) post index number) ≡ true) → (work ≡ Keeping HideSpan → ok p i (events.Reserve (Whole post.seat) None) ≡ true) → Single ok p i (filter kind (work_told work post))
 work_single kind ok p i c d (Getting key at) post h w = tt
 work_single kind ok p i c d (Changing kept at) post h w = tt
 work_single kind ok p i c d (Enqueuing kept at) post h w = tt
@@ -124,15 +137,17 @@ load_all ok from index post true c d = copied_all ok from index post [] (stands 
 load_all ok from index post false c d = refl
 
 pub work_passes : (ok : Event → Bool) → ((index slot : ℕ) → ok (events.Clear index slot) ≡ true) → ((from index slot : ℕ) → ok (events.Copied from index slot) ≡ true)
-    → (work : Work) (post : Post) → ((from index era : ℕ) → work ≡ Keeping (StoreHeld from index era) → ok (events.Reserve (Index post.seat index) (one_era era)) ≡ true) → (work ≡ Keeping HideSpan → ok (events.Reserve (Whole post.seat) None) ≡ true) → all_of ok (work_told work post) ≡ true
+    → (work : Work) (post : Post) → ((from index number : ℕ) → work ≡ Keeping (StoreHeld from index number) → ok (published_event (publishes_rows (scheme_of post)) post index number) ≡ true) → (work ≡ Keeping HideSpan → ok (events.Reserve (Whole post.seat) None) ≡ true) → all_of ok (work_told work post) ≡ true
 work_passes ok c d (Getting key at) post h w = refl
 work_passes ok c d (Changing kept at) post h w = refl
 work_passes ok c d (Enqueuing kept at) post h w = refl
 work_passes ok c d (Dequeuing at) post h w = refl
 work_passes ok c d (Keeping (Loosens let_go)) post h w = cleared_all ok (let_index let_go) (stands post (let_index let_go)) c
 work_passes ok c d (Keeping (LoadHeld from index)) post h w = load_all ok from index post (has_one_interval (scheme_of post)) c d
-work_passes ok c d (Keeping (StoreHeld from index era)) post h w =
-    copied_all ok from index post (reserves_index post index era) (stands post from) c d (and_true (ok (events.Reserve (Index post.seat index) (one_era era))) (h from index era refl))
+work_passes ok c d (Keeping (StoreHeld from index number)) post h w =
+    let rows : Bool = publishes_rows (scheme_of post) in
+    copied_all ok from index post (publishes_index rows post index number) (stands post from) c d
+    (subst (λ (es : List Event). all_of ok es ≡ true) (sym (published_one rows post index number)) (and_true (ok (published_event rows post index number)) (h from index number refl)))
 work_passes ok c d (Keeping (Looks index key at)) post h w = refl
 work_passes ok c d (Keeping (Misses index)) post h w = refl
 work_passes ok c d (Keeping HideSpan) post h w =

@@ -55,6 +55,9 @@ use Rattle.law_held.proofs.GotRows.Rowed.{Rowed, step_rowed, begin_rowed, first_
 use Rattle.law_scans.proofs.inv.ends.Handover.Asks.{run_of}
 use Rattle.law_scans.proofs.reuse.Lawful.Gots.{cleared_table, work_table}
 use Rattle.law_scans.proofs.reuse.history.MayTell.{work_all}
+use Rattle.law_turns.proofs.reuse.ReadGuards.{reads_are}
+use Rattle.law_turns.specs.inv.model.Guards.{guard_at}
+use Rattle.law_turns.specs.inv.model.words.Schemes.{publishes_rows}
 
 -- what is told but what a get tells
 abbrev is_gotless : Event → Bool
@@ -132,9 +135,9 @@ got_closing layout i p front s g =
 own_gotless : (phase : Phase) (post : Post) (found : ℕ) → all_of is_gotless (own_told phase post found) ≡ true
 own_gotless Idle post found = refl
 own_gotless (Runs why base) post found = machines_gotless (machine.after base post found).told (base_machine base post found)
-own_gotless (Scans later (ReadGuard number)) post found = refl
+own_gotless (Scans later (ReadGuard number)) post found = reads_are (λ event. all_of is_gotless (event ∷ []) ≡ true) (publishes_rows (scheme_of post)) (guard_at post.layout.config number) found (λ span. refl) (λ slot. refl)
 own_gotless (Scans later (GiveBack place slot)) post found = refl
-own_gotless (Works work) post found = work_all is_gotless (λ index slot. refl) (λ from index slot. refl) (λ seat index era. refl) (λ seat. refl) work post
+own_gotless (Works work) post found = work_all is_gotless (λ index slot. refl) (λ from index slot. refl) (λ seat index era. refl) (λ seat. refl) (λ seat index link. refl) work post
 
 first_before : (layout : Layout) (phase : Phase) (post : Post) (found : ℕ) → post.layout ≡ layout → First (Before layout (own_told phase post found)) phase post found
 first_before layout Idle post found e = (e, refl)

@@ -7,7 +7,7 @@ use Rattle.law_turns.specs.inv.model.words.Place.{is_valid}
 use Rattle.law_turns.specs.inv.model.words.Packed.{read_request}
 use Rattle.law_turns.specs.inv.model.words.declared.config.Config.{Config}
 use Rattle.law_turns.specs.inv.model.words.declared.config.SchemeKind.{SchemeKind}
-use Rattle.law_turns.specs.inv.model.words.declared.config.SchemeKind.TheVariants.{He, Ibr, Wfe}
+use Rattle.law_turns.specs.inv.model.words.declared.config.SchemeKind.TheVariants.{He, Hp, Ibr, Wfe}
 use Rattle.law_turns.specs.inv.model.words.declared.layout.Layout.{Layout}
 use Rattle.law_turns.specs.inv.model.words.declared.packed.Request.{Request}
 use Rattle.law_turns.specs.inv.model.words.declared.packed.Request.TheVariants as requests
@@ -29,7 +29,7 @@ use Rattle.law_turns.specs.inv.model.SlowPath.{own_request, answer_in, lost_turn
 use Rattle.law_turns.specs.inv.model.World.{World, begin, finds, offered, step, told_in}
 use Rattle.law_turns.specs.inv.model.Phases.BeginAt.{LoadLower, PublishSpan}
 use Rattle.law_turns.specs.inv.model.Phases.{Aim, Alone, Follows, BeginAt, Tries, Endless, Failed, ProtectAt, Base, Outcome, Goes, Ends, Turn, goes, ends}
-use Rattle.law_turns.specs.inv.model.Phases.ProtectAt.{PublishEra, LoadLink, CheckClock, PublishRequest, CheckOwnClock, AnswerOwn, LoadAnswer, TakeAnswer, WithdrawRequest, WithdrawHelper, CheckUpper, RaiseUpper}
+use Rattle.law_turns.specs.inv.model.Phases.ProtectAt.{PublishEra, LoadLink, CheckClock, PublishRequest, CheckOwnClock, AnswerOwn, LoadAnswer, TakeAnswer, WithdrawRequest, WithdrawHelper, CheckUpper, RaiseUpper, ByHazard}
 use Rattle.law_turns.specs.inv.model.Phases.Base.{Begin, Protect, Reload, Allocate, Write, Retire, Move}
 use Rattle.law_turns.specs.inv.model.Phases.Ending.{Followed}
 use Rattle.law_turns.specs.inv.model.Calls.{Why, Phase, Idle, Runs, Scans, Works}
@@ -51,6 +51,7 @@ use Rattle.law_scans.proofs.inv.ends.Told.Rows.{own_told, own_post, step_adds}
 use Rattle.law_scans.proofs.inv.ends.Told.Turns.{Adds, is_later}
 use Rattle.law_scans.proofs.inv.ends.Told.Births.{each_stores}
 use Rattle.law_turns.specs.laws.StateAt.{null_by, null_of}
+use Rattle.law_turns.specs.inv.model.Phases.HazardAt.{FirstLink, PublishLink, CheckLink}
 
 -- where an answer was taken whose link is null, index 0 was told null
 abbrev pub nulled_at : ProtectAt → Bool → Bool
@@ -75,6 +76,7 @@ In told post phase = nulled phase told ≡ true
 starts_at : (scheme : SchemeKind) (told : Bool) → nulled_at (protect_at scheme) told ≡ true
 starts_at He told = refl
 starts_at Ibr told = refl
+starts_at Hp told = refl
 starts_at Wfe told = refl
 
 null_grows : (layout : Layout) (k : ℕ) (told : Bool) → is_valid layout ≡ true → Grows (PostFits layout k) (In told)
@@ -95,7 +97,7 @@ null_grows layout k told v =
       finishes = λ post task next a b q. refl;
       gives_up = λ post answer slot q. refl;
       retires = λ post answer slot q. refl;
-      tidies = λ post later q. refl;
+      tidies = λ post later m q. refl;
       advances = λ post q. refl;
       clears_kept = λ post let_go n q. refl;
       releases = λ post let_go a b q. refl;
@@ -173,6 +175,12 @@ protect_on why aim index root n (WithdrawHelper link era) post found was h =
 protect_on why aim index root n (CheckUpper link) post found was h =
     if_on (along null_by (protect_turn aim index root n (CheckUpper link) post found).told was) why (found == upper post.span) (protected aim index root n link found post) (goes post [] (Protect aim index root n (RaiseUpper found)))
     (concluded_on (along null_by (protect_turn aim index root n (CheckUpper link) post found).told was) why aim index root n link found (held_post post index root link) (told_held index root link n)) (or_more (not (index == 0)) true refl)
+protect_on why aim index root n (ByHazard FirstLink) post found was h =
+    if_on (along null_by (protect_turn aim index root n (ByHazard FirstLink) post found).told was) why (found == 0) (protected aim index root n found 0 post) (goes post [] (Protect aim index root n (ByHazard (PublishLink found))))
+    (concluded_on (along null_by (protect_turn aim index root n (ByHazard FirstLink) post found).told was) why aim index root n found 0 (held_post post index root found) (told_held index root found n)) (or_more (not (index == 0)) true refl)
+protect_on why aim index root n (ByHazard (CheckLink link)) post found was h =
+    if_on (along null_by (protect_turn aim index root n (ByHazard (CheckLink link)) post found).told was) why (found == link || found == 0) (protected aim index root n found 0 post) (goes post [] (Protect aim index root n (ByHazard (PublishLink found))))
+    (concluded_on (along null_by (protect_turn aim index root n (ByHazard (CheckLink link)) post found).told was) why aim index root n found 0 (held_post post index root found) (told_held index root found n)) (or_more (not (index == 0)) true refl)
 protect_on why aim index root n at post found was h = or_more (not (index == 0)) true refl
 
 -- the other machines begin no protection
@@ -298,4 +306,8 @@ ended_null aim index root n (WithdrawHelper link era) post found was d e h =
     (then_of (link == 0) was d (then_of (index == 0) (not (link == 0) || was) e h))
 ended_null aim index root n (CheckUpper link) post found was d e h =
     if_null (found == upper post.span) was (protected aim index root n link found post) (goes post [] (Protect aim index root n (RaiseUpper found))) (first_of (found == upper post.span) (link == 0) d) (found_null aim index root n link found post was e (rest_of (found == upper post.span) (link == 0) d))
+ended_null aim index root n (ByHazard FirstLink) post found was d e h =
+    if_null (found == 0) was (protected aim index root n found 0 post) (goes post [] (Protect aim index root n (ByHazard (PublishLink found)))) (first_of (found == 0) (found == 0) d) (found_null aim index root n found 0 post was e (rest_of (found == 0) (found == 0) d))
+ended_null aim index root n (ByHazard (CheckLink link)) post found was d e h =
+    if_null (found == link || found == 0) was (protected aim index root n found 0 post) (goes post [] (Protect aim index root n (ByHazard (PublishLink found)))) (first_of (found == link || found == 0) (found == 0) d) (found_null aim index root n found 0 post was e (rest_of (found == link || found == 0) (found == 0) d))
 ended_null aim index root n at post found was d e h = absurd (cc)

@@ -6,8 +6,6 @@ use Rattle.std.specs.Prelude.{◌==◌, ◌&&◌, ◌||◌, not, if◌then◌els
 use Rattle.law_turns.specs.inv.model.words.declared.config.Config.{Config}
 use Rattle.law_turns.specs.inv.model.defs.declared.event.Event.{Event}
 use Rattle.law_turns.specs.inv.model.defs.declared.event.Event.TheVariants as events
-use Rattle.law_turns.specs.inv.model.defs.declared.event.Guard.{Guard}
-use Rattle.law_turns.specs.inv.model.defs.declared.lifetime.Interval.{Interval}
 use Rattle.law_turns.proofs.inv.model.Facts.{first_of, rest_of, implies_or, or_left_true, or_more}
 use Rattle.law_turns.specs.laws.HoldLaw.{is_held}
 use Rattle.law_scans.specs.laws.records.Record.{Past, Test, Each, tells_of}
@@ -20,6 +18,7 @@ use Rattle.law_scans.proofs.inv.contents.Stands.Rounds.{is_clear}
 -- an event that changes nothing of guards, lives and taken rows
 abbrev pub is_flat : Event → Bool
 is_flat (events.Reserve guard span) = false
+is_flat (events.Hazard guard slot) = false
 is_flat (events.Give slot birth) = false
 is_flat (events.Unused slot) = false
 is_flat (events.Retire slot birth retire) = false
@@ -70,6 +69,7 @@ clearing_flat event h = absurd (cc)
 
 flat_held : (c : Config) (k j s : ℕ) (q : Past) (i : ℕ) (event : Event) → is_flat event ≡ true → is_held c k j s (Then q i event) ≡ is_held c k j s q
 flat_held c k j s q i (events.Reserve guard span) h = absurd (cc)
+flat_held c k j s q i (events.Hazard guard slot) h = absurd (cc)
 flat_held c k j s q i (events.Give slot birth) h = absurd (cc)
 flat_held c k j s q i (events.Unused slot) h = absurd (cc)
 flat_held c k j s q i (events.Retire slot birth retire) h = absurd (cc)
@@ -192,31 +192,44 @@ late_each c k j s i first more x q f m g e h =
     (implies_or (is_row s (stood_at k j mid)) (is_held c k j s mid) a.1, a.0) in
     subst (Each (holds_ok c k j s)) (sym two) b.0
 
--- an index publishes at which nothing stands, and then a row stands there
-taken_good : (c : Config) (k j s i at : ℕ) (guard : Guard) (span : Option Interval) (more : List Event) (q : Past) (here : Bool) → ((k == i) && (j == at)) ≡ here → all_of (is_at at) more ≡ true → (here ≡ true → stood_at k j q ≡ None) → Good c k j s (tells_of (Then q i (events.Reserve guard span)) i more) → Good c k j s (Then q i (events.Reserve guard span))
-taken_good c k j s i at guard span more q true e m n g r =
-    let t : is_row s None ≡ true = ap (is_row s) (sym (either_same (stood_at k j q) (k == i) ∙ n refl)) ∙ r in absurd (cc)
-taken_good c k j s i at guard span more q false e m n g r =
-    back_good c k j s i more (Then q i (events.Reserve guard span)) (all_flat (is_at at) more (at_flat at) m) (at_stoods k j i at more (Then q i (events.Reserve guard span)) m e) g r
+-- an event that changes nothing of what stands
+abbrev pub is_still : Event → Bool
+is_still (events.Held index slot steps) = false
+is_still (events.Copied from index slot) = false
+is_still (events.Clear index slot) = false
+is_still event = true
 
-pub take_each : (c : Config) (k j s i at : ℕ) (guard : Guard) (span : Option Interval) (more : List Event) (q : Past) → all_of (is_at at) more ≡ true → (((k == i) && (j == at)) ≡ true → stood_at k j q ≡ None) → Good c k j s q → Good c k j s (tells_of (Then q i (events.Reserve guard span)) i more)
-    → (list_any (comes j s) more ≡ true → (k == i) ≡ true → is_row s (stood_at k j (tells_of (Then q i (events.Reserve guard span)) i more)) ≡ true) → Each (holds_ok c k j s) q → Each (holds_ok c k j s) (tells_of (Then q i (events.Reserve guard span)) i more)
-take_each c k j s i at guard span more q m n g e t h =
-    let next : Past = Then q i (events.Reserve guard span) in
+still_stood : (k j i : ℕ) (event : Event) (q : Past) → is_still event ≡ true → stood_at k j (Then q i event) ≡ stood_at k j q
+still_stood k j i (events.Held index slot steps) q h = absurd (cc)
+still_stood k j i (events.Copied from index slot) q h = absurd (cc)
+still_stood k j i (events.Clear index slot) q h = absurd (cc)
+still_stood k j i event q h = either_same (stood_at k j q) (k == i)
+
+-- an index publishes at which nothing stands, and then a row stands there
+taken_good : (c : Config) (k j s i at : ℕ) (x : Event) (more : List Event) (q : Past) (here : Bool) → ((k == i) && (j == at)) ≡ here → is_still x ≡ true → all_of (is_at at) more ≡ true → (here ≡ true → stood_at k j q ≡ None) → Good c k j s (tells_of (Then q i x) i more) → Good c k j s (Then q i x)
+taken_good c k j s i at x more q true e z m n g r =
+    let t : is_row s None ≡ true = ap (is_row s) (sym (still_stood k j i x q z ∙ n refl)) ∙ r in absurd (cc)
+taken_good c k j s i at x more q false e z m n g r =
+    back_good c k j s i more (Then q i x) (all_flat (is_at at) more (at_flat at) m) (at_stoods k j i at more (Then q i x) m e) g r
+
+pub take_each : (c : Config) (k j s i at : ℕ) (x : Event) (more : List Event) (q : Past) → is_still x ≡ true → all_of (is_at at) more ≡ true → (((k == i) && (j == at)) ≡ true → stood_at k j q ≡ None) → Good c k j s q → Good c k j s (tells_of (Then q i x) i more)
+    → (list_any (comes j s) more ≡ true → (k == i) ≡ true → is_row s (stood_at k j (tells_of (Then q i x) i more)) ≡ true) → Each (holds_ok c k j s) q → Each (holds_ok c k j s) (tells_of (Then q i x) i more)
+take_each c k j s i at x more q z m n g e t h =
+    let next : Past = Then q i x in
     let flat : all_of is_flat more ≡ true = all_flat (is_at at) more (at_flat at) m in
-    let b = flat_each c k j s i more next flat (taken_good c k j s i at guard span more q ((k == i) && (j == at)) refl m n e) (λ a o. sym (flat_helds c k j s i more next flat) ∙ e (t a o))
+    let b = flat_each c k j s i more next flat (taken_good c k j s i at x more q ((k == i) && (j == at)) refl z m n e) (λ a o. sym (flat_helds c k j s i more next flat) ∙ e (t a o))
     (implies_or (is_row s (stood_at k j q)) (is_held c k j s q) g, h) in
     b.0
 
 -- rows are cleared, then an index publishes at which nothing stands any more, and then a row stands there
-pub copy_each : (c : Config) (k j s i at : ℕ) (guard : Guard) (span : Option Interval) (first more : List Event) (q : Past) → all_of is_clear first ≡ true → all_of (is_at at) more ≡ true → (((k == i) && (j == at)) ≡ true → stood_at k j (tells_of q i first) ≡ None) → Good c k j s q → Good c k j s (tells_of q i (first ++ events.Reserve guard span ∷ more))
-    → (list_any (comes j s) more ≡ true → (k == i) ≡ true → is_row s (stood_at k j (tells_of q i (first ++ events.Reserve guard span ∷ more))) ≡ true) → Each (holds_ok c k j s) q → Each (holds_ok c k j s) (tells_of q i (first ++ events.Reserve guard span ∷ more))
-copy_each c k j s i at guard span first more q f m n g e t h =
+pub copy_each : (c : Config) (k j s i at : ℕ) (x : Event) (first more : List Event) (q : Past) → is_still x ≡ true → all_of is_clear first ≡ true → all_of (is_at at) more ≡ true → (((k == i) && (j == at)) ≡ true → stood_at k j (tells_of q i first) ≡ None) → Good c k j s q → Good c k j s (tells_of q i (first ++ x ∷ more))
+    → (list_any (comes j s) more ≡ true → (k == i) ≡ true → is_row s (stood_at k j (tells_of q i (first ++ x ∷ more))) ≡ true) → Each (holds_ok c k j s) q → Each (holds_ok c k j s) (tells_of q i (first ++ x ∷ more))
+copy_each c k j s i at x first more q z f m n g e t h =
     let a = flat_each c k j s i first q (all_flat is_clear first clearing_flat f) g (λ b o. never (list_any (comes j s) first) (is_held c k j s q) (none_any j s is_clear first (clearing_none j s) f) b) h in
     let mid : Past = tells_of q i first in
-    let two : tells_of q i (first ++ events.Reserve guard span ∷ more) ≡ tells_of (Then mid i (events.Reserve guard span)) i more = tells_both i first (events.Reserve guard span ∷ more) q in
+    let two : tells_of q i (first ++ x ∷ more) ≡ tells_of (Then mid i x) i more = tells_both i first (x ∷ more) q in
     subst (Each (holds_ok c k j s)) (sym two)
-    (take_each c k j s i at guard span more mid m n a.1 (subst (Good c k j s) two e) (λ b o. subst (λ (p : Past). is_row s (stood_at k j p) ≡ true) two (t b o)) a.0)
+    (take_each c k j s i at x more mid z m n a.1 (subst (Good c k j s) two e) (λ b o. subst (λ (p : Past). is_row s (stood_at k j p) ≡ true) two (t b o)) a.0)
 
 -- guards and lives stay throughout
 pub plain_each : (c : Config) (k j s i : ℕ) (es : List Event) (q : Past) → all_of is_flat es ≡ true → Good c k j s q → Good c k j s (tells_of q i es) → (list_any (comes j s) es ≡ true → (k == i) ≡ true → is_row s (stood_at k j (tells_of q i es)) ≡ true) → Each (holds_ok c k j s) q → Each (holds_ok c k j s) (tells_of q i es)

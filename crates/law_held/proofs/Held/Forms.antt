@@ -2,7 +2,7 @@
 use Rattle.std.proofs.Common.{ℕ, ◌≡◌, ◌+◌, ◌%◌, Bool, true, false, List, [], ◌∷◌, ◌++◌, Option, Some, None, refl, sym, ap, ◌∙◌, subst}
 use Rattle.std.specs.Prelude.{◌==◌, not, if◌then◌else◌}
 use Rattle.law_turns.specs.inv.model.words.declared.config.SchemeKind.{SchemeKind}
-use Rattle.law_turns.specs.inv.model.words.declared.config.SchemeKind.TheVariants.{He, Ibr, Wfe}
+use Rattle.law_turns.specs.inv.model.words.declared.config.SchemeKind.TheVariants.{He, Hp, Ibr, Wfe}
 use Rattle.law_turns.specs.inv.model.words.declared.layout.Layout.{Layout}
 use Rattle.law_turns.specs.inv.model.defs.declared.call.Answer.{Answer}
 use Rattle.law_turns.specs.inv.model.defs.declared.event.Event.{Event}
@@ -25,7 +25,7 @@ use Rattle.law_turns.specs.inv.model.Steps as steps
 use Rattle.law_turns.specs.inv.model.WriteRow.{last_written}
 use Rattle.law_turns.specs.inv.model.Phases.{Aim, BeginAt, ProtectAt, AllocateAt, Walk, Base, Ending, Outcome, Goes, Ends, Turn, goes}
 use Rattle.law_turns.specs.inv.model.Phases.BeginAt.{LoadLower, PublishSpan}
-use Rattle.law_turns.specs.inv.model.Phases.ProtectAt.{PublishEra, CheckClock, PublishHelper, CheckOwnClock, AnswerOwn, TakeAnswer, WithdrawHelper, CheckUpper, RaiseUpper}
+use Rattle.law_turns.specs.inv.model.Phases.ProtectAt.{PublishEra, CheckClock, PublishHelper, CheckOwnClock, AnswerOwn, TakeAnswer, WithdrawHelper, CheckUpper, RaiseUpper, ByHazard}
 use Rattle.law_turns.specs.inv.model.Phases.AllocateAt.{LoadBirth, ClaimSlot, StoreLife}
 use Rattle.law_turns.specs.inv.model.Phases.Base.{Begin, Protect, Reload, Clear, Allocate, Write}
 use Rattle.law_turns.specs.inv.model.Phases.Ending.{Done, Protected, Followed, Allocated, Retired, Clocked}
@@ -33,14 +33,15 @@ use Rattle.law_turns.specs.inv.model.Calls.{Task, Next, Again, MakeRoom, Answeri
 use Rattle.law_turns.proofs.inv.model.Facts.{first_of, rest_of, false_not_true}
 use Rattle.law_scans.proofs.reuse.history.MayTell as may
 use Rattle.law_scans.proofs.reuse.history.MayTell.{concluded_told, Silent, Single, Takes, takes, shape_of, held_any}
-use Rattle.law_turns.specs.inv.model.words.Schemes.{is_ibr}
-use Rattle.law_scans.specs.inv.shapes.Seats.{Run, ToClear, suits, protect_fits}
+use Rattle.law_turns.specs.inv.model.words.Schemes.{is_ibr, publishes_rows}
+use Rattle.law_scans.specs.inv.shapes.Seats.{Run, ToClear, suits, protect_fits, agree}
 use Rattle.law_scans.proofs.reuse.history.AllOf.{all_of, of_along}
 use Rattle.law_scans.proofs.reuse.history.Passes.{is_quiet, all_quiet, Closed, step_goes}
 use Rattle.law_held.proofs.Held.Flat.{is_flat, is_settled}
 use Rattle.law_scans.proofs.inv.contents.Stands.Rounds.{is_clear}
 use Rattle.law_scans.proofs.reuse.Lawful.Gots.{cleared_table}
 use Rattle.law_scans.proofs.inv.requests.Paced.{wfe_not_ibr}
+use Rattle.law_turns.proofs.inv.model.words.Schemes.{interval_not_rows}
 
 -- rows are cleared, and last comes one event
 pub record Last (own : List Event) : Type 0 where
@@ -65,6 +66,7 @@ shape_form : (base : Base) (post : Post) (found : ℕ) (told : List Event) → m
 shape_form base post found told (Silent e) t = rw e (Flat refl)
 shape_form base post found told (Single event e a) t = rw e (single event)
 shape_form base post found told (may.Shape.Clears index slot guard e a b) t = Final (record { first = events.Clear index slot ∷ []; event = events.Reserve guard None; is = e; clears = refl })
+shape_form base post found told (may.Shape.Drops index slot guard e a b) t = Final (record { first = events.Clear index slot ∷ []; event = events.Hazard guard None; is = e; clears = refl })
 shape_form base post found told (Takes guard span event e k f a b) t = absurd (false_not_true (takes base) t k)
 
 pub base_form : (base : Base) (post : Post) (found : ℕ) → takes base ≡ false → Form (machine.after base post found).told
@@ -93,6 +95,7 @@ quiet_settled (event ∷ es) h =
   where
     one : (event : Event) → is_quiet event ≡ true → is_settled event ≡ true
     one (events.Reserve guard span) q = absurd (cc)
+    one (events.Hazard guard slot) q = absurd (cc)
     one (events.Give slot birth) q = absurd (cc)
     one (events.Unused slot) q = absurd (cc)
     one (events.Retire slot birth retire) q = absurd (cc)
@@ -109,6 +112,7 @@ clear_none : (scheme : SchemeKind) (post : Post) (index : ℕ) → is_ibr scheme
 clear_none He post index h = refl
 clear_none Ibr post index h = absurd (cc)
 clear_none Wfe post index h = refl
+clear_none Hp post index h = refl
 
 onto_closed : (own : List Event) → Closed (Onto own)
 onto_closed own = record {
@@ -243,6 +247,7 @@ protect_shape scheme most why desk aim index root made n (TakeAnswer link era) p
 protect_shape scheme most why desk aim index root made n (WithdrawHelper link era) post found f i t = absurd (wfe_not_ibr scheme f i)
 protect_shape scheme most why desk aim index root made n (CheckUpper link) post found f i t = if_shape why desk (found == upper post.span) _ _ (held_shape why desk aim index root n link found post) (Even refl)
 protect_shape scheme most why desk aim index root made n (RaiseUpper era) post found f i t = one_shape why desk _ (machine.protect_turn aim index root n (RaiseUpper era) post found) refl refl
+protect_shape scheme most why desk aim index root made n (ByHazard at) post found f i t = absurd (false_not_true (publishes_rows scheme) (interval_not_rows scheme i) f)
 protect_shape scheme most why desk aim index root made n at post found f i t = Even refl
 
 walking_shape : (why : Why) (desk : Desk) (birth : ℕ) (post : Post) (x : Option Walk) → Shapes why desk (allocates.walking birth post x)
@@ -279,7 +284,7 @@ fill_shape layout task (Write slot row place) last post desk found r = if_shape 
 fill_shape layout task base last post desk found r = let s = r.suited in absurd (cc)
 
 clear_shape : (layout : Layout) (why : Why) (base : Base) (last post : Post) (desk : Desk) (found : ℕ) → Run layout why base last → suits base ToClear ≡ true → is_ibr layout.config.scheme ≡ true → Shapes why desk (machine.after base post found)
-clear_shape layout why (Clear index) last post desk found r s i = absurd (no_ibr (is_ibr layout.config.scheme) r.fits i)
+clear_shape layout why (Clear rows index) last post desk found r s i = absurd (no_ibr (is_ibr layout.config.scheme) (first_of (not (is_ibr layout.config.scheme)) (agree rows (publishes_rows layout.config.scheme)) r.fits) i)
 clear_shape layout why base last post desk found r s i = absurd (cc)
 
 ibr_shape : (layout : Layout) (why : Why) (base : Base) (last post : Post) (desk : Desk) (found : ℕ) → Run layout why base last → is_ibr layout.config.scheme ≡ true → takes base ≡ false → Shapes why desk (machine.after base post found)

@@ -13,10 +13,10 @@ use Rattle.law_turns.specs.inv.model.defs.declared.event.Root.{Root}
 use Rattle.law_turns.specs.inv.model.defs.declared.event.Root.TheVariants as roots
 use Rattle.law_turns.specs.inv.model.declared.post.Post.{Post}
 use Rattle.law_turns.proofs.inv.model.Frames.{after_same}
-use Rattle.law_turns.specs.inv.model.Guards.{one_era}
+use Rattle.law_turns.specs.inv.model.Guards.{one_era, guard_at, linked_row}
 use Rattle.law_turns.specs.inv.model.Locals.{told_by, told_end, turn}
 use Rattle.law_turns.specs.inv.model.Memory.{bump}
-use Rattle.law_turns.specs.inv.model.Posts.{stands, counted, cleared, cleared_from, reserves_index}
+use Rattle.law_turns.specs.inv.model.Posts.{stands, counted, cleared, cleared_from, publishes_index}
 use Rattle.law_turns.specs.inv.model.Protect.{told_held}
 use Rattle.law_turns.specs.inv.model.Steps as steps
 use Rattle.law_turns.specs.inv.model.World.{World, finds, is_busy, offered, step, told_in}
@@ -26,9 +26,7 @@ use Rattle.law_turns.specs.inv.model.Phases.Base.{Protect}
 use Rattle.law_turns.specs.inv.model.Calls.{ReadGuard, GiveBack, Why, Phase, Idle, Runs, Scans, Works, CallTurn, KeepAt, Loosens, LoadHeld, StoreHeld, Looks, Misses, HideSpan, MarkLeft, TakeList, MarkTaken, Work, Getting, Changing, Enqueuing, Dequeuing, Keeping}
 use Rattle.law_turns.specs.inv.model.Keep as keeps
 use Rattle.law_turns.specs.inv.model.Rounds.{let_index, scheme_of}
-use Rattle.law_turns.specs.inv.model.words.Schemes.{has_one_interval}
-use Rattle.law_turns.specs.inv.model.defs.declared.event.Guard.{Guard}
-use Rattle.law_turns.specs.inv.model.defs.declared.lifetime.Interval.{Interval}
+use Rattle.law_turns.specs.inv.model.words.Schemes.{has_one_interval, publishes_rows}
 use Rattle.law_scans.proofs.inv.contents.Stands.Rounds.{is_clear}
 use Rattle.law_turns.proofs.inv.model.Facts.{both, same_number, first_of, rest_of, implies_or, or_left_true, or_more, then_of}
 use Rattle.law_scans.proofs.inv.covers.Resting.{rests_give}
@@ -51,7 +49,7 @@ use Rattle.law_held.proofs.Roots.Ways.{Turning}
 use Rattle.law_scans.proofs.inv.ends.Told.Rows.{own_told, own_post, step_adds}
 use Rattle.law_scans.proofs.inv.ends.Told.Turns.{Adds, is_later}
 use Rattle.law_held.specs.Records.{RecordsHoldThroughout}
-use Rattle.law_held.proofs.Held.Flat.{is_flat, is_settled, is_at, comes, settled_flat, all_flat, holds_ok, Good, late_each, take_each, copy_each, plain_each}
+use Rattle.law_held.proofs.Held.Flat.{is_flat, is_settled, is_at, comes, settled_flat, all_flat, holds_ok, Good, late_each, take_each, copy_each, plain_each, is_still}
 use Rattle.law_held.proofs.Held.Forms.{Shape, Even, Late, end_settled, run_shape, back_shape, turn_settled}
 use Rattle.law_held.proofs.Resting.Resting.{next_made}
 use Rattle.law_turns.specs.inv.model.defs.Events.{is_held as event_is_held}
@@ -63,6 +61,7 @@ use Rattle.law_scans.proofs.reuse.AnswersTold.Owed.{append_none}
 use Rattle.law_scans.proofs.reuse.AnswersTold.Answering.{append_one}
 use Rattle.law_scans.proofs.reuse.history.MayTell.{takes, cleared_from_all}
 use Rattle.law_turns.specs.inv.model.Desks.{Desk}
+use Rattle.law_turns.proofs.reuse.ReadGuards.{reads_are}
 
 -- the ends of a step
 good_at : (layout : Layout) (path : List Item) (k j s : ℕ) → is_valid layout ≡ true → Good layout.config k j s (record_of layout path)
@@ -130,6 +129,7 @@ later_flat (event ∷ es) h =
   where
     one : (event : Event) → is_later event ≡ true → is_flat event ≡ true
     one (events.Reserve guard span) q = absurd (cc)
+    one (events.Hazard guard slot) q = absurd (cc)
     one (events.Give slot birth) q = absurd (cc)
     one (events.Unused slot) q = absurd (cc)
     one (events.Retire slot birth retire) q = absurd (cc)
@@ -174,7 +174,7 @@ taking_each c k j s w i p why aim index root made link era q n e g =
     ap (λ (x : Phase). told_by (steps.phase_turn x (counted (w.seat i).post) (offered w i).desk (finds w i))) q ∙ append_none (event ∷ more) in
     let x = ends_as c k j s i p (told_in w i) (event ∷ more) is e in
     subst (λ (es : List Event). Each (holds_ok c k j s) (tells_of p i es)) (sym is)
-    (take_each c k j s i index (Index (counted (w.seat i).post).seat index) (one_era era) more p (held_at index root link (bump made)) (λ h. none_here k j i index p n h) x.now x.last x.held g)
+    (take_each c k j s i index event more p refl (held_at index root link (bump made)) (λ h. none_here k j i index p n h) x.now x.last x.held g)
 
 -- of each phase
 adds_each : (c : Config) (k j s : ℕ) (w : World) (i : ℕ) (p : Past) → Shape (own_told (w.seat i).phase (counted (w.seat i).post) (finds w i)) (told_in w i) → Ends c k j s i p (told_in w i) → Each (holds_ok c k j s) p → Each (holds_ok c k j s) (tells_of p i (told_in w i))
@@ -236,17 +236,17 @@ three_apart : (xs : List Event) (y z : Event) (ws : List Event) → ((xs ++ y �
 three_apart [] y z ws = refl
 three_apart (x ∷ xs) y z ws = ap (λ (es : List Event). x ∷ es) (three_apart xs y z ws)
 
-store_by : (c : Config) (k j s i : ℕ) (p : Past) (post : Post) (from index : ℕ) (guard : Guard) (span : Option Interval) (x : Option ℕ) (more : List Event) → stood_at i index p ≡ stands post index → all_of is_settled more ≡ true → Ends c k j s i p (copied_told from index post (events.Reserve guard span ∷ []) x ++ more) → Each (holds_ok c k j s) p → Each (holds_ok c k j s) (tells_of p i (copied_told from index post (events.Reserve guard span ∷ []) x ++ more))
-store_by c k j s i p post from index guard span None more o m e g = plain_each c k j s i more p (all_flat is_settled more settled_flat m) e.now e.last e.held g
-store_by c k j s i p post from index guard span (Some slot) more o m e g =
+store_by : (c : Config) (k j s i : ℕ) (p : Past) (post : Post) (from index : ℕ) (y : Event) (x : Option ℕ) (more : List Event) → is_still y ≡ true → stood_at i index p ≡ stands post index → all_of is_settled more ≡ true → Ends c k j s i p (copied_told from index post (y ∷ []) x ++ more) → Each (holds_ok c k j s) p → Each (holds_ok c k j s) (tells_of p i (copied_told from index post (y ∷ []) x ++ more))
+store_by c k j s i p post from index y None more z o m e g = plain_each c k j s i more p (all_flat is_settled more settled_flat m) e.now e.last e.held g
+store_by c k j s i p post from index y (Some slot) more z o m e g =
     let first : List Event = cleared index (stands post index) in
     let later : List Event = events.Copied from index slot ∷ more in
-    let is = three_apart first (events.Reserve guard span) (events.Copied from index slot) more in
-    let x = ends_as c k j s i p (copied_told from index post (events.Reserve guard span ∷ []) (Some slot) ++ more) (first ++ events.Reserve guard span ∷ later) is e in
+    let is = three_apart first y (events.Copied from index slot) more in
+    let x = ends_as c k j s i p (copied_told from index post (y ∷ []) (Some slot) ++ more) (first ++ y ∷ later) is e in
     let at : all_of (is_at index) later ≡ true = both (index == index) (all_of (is_at index) more) (same_number index) (settled_at index more m) in
     subst (λ (es : List Event). Each (holds_ok c k j s) (tells_of p i es)) (sym is)
-    (copy_each c k j s i index guard span first later p (cleared_clears index (stands post index)) at (λ h. gone_here k j i index p (stands post index) o h) x.now x.last
-    (λ h r. x.held (any_later j s first (events.Reserve guard span ∷ later) h) r) g)
+    (copy_each c k j s i index y first later p z (cleared_clears index (stands post index)) at (λ h. gone_here k j i index p (stands post index) o h) x.now x.last
+    (λ h r. x.held (any_later j s first (y ∷ later) (or_more (comes j s y) (list_any (comes j s) later) h)) r) g)
   where
     any_later : (j s : ℕ) (xs ys : List Event) → list_any (comes j s) ys ≡ true → list_any (comes j s) (xs ++ ys) ≡ true
     any_later j s [] ys h = h
@@ -264,16 +264,33 @@ hide_shape w i =
     Late (record { first = first; event = events.Reserve (Whole post.seat) None; is = refl; clears = cleared_from_all is_clear 2 (drop 2 post.standing) (λ index slot. refl) })
     (turn_settled (keep_told HideSpan post) (keeps.keep_turn HideSpan post (offered w i).desk (finds w i)) refl)
 
+-- what an index word is told to publish
+abbrev shown_one : (rows : Bool) → Post → (index number : ℕ) → Event
+shown_one false post index number = events.Reserve (Index post.seat index) (one_era number)
+shown_one true post index number = events.Hazard (Index post.seat index) (linked_row number)
+
+shown_is : (rows : Bool) (post : Post) (index number : ℕ) → publishes_index rows post index number ≡ shown_one rows post index number ∷ []
+shown_is false post index number = refl
+shown_is true post index number = refl
+
+shown_still : (rows : Bool) (post : Post) (index number : ℕ) → is_still (shown_one rows post index number) ≡ true
+shown_still false post index number = refl
+shown_still true post index number = refl
+
 store_each : (c : Config) (k j s : ℕ) (w : World) (i : ℕ) (p : Past) (from index era : ℕ) → (w.seat i).phase ≡ Works (Keeping (StoreHeld from index era)) → ((n : ℕ) → stood_at i n p ≡ stands (w.seat i).post n) → Ends c k j s i p (told_in w i) → Each (holds_ok c k j s) p → Each (holds_ok c k j s) (tells_of p i (told_in w i))
 store_each c k j s w i p from index era q o e g =
     let post : Post = counted (w.seat i).post in
     let at : KeepAt = StoreHeld from index era in
+    let rows : Bool = publishes_rows (scheme_of post) in
     let t : CallTurn = keeps.keep_turn at post (offered w i).desk (finds w i) in
     let more : List Event = told_end t.post t.outcome in
-    let is : told_in w i ≡ keep_told at post ++ more =
-    ap (λ (x : Phase). told_by (steps.phase_turn x post (offered w i).desk (finds w i))) q ∙ ap (λ (es : List Event). es ++ more) (copied_said from index post (offered w i).desk (reserves_index post index era) (stands post from)) in
+    let y : Event = shown_one rows post index era in
+    let is : told_in w i ≡ copied_told from index post (y ∷ []) (stands post from) ++ more =
+    ap (λ (x : Phase). told_by (steps.phase_turn x post (offered w i).desk (finds w i))) q
+    ∙ ap (λ (es : List Event). es ++ more) (copied_said from index post (offered w i).desk (publishes_index rows post index era) (stands post from))
+    ∙ ap (λ (es : List Event). copied_told from index post es (stands post from) ++ more) (shown_is rows post index era) in
     subst (λ (es : List Event). Each (holds_ok c k j s) (tells_of p i es)) (sym is)
-    (store_by c k j s i p post from index (Index post.seat index) (one_era era) (stands post from) more (o index) (end_settled t.post t.outcome) (ends_as c k j s i p (told_in w i) (keep_told at post ++ more) is e) g)
+    (store_by c k j s i p post from index y (stands post from) more (shown_still rows post index era) (o index) (end_settled t.post t.outcome) (ends_as c k j s i p (told_in w i) (copied_told from index post (y ∷ []) (stands post from) ++ more) is e) g)
 
 work_each : (c : Config) (k j s : ℕ) (w : World) (i : ℕ) (p : Past) (work : Work) → (w.seat i).phase ≡ Works work → ((n : ℕ) → stood_at i n p ≡ stands (w.seat i).post n) → Ends c k j s i p (told_in w i) → Each (holds_ok c k j s) p → Each (holds_ok c k j s) (tells_of p i (told_in w i))
 work_each c k j s w i p (Keeping (StoreHeld from index era)) q t e g = store_each c k j s w i p from index era q t e g
@@ -293,7 +310,7 @@ work_each c k j s w i p (Dequeuing at) q t e g = adds_each c k j s w i p (phase_
 phase_each : (c : Config) (k j s : ℕ) (w : World) (i : ℕ) (p : Past) (phase : Phase) → (w.seat i).phase ≡ phase → Inv w → ((n : ℕ) → stood_at i n p ≡ stands (w.seat i).post n) → Ends c k j s i p (told_in w i) → Each (holds_ok c k j s) p → Each (holds_ok c k j s) (tells_of p i (told_in w i))
 phase_each c k j s w i p Idle q a t e g = adds_each c k j s w i p (phase_as w i Idle q (Even refl)) e g
 phase_each c k j s w i p (Runs why base) q a t e g = run_each c k j s w i p why base q a t e g
-phase_each c k j s w i p (Scans later (ReadGuard number)) q a t e g = adds_each c k j s w i p (phase_as w i (Scans later (ReadGuard number)) q (Even refl)) e g
+phase_each c k j s w i p (Scans later (ReadGuard number)) q a t e g = adds_each c k j s w i p (phase_as w i (Scans later (ReadGuard number)) q (Even (reads_are (λ event. all_of is_flat (event ∷ []) ≡ true) (publishes_rows (w.seat i).post.layout.config.scheme) (guard_at (w.seat i).post.layout.config number) (finds w i) (λ span. refl) (λ slot. refl)))) e g
 phase_each c k j s w i p (Scans later (GiveBack place slot)) q a t e g = adds_each c k j s w i p (phase_as w i (Scans later (GiveBack place slot)) q (back_shape later place slot (counted (w.seat i).post) (offered w i).desk (finds w i))) e g
 phase_each c k j s w i p (Works work) q a t e g = work_each c k j s w i p work q t e g
 

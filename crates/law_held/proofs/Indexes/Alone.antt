@@ -11,11 +11,11 @@ use Rattle.law_turns.specs.inv.model.Calls.{Task, Gets, Changes, Holds, Enqueues
 use Rattle.law_turns.specs.inv.model.Machine as machine
 use Rattle.law_turns.specs.inv.model.Memory.{bump}
 use Rattle.law_turns.specs.inv.model.Phases.{ProtectAt, Base}
-use Rattle.law_turns.specs.inv.model.Phases.ProtectAt.{CheckClock, TakeAnswer, CheckUpper}
+use Rattle.law_turns.specs.inv.model.Phases.ProtectAt.{CheckClock, TakeAnswer, CheckUpper, ByHazard}
 use Rattle.law_turns.specs.inv.model.Phases.Base.{Protect, Reload}
-use Rattle.law_turns.specs.inv.model.Posts.{stands, counted, cleared, reserves_index, cleared_from, reserves_span}
+use Rattle.law_turns.specs.inv.model.Posts.{stands, counted, cleared, publishes_index, cleared_from, reserves_span}
 use Rattle.law_turns.specs.inv.model.Rounds.{index_of, scheme_of, clear_told, let_index}
-use Rattle.law_turns.specs.inv.model.words.Schemes.{has_one_interval}
+use Rattle.law_turns.specs.inv.model.words.Schemes.{has_one_interval, publishes_rows}
 use Rattle.law_turns.specs.inv.model.World.{World, finds, offered, told_in}
 use Rattle.law_turns.proofs.inv.model.Facts.{same_number, first_of, rest_of, number_is}
 use Rattle.law_scans.specs.inv.covers.Rests.{Vacant, bare, vacant, vacant_why}
@@ -23,7 +23,7 @@ use Rattle.law_scans.specs.inv.shapes.Seats.{Run, Seats, kind_of, suits, index_b
 use Rattle.law_scans.specs.inv.history.History.{record_of, world_of}
 use Rattle.law_scans.specs.laws.records.Record.{Past, Each, tells_of}
 use Rattle.law_scans.specs.laws.records.Record.Past.{Then}
-use Rattle.law_scans.proofs.reuse.history.MayTell.{Shape, Silent, Clears, Takes, Tells, at_finds, finds_none, finds_row, shape_of, clear_any}
+use Rattle.law_scans.proofs.reuse.history.MayTell.{Shape, Silent, Clears, Drops, Takes, Tells, at_finds, finds_none, finds_row, shape_of, clear_any}
 use Rattle.law_scans.proofs.reuse.history.Passes.{is_quiet, all_quiet, Closed, First, copied_told, step_goes, work_told}
 use Rattle.law_scans.proofs.inv.ends.Handover.Asks.{run_of}
 use Rattle.law_scans.proofs.reuse.Reuse.Follows.{stood, stood_along}
@@ -33,6 +33,9 @@ use Rattle.law_turns.specs.laws.StateAt.{stood_by, stood_at}
 use Rattle.law_held.specs.Records.{RecordsHoldAlone}
 use Rattle.law_held.proofs.Indexes.Clears.{own_stood}
 use Rattle.law_held.proofs.Roots.Ways.{Along, record_each, answers_of}
+use Rattle.law_turns.specs.inv.model.Phases.HazardAt.{FirstLink, CheckLink}
+use Rattle.law_turns.proofs.reuse.ReadGuards.{reads_are}
+use Rattle.law_turns.specs.inv.model.Guards.{guard_at}
 
 -- at one index: where a protection is told to end there, or a row to be copied there, nothing stood there
 abbrev alone_right : ℕ → Event → Option ℕ → Bool
@@ -91,6 +94,7 @@ shape_alone : (j : ℕ) (base : Base) (post : Post) (found : ℕ) (told : List E
 shape_alone j base post found told f (Silent e) = rw e tt
 shape_alone j base post found told f (Shape.Single event e t) = rw e (find_alone j base post found event f t, tt)
 shape_alone j base post found told f (Clears index slot guard e a b) = rw e (refl, (refl, tt))
+shape_alone j base post found told f (Drops index slot guard e a b) = rw e (refl, (refl, tt))
 shape_alone j base post found told f (Takes guard span event e t q a b) = rw e (refl, (find_alone j base post found event f b, tt))
 
 -- where nothing stands by what the machine is run for
@@ -105,6 +109,8 @@ at_bare : (task : Task) (aim : _) (index : ℕ) (root : _) (made : ℕ) (at : Pr
 at_bare task aim index root made (CheckClock era tries link) h = task_bare task
 at_bare task aim index root made (TakeAnswer link era) h = task_bare task
 at_bare task aim index root made (CheckUpper link) h = task_bare task
+at_bare task aim index root made (ByHazard FirstLink) h = task_bare task
+at_bare task aim index root made (ByHazard (CheckLink link)) h = task_bare task
 at_bare task aim index root made at h = absurd (cc)
 
 protect_vacant : (why : Why) (aim : _) (index : ℕ) (root : _) (made : ℕ) (at : ProtectAt) → suits (Protect aim index root made at) (kind_of why) ≡ true → at_finds at ≡ true → vacant_why why (Protect aim index root made at) (index_by why) ≡ true
@@ -168,7 +174,15 @@ work_alone j (Enqueuing kept at) post = tt
 work_alone j (Dequeuing at) post = tt
 work_alone j (Keeping (Loosens let_go)) post = cleared_alone j (let_index let_go) (stands post (let_index let_go)) (stands post j)
 work_alone j (Keeping (LoadHeld from index)) post = load_alone j from index post (has_one_interval (scheme_of post))
-work_alone j (Keeping (StoreHeld from index era)) post = copied_alone j from index post (reserves_index post index era) (stands post from) (λ y. refl) (λ y. (refl, tt))
+work_alone j (Keeping (StoreHeld from index number)) post = copied_alone j from index post (publishes_index (publishes_rows (scheme_of post)) post index number) (stands post from) (same (publishes_rows (scheme_of post))) (free (publishes_rows (scheme_of post)))
+  where
+    same : (rows : Bool) (y : Option ℕ) → stood j (publishes_index rows post index number) y ≡ y
+    same false y = refl
+    same true y = refl
+
+    free : (rows : Bool) (y : Option ℕ) → AloneAt j (publishes_index rows post index number) y
+    free false y = (refl, tt)
+    free true y = (refl, tt)
 work_alone j (Keeping (Looks index key at)) post = tt
 work_alone j (Keeping (Misses index)) post = tt
 work_alone j (Keeping HideSpan) post = alone_along j (cleared_from 2 (drop 2 post.standing)) (reserves_span post None) (stands post j) (all_alone j 2 (drop 2 post.standing) (stands post j)) (refl, tt)
@@ -182,7 +196,7 @@ phase_alone w i j Idle s e v = tt
 phase_alone w i j (Runs why base) s e v =
     let post : Post = counted (w.seat i).post in
     shape_alone j base post (finds w i) (machine.after base post (finds w i)).told (run_free w.layout why base (w.seat i).post (run_of w i why base s e) v) (shape_of base post (finds w i))
-phase_alone w i j (Scans later (ReadGuard number)) s e v = (refl, tt)
+phase_alone w i j (Scans later (ReadGuard number)) s e v = reads_are (λ event. AloneAt j (event ∷ []) (stands (w.seat i).post j)) (publishes_rows (w.seat i).post.layout.config.scheme) (guard_at (w.seat i).post.layout.config number) (finds w i) (λ span. (refl, tt)) (λ slot. (refl, tt))
 phase_alone w i j (Scans later (GiveBack place slot)) s e v = (refl, tt)
 phase_alone w i j (Works work) s e v = work_alone j work (counted (w.seat i).post)
 

@@ -5,10 +5,10 @@ use Rattle.std.specs.List.{list_any}
 use Rattle.std.specs.Prelude.{◌==◌, ◌&&◌, ◌||◌, not, if◌then◌else◌}
 use Rattle.law_turns.proofs.inv.model.Ranges.{bounds_of}
 use Rattle.law_turns.specs.inv.model.words.Place.{is_valid}
-use Rattle.law_turns.specs.inv.model.words.Schemes.{has_one_interval}
+use Rattle.law_turns.specs.inv.model.words.Schemes.{has_one_interval, publishes_rows}
 use Rattle.law_turns.specs.inv.model.words.declared.config.Config.{Config}
 use Rattle.law_turns.specs.inv.model.words.declared.config.SchemeKind.{SchemeKind}
-use Rattle.law_turns.specs.inv.model.words.declared.config.SchemeKind.TheVariants.{He, Ibr, Wfe}
+use Rattle.law_turns.specs.inv.model.words.declared.config.SchemeKind.TheVariants.{He, Hp, Ibr, Wfe}
 use Rattle.law_turns.specs.inv.model.words.declared.layout.Layout.{Layout}
 use Rattle.law_turns.specs.inv.model.defs.declared.event.Event.{Event}
 use Rattle.law_turns.specs.inv.model.defs.declared.event.Event.TheVariants as events
@@ -19,9 +19,9 @@ use Rattle.law_turns.specs.inv.model.Calls.{Why, Phase, Idle, Runs, Scans, Works
 use Rattle.law_turns.specs.inv.model.Machine as machine
 use Rattle.law_turns.specs.inv.model.Memory.{bump}
 use Rattle.law_turns.specs.inv.model.Phases.{ProtectAt, Base}
-use Rattle.law_turns.specs.inv.model.Phases.ProtectAt.{CheckClock, TakeAnswer, CheckUpper}
+use Rattle.law_turns.specs.inv.model.Phases.ProtectAt.{CheckClock, TakeAnswer, CheckUpper, ByHazard}
 use Rattle.law_turns.specs.inv.model.Phases.Base.{Begin, Protect, Reload, Clear, Finish, Release, Allocate, Write, GiveUp, Retire, Move}
-use Rattle.law_turns.specs.inv.model.Posts.{stands, counted, cleared, upper, reserves_index, reserves_span, cleared_from}
+use Rattle.law_turns.specs.inv.model.Posts.{stands, counted, cleared, upper, publishes_index, reserves_span, cleared_from}
 use Rattle.law_turns.specs.inv.model.Protect.{told_held}
 use Rattle.law_turns.specs.inv.model.Rounds.{scheme_of, clear_told, let_index}
 use Rattle.law_turns.specs.inv.model.World.{World, finds, offered, told_in}
@@ -43,6 +43,9 @@ use Rattle.law_held.proofs.Roots.Ways.{Along, record_each, answers_of}
 use Rattle.law_turns.proofs.inv.model.Lists.{or_left, or_right}
 use Rattle.law_scans.specs.inv.covers.Rests.{Rests, Vacant, spare, vacant}
 use Rattle.std.proofs.lemmas.List.{get_or-drop}
+use Rattle.law_turns.specs.inv.model.Phases.HazardAt.{FirstLink, CheckLink}
+use Rattle.law_turns.proofs.reuse.ReadGuards.{reads_are}
+use Rattle.law_turns.specs.inv.model.Guards.{guard_at}
 
 -- at one index: what is cleared there stood there, and what is copied from there stands there
 abbrev pub clear_right : ℕ → Event → Option ℕ → Bool
@@ -74,7 +77,7 @@ is_moved j s (events.Copied from index slot) = true
 is_moved j s event = false
 
 moved_calm : (j s : ℕ) → Calm (is_moved j s)
-moved_calm j s = record { reserve = λ g x. refl; read = λ g x. refl; era = λ e. refl; give = λ a b. refl; unused = λ a. refl; retire = λ a b r. refl; back = λ a. refl }
+moved_calm j s = record { reserve = λ g x. refl; hazard = λ g x. refl; saw = λ g x. refl; read = λ g x. refl; era = λ e. refl; give = λ a b. refl; unused = λ a. refl; retire = λ a b r. refl; back = λ a. refl }
 
 none_one : (j : ℕ) (event : Event) (x : Option ℕ) → ((s : ℕ) → is_moved j s event ≡ false) → clear_right j event x ≡ true
 none_one j (events.Clear index slot) x h =
@@ -108,6 +111,7 @@ told_right : (j index : ℕ) (scheme : SchemeKind) (post : Post) → RightAt j (
 told_right j index He post = tt
 told_right j index Ibr post = cleared_right j index post (stands post index) refl
 told_right j index Wfe post = tt
+told_right j index Hp post = tt
 
 -- a step from this post on
 record Cleared (post next : Post) (told : List Event) : Type 0 where
@@ -146,16 +150,27 @@ at_none : (index : ℕ) (root : Root) (n : ℕ) (post : Post) (at : ProtectAt) (
 at_none index root n post (CheckClock era tries link) found j s = and_right_false (found == era) (list_any (is_moved j s) (told_held index root link n)) (held_none index root link n j s)
 at_none index root n post (TakeAnswer link era) found j s = held_none index root link n j s
 at_none index root n post (CheckUpper link) found j s = and_right_false (found == upper post.span) (list_any (is_moved j s) (told_held index root link n)) (held_none index root link n j s)
+at_none index root n post (ByHazard FirstLink) found j s = and_right_false (found == 0) (list_any (is_moved j s) (told_held index root found n)) (held_none index root found n j s)
+at_none index root n post (ByHazard (CheckLink link)) found j s = and_right_false (found == link || found == 0) (list_any (is_moved j s) (told_held index root found n)) (held_none index root found n j s)
 at_none index root n post at found j s = refl
 
 still_right : (base : Base) (post : Post) (found j : ℕ) → ((s : ℕ) → base_shows (is_moved j s) post base found ≡ false) → RightAt j (machine.after base post found).told (stands post j)
 still_right base post found j h = none_right j (machine.after base post found).told (stands post j) (λ s. base_any (is_moved j s) base post found (moved_calm j s) ∙ h s)
 
+-- an index word that publishes something else
+shown_right : (j : ℕ) (rows : Bool) (index number : ℕ) (post : Post) (x : Option ℕ) → RightAt j (publishes_index rows post index number) x
+shown_right j false index number post x = (refl, tt)
+shown_right j true index number post x = (refl, tt)
+
+shown_stood : (j : ℕ) (rows : Bool) (index number : ℕ) (post : Post) (y : Option ℕ) → stood j (publishes_index rows post index number) y ≡ y
+shown_stood j false index number post y = refl
+shown_stood j true index number post y = refl
+
 base_right : (base : Base) (post : Post) (found j : ℕ) → RightAt j (machine.after base post found).told (stands post j)
 base_right (Begin at) post found j = still_right (Begin at) post found j (λ s. refl)
 base_right (Protect aim index root steps at) post found j = still_right (Protect aim index root steps at) post found j (λ s. at_none index root (bump steps) post at found j s)
 base_right (Reload parent index slot era steps) post found j = still_right (Reload parent index slot era steps) post found j (λ s. and_right_false (found == parent + 1) false refl)
-base_right (Clear index) post found j = right_along j (cleared index (stands post index)) (reserves_index post index 0) (stands post j) (cleared_right j index post (stands post index) refl) (refl, tt)
+base_right (Clear rows index) post found j = right_along j (cleared index (stands post index)) (publishes_index rows post index 0) (stands post j) (cleared_right j index post (stands post index) refl) (shown_right j rows index 0 post (stood j (cleared index (stands post index)) (stands post j)))
 base_right Finish post found j = still_right Finish post found j (λ s. refl)
 base_right (Release index) post found j = right_along j (cleared index (stands post index)) (reserves_span post None) (stands post j) (cleared_right j index post (stands post index) refl) (refl, tt)
 base_right (Allocate at) post found j = still_right (Allocate at) post found j (λ s. refl)
@@ -165,7 +180,8 @@ base_right (Retire at) post found j = still_right (Retire at) post found j (λ s
 base_right (Move at) post found j = still_right (Move at) post found j (λ s. refl)
 
 scan_cleared : (post : Post) (at : ScanAt) (found : ℕ) → Cleared post post (scan_told at post found)
-scan_cleared post (ReadGuard number) found = record { follows = λ j. refl; right = λ j. (refl, tt) }
+scan_cleared post (ReadGuard number) found =
+    reads_are (λ event. Cleared post post (event ∷ [])) (publishes_rows post.layout.config.scheme) (guard_at post.layout.config number) found (λ span. record { follows = λ j. refl; right = λ j. (refl, tt) }) (λ slot. record { follows = λ j. refl; right = λ j. (refl, tt) })
 scan_cleared post (GiveBack place slot) found = record { follows = λ j. refl; right = λ j. (refl, tt) }
 
 -- what a step on what is kept names: a copy goes upwards, to an index of the seat
@@ -253,7 +269,7 @@ work_right config j (Enqueuing kept at) post k = tt
 work_right config j (Dequeuing at) post k = tt
 work_right config j (Keeping (Loosens let_go)) post k = cleared_right j (let_index let_go) post (stands post (let_index let_go)) refl
 work_right config j (Keeping (LoadHeld from index)) post k = load_right j from index post (has_one_interval (scheme_of post)) k.rises
-work_right config j (Keeping (StoreHeld from index era)) post k = copied_right j from index post (reserves_index post index era) (stands post from) refl k.rises (λ y. refl) (λ y. (refl, tt))
+work_right config j (Keeping (StoreHeld from index era)) post k = copied_right j from index post (publishes_index (publishes_rows (scheme_of post)) post index era) (stands post from) refl k.rises (shown_stood j (publishes_rows (scheme_of post)) index era post) (shown_right j (publishes_rows (scheme_of post)) index era post)
 work_right config j (Keeping (Looks index key at)) post k = tt
 work_right config j (Keeping (Misses index)) post k = tt
 work_right config j (Keeping HideSpan) post k =

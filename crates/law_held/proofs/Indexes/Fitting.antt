@@ -4,7 +4,7 @@ use Rattle.std.proofs.lemmas.Bool.Decides.{nat_tests}
 use Rattle.std.specs.Prelude.{◌==◌, ◌&&◌, nat_le, nat_lt, if◌then◌else◌}
 use Rattle.std.specs.List.{list_all, list_any}
 use Rattle.law_turns.specs.inv.model.words.declared.config.SchemeKind.{SchemeKind}
-use Rattle.law_turns.specs.inv.model.words.declared.config.SchemeKind.TheVariants.{He, Ibr, Wfe}
+use Rattle.law_turns.specs.inv.model.words.declared.config.SchemeKind.TheVariants.{He, Hp, Ibr, Wfe}
 use Rattle.law_turns.specs.inv.model.defs.declared.call.Answer.{Answer}
 use Rattle.law_turns.specs.inv.model.defs.declared.call.Answer.TheVariants as the_answers
 use Rattle.law_turns.specs.inv.model.defs.declared.call.Call.{Call}
@@ -28,13 +28,13 @@ use Rattle.law_turns.specs.inv.model.Desks.{Desk, with_life}
 use Rattle.law_turns.specs.inv.model.Enqueue as enqueues
 use Rattle.law_turns.specs.inv.model.Get as gets
 use Rattle.law_turns.specs.inv.model.Keep as keeps
-use Rattle.law_turns.specs.inv.model.Posts.{stands, cleared, reserves_index, cleared_from, reserves_span}
+use Rattle.law_turns.specs.inv.model.Posts.{stands, cleared, publishes_index, cleared_from, reserves_span}
 use Rattle.law_turns.specs.inv.model.Steps as steps
 use Rattle.law_turns.specs.inv.model.Rounds.{scheme_of, bucket_of, index_of, taken_of, finish_base, clear_base, clear_post, clear_told, given_up, closed, finishing_by, finishing, clearing_by, clearing, clearing_next_by, clearing_next, let_index}
 use Rattle.law_turns.specs.inv.model.Phases.{Base, Ending, Outcome, Goes, Ends}
 use Rattle.law_turns.specs.inv.model.Phases.Ending.{Protected, Followed, Allocated, Retired, Clocked}
 use Rattle.law_turns.specs.inv.model.Calls.{Task, Gets, Changes, Holds, Enqueues, Dequeues, Next, Again, MakeRoom, Answering, Retiring, AfterScan, ChangeKept, EnqueueKept, GetAt, FindVersion, FindCount, FindKey, FindValue, ChangeAt, LoadVersion, LoadCount, LoadKey, LoadValue, ExchangeRoot, EnqueueAt, LoadNumber, LoadNext, PassTail, ExchangeNext, ExchangeTail, DequeueAt, SwingTail, ExchangeHead, Work, Getting, Changing, Enqueuing, Dequeuing, Keeping, KeepAt, Loosens, LoadHeld, StoreHeld, Looks, Misses, HideSpan, MarkLeft, TakeList, MarkTaken, LetGo, Released, Rehold, Dropped, Parting, Why, Opens, FollowsHead, Fills, ClearsNext, Clears, Finishes, GivesUp, Retires, Tidies, Advances, Releases, CallTurn}
-use Rattle.law_turns.specs.inv.model.words.Schemes.{has_one_interval}
+use Rattle.law_turns.specs.inv.model.words.Schemes.{has_one_interval, publishes_rows}
 use Rattle.law_turns.specs.inv.model.words.declared.config.Config.{Config}
 use Rattle.law_turns.proofs.inv.model.Facts.{both, same_both, same_number, false_not_true, first_of, rest_of}
 use Rattle.law_scans.specs.inv.shapes.Slots.{CopyIn, KeepIn, KeptIn, WorkIn}
@@ -84,6 +84,7 @@ clear_fit : (indexes : ℕ) (call : Call) (scheme : SchemeKind) (post : Post) (i
 clear_fit indexes call He post index m = refl
 clear_fit indexes call Ibr post index m = cleared_fit indexes call index (stands post index) m
 clear_fit indexes call Wfe post index m = refl
+clear_fit indexes call Hp post index m = refl
 
 -- the end of a round
 given_up_fit : (indexes : ℕ) (call : Call) (answer : Answer) (post : Post) (desk : Desk) (told : List Event) (x : Option ℕ) → Fit indexes call told → Left indexes call (given_up answer post desk told x)
@@ -289,7 +290,11 @@ all_fit indexes call index (row ∷ rows) l s =
 kept_fit : (config : Config) (call : Call) (at : KeepAt) (post : Post) → KeepServes call at → KeepIn config at → Fit config.indexes call (keep_told at post)
 kept_fit config call (Loosens let_go) post s k = cleared_fit config.indexes call (let_index let_go) (stands post (let_index let_go)) (free_may config call let_go k s)
 kept_fit config call (LoadHeld from index) post s k = load_held_fit config.indexes call from index post (has_one_interval (scheme_of post)) (copy_may config call from index k s) (up_may config call from index k s)
-kept_fit config call (StoreHeld from index era) post s k = copied_fit config.indexes call from index post (reserves_index post index era) (stands post from) (copy_may config call from index k s) (up_may config call from index k s) refl
+kept_fit config call (StoreHeld from index number) post s k = copied_fit config.indexes call from index post (publishes_index (publishes_rows (scheme_of post)) post index number) (stands post from) (copy_may config call from index k s) (up_may config call from index k s) (by (publishes_rows (scheme_of post)))
+  where
+    by : (rows : Bool) → Fit config.indexes call (publishes_index rows post index number)
+    by false = refl
+    by true = refl
 kept_fit config call (Looks index key at) post s k = refl
 kept_fit config call (Misses index) post s k = refl
 kept_fit config call HideSpan post s k = more_fit config.indexes call (cleared_from 2 (drop 2 post.standing)) (reserves_span post None) (all_fit config.indexes call 2 (drop 2 post.standing) (omega arith) s) refl

@@ -1,7 +1,7 @@
 -- A step protects and clears only at indexes of its call.
 use Rattle.std.proofs.Common.{ℕ, ◌≡◌, ◌≤◌, ◌<◌, arith, ◌-◌, ◌+◌, Bool, true, false, List, [], ◌∷◌, Option, Some, None, refl, sym, ap, ◌∙◌, subst}
 use Rattle.std.specs.List.{list_any}
-use Rattle.std.specs.Prelude.{◌==◌, ◌&&◌, not, nat_le, nat_lt, if◌then◌else◌}
+use Rattle.std.specs.Prelude.{◌==◌, ◌&&◌, not, nat_le, nat_lt, if◌then◌else◌, ◌||◌}
 use Rattle.law_turns.specs.inv.model.words.Place.{is_valid}
 use Rattle.law_turns.specs.inv.model.words.declared.config.Config.{Config}
 use Rattle.law_turns.specs.inv.model.words.declared.layout.Layout.{Layout}
@@ -16,12 +16,12 @@ use Rattle.law_turns.specs.inv.model.defs.declared.fold.Change.TheVariants as ch
 use Rattle.law_turns.specs.inv.model.declared.post.Post.{Post}
 use Rattle.law_turns.specs.inv.model.Calls.{Task, Gets, Changes, Holds, Enqueues, Dequeues, AfterScan, Answered, Repeated, Counted, ScanAt, ReadGuard, GiveBack, Why, Opens, FollowsHead, ClearsNext, Clears, Releases, Phase, Idle, Runs, Scans, Works, CallTurn, CallOutcome, GoesOn, Answers}
 use Rattle.law_turns.specs.inv.model.Desks.{Desk}
-use Rattle.law_turns.specs.inv.model.Guards.{guards, guard_at, eras_in, published}
+use Rattle.law_turns.specs.inv.model.Guards.{guards, guard_at, published}
 use Rattle.law_turns.specs.inv.model.Locals.{told_end, turn}
 use Rattle.law_turns.specs.inv.model.Machine as machine
 use Rattle.law_turns.specs.inv.model.Memory.{bump}
 use Rattle.law_turns.specs.inv.model.Phases.{ProtectAt, Base}
-use Rattle.law_turns.specs.inv.model.Phases.ProtectAt.{CheckClock, TakeAnswer, CheckUpper}
+use Rattle.law_turns.specs.inv.model.Phases.ProtectAt.{CheckClock, TakeAnswer, CheckUpper, ByHazard}
 use Rattle.law_turns.specs.inv.model.Phases.Base.{Protect, Reload, Clear, Release}
 use Rattle.law_turns.specs.inv.model.Posts.{stands, counted, cleared, upper}
 use Rattle.law_turns.specs.inv.model.Protect.{told_held}
@@ -52,13 +52,16 @@ use Rattle.law_turns.proofs.inv.model.Ranges.{bounds_of}
 use Rattle.std.proofs.lemmas.Bool.Decides.{nat_tests}
 use Rattle.law_turns.specs.inv.model.defs.declared.call.Call.TheVariants as names
 use Rattle.law_scans.proofs.inv.ends.Handover.Asks.{run_of}
+use Rattle.law_turns.specs.inv.model.Phases.HazardAt.{FirstLink, CheckLink}
+use Rattle.law_turns.proofs.reuse.ReadGuards.{reads_are}
+use Rattle.law_turns.specs.inv.model.words.Schemes.{publishes_rows}
 
 -- an event that does not fit the call
 abbrev is_odd : (indexes : ℕ) → Call → Event → Bool
 is_odd indexes call event = not (fits indexes call event)
 
 odd_calm : (indexes : ℕ) (call : Call) → Calm (is_odd indexes call)
-odd_calm indexes call = record { reserve = λ g x. refl; read = λ g x. refl; era = λ e. refl; give = λ a b. refl; unused = λ a. refl; retire = λ a b r. refl; back = λ a. refl }
+odd_calm indexes call = record { reserve = λ g x. refl; hazard = λ g x. refl; saw = λ g x. refl; read = λ g x. refl; era = λ e. refl; give = λ a b. refl; unused = λ a. refl; retire = λ a b r. refl; back = λ a. refl }
 
 none_odd : (indexes : ℕ) (call : Call) (told : List Event) → list_any (is_odd indexes call) told ≡ false → Fit indexes call told
 none_odd indexes call [] h = refl
@@ -85,6 +88,8 @@ at_even : (indexes : ℕ) (call : Call) (index : ℕ) (root : Root) (n : ℕ) (p
 at_even indexes call index root n post (CheckClock era tries link) found m = and_right_false (found == era) (list_any (is_odd indexes call) (told_held index root link n)) (held_even indexes call index root link n m)
 at_even indexes call index root n post (TakeAnswer link era) found m = held_even indexes call index root link n m
 at_even indexes call index root n post (CheckUpper link) found m = and_right_false (found == upper post.span) (list_any (is_odd indexes call) (told_held index root link n)) (held_even indexes call index root link n m)
+at_even indexes call index root n post (ByHazard FirstLink) found m = and_right_false (found == 0) (list_any (is_odd indexes call) (told_held index root found n)) (held_even indexes call index root found n m)
+at_even indexes call index root n post (ByHazard (CheckLink link)) found m = and_right_false (found == link || found == 0) (list_any (is_odd indexes call) (told_held index root found n)) (held_even indexes call index root found n m)
 at_even indexes call index root n post at found m = refl
 
 cleared_even : (indexes : ℕ) (call : Call) (index : ℕ) (x : Option ℕ) → May call index → list_any (is_odd indexes call) (cleared index x) ≡ false
@@ -129,7 +134,7 @@ at_index f index by e h = ap f e ∙ h
 base_even : (config : Config) (call : Call) (why : Why) (base : Base) (post : Post) (found : ℕ) → suits base (kind_of why) ≡ true → Shaped config.buckets why base → WhyIn config why → WhyServes call why → base_shows (is_odd config.indexes call) post base found ≡ false
 base_even config call why (Protect aim index root count at) post found k h y s = at_even config.indexes call index root (bump count) post at found (at_index (protects_at (Some call)) index (index_by why) h.at (why_protects call why k s))
 base_even config call why (Reload parent index slot era count) post found k h y s = and_right_false (found == parent + 1) (is_odd config.indexes call (events.Held index slot (bump count))) (ap not (at_index (protects_at (Some call)) index (index_by why) h.at (why_reloads call why k s)))
-base_even config call why (Clear index) post found k h y s = cleared_even config.indexes call index (stands post index) (at_index (clears_at (Some call)) index (index_by why) h (why_clears config call why k y s))
+base_even config call why (Clear rows index) post found k h y s = cleared_even config.indexes call index (stands post index) (at_index (clears_at (Some call)) index (index_by why) h (why_clears config call why k y s))
 base_even config call why (Release index) post found k h y s = cleared_even config.indexes call index (stands post index) (at_index (clears_at (Some call)) index (index_by why) h (why_releases config call why k y s))
 base_even config call why base post found k h y s = refl
 
@@ -149,8 +154,10 @@ guard_fit indexes call later number post desk told false h = back_fit indexes ca
 
 scan_fit : (indexes : ℕ) (call : Call) (later : AfterScan) (at : ScanAt) (post : Post) (desk : Desk) (found : ℕ) → Fit indexes call (scan.scan_turn later at post desk found).told
 scan_fit indexes call later (ReadGuard number) post desk found =
-    let seen : Seen = (guard_at post.layout.config number, published (guard_at post.layout.config number) found) in
-    guard_fit indexes call later number post (scan.with_read desk number seen) (events.Read seen.0 (eras_in seen.0 found) ∷ []) (nat_lt (number + 1) (guards post.layout.config)) refl
+    let rows : Bool = publishes_rows post.layout.config.scheme in
+    let seen : Seen = (guard_at post.layout.config number, published rows (guard_at post.layout.config number) found) in
+    guard_fit indexes call later number post (scan.with_read desk number seen) (scan.reads_guard rows seen.0 found ∷ []) (nat_lt (number + 1) (guards post.layout.config))
+    (reads_are (λ event. Fit indexes call (event ∷ [])) rows seen.0 found (λ span. refl) (λ slot. refl))
 scan_fit indexes call later (GiveBack place slot) post desk found = back_fit indexes call later post (scan.with_back desk place) (events.Back slot ∷ []) (scan.unmet_from (scan.with_back desk place) place) refl
 
 -- a step

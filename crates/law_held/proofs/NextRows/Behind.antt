@@ -48,6 +48,9 @@ use Rattle.law_turns.specs.laws.HoldLaw.{is_last}
 use Rattle.law_held.proofs.NextRows.Nexts.{Nexts, nexts_step, nexts_first}
 use Rattle.law_scans.proofs.inv.links.Origins.Ends.{found_clock}
 use Rattle.law_scans.proofs.inv.ends.Handover.Asks.{run_of}
+use Rattle.law_turns.specs.inv.model.Phases.ProtectAt.{ByHazard}
+use Rattle.law_turns.specs.inv.model.Phases.HazardAt.{FirstLink, PublishLink, CheckLink}
+use Rattle.law_scans.proofs.inv.covers.Held.{finds_at}
 
 -- where a next link is null, the head had its row and no row was next to it, at a position of the seat's call
 abbrev pub had_none : ℕ → Past → ℕ → Root → ℕ → Bool
@@ -180,7 +183,7 @@ item_kept layout made (Steps i) true f t g =
       nexts = nexts_step w i g.rows g.line g.asked made.past g.known g.nexts;
       links = origins_kept (had_none layout.config.slots made.past) (had_none layout.config.slots (tells_of made.past i told)) w i g.asked q.0 (origins_need w i g.rows g.line g.asked b g.known) q.1.deal
           (record {
-            fresh = λ k h. along_none layout.config.slots made.past k i (root_in w k) (w.mem (link_place (root_in w k))) told (within_of w i) (fresh_none layout.config.slots w g.rows g.line g.asked made.past k (root_in w k) g.known t g.nexts refl);
+            fresh = λ k h e. along_none layout.config.slots made.past k i (root_in w k) (w.mem (link_place (root_in w k))) told (within_of w i) (fresh_none layout.config.slots w g.rows g.line g.asked made.past k (root_in w k) g.known t g.nexts refl);
             stays = λ k x h o. along_none layout.config.slots made.past k i (root_in w k) x told (within_of w i) o;
           })
           g.links;
@@ -201,6 +204,23 @@ first_kept layout d =
 
 pub behind_of : (layout : Layout) (path : List Item) → is_valid layout ≡ true → BehindKept layout (made_of layout path)
 behind_of layout path d = paths_keep layout (BehindKept layout) (λ before item fit f g. item_kept layout (made_of layout before) item fit f (leads_of layout before d) g) (first_kept layout d) path
+
+-- a step of a protection with which it may end with the link that it loads
+abbrev pub loads_found : ProtectAt → Bool
+loads_found (ByHazard FirstLink) = true
+loads_found (ByHazard (CheckLink link)) = true
+loads_found at = false
+
+pub found_root : (w : World) (i : ℕ) (why : Why) (aim : Aim) (index : ℕ) (root : Root) (count : ℕ) (at : ProtectAt) → (w.seat i).phase ≡ Runs why (Protect aim index root count at) → loads_found at ≡ true → finds w i ≡ w.mem (link_place root)
+found_root w i why aim index root count (ByHazard FirstLink) q h = finds_at w i (Runs why (Protect aim index root count (ByHazard FirstLink))) q
+found_root w i why aim index root count (ByHazard (CheckLink link)) q h = finds_at w i (Runs why (Protect aim index root count (ByHazard (CheckLink link)))) q
+found_root w i why aim index root count (ByHazard (PublishLink link)) q h = absurd (cc)
+found_root w i why aim index root count at q h = absurd (cc)
+
+-- so of what is loaded now
+pub loaded_none : (slots : ℕ) (w : World) (v : View) (l : Line) (z : Asked) (p : Past) (i : ℕ) (why : Why) (aim : Aim) (index : ℕ) (root : Root) (count : ℕ) (at : ProtectAt) → (w.seat i).phase ≡ Runs why (Protect aim index root count at) → Known w v l z → Leads slots w.mem p → Nexts w v l p → loads_found at ≡ true → had_none slots p i root (finds w i) ≡ true
+loaded_none slots w v l z p i why aim index root count at q a t n h =
+    subst (λ (x : ℕ). had_none slots p i root x ≡ true) (sym (found_root w i why aim index root count at q h)) (fresh_none slots w v l z p i root a t n (ap root_for q))
 
 -- what the link of a protection that follows says, where it may end with it
 pub carried_none : (slots : ℕ) (w : World) (i : ℕ) (z : Asked) (p : Past) (why : Why) (aim : Aim) (index : ℕ) (root : Root) (count : ℕ) (at : ProtectAt) (x : ℕ) → (w.seat i).phase ≡ Runs why (Protect aim index root count at) → Origins (had_none slots p) w z → carries_at (finds w i) (upper (w.seat i).post.span) at x ≡ true → had_none slots p i root x ≡ true

@@ -2,7 +2,7 @@
 use Rattle.std.proofs.Common.{ℕ, ◌≡◌, ◌-◌, ◌+◌, Bool, true, false, List, [], ◌∷◌, Option, Some, None, refl, sym, ap, ◌∙◌, subst, arith}
 use Rattle.std.proofs.lemmas.Bool.Decides.{nat_tests}
 use Rattle.std.specs.List.{list_any, list_all}
-use Rattle.std.specs.Prelude.{◌==◌, not, if◌then◌else◌}
+use Rattle.std.specs.Prelude.{◌==◌, not, if◌then◌else◌, ◌||◌}
 use Rattle.law_turns.specs.inv.model.words.Place.Place.{Head}
 use Rattle.law_turns.specs.inv.model.words.declared.layout.Layout.{Layout}
 use Rattle.law_turns.specs.inv.model.defs.declared.event.Event.{Event}
@@ -14,7 +14,7 @@ use Rattle.law_turns.specs.inv.model.defs.declared.event.Root.TheVariants as roo
 use Rattle.law_turns.specs.inv.model.defs.declared.lifetime.Interval.{Interval}
 use Rattle.law_turns.specs.inv.model.declared.post.Post.{Post}
 use Rattle.law_turns.specs.inv.model.Follow.{after_reload}
-use Rattle.law_turns.specs.inv.model.Guards.{one_era}
+use Rattle.law_turns.specs.inv.model.Guards.{one_era, guard_at}
 use Rattle.law_turns.specs.inv.model.Locals.{turn}
 use Rattle.law_turns.specs.inv.model.Machine as machine
 use Rattle.law_turns.specs.inv.model.Memory.{bump}
@@ -23,7 +23,7 @@ use Rattle.law_turns.specs.inv.model.Protect.{held_post, told_held, concluded, p
 use Rattle.law_turns.specs.inv.model.SlowPath.{own_request}
 use Rattle.law_turns.specs.inv.model.World.{World, finds, offered, told_in}
 use Rattle.law_turns.specs.inv.model.Phases.{Aim, ProtectAt, Base, Turn, goes}
-use Rattle.law_turns.specs.inv.model.Phases.ProtectAt.{PublishEra, CheckClock, PublishHelper, CheckOwnClock, AnswerOwn, TakeAnswer, WithdrawHelper, CheckUpper, RaiseUpper}
+use Rattle.law_turns.specs.inv.model.Phases.ProtectAt.{PublishEra, CheckClock, PublishHelper, CheckOwnClock, AnswerOwn, TakeAnswer, WithdrawHelper, CheckUpper, RaiseUpper, ByHazard}
 use Rattle.law_turns.specs.inv.model.Phases.Base.{Protect, Reload, Clear, Release}
 use Rattle.law_turns.specs.inv.model.Calls.{Work, Task, Gets, Changes, Holds, Enqueues, Dequeues, ReadGuard, GiveBack, Why, Opens, FollowsHead, Phase, Idle, Runs, Scans, Works}
 use Rattle.law_turns.proofs.inv.model.Facts.{same_number, both, and_right_false, number_is, or_more, first_of, rest_of, false_of_not}
@@ -54,12 +54,15 @@ use Rattle.law_held.proofs.Roots.Ways.{record_each}
 use Rattle.law_turns.specs.laws.HistoryHolds.{was_last, behind_ok}
 use Rattle.law_turns.specs.laws.HoldLaw.{is_last}
 use Rattle.law_held.specs.Records.{RecordsFollowNexts}
-use Rattle.law_held.proofs.NextRows.Behind.{had_none, within_none, carried_none, reloaded_next, behind_of}
+use Rattle.law_held.proofs.NextRows.Behind.{had_none, within_none, carried_none, reloaded_next, behind_of, loaded_none, loads_found}
 use Rattle.law_held.proofs.NextRows.Nexts.{Nexts}
 use Rattle.law_turns.proofs.TurnCounts.Tried.{is_follow}
 use Rattle.law_scans.proofs.inv.ends.Handover.Asks.{run_of}
 use Rattle.law_scans.proofs.Ordering.Linked.{row_is}
 use Rattle.law_turns.proofs.inv.model.Lists.{or_left, or_right}
+use Rattle.law_turns.specs.inv.model.Phases.HazardAt.{FirstLink, PublishLink, CheckLink}
+use Rattle.law_turns.proofs.reuse.ReadGuards.{reads_are}
+use Rattle.law_turns.specs.inv.model.words.Schemes.{publishes_rows}
 
 -- what is told of protections at index 1
 abbrev pub is_one : Event → Bool
@@ -68,7 +71,7 @@ is_one (events.Null index count) = index == 1
 is_one event = false
 
 pub one_calm : Calm is_one
-one_calm = record { reserve = λ g x. refl; read = λ g x. refl; era = λ e. refl; give = λ a b. refl; unused = λ a. refl; retire = λ a b r. refl; back = λ a. refl }
+one_calm = record { reserve = λ g x. refl; hazard = λ g x. refl; saw = λ g x. refl; read = λ g x. refl; era = λ e. refl; give = λ a b. refl; unused = λ a. refl; retire = λ a b r. refl; back = λ a. refl }
 
 -- nothing is told at index 1
 other_ok : (slots : ℕ) (p : Past) (i : ℕ) (event : Event) → is_one event ≡ false → behind_ok slots p i event ≡ true
@@ -111,6 +114,8 @@ pub at_one : (index : ℕ) (root : Root) (n : ℕ) (post : Post) (at : ProtectAt
 at_one index root n post (CheckClock era tries link) found m = and_right_false (found == era) (list_any is_one (told_held index root link n)) (held_one index root link n m)
 at_one index root n post (TakeAnswer link era) found m = held_one index root link n m
 at_one index root n post (CheckUpper link) found m = and_right_false (found == upper post.span) (list_any is_one (told_held index root link n)) (held_one index root link n m)
+at_one index root n post (ByHazard FirstLink) found m = and_right_false (found == 0) (list_any is_one (told_held index root found n)) (held_one index root found n m)
+at_one index root n post (ByHazard (CheckLink link)) found m = and_right_false (found == link || found == 0) (list_any is_one (told_held index root found n)) (held_one index root found n m)
 at_one index root n post at found m = refl
 
 pub cleared_one : (index : ℕ) (x : Option ℕ) → list_any is_one (cleared index x) ≡ false
@@ -135,7 +140,7 @@ no_reload why x f k = absurd (cc)
 base_one : (layout : Layout) (why : Why) (base : Base) (last post : Post) (found : ℕ) → is_follow why ≡ false → Run layout why base last → base_shows is_one post base found ≡ false
 base_one layout why (Protect aim index root count at) last post found f r = at_one index root (bump count) post at found (why_one why index f r.suited r.shape.at)
 base_one layout why (Reload parent index slot era count) last post found f r = no_reload why (base_shows is_one post (Reload parent index slot era count) found) f r.suited
-base_one layout why (Clear index) last post found f r = cleared_one index (stands post index)
+base_one layout why (Clear rows index) last post found f r = cleared_one index (stands post index)
 base_one layout why (Release index) last post found f r = cleared_one index (stands post index)
 base_one layout why base last post found f r = refl
 
@@ -148,7 +153,7 @@ one_free (event ∷ told) h =
     rw (a, b) refl
 
 pub work_one : (work : Work) (post : Post) → list_any is_one (work_told work post) ≡ false
-work_one work post = one_free (work_told work post) (work_all (λ (event : Event). not (is_one event)) (λ index slot. refl) (λ from index slot. refl) (λ seat index era. refl) (λ seat. refl) work post)
+work_one work post = one_free (work_told work post) (work_all (λ (event : Event). not (is_one event)) (λ index slot. refl) (λ from index slot. refl) (λ seat index era. refl) (λ seat. refl) (λ seat index link. refl) work post)
 
 null_each : (slots i index head n : ℕ) (q : Past) (null : Bool) → stood_at i 0 q ≡ Some head → (if null then held_since (begins i) (is_last slots head) q else true) ≡ true → Each (behind_ok slots) q → Each (behind_ok slots) (tells_of q i (if null then events.Null index n ∷ [] else []))
 null_each slots i index head n q true s h g = (or_more (not (index == 1)) (was_last slots i q (stood_at i 0 q)) (subst (λ (x : Option ℕ). was_last slots i q x ≡ true) (sym s) h), g)
@@ -168,24 +173,31 @@ reserve_stood i p guard span = by (i == i)
     by true = refl
     by false = refl
 
-protect_each : (slots i : ℕ) (p : Past) (aim : Aim) (index head n : ℕ) (at : ProtectAt) (post : Post) (found : ℕ) → stood_at i 0 p ≡ Some head → ((x : ℕ) → carries_at found (upper post.span) at x ≡ true → had_none slots p i (roots.Next head) x ≡ true) → Each (behind_ok slots) p
+protect_each : (slots i : ℕ) (p : Past) (aim : Aim) (index head n : ℕ) (at : ProtectAt) (post : Post) (found : ℕ) → stood_at i 0 p ≡ Some head → ((x : ℕ) → carries_at found (upper post.span) at x ≡ true → had_none slots p i (roots.Next head) x ≡ true) → (loads_found at ≡ true → had_none slots p i (roots.Next head) found ≡ true) → Each (behind_ok slots) p
     → Each (behind_ok slots) (tells_of p i (machine.protect_turn aim index (roots.Next head) n at post found).told)
-protect_each slots i p aim index head n (PublishEra era tries) post found s h g = (refl, g)
-protect_each slots i p aim index head n (CheckClock era tries link) post found s h g =
+protect_each slots i p aim index head n (PublishEra era tries) post found s h f g = (refl, g)
+protect_each slots i p aim index head n (CheckClock era tries link) post found s h f g =
     if_each slots i p (found == era) (protected aim index (roots.Next head) n link era post) (goes post [] (Protect aim index (roots.Next head) n (PublishEra found (failed_once tries))))
     (λ e. ended_each slots i p aim index (roots.Next head) n link era (held_post post index (roots.Next head) link) (told_held index (roots.Next head) link n) (null_each slots i index head n p (link == 0) s (h link (both (link == link) (found == era) (same_number link) e)) g)) g
-protect_each slots i p aim index head n (PublishHelper first era last) post found s h g = (refl, g)
-protect_each slots i p aim index head n (CheckOwnClock first era last link) post found s h g = if_each slots i p (found == era) _ _ (λ e. g) g
-protect_each slots i p aim index head n (AnswerOwn first era link) post found s h g = if_each slots i p (found == own_request post index (roots.Next head)) _ _ (λ e. g) g
-protect_each slots i p aim index head n (TakeAnswer link era) post found s h g =
+protect_each slots i p aim index head n (PublishHelper first era last) post found s h f g = (refl, g)
+protect_each slots i p aim index head n (CheckOwnClock first era last link) post found s h f g = if_each slots i p (found == era) _ _ (λ e. g) g
+protect_each slots i p aim index head n (AnswerOwn first era link) post found s h f g = if_each slots i p (found == own_request post index (roots.Next head)) _ _ (λ e. g) g
+protect_each slots i p aim index head n (TakeAnswer link era) post found s h f g =
     let event : Event = events.Reserve (Index post.seat index) (one_era era) in
     null_each slots i index head n (Then p i event) (link == 0) (reserve_stood i p (Index post.seat index) (one_era era) ∙ s) (within_none slots p i i (roots.Next head) link event refl (h link (same_number link))) (refl, g)
-protect_each slots i p aim index head n (WithdrawHelper link era) post found s h g = ended_each slots i p aim index (roots.Next head) n link era post (reserves_helper post 0) (refl, g)
-protect_each slots i p aim index head n (CheckUpper link) post found s h g =
+protect_each slots i p aim index head n (WithdrawHelper link era) post found s h f g = ended_each slots i p aim index (roots.Next head) n link era post (reserves_helper post 0) (refl, g)
+protect_each slots i p aim index head n (CheckUpper link) post found s h f g =
     if_each slots i p (found == upper post.span) (protected aim index (roots.Next head) n link found post) (goes post [] (Protect aim index (roots.Next head) n (RaiseUpper found)))
     (λ e. ended_each slots i p aim index (roots.Next head) n link found (held_post post index (roots.Next head) link) (told_held index (roots.Next head) link n) (null_each slots i index head n p (link == 0) s (h link (both (link == link) (found == upper post.span) (same_number link) e)) g)) g
-protect_each slots i p aim index head n (RaiseUpper era) post found s h g = (refl, g)
-protect_each slots i p aim index head n at post found s h g = g
+protect_each slots i p aim index head n (RaiseUpper era) post found s h f g = (refl, g)
+protect_each slots i p aim index head n (ByHazard FirstLink) post found s h f g =
+    if_each slots i p (found == 0) (protected aim index (roots.Next head) n found 0 post) (goes post [] (Protect aim index (roots.Next head) n (ByHazard (PublishLink found))))
+    (λ e. ended_each slots i p aim index (roots.Next head) n found 0 (held_post post index (roots.Next head) found) (told_held index (roots.Next head) found n) (null_each slots i index head n p (found == 0) s (f refl) g)) g
+protect_each slots i p aim index head n (ByHazard (PublishLink link)) post found s h f g = (refl, g)
+protect_each slots i p aim index head n (ByHazard (CheckLink link)) post found s h f g =
+    if_each slots i p (found == link || found == 0) (protected aim index (roots.Next head) n found 0 post) (goes post [] (Protect aim index (roots.Next head) n (ByHazard (PublishLink found))))
+    (λ e. ended_each slots i p aim index (roots.Next head) n found 0 (held_post post index (roots.Next head) found) (told_held index (roots.Next head) found n) (null_each slots i index head n p (found == 0) s (f refl) g)) g
+protect_each slots i p aim index head n at post found s h f g = g
 
 reload_each : (slots i parent index slot n found : ℕ) (post : Post) (p : Past) (same : Bool) → (found == parent + 1) ≡ same → head_at slots p + 1 ≡ found → (found ≡ parent + 1 → next_at parent p ≡ Some slot) → Each (behind_ok slots) p → Each (behind_ok slots) (tells_of p i (after_reload parent index slot n post found).told)
 reload_each slots i parent index slot n found post p true q a h g =
@@ -208,7 +220,8 @@ follow_each slots w i v l z p head tail (Protect aim index root count at) q k g 
     let stood : stood_at i 0 p ≡ Some head = k.queue head (ap (λ (x : Phase). stands_on x head) q ∙ same_number head) in
     subst (λ (y : Root). Each (behind_ok slots) (tells_of p i (machine.protect_turn aim index y (bump count) at (counted (w.seat i).post) (finds w i)).told)) (sym r.shape.of)
     (protect_each slots i p aim index head (bump count) at (counted (w.seat i).post) (finds w i) stood
-    (λ x h. subst (λ (y : Root). had_none slots p i y x ≡ true) r.shape.of (carried_none slots w i z p (FollowsHead head tail) aim index root count at x q k.links h)) g)
+    (λ x h. subst (λ (y : Root). had_none slots p i y x ≡ true) r.shape.of (carried_none slots w i z p (FollowsHead head tail) aim index root count at x q k.links h))
+    (λ h. subst (λ (y : Root). had_none slots p i y (finds w i) ≡ true) r.shape.of (loaded_none slots w v l z p i (FollowsHead head tail) aim index root count at q k.known k.leads k.nexts h)) g)
 follow_each slots w i v l z p head tail (Reload parent index slot era count) q k g =
     let f : finds w i ≡ w.mem Head = finds_at w i (Runs (FollowsHead head tail) (Reload parent index slot era count)) q in
     reload_each slots i parent index slot (bump count) (finds w i) (counted (w.seat i).post) p (finds w i == parent + 1) refl (k.leads.head ∙ sym f)
@@ -221,7 +234,7 @@ own_each slots w i v l z p (Runs (FollowsHead head tail) base) q k g = follow_ea
 own_each slots w i v l z p (Runs why base) q k g =
     other_each slots i (machine.after base (counted (w.seat i).post) (finds w i)).told p
     (base_any is_one base (counted (w.seat i).post) (finds w i) one_calm ∙ base_one w.layout why base (w.seat i).post (counted (w.seat i).post) (finds w i) refl (run_of w i why base k.known.seats q)) g
-own_each slots w i v l z p (Scans later (ReadGuard number)) q k g = (refl, g)
+own_each slots w i v l z p (Scans later (ReadGuard number)) q k g = reads_are (λ event. Each (behind_ok slots) (tells_of p i (event ∷ []))) (publishes_rows (w.seat i).post.layout.config.scheme) (guard_at (w.seat i).post.layout.config number) (finds w i) (λ span. (refl, g)) (λ slot. (refl, g))
 own_each slots w i v l z p (Scans later (GiveBack place slot)) q k g = (refl, g)
 own_each slots w i v l z p (Works work) q k g = other_each slots i (work_told work (counted (w.seat i).post)) p (work_one work (counted (w.seat i).post)) g
 

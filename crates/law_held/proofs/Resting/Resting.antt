@@ -1,11 +1,10 @@
 -- Where a call ends, what its seat's guards publish.
 use Rattle.std.proofs.Common.{ℕ, zero, suc, ◌≡◌, ◌≤◌, ◌<◌, ◌⊎◌, inl, inr, Bool, true, false, List, [], ◌∷◌, ◌++◌, Option, Some, None, refl, sym, ap, ◌∙◌, subst, arith}
 use Rattle.std.proofs.lemmas.Bool.Decides.{nat_tests}
-use Rattle.std.specs.Prelude.{◌==◌, nat_lt, is_none, if◌then◌else◌}
-use Rattle.law_turns.specs.inv.model.words.Packed.{halves}
-use Rattle.law_turns.specs.inv.model.words.Place.{is_valid, Place as places}
+use Rattle.std.specs.Prelude.{◌==◌, nat_lt, is_none, is_some, if◌then◌else◌}
+use Rattle.law_turns.specs.inv.model.words.Place.{is_valid}
 use Rattle.law_turns.specs.inv.model.words.declared.config.SchemeKind.{SchemeKind}
-use Rattle.law_turns.specs.inv.model.words.declared.config.SchemeKind.TheVariants.{He, Ibr, Wfe}
+use Rattle.law_turns.specs.inv.model.words.declared.config.SchemeKind.TheVariants.{He, Hp, Ibr, Wfe}
 use Rattle.law_turns.specs.inv.model.words.declared.layout.Layout.{Layout}
 use Rattle.law_turns.specs.inv.model.defs.declared.call.Answer.{Answer}
 use Rattle.law_turns.specs.inv.model.defs.declared.event.Event.{Event}
@@ -17,7 +16,7 @@ use Rattle.law_turns.specs.inv.model.defs.declared.lifetime.Lifetime.{Lifetime}
 use Rattle.law_turns.specs.inv.model.defs.Shown as values
 use Rattle.law_turns.specs.inv.model.defs.Shown.{keeps}
 use Rattle.law_turns.specs.inv.model.declared.post.Post.{Post}
-use Rattle.law_turns.specs.inv.model.Guards.{one_era, own_guard}
+use Rattle.law_turns.specs.inv.model.Guards.{own_guard}
 use Rattle.law_turns.specs.inv.model.Calls.{Phase, Idle, CallTurn, CallOutcome, GoesOn, Answers}
 use Rattle.law_turns.specs.inv.model.Locals.{busy_in, told_by, told_end, turn}
 use Rattle.law_turns.specs.inv.model.Posts.{stands}
@@ -28,23 +27,20 @@ use Rattle.law_turns.specs.inv.model.defs.declared.call.Call.{Call}
 use Rattle.law_held.proofs.Indexes.Indexing.{record_high}
 use Rattle.law_turns.specs.inv.model.World.{World, finds, is_busy, offered, told_in}
 use Rattle.law_turns.proofs.inv.model.Facts.{first_of, rest_of}
-use Rattle.law_scans.specs.inv.covers.Covers.{life_in, eras_shown, shown}
+use Rattle.law_scans.specs.inv.covers.Covers.{life_in, shown}
 use Rattle.law_scans.proofs.inv.covers.Held.{stepped_phase}
-use Rattle.law_turns.specs.inv.model.words.Schemes.{is_ibr}
+use Rattle.law_turns.specs.inv.model.words.Schemes.{is_ibr, publishes_rows}
 use Rattle.law_scans.specs.inv.shapes.Frame.{phase_left}
-use Rattle.law_scans.specs.inv.requests.Roles.{shows}
-use Rattle.law_scans.specs.inv.requests.Standing.{Requests, role_of}
-use Rattle.law_scans.specs.inv.requests.Views.{Role}
 use Rattle.law_scans.proofs.inv.requests.Kept.{idle_of}
 use Rattle.law_scans.specs.inv.Inv.{Inv}
 use Rattle.law_scans.proofs.inv.Inv.Reached.{inv_reached}
-use Rattle.law_scans.proofs.inv.Inv.Shown.{word_era, shown_span}
+use Rattle.law_scans.proofs.inv.Inv.Shown.{shown_span}
 use Rattle.law_scans.specs.laws.records.Record.{Past, Test, Each, EachEntry, tells_of}
 use Rattle.law_scans.specs.laws.records.Record.Past.{Then}
 use Rattle.law_scans.specs.laws.records.Turns as schedule
 use Rattle.law_scans.specs.inv.history.History.{Item, Steps, Made, fits, done, done_if, made_of, first_made, record_of, world_of}
 use Rattle.law_scans.proofs.reuse.history.Along.{made_snoc}
-use Rattle.law_turns.specs.laws.StateAt.{stood_at, reserves_of, value_of}
+use Rattle.law_turns.specs.laws.StateAt.{hazard_of, published_at, stood_at, value_of}
 use Rattle.law_scans.proofs.reuse.Reuse.Keeps.{record_stands}
 use Rattle.law_scans.proofs.reuse.history.AllOf.{all_of}
 use Rattle.law_scans.proofs.reuse.AnswersTold.Owed.{is_open, Owes, owed}
@@ -54,7 +50,7 @@ use Rattle.law_scans.proofs.reuse.OneStep.Along.{history_keeps}
 use Rattle.law_turns.proofs.Counting.Counting.{Keeps, begin_kept, step_kept, first_kept}
 use Rattle.law_turns.proofs.Counting.Fits.{Clean, free, holds}
 use Rattle.law_turns.proofs.Handovers.{handovers_meet}
-use Rattle.law_scans.proofs.reuse.Holding.Holds.{record_values, history_held}
+use Rattle.law_scans.proofs.reuse.Holding.Holds.{record_publishes, record_values, history_held}
 use Rattle.law_held.proofs.Roots.Ways.{Turning, record_each, answers_of}
 use Rattle.law_scans.specs.inv.history.Heard.{heard_of}
 use Rattle.law_scans.specs.reuse.Heard.{IsCounted}
@@ -65,45 +61,49 @@ use Rattle.law_held.proofs.Resting.Spans.{spent_of}
 use Rattle.law_held.proofs.Resting.Spent.{Spent}
 use Rattle.law_held.proofs.Resting.Valued.{history_empty}
 use Rattle.law_turns.proofs.laws.Tells.{tells_both}
+use Rattle.law_turns.proofs.inv.model.words.Schemes.{interval_not_rows}
+use Rattle.law_turns.proofs.HazardCounts.{hazard_empty}
+use Rattle.law_turns.proofs.Withdrawals.Entries.{helper_rests}
+use Rattle.law_turns.proofs.Counting.Told.{counted_of}
+use Rattle.law_turns.specs.laws.HoldLaw.{is_blank}
+use Rattle.law_turns.specs.inv.model.defs.declared.shown.Shown.{Shown}
+use Rattle.law_turns.specs.inv.model.defs.declared.shown.Shown.TheVariants.{Eras, Nothing, Row}
 
 -- a seat that has no call under way
 idle_as : (w : World) (i : ℕ) → is_busy w i ≡ false → (w.seat i).phase ≡ Idle
 idle_as w i b = idle_of (w.seat i).phase b
 
--- its helper word
-helper_none : (w : World) (i : ℕ) (a : Inv w) → is_busy w i ≡ false → eras_shown w (Helper i) ≡ None
-helper_none w i a b =
-    let q : Requests w a.asked = a.known.requests in
-    let r : role_of w.layout Idle ≡ a.asked.role i = ap (role_of w.layout) (sym (idle_as w i b)) ∙ q.locals.roles i in
-    let s : shows (role_of w.layout Idle) (a.asked.helper i) ≡ true = subst (λ (x : Role). shows x (a.asked.helper i) ≡ true) (sym r) (q.parts.shown i) in
-    let z : a.asked.helper i ≡ 0 = grind (arith, nat_tests) in
-    ap one_era (word_era (w.mem (places.Helper i)) 0 0 (omega arith) (q.words.helpers i ∙ ap (λ (n : ℕ). halves n 0) z))
-
 -- its index words
-counts_of : (layout : Layout) (items : List Item) → is_valid layout ≡ true → is_ibr layout.config.scheme ≡ false → Keeps layout (made_of layout items) (heard_of layout items)
-counts_of layout items d n = history_keeps layout (Keeps layout) (record { begins = λ made h i call a b f m g. begin_kept layout made h i call f g; steps = λ made h i a b y g. step_kept layout made h i n a b y g }) d items (first_kept layout n)
+counts_of : (rows : Bool) (layout : Layout) (items : List Item) → is_valid layout ≡ true → is_ibr layout.config.scheme ≡ false → publishes_rows layout.config.scheme ≡ rows → Keeps rows layout (made_of layout items) (heard_of layout items)
+counts_of rows layout items d n q = history_keeps layout (Keeps rows layout) (record { begins = λ made h i call a b f m g. begin_kept rows layout made h i call f g; steps = λ made h i a b y g. step_kept rows layout made h i n a b y g }) d items (first_kept rows layout n q)
 
-empty_of : (layout : Layout) (items : List Item) (k j : ℕ) → is_valid layout ≡ true → is_ibr layout.config.scheme ≡ false → reserves_of k j (schedule.record_of (heard_of layout items)) ≡ 0 → value_of (Index k j) (record_of layout items) ≡ None
-empty_of layout items k j d n z =
+empty_of : (rows : Bool) (layout : Layout) (items : List Item) (k j : ℕ) → is_valid layout ≡ true → is_ibr layout.config.scheme ≡ false → publishes_rows layout.config.scheme ≡ rows → counted_of rows k j (schedule.record_of (heard_of layout items)) ≡ 0 → published_at layout.config.scheme (Index k j) (record_of layout items) ≡ Nothing
+empty_of false layout items k j d n q z =
     let c : IsCounted layout items = histories_count layout items d in
-    subst (λ (p : Past). value_of (Index k j) p ≡ None) c.tells (history_empty (heard_of layout items) k j (handovers_meet layout items d n) z)
+    let e : value_of (Index k j) (record_of layout items) ≡ None = subst (λ (p : Past). value_of (Index k j) p ≡ None) c.tells (history_empty (heard_of layout items) k j (handovers_meet layout items d n) z) in
+    rw q (ap values.shown e)
+empty_of true layout items k j d n q z =
+    let c : IsCounted layout items = histories_count layout items d in
+    let e : hazard_of (Index k j) (record_of layout items) ≡ None = subst (λ (p : Past). hazard_of (Index k j) p ≡ None) c.tells (hazard_empty layout items k j d q z) in
+    rw q (ap values.shown_row e)
 
 -- what stands publishes
-some_alike : (value : Option Interval) (life : Lifetime) (s : ℕ) → keeps life (values.shown value) ≡ true → is_alike value (Some s) ≡ true
-some_alike None life s h = absurd (cc)
-some_alike (Some span) life s h = refl
+some_alike : (value : Shown) (life : Lifetime) (s : ℕ) → keeps life value ≡ true → is_alike value (Some s) ≡ true
+some_alike Nothing life s h = absurd (cc)
+some_alike (Eras span) life s h = refl
+some_alike (Row slot) life s h = refl
 
-alike_by : (value : Option Interval) (stood : Option ℕ) → (stood ≡ None → value ≡ None) → ((s : ℕ) → stood ≡ Some s → is_alike value (Some s) ≡ true) → is_alike value stood ≡ true
+alike_by : (value : Shown) (stood : Option ℕ) → (stood ≡ None → value ≡ Nothing) → ((s : ℕ) → stood ≡ Some s → is_alike value (Some s) ≡ true) → is_alike value stood ≡ true
 alike_by value None f g = rw (f refl) refl
 alike_by value (Some s) f g = g s refl
 
-holds_alike : (layout : Layout) (items : List Item) (i j s : ℕ) (guard : Guard) → is_valid layout ≡ true → own_guard (world_of layout items).layout.config.scheme i j ≡ guard → stands ((world_of layout items).seat i).post j ≡ Some s → is_alike (value_of guard (record_of layout items)) (Some s) ≡ true
+holds_alike : (layout : Layout) (items : List Item) (i j s : ℕ) (guard : Guard) → is_valid layout ≡ true → own_guard (world_of layout items).layout.config.scheme i j ≡ guard → stands ((world_of layout items).seat i).post j ≡ Some s → is_alike (published_at layout.config.scheme guard (record_of layout items)) (Some s) ≡ true
 holds_alike layout items i j s guard d e t =
     let w : World = world_of layout items in
     let a : Inv w = inv_reached layout items d in
     let h = a.known.held.stood i j s t in
     let c : keeps (life_in a.rows s) (shown w guard) ≡ true = subst (λ (g : Guard). keeps (life_in a.rows s) (shown w g) ≡ true) e h.covers.kept in
-    subst (λ (x : Option Interval). is_alike x (Some s) ≡ true) (sym (record_values layout items guard d)) (some_alike (eras_shown w guard) (life_in a.rows s) s c)
+    subst (λ (x : Shown). is_alike x (Some s) ≡ true) (sym (record_publishes layout items guard d)) (some_alike (shown w guard) (life_in a.rows s) s c)
 
 tables : (layout : Layout) (items : List Item) → is_valid layout ≡ true → (world_of layout items).layout ≡ layout
 tables layout items d = (history_held layout items d).table
@@ -113,33 +113,41 @@ plain_guard : (scheme : SchemeKind) (seat index : ℕ) → is_ibr scheme ≡ fal
 plain_guard He seat index e = refl
 plain_guard Ibr seat index e = absurd (cc)
 plain_guard Wfe seat index e = refl
+plain_guard Hp seat index e = refl
 
 span_guard : (scheme : SchemeKind) (seat index : ℕ) → is_ibr scheme ≡ true → own_guard scheme seat index ≡ Whole seat
 span_guard He seat index e = absurd (cc)
 span_guard Ibr seat index e = refl
 span_guard Wfe seat index e = absurd (cc)
+span_guard Hp seat index e = absurd (cc)
 
 scheme_at : (layout : Layout) (items : List Item) → is_valid layout ≡ true → (world_of layout items).layout.config.scheme ≡ layout.config.scheme
 scheme_at layout items d = ap (λ (x : Layout). x.config.scheme) (tables layout items d)
 
-word_by : (value : Option Interval) (stood : Option ℕ) (low : Bool) → (low ≡ true → value ≡ None) → (low ≡ false → is_alike value stood ≡ true) → (if low then is_none value else is_alike value stood) ≡ true
-word_by value stood true f g = ap is_none (f refl)
+word_by : (value : Shown) (stood : Option ℕ) (low : Bool) → (low ≡ true → value ≡ Nothing) → (low ≡ false → is_alike value stood ≡ true) → (if low then is_blank value else is_alike value stood) ≡ true
+word_by value stood true f g = ap is_blank (f refl)
 word_by value stood false f g = g refl
 
-word_idle : (layout : Layout) (items : List Item) (i j : ℕ) → is_valid layout ≡ true → is_ibr layout.config.scheme ≡ false → is_busy (world_of layout items) i ≡ false → index_rests i (record_of layout items) j ≡ true
+word_idle : (layout : Layout) (items : List Item) (i j : ℕ) → is_valid layout ≡ true → is_ibr layout.config.scheme ≡ false → is_busy (world_of layout items) i ≡ false → index_rests layout.config.scheme i (record_of layout items) j ≡ true
 word_idle layout items i j d n b =
     let w : World = world_of layout items in
     let p : Past = record_of layout items in
-    let c = (counts_of layout items d n).seats i in
-    let f = subst (λ (phase : Phase). Clean (λ (m : ℕ). reserves_of i m (schedule.record_of (heard_of layout items))) (w.seat i).post (free phase) (holds phase)) (idle_as w i b) c.clean in
+    let rows : Bool = publishes_rows layout.config.scheme in
+    let value : Shown = published_at layout.config.scheme (Index i j) p in
+    let c = (counts_of rows layout items d n refl).seats i in
+    let f = subst (λ (phase : Phase). Clean (λ (m : ℕ). counted_of rows i m (schedule.record_of (heard_of layout items))) (w.seat i).post (free phase) (holds phase)) (idle_as w i b) c.clean in
     let guard : own_guard w.layout.config.scheme i j ≡ Index i j = plain_guard w.layout.config.scheme i j (ap is_ibr (scheme_at layout items d) ∙ n) in
-    word_by (value_of (Index i j) p) (stood_at i j p) (nat_lt j 2) (λ low. empty_of layout items i j d n (f.free j low))
-    (λ low. alike_by (value_of (Index i j) p) (stood_at i j p)
-    (λ z. empty_of layout items i j d n (f.kept j low refl (sym (record_stands layout items i j d) ∙ z)))
+    word_by value (stood_at i j p) (nat_lt j 2) (λ low. empty_of rows layout items i j d n refl (f.free j low))
+    (λ low. alike_by value (stood_at i j p)
+    (λ z. empty_of rows layout items i j d n refl (f.kept j low refl (sym (record_stands layout items i j d) ∙ z)))
     (λ s z. holds_alike layout items i j s (Index i j) d guard (sym (record_stands layout items i j d) ∙ z)))
 
+none_of : (x : Option Interval) → is_some x ≡ false → is_none x ≡ true
+none_of None h = refl
+none_of (Some span) h = absurd (cc)
+
 helper_idle : (layout : Layout) (items : List Item) (i : ℕ) → is_valid layout ≡ true → is_busy (world_of layout items) i ≡ false → is_none (value_of (Helper i) (record_of layout items)) ≡ true
-helper_idle layout items i d b = ap is_none (record_values layout items (Helper i) d ∙ helper_none (world_of layout items) i (inv_reached layout items d) b)
+helper_idle layout items i d b = none_of (value_of (Helper i) (record_of layout items)) (helper_rests layout items i d (idle_as (world_of layout items) i b))
 
 -- what is kept by the record
 either_none : (x y : Option ℕ) → first_row_of x y ≡ None → (x ≡ None) × (y ≡ None)
@@ -198,19 +206,21 @@ none_by layout items i (Some slot) d e h =
     by {index} true e low stood = let less : index < layout.config.indexes = grind (arith, nat_tests) in sym stood ∙ below_none i (record_of layout items) layout.config.indexes index h low less
     by {index} false e low stood = let more : layout.config.indexes ≤ index = grind (arith, nat_tests) in sym stood ∙ record_high layout items i index d more
 
-span_idle : (layout : Layout) (items : List Item) (i : ℕ) → is_valid layout ≡ true → is_ibr layout.config.scheme ≡ true → is_busy (world_of layout items) i ≡ false → is_alike (value_of (Whole i) (record_of layout items)) (kept_below i (record_of layout items) layout.config.indexes) ≡ true
+span_idle : (layout : Layout) (items : List Item) (i : ℕ) → is_valid layout ≡ true → is_ibr layout.config.scheme ≡ true → is_busy (world_of layout items) i ≡ false → is_alike (values.shown (value_of (Whole i) (record_of layout items))) (kept_below i (record_of layout items) layout.config.indexes) ≡ true
 span_idle layout items i d n b =
     let w : World = world_of layout items in
     let p : Past = record_of layout items in
     let k = (inv_reached layout items d).known in
     let q : Spent (w.seat i).post Idle = subst (λ (phase : Phase). Spent (w.seat i).post phase) (idle_as w i b) (spent_of layout items i d) in
     let scheme : is_ibr w.layout.config.scheme ≡ true = ap is_ibr (scheme_at layout items d) ∙ n in
+    let eras : publishes_rows layout.config.scheme ≡ false = interval_not_rows layout.config.scheme n in
     let ibr : is_ibr (w.seat i).post.layout.config.scheme ≡ true = ap (λ (x : Layout). is_ibr x.config.scheme) (k.seats.fits i).post.layout ∙ scheme in
-    alike_by (value_of (Whole i) p) (kept_below i p layout.config.indexes)
-    (λ z. record_values layout items (Whole i) d ∙ shown_span w i k.valid k.eras ∙ q refl ibr (none_by layout items i (kept_row (w.seat i).post) d refl z))
+    let same : published_at layout.config.scheme (Whole i) p ≡ values.shown (value_of (Whole i) p) = rw eras refl in
+    alike_by (values.shown (value_of (Whole i) p)) (kept_below i p layout.config.indexes)
+    (λ z. ap values.shown (record_values layout items (Whole i) d eras ∙ shown_span w i k.valid k.eras ∙ q refl ibr (none_by layout items i (kept_row (w.seat i).post) d refl z)))
     (λ s z.
     let m : Kept i s p = below_some i s p layout.config.indexes z in
-    holds_alike layout items i m.index s (Whole i) d (span_guard w.layout.config.scheme i m.index scheme) (sym (record_stands layout items i m.index d) ∙ m.stood))
+    subst (λ (x : Shown). is_alike x (Some s) ≡ true) same (holds_alike layout items i m.index s (Whole i) d (span_guard w.layout.config.scheme i m.index scheme) (sym (record_stands layout items i m.index d) ∙ m.stood)))
 
 -- an End changes nothing of guards and of what stands
 end_below : (i count : ℕ) (answer : Answer) (q : Past) (n : ℕ) → kept_below i (Then q i (events.End count answer)) n ≡ kept_below i q n
@@ -263,11 +273,11 @@ open_span : (config : Config) (p : Past) (i : ℕ) (event : Event) → is_open e
 open_span config p i (events.End steps answer) h = absurd (cc)
 open_span config p i event h = refl
 
-spans_rest : (layout : Layout) → is_valid layout ≡ true → is_ibr layout.config.scheme ≡ true → Rest layout (λ i p. is_alike (value_of (Whole i) p) (kept_below i p layout.config.indexes)) (spans_ok layout.config)
+spans_rest : (layout : Layout) → is_valid layout ≡ true → is_ibr layout.config.scheme ≡ true → Rest layout (λ i p. is_alike (values.shown (value_of (Whole i) p)) (kept_below i p layout.config.indexes)) (spans_ok layout.config)
 spans_rest layout d n = record {
   begins = λ p i call. refl;
   opens = λ p i event h. open_span layout.config p i event h;
-  ends = λ i count answer q h. subst (λ (x : Option ℕ). is_alike (value_of (Whole i) q) x ≡ true) (end_below i count answer q layout.config.indexes) h;
+  ends = λ i count answer q h. subst (λ (x : Option ℕ). is_alike (values.shown (value_of (Whole i) q)) x ≡ true) (end_below i count answer q layout.config.indexes) h;
   idle = λ items i b. span_idle layout items i d n b;
 }
 
@@ -283,21 +293,21 @@ helpers_rest layout d = record {
   idle = λ items i b. helper_idle layout items i d b;
 }
 
-open_word : (j : ℕ) (p : Past) (i : ℕ) (event : Event) → is_open event ≡ true → words_ok j p i event ≡ true
-open_word j p i (events.End steps answer) h = absurd (cc)
-open_word j p i event h = refl
+open_word : (scheme : SchemeKind) (j : ℕ) (p : Past) (i : ℕ) (event : Event) → is_open event ≡ true → words_ok scheme j p i event ≡ true
+open_word scheme j p i (events.End steps answer) h = absurd (cc)
+open_word scheme j p i event h = refl
 
-words_rest : (layout : Layout) (j : ℕ) → is_valid layout ≡ true → is_ibr layout.config.scheme ≡ false → Rest layout (λ i p. index_rests i p j) (words_ok j)
+words_rest : (layout : Layout) (j : ℕ) → is_valid layout ≡ true → is_ibr layout.config.scheme ≡ false → Rest layout (λ i p. index_rests layout.config.scheme i p j) (words_ok layout.config.scheme j)
 words_rest layout j d n = record {
   begins = λ p i call. refl;
-  opens = λ p i event h. open_word j p i event h;
-  ends = λ i count answer q h. subst (λ (x : Option ℕ). (if nat_lt j 2 then is_none (value_of (Index i j) q) else is_alike (value_of (Index i j) q) x) ≡ true) (end_stood i j count answer q) h;
+  opens = λ p i event h. open_word layout.config.scheme j p i event h;
+  ends = λ i count answer q h. subst (λ (x : Option ℕ). (if nat_lt j 2 then is_blank (published_at layout.config.scheme (Index i j) q) else is_alike (published_at layout.config.scheme (Index i j) q) x) ≡ true) (end_stood i j count answer q) h;
   idle = λ items i b. word_idle layout items i j d n b;
 }
 
 pub records_rest_guards : RecordsRestGuards
 records_rest_guards layout items d = record {
-  spans = λ n. rest_each layout items (λ i p. is_alike (value_of (Whole i) p) (kept_below i p layout.config.indexes)) (spans_ok layout.config) d (spans_rest layout d n);
+  spans = λ n. rest_each layout items (λ i p. is_alike (values.shown (value_of (Whole i) p)) (kept_below i p layout.config.indexes)) (spans_ok layout.config) d (spans_rest layout d n);
   helpers = λ n. rest_each layout items (λ i p. is_none (value_of (Helper i) p)) helpers_ok d (helpers_rest layout d);
-  words = λ n j b. rest_each layout items (λ i p. index_rests i p j) (words_ok j) d (words_rest layout j d n);
+  words = λ n j b. rest_each layout items (λ i p. index_rests layout.config.scheme i p j) (words_ok layout.config.scheme j) d (words_rest layout j d n);
 }

@@ -1,7 +1,7 @@
 -- Along each history a seat of 2GE whose round is over has no interval, unless a row stands at an index of it from 2 on.
 use Rattle.std.proofs.Common.{ℕ, ◌≡◌, ◌-◌, Bool, true, false, List, length, refl, sym, ap, ◌∙◌, subst, arith}
 use Rattle.std.proofs.lemmas.Bool.Decides.{nat_tests}
-use Rattle.std.specs.Prelude.{◌==◌, ◌%◌, if◌then◌else◌}
+use Rattle.std.specs.Prelude.{◌==◌, ◌||◌, ◌%◌, not, if◌then◌else◌}
 use Rattle.law_turns.specs.inv.model.words.Place.{is_valid}
 use Rattle.law_turns.specs.inv.model.words.declared.config.Config.{Config}
 use Rattle.law_turns.specs.inv.model.words.declared.config.SchemeKind.{SchemeKind}
@@ -26,17 +26,17 @@ use Rattle.law_turns.specs.inv.model.Steps as steps
 use Rattle.law_turns.specs.inv.model.World.{World, begin, finds, is_busy, offered, step}
 use Rattle.law_turns.specs.inv.model.Phases.{Aim, Alone, Follows, BeginAt, ProtectAt, RetireAt, Base, Ending, Outcome, Goes, Ends, Turn, goes, ends}
 use Rattle.law_turns.specs.inv.model.Phases.BeginAt.{LoadLower, PublishSpan}
-use Rattle.law_turns.specs.inv.model.Phases.ProtectAt.{CheckClock, CheckOwnClock, AnswerOwn, WithdrawHelper, CheckUpper}
+use Rattle.law_turns.specs.inv.model.Phases.ProtectAt.{CheckClock, CheckOwnClock, AnswerOwn, WithdrawHelper, CheckUpper, ByHazard}
 use Rattle.law_turns.specs.inv.model.Phases.RetireAt.{LoadLife, LoadRetire, StoreRetired}
 use Rattle.law_turns.specs.inv.model.Phases.Base.{Begin, Protect, Reload, Clear, Finish, Release, GiveUp, Retire, Move}
 use Rattle.law_turns.specs.inv.model.Phases.Ending.{Protected, Followed}
 use Rattle.law_turns.specs.inv.model.Calls.{Task, Gets, Changes, Holds, Enqueues, Dequeues, AfterScan, Next, Why, Opens, FollowsHead, Fills, ClearsNext, Clears, Finishes, GivesUp, Retires, Tidies, Advances, Releases, LetGo, Phase, Idle, Runs, Scans, Works, CallTurn}
 use Rattle.law_scans.proofs.inv.covers.Held.{stepped_post, stepped_phase}
-use Rattle.law_turns.specs.inv.model.words.Schemes.{is_ibr}
+use Rattle.law_turns.specs.inv.model.words.Schemes.{is_ibr, publishes_rows}
 use Rattle.law_scans.specs.inv.shapes.Frame.{phase_left}
 use Rattle.law_scans.specs.inv.shapes.Slots.{PhaseIn, Slots}
 use Rattle.law_scans.proofs.reuse.shapes.Kept.{work_counted}
-use Rattle.law_scans.specs.inv.shapes.Seats.{PhaseFits, Seats, ToFinish, ToGiveUp, ToRetire, ToMove, ToRelease, Run, suits, base_fits, protect_fits, task_root}
+use Rattle.law_scans.specs.inv.shapes.Seats.{PhaseFits, Seats, ToFinish, ToGiveUp, ToRetire, ToMove, ToRelease, Run, suits, base_fits, protect_fits, task_root, agree}
 use Rattle.law_scans.proofs.reuse.shapes.Frame.{seat_stays, begin_stays, begin_begins}
 use Rattle.law_scans.specs.inv.history.History.{Item, Made, made_of, world_of}
 use Rattle.law_scans.specs.laws.records.Turns as schedule
@@ -48,7 +48,8 @@ use Rattle.law_turns.proofs.Counting.Fits.{is_hold}
 use Rattle.law_scans.proofs.inv.ends.Handover.Asks.{run_of}
 use Rattle.law_turns.proofs.inv.model.Ranges.{bounds_of}
 use Rattle.law_scans.proofs.inv.steps_left.Rest.Falling.{wfe_plain}
-use Rattle.law_turns.proofs.inv.model.Facts.{false_of_not}
+use Rattle.law_turns.proofs.inv.model.Facts.{false_of_not, first_of}
+use Rattle.law_turns.specs.inv.model.Phases.HazardAt.{FirstLink, CheckLink}
 
 -- what a row that was found leaves
 row_ended : (post : Post) (link : ℕ) (null : Bool) → (null ≡ false → Ended (with_row post 2 (link - 1))) → null ≡ false → Ended (if null then post else with_row post 2 (link - 1))
@@ -102,6 +103,8 @@ protect_out buckets scheme most task aim index root n (AnswerOwn first era link)
 protect_out buckets scheme most task aim index root n (WithdrawHelper link era) post found e f s =
     concluded_out task aim index root n link era post (reserves_helper post 0) (λ z h. plain_ended post (ap is_ibr e ∙ wfe_plain scheme f))
 protect_out buckets scheme most task aim index root n (CheckUpper link) post found e f s = if_out (Opens task) (found == upper post.span) _ _ (found_out buckets task aim index root n link found post s) (λ o. absurd (cc))
+protect_out buckets scheme most task aim index root n (ByHazard FirstLink) post found e f s = if_out (Opens task) (found == 0) _ _ (found_out buckets task aim index root n found 0 post s) (λ o. absurd (cc))
+protect_out buckets scheme most task aim index root n (ByHazard (CheckLink link)) post found e f s = if_out (Opens task) (found == link || found == 0) _ _ (found_out buckets task aim index root n found 0 post s) (λ o. absurd (cc))
 protect_out buckets scheme most task aim index root n at post found e f s = λ o. absurd (cc)
 
 -- each machine, by what comes after it
@@ -149,7 +152,7 @@ advances_out (Move at) post found s h = outer_out Advances (move_turn at post fo
 advances_out base post found s h = absurd (cc)
 
 releases_out : (config : Config) (let_go : LetGo) (base : Base) (post : Post) (found : ℕ) → suits base ToRelease ≡ true → base_fits config base ≡ true → scheme_of post ≡ config.scheme → Out (Releases let_go) (after base post found).post (after base post found).outcome
-releases_out config let_go (Clear index) post found s f e = plain_ended (after (Clear index) post found).post (ap is_ibr e ∙ false_of_not (is_ibr config.scheme) f)
+releases_out config let_go (Clear rows index) post found s f e = plain_ended (after (Clear rows index) post found).post (ap is_ibr e ∙ false_of_not (is_ibr config.scheme) (first_of (not (is_ibr config.scheme)) (agree rows (publishes_rows config.scheme)) f))
 releases_out config let_go (Release index) post found s f e = λ b n. refl
 releases_out config let_go base post found s f e = absurd (cc)
 

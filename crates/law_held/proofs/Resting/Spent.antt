@@ -2,7 +2,7 @@
 use Rattle.std.proofs.Common.{ℕ, ◌≡◌, ◌≤◌, ◌<◌, subst, arith, ◌-◌, ◌+◌, ◌%◌, Bool, true, false, List, [], ◌∷◌, ◌++◌, length, Option, Some, None, refl, ap, drop}
 use Rattle.std.specs.Prelude.{◌==◌, is_some, nat_lt, if◌then◌else◌}
 use Rattle.law_turns.specs.inv.model.words.declared.config.SchemeKind.{SchemeKind}
-use Rattle.law_turns.specs.inv.model.words.declared.config.SchemeKind.TheVariants.{He, Ibr, Wfe}
+use Rattle.law_turns.specs.inv.model.words.declared.config.SchemeKind.TheVariants.{He, Hp, Ibr, Wfe}
 use Rattle.law_turns.specs.inv.model.defs.declared.call.Answer.{Answer}
 use Rattle.law_turns.specs.inv.model.defs.declared.call.Answer.TheVariants as the_answers
 use Rattle.law_turns.specs.inv.model.defs.declared.call.Call.{Call}
@@ -22,11 +22,11 @@ use Rattle.law_turns.specs.inv.model.Dequeue as dequeues
 use Rattle.law_turns.specs.inv.model.Desks.{Desk, with_life}
 use Rattle.law_turns.specs.inv.model.Enqueue as enqueues
 use Rattle.law_turns.specs.inv.model.Get as gets
-use Rattle.law_turns.specs.inv.model.Guards.{guards, guard_at, eras_in, published}
+use Rattle.law_turns.specs.inv.model.Guards.{guards, guard_at, published}
 use Rattle.law_turns.specs.inv.model.Keep as keeps
-use Rattle.law_turns.specs.inv.model.Posts.{cleared, reserves_index, stands, with_row, withdrawn, standing_from}
+use Rattle.law_turns.specs.inv.model.Posts.{cleared, publishes_index, stands, with_row, withdrawn, standing_from}
 use Rattle.law_turns.proofs.inv.model.Standing.{none_kept, stands-with_row_same}
-use Rattle.law_turns.specs.inv.model.words.Schemes.{has_one_interval}
+use Rattle.law_turns.specs.inv.model.words.Schemes.{has_one_interval, publishes_rows}
 use Rattle.law_turns.specs.inv.model.words.declared.config.Config.{Config}
 use Rattle.law_turns.specs.inv.model.Rounds.{scheme_of, bucket_of, index_of, taken_of, begin_base, kept_row, let_index, letting, letting_by, release_base, clear_base, clear_post, clear_told, finish_base, finish_span, round_by, round, given_up, closed, finishing_by, finishing, clearing_by, clearing, clearing_next_by, clearing_next}
 use Rattle.law_turns.specs.inv.model.Scan as scan
@@ -118,6 +118,7 @@ finish_spent task next post desk told (Some slot) e = closed_spent task next pos
 finishing_by_spent : (task : Task) (next : Next) (post : Post) (desk : Desk) (told : List Event) (scheme : SchemeKind) → scheme_of post ≡ scheme → Turned (finishing_by task next post desk told (finish_base scheme post))
 finishing_by_spent task next post desk told He e = closed_spent task next post desk told (plain_ended post (ap is_ibr e))
 finishing_by_spent task next post desk told Ibr e = finish_spent task next post desk told (kept_row post) refl
+finishing_by_spent task next post desk told Hp e = closed_spent task next post desk told (plain_ended post (ap is_ibr e))
 finishing_by_spent task next post desk told Wfe e = closed_spent task next post desk told (plain_ended post (ap is_ibr e))
 
 finishing_spent : (task : Task) (next : Next) (post : Post) (desk : Desk) (told : List Event) → Turned (finishing task next post desk told)
@@ -209,15 +210,15 @@ dequeue_spent (ExchangeHead head next number value) post desk found = taken_spen
 dequeue_spent at post desk found = λ o. absurd (cc)
 
 -- something is let go, copied or looked at
-parting_spent : (post : Post) (x : Option ℕ) → Ended post → Spent post (keeps.parting_index x)
-parting_spent post None h = λ o. h
-parting_spent post (Some index) h = λ o. absurd (cc)
+parting_spent : (post : Post) (rows : Bool) (x : Option ℕ) → Ended post → Spent post (keeps.parting_index rows x)
+parting_spent post rows None h = λ o. h
+parting_spent post rows (Some index) h = λ o. absurd (cc)
 
 released_spent : (let_go : LetGo) (post : Post) (desk : Desk) (told : List Event) → Ended post → Turned (keeps.released let_go post desk told)
 released_spent Released post desk told h = λ o. h
 released_spent (Rehold key) post desk told h = round_spent (Holds key) post
 released_spent (Dropped index) post desk told h = λ o. h
-released_spent (Parting index) post desk told h = parting_spent post (standing_from (index + 1) (drop (index + 1) post.standing)) h
+released_spent (Parting index) post desk told h = parting_spent post (publishes_rows (scheme_of post)) (standing_from (index + 1) (drop (index + 1) post.standing)) h
 
 copied_spent : (from index : ℕ) (post : Post) (desk : Desk) (reserved : List Event) (x : Option ℕ) → 2 ≤ index → index < length post.standing → Ended post → Turned (keeps.copied from index post desk reserved x)
 copied_spent from index post desk reserved None low few h = λ o. h
@@ -251,7 +252,7 @@ keep_spent config (Loosens let_go) post desk found f k few h =
 keep_spent config (LoadHeld from index) post desk found f k few h =
     load_spent from index post desk found (has_one_interval (scheme_of post)) (omega (arith, k.kept, k.rises)) (omega (arith, k.below, few)) h
 keep_spent config (StoreHeld from index era) post desk found f k few h =
-    copied_spent from index post desk (reserves_index post index era) (stands post from) (omega (arith, k.kept, k.rises)) (omega (arith, k.below, few)) h
+    copied_spent from index post desk (publishes_index (publishes_rows (scheme_of post)) post index era) (stands post from) (omega (arith, k.kept, k.rises)) (omega (arith, k.below, few)) h
 keep_spent config (Looks index key at) post desk found f k few h = look_spent index key at post desk found h
 keep_spent config (Misses index) post desk found f k few h = λ o. h
 keep_spent config HideSpan post desk found f k few h = λ o b n. refl
@@ -282,7 +283,7 @@ guards_spent later n post desk told false h = back_spent later post desk told (s
 
 pub scan_spent : (later : AfterScan) (at : ScanAt) (post : Post) (desk : Desk) (found : ℕ) → Ended post → Turned (scan.scan_turn later at post desk found)
 scan_spent later (ReadGuard n) post desk found h =
-    guards_spent later n post (scan.with_read desk n (guard_at post.layout.config n, published (guard_at post.layout.config n) found)) (events.Read (guard_at post.layout.config n) (eras_in (guard_at post.layout.config n) found) ∷ []) (nat_lt (n + 1) (guards post.layout.config)) h
+    guards_spent later n post (scan.with_read desk n (guard_at post.layout.config n, published (publishes_rows post.layout.config.scheme) (guard_at post.layout.config n) found)) (scan.reads_guard (publishes_rows post.layout.config.scheme) (guard_at post.layout.config n) found ∷ []) (nat_lt (n + 1) (guards post.layout.config)) h
 scan_spent later (GiveBack place slot) post desk found h = back_spent later post (scan.with_back desk place) (events.Back slot ∷ []) (scan.unmet_from (scan.with_back desk place) place) h
 
 opened_row_spent : (task : Task) (slot : ℕ) (post : Post) (desk : Desk) (told : List Event) → (is_hold task ≡ true → Ended post) → Turned (steps.opened_row task slot post desk told)
@@ -443,7 +444,7 @@ parting_span_spent post (Some span) h = λ o. h
 
 leaving_spent : (post : Post) (one : Bool) → Ended post → Spent post (if one then keeps.parting_span post.span else keeps.parting_from 2 post)
 leaving_spent post true h = parting_span_spent post post.span h
-leaving_spent post false h = parting_spent post (standing_from 2 (drop 2 post.standing)) h
+leaving_spent post false h = parting_spent post (publishes_rows (scheme_of post)) (standing_from 2 (drop 2 post.standing)) h
 
 pub first_spent : (call : Call) (post : Post) → Ended post → Spent post (steps.first_phase call post)
 first_spent (names.Get key) post h = round_spent (Gets key) post

@@ -1,11 +1,13 @@
 -- A call that has not found its root yet looks for it, and finds it before it does anything else.
 use Rattle.std.proofs.Common.{ℕ, ◌≡◌, ◌-◌, Bool, true, false, [], ◌∷◌, Option, Some, None, refl, sym, ap, ◌∙◌, subst, ◌⊎◌, inl, inr}
 use Rattle.std.specs.List.{list_any}
-use Rattle.std.specs.Prelude.{◌==◌, ◌&&◌, not, nat_le, if◌then◌else◌}
+use Rattle.std.specs.Prelude.{◌==◌, ◌&&◌, not, nat_le, if◌then◌else◌, ◌||◌}
 use Rattle.law_turns.specs.inv.model.words.declared.config.Config.{Config}
 use Rattle.law_turns.specs.inv.model.words.declared.config.SchemeKind.{SchemeKind}
-use Rattle.law_turns.specs.inv.model.words.declared.config.SchemeKind.TheVariants.{He, Ibr, Wfe}
+use Rattle.law_turns.specs.inv.model.words.declared.config.SchemeKind.TheVariants.{He, Hp, Ibr, Wfe}
 use Rattle.law_turns.specs.inv.model.words.Packed.{read_request}
+use Rattle.law_turns.specs.inv.model.words.declared.packed.Request.{Request}
+use Rattle.law_turns.specs.inv.model.words.declared.packed.Request.TheVariants as requests
 use Rattle.law_turns.specs.inv.model.defs.declared.call.Call.{Call}
 use Rattle.law_turns.specs.inv.model.defs.declared.call.Call.TheVariants as names
 use Rattle.law_turns.specs.inv.model.defs.declared.event.Event.{Event}
@@ -20,11 +22,10 @@ use Rattle.law_turns.specs.inv.model.Machine as machine
 use Rattle.law_turns.specs.inv.model.Memory.{bump}
 use Rattle.law_turns.specs.inv.model.Phases.{Aim, Alone, Tries, Endless, Failed, ProtectAt, Base, goes}
 use Rattle.law_turns.specs.inv.model.Phases.BeginAt.{LoadLower, PublishSpan}
-use Rattle.law_turns.specs.inv.model.Phases.ProtectAt.{PublishEra, LoadLink, CheckClock, PublishRequest, CheckOwnClock, AnswerOwn, LoadAnswer, TakeAnswer, WithdrawRequest, WithdrawHelper, CheckUpper, RaiseUpper}
+use Rattle.law_turns.specs.inv.model.Phases.ProtectAt.{PublishEra, LoadLink, CheckClock, PublishRequest, CheckOwnClock, AnswerOwn, LoadAnswer, TakeAnswer, WithdrawRequest, WithdrawHelper, CheckUpper, RaiseUpper, ByHazard}
 use Rattle.law_turns.specs.inv.model.Phases.Base.{Begin, Protect}
 use Rattle.law_turns.specs.inv.model.Posts.{upper}
 use Rattle.law_turns.specs.inv.model.Protect.{told_held, protected, trying, failed_once}
-use Rattle.law_turns.specs.inv.model.Rest.{is_told}
 use Rattle.law_turns.specs.inv.model.Rounds.{scheme_of, index_of, root_of, protect_at, begin_base, begin_span, opening, round_by}
 use Rattle.law_turns.specs.inv.model.SlowPath.{own_request, answer_in, lost_turn}
 use Rattle.law_turns.specs.inv.model.Steps as steps
@@ -34,9 +35,15 @@ use Rattle.law_scans.specs.inv.shapes.Frame.{phase_left}
 use Rattle.law_scans.specs.inv.shapes.Seats.{ToOpen, suits, kind_of, Shaped}
 use Rattle.law_scans.proofs.reuse.AnswersTold.Owed.{TaskServes, Serves}
 use Rattle.law_turns.specs.laws.StateAt.{has_root}
-use Rattle.law_scans.proofs.inv.steps_left.Rest.Told.{answer_untold}
 use Rattle.law_turns.proofs.inv.model.Facts.{false_of_not}
 use Rattle.law_scans.proofs.inv.Inv.Ends.{task_end}
+use Rattle.law_turns.specs.inv.model.Phases.HazardAt.{FirstLink, PublishLink, CheckLink}
+
+-- an answer was taken, and with it the root was told
+abbrev pub is_told : Base → Bool
+is_told (Protect aim index root steps (WithdrawRequest link era)) = true
+is_told (Protect aim index root steps (WithdrawHelper link era)) = true
+is_told base = false
 
 -- a call looks for its root, and has not told that it found it
 abbrev pub is_early : Phase → Bool
@@ -79,9 +86,16 @@ lost_early : (aim : Aim) (index : ℕ) (root : Root) (n first : ℕ) (last : Boo
 lost_early aim index root n first true found = refl
 lost_early aim index root n first false found = refl
 
+answer_early : (aim : Aim) (index : ℕ) (root : Root) (n : ℕ) (r : Option Request) → is_told (Protect aim index root n (answer_in r)) ≡ false
+answer_early aim index root n (Some (requests.Answered link era)) = refl
+answer_early aim index root n (Some (requests.Pending tag at word)) = refl
+answer_early aim index root n (Some requests.Idle) = refl
+answer_early aim index root n None = refl
+
 protect_early : (index : ℕ) (root : Root) (scheme : SchemeKind) → is_told (Protect Alone index root 0 (protect_at scheme)) ≡ false
 protect_early index root He = refl
 protect_early index root Ibr = refl
+protect_early index root Hp = refl
 protect_early index root Wfe = refl
 
 opening_early : (task : Task) (post : Post) → is_early (opening task post) ≡ true
@@ -104,13 +118,17 @@ protect_fate task desk aim index root count (CheckClock era tries link) post fou
 protect_fate task desk aim index root count (CheckOwnClock first era last link) post found t i e =
     either_fate task desk post (Protect aim index root (bump count) (AnswerOwn first era link)) (Protect aim index root (bump count) (lost_turn first last found)) false (found == era) refl (lost_early aim index root (bump count) first last found)
 protect_fate task desk aim index root count (AnswerOwn first era link) post found t i e =
-    either_fate task desk post (Protect aim index root (bump count) (TakeAnswer link era)) (Protect aim index root (bump count) (answer_in (read_request found))) false (found == own_request post index root) refl (answer_untold aim index root (bump count) (read_request found))
-protect_fate task desk aim index root count (LoadAnswer first) post found t i e = inl (ap not (answer_untold aim index root (bump count) (read_request found)))
+    either_fate task desk post (Protect aim index root (bump count) (TakeAnswer link era)) (Protect aim index root (bump count) (answer_in (read_request found))) false (found == own_request post index root) refl (answer_early aim index root (bump count) (read_request found))
+protect_fate task desk aim index root count (LoadAnswer first) post found t i e = inl (ap not (answer_early aim index root (bump count) (read_request found)))
 protect_fate task desk aim index root count (TakeAnswer link era) post found t i e = inr (held_rooting index root link (bump count) i e)
 protect_fate task desk aim index root count (WithdrawRequest link era) post found t i e = absurd (cc)
 protect_fate task desk aim index root count (WithdrawHelper link era) post found t i e = absurd (cc)
 protect_fate task desk aim index root count (CheckUpper link) post found t i e =
     check_fate task desk aim index root (bump count) link found post (Protect aim index root (bump count) (RaiseUpper found)) (found == upper post.span) refl (held_rooting index root link (bump count) i e)
+protect_fate task desk aim index root count (ByHazard FirstLink) post found t i e =
+    check_fate task desk aim index root (bump count) found 0 post (Protect aim index root (bump count) (ByHazard (PublishLink found))) (found == 0) refl (held_rooting index root found (bump count) i e)
+protect_fate task desk aim index root count (ByHazard (CheckLink link)) post found t i e =
+    check_fate task desk aim index root (bump count) found 0 post (Protect aim index root (bump count) (ByHazard (PublishLink found))) (found == link || found == 0) refl (held_rooting index root found (bump count) i e)
 protect_fate task desk aim index root count at post found t i e = inl refl
 
 opens_fate : (buckets : ℕ) (task : Task) (desk : Desk) (base : Base) (post : Post) (found : ℕ) → suits base ToOpen ≡ true → Shaped buckets (Opens task) base → is_told base ≡ false → index_of task ≡ 0
@@ -148,6 +166,7 @@ span_early task post (Some span) = opening_early task post
 
 begin_early : (task : Task) (post : Post) (scheme : SchemeKind) → is_early (round_by task post (begin_base scheme post)) ≡ true
 begin_early task post He = opening_early task post
+begin_early task post Hp = opening_early task post
 begin_early task post Ibr = span_early task post post.span
 begin_early task post Wfe = opening_early task post
 

@@ -12,6 +12,8 @@ use Rattle.law_turns.specs.inv.model.declared.post.Post.{Post}
 use Rattle.law_turns.specs.inv.model.Calls.{Phase, Idle, Runs, Scans, Works, CallTurn, CallOutcome, GoesOn, Answers}
 use Rattle.law_turns.specs.inv.model.Desks.{Desk, noting}
 use Rattle.law_turns.specs.inv.model.Locals.{Local, busy_in, settled_by, begun, begun_post, told_by, told_end, rounds_told, turn}
+use Rattle.law_turns.specs.inv.model.Rounds.{scheme_of}
+use Rattle.law_turns.specs.inv.model.words.Schemes.{publishes_rows}
 use Rattle.law_turns.specs.inv.model.Posts.{counted}
 use Rattle.law_turns.specs.inv.model.World.{World, begin, finds, is_busy, offered, step, told_in}
 use Rattle.law_turns.proofs.inv.model.Facts.{first_of, rest_of, or_left_true, or_more}
@@ -69,7 +71,7 @@ rooting_along (event ∷ told) x w h =
     rooting_by event told x (is_rooting event) refl v h (λ k. rooting_along told (rooted_by event x) v k)
 
 rooting_calm : Calm is_rooting
-rooting_calm = record { reserve = λ g x. refl; read = λ g x. refl; era = λ e. refl; give = λ a b. refl; unused = λ a. refl; retire = λ a b r. refl; back = λ a. refl }
+rooting_calm = record { reserve = λ g x. refl; hazard = λ g x. refl; saw = λ g x. refl; read = λ g x. refl; era = λ e. refl; give = λ a b. refl; unused = λ a. refl; retire = λ a b r. refl; back = λ a. refl }
 
 rooting_later : (event : Event) → is_later event ≡ true → is_rooting event ≡ false
 rooting_later (events.Held index slot count) h = absurd (cc)
@@ -111,8 +113,8 @@ step_found : (w : World) (i k : ℕ) (p : Past) (same : Bool) → (k == i) ≡ s
 step_found w i k p true e s v b f =
     let one : k ≡ i = grind (arith, nat_tests) in
     let t : CallTurn = turn (offered w i) (finds w i) in
-    let here : Found (settled_by (offered w i) t.post (noting t.desk (told_by t)) (rounds_told (w.seat i).rounds (told_by t)) t.outcome) (rooted_of i (tells_of p i (told_in w i))) =
-    settled_found (w.seat i) t.post (noting t.desk (told_by t)) (rounds_told (w.seat i).rounds (told_by t)) t.outcome (rooted_of i (tells_of p i (told_in w i)))
+    let here : Found (settled_by (offered w i) t.post (noting t.desk (told_by t)) (rounds_told (publishes_rows (scheme_of t.post)) (w.seat i).rounds (told_by t)) t.outcome) (rooted_of i (tells_of p i (told_in w i))) =
+    settled_found (w.seat i) t.post (noting t.desk (told_by t)) (rounds_told (publishes_rows (scheme_of t.post)) (w.seat i).rounds (told_by t)) t.outcome (rooted_of i (tells_of p i (told_in w i)))
     (λ h l. seen_tells rooted_by false i (told_in w i) p ∙ step_rooted w i (rooted_of i p) s v h (f i b h) l) in
     subst (λ (m : ℕ). Found ((step w i).seat m) (rooted_of m (tells_of p i (told_in w i)))) (sym one)
     (subst (λ (l : Local). Found l (rooted_of i (tells_of p i (told_in w i)))) (sym (seat_steps w i)) here)

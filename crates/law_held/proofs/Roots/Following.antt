@@ -2,7 +2,7 @@
 use Rattle.std.proofs.Common.{ℕ, ◌≡◌, ◌+◌, Bool, true, false, List, [], ◌∷◌, Some, refl, sym, ap, ◌∙◌, subst, arith}
 use Rattle.std.proofs.lemmas.Bool.Decides.{nat_tests}
 use Rattle.std.specs.List.{list_any, list_all}
-use Rattle.std.specs.Prelude.{◌==◌, not, is_some, if◌then◌else◌}
+use Rattle.std.specs.Prelude.{◌==◌, not, is_some, if◌then◌else◌, ◌||◌}
 use Rattle.law_turns.specs.inv.model.words.Place.{Place}
 use Rattle.law_turns.specs.inv.model.words.Place.Place.{Head}
 use Rattle.law_turns.specs.inv.model.defs.declared.event.Event.{Event}
@@ -16,7 +16,7 @@ use Rattle.law_turns.specs.inv.model.Locals.{turn}
 use Rattle.law_turns.specs.inv.model.Machine as machine
 use Rattle.law_turns.specs.inv.model.Memory.{bump}
 use Rattle.law_turns.specs.inv.model.Phases.{ProtectAt, Base}
-use Rattle.law_turns.specs.inv.model.Phases.ProtectAt.{CheckClock, TakeAnswer, CheckUpper}
+use Rattle.law_turns.specs.inv.model.Phases.ProtectAt.{CheckClock, TakeAnswer, CheckUpper, ByHazard}
 use Rattle.law_turns.specs.inv.model.Phases.Base.{Protect, Reload, Clear, Release}
 use Rattle.law_turns.specs.inv.model.Posts.{stands, counted, upper}
 use Rattle.law_turns.specs.inv.model.Protect.{told_held}
@@ -47,6 +47,10 @@ use Rattle.law_scans.proofs.inv.ends.Ends.Stood.{is_standing, standing_calm}
 use Rattle.law_held.proofs.NextRows.Following.{is_one, no_reload, why_one, later_one, at_one, cleared_one, one_calm, work_one}
 use Rattle.law_held.proofs.Indexes.Clears.{row_there}
 use Rattle.law_turns.proofs.inv.model.Lists.{or_left, or_right}
+use Rattle.law_turns.specs.inv.model.Phases.HazardAt.{FirstLink, CheckLink}
+use Rattle.law_turns.proofs.reuse.ReadGuards.{reads_are}
+use Rattle.law_turns.specs.inv.model.words.Schemes.{publishes_rows}
+use Rattle.law_turns.specs.inv.model.Guards.{guard_at}
 
 -- nothing is told at index 1
 other_ok : (slots : ℕ) (p : Past) (i : ℕ) (event : Event) → is_one event ≡ false → follows_ok slots p i event ≡ true
@@ -89,7 +93,7 @@ still_each slots i (event ∷ told) p h s g =
 base_one : (buckets : ℕ) (why : Why) (base : Base) (post : Post) (found : ℕ) → is_follow why ≡ false → suits base (kind_of why) ≡ true → Shaped buckets why base → base_shows is_one post base found ≡ false
 base_one buckets why (Protect aim index root count at) post found f k h = at_one index root (bump count) post at found (why_one why index f k h.at)
 base_one buckets why (Reload parent index slot era count) post found f k h = no_reload why (base_shows is_one post (Reload parent index slot era count) found) f k
-base_one buckets why (Clear index) post found f k h = cleared_one index (stands post index)
+base_one buckets why (Clear rows index) post found f k h = cleared_one index (stands post index)
 base_one buckets why (Release index) post found f k h = cleared_one index (stands post index)
 base_one buckets why base post found f k h = refl
 
@@ -102,6 +106,8 @@ at_still : (index parent n : ℕ) (post : Post) (at : ProtectAt) (found : ℕ) �
 at_still index parent n post (CheckClock era tries link) found = and_right_false (found == era) (list_any is_standing (told_held index (roots.Next parent) link n)) (next_still index n (link == 0))
 at_still index parent n post (TakeAnswer link era) found = next_still index n (link == 0)
 at_still index parent n post (CheckUpper link) found = and_right_false (found == upper post.span) (list_any is_standing (told_held index (roots.Next parent) link n)) (next_still index n (link == 0))
+at_still index parent n post (ByHazard FirstLink) found = and_right_false (found == 0) (list_any is_standing (told_held index (roots.Next parent) found n)) (next_still index n (found == 0))
+at_still index parent n post (ByHazard (CheckLink link)) found = and_right_false (found == link || found == 0) (list_any is_standing (told_held index (roots.Next parent) found n)) (next_still index n (found == 0))
 at_still index parent n post at found = refl
 
 root_still : (index : ℕ) (root : Root) (parent n : ℕ) (post : Post) (at : ProtectAt) (found : ℕ) → root ≡ roots.Next parent → at_shows is_standing index root n post at found ≡ false
@@ -134,7 +140,7 @@ own_each buckets slots i mem (Runs (FollowsHead head tail) base) post p k g = fo
 own_each buckets slots i mem (Runs why base) post p k g =
     let found : ℕ = finds_phase mem (Runs why base) post in
     other_each slots i (machine.after base (counted post) found).told p (base_any is_one base (counted post) found one_calm ∙ base_one buckets why base (counted post) found refl k.fits.0 k.fits.1) g
-own_each buckets slots i mem (Scans later (ReadGuard number)) post p k g = (refl, g)
+own_each buckets slots i mem (Scans later (ReadGuard number)) post p k g = reads_are (λ event. Each (follows_ok slots) (tells_of p i (event ∷ []))) (publishes_rows post.layout.config.scheme) (guard_at post.layout.config number) (finds_phase mem (Scans later (ReadGuard number)) post) (λ span. (refl, g)) (λ slot. (refl, g))
 own_each buckets slots i mem (Scans later (GiveBack place slot)) post p k g = (refl, g)
 own_each buckets slots i mem (Works work) post p k g = other_each slots i (work_told work (counted post)) p (work_one work (counted post)) g
 

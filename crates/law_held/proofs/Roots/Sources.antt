@@ -20,7 +20,7 @@ use Rattle.law_turns.specs.inv.model.Calls.{Task, Gets, Changes, Holds, Enqueues
 use Rattle.law_turns.specs.inv.model.Links.{link_place}
 use Rattle.law_turns.specs.inv.model.Memory.{bump}
 use Rattle.law_turns.specs.inv.model.Phases.{Aim, ProtectAt, Base}
-use Rattle.law_turns.specs.inv.model.Phases.ProtectAt.{CheckClock, TakeAnswer, CheckUpper}
+use Rattle.law_turns.specs.inv.model.Phases.ProtectAt.{CheckClock, TakeAnswer, CheckUpper, ByHazard}
 use Rattle.law_turns.specs.inv.model.Phases.Base.{Protect, Reload, Clear, Release}
 use Rattle.law_turns.specs.inv.model.Posts.{counted, cleared, stands, upper}
 use Rattle.law_turns.specs.inv.model.Protect.{told_held}
@@ -63,8 +63,9 @@ use Rattle.law_held.proofs.Roots.Ways.{record_each, answers_of}
 use Rattle.law_scans.proofs.reuse.Lawful.Counts.{reload_index}
 use Rattle.law_scans.proofs.inv.links.Origins.Ends.{found_clock}
 use Rattle.law_scans.proofs.inv.ends.Handover.Asks.{run_of}
-use Rattle.law_held.proofs.NextRows.Behind.{now_held, one_held}
+use Rattle.law_held.proofs.NextRows.Behind.{now_held, one_held, found_root, loads_found}
 use Rattle.law_turns.proofs.inv.model.Lists.{or_left, or_right as none_rest}
+use Rattle.law_turns.specs.inv.model.Phases.HazardAt.{FirstLink, CheckLink}
 
 -- the row of a link
 abbrev row_of : ℕ → Option ℕ
@@ -164,7 +165,7 @@ item_kept layout made (Steps i) true f l g =
       known = known_kept w i g.rows g.line g.asked q.0 b g.known q.1.facts q.1.deal;
       links = origins_kept (had_link layout.config made.past) (had_link layout.config (tells_of made.past i told)) w i g.asked q.0 (origins_need w i g.rows g.line g.asked b g.known) q.1.deal
           (record {
-            fresh = λ k h. root_along layout.config made.past k i (root_in w k) (w.mem (link_place (root_in w k))) told (within_of w i) (root_now layout.config w.mem made.past k (root_in w k) l);
+            fresh = λ k h e. root_along layout.config made.past k i (root_in w k) (w.mem (link_place (root_in w k))) told (within_of w i) (root_now layout.config w.mem made.past k (root_in w k) l);
             stays = λ k x t h. root_along layout.config made.past k i (root_in w k) x told (within_of w i) h;
           })
           g.links;
@@ -184,7 +185,7 @@ abbrev is_odd : Config → Past → ℕ → Event → Bool
 is_odd c p i event = not (sources_ok c p i event)
 
 odd_calm : (c : Config) (p : Past) (i : ℕ) → Calm (is_odd c p i)
-odd_calm c p i = record { reserve = λ g x. refl; read = λ g x. refl; era = λ e. refl; give = λ a b. refl; unused = λ a. refl; retire = λ a b r. refl; back = λ a. refl }
+odd_calm c p i = record { reserve = λ g x. refl; hazard = λ g x. refl; saw = λ g x. refl; read = λ g x. refl; era = λ e. refl; give = λ a b. refl; unused = λ a. refl; retire = λ a b r. refl; back = λ a. refl }
 
 odd_later : (c : Config) (p : Past) (i : ℕ) (event : Event) → is_later event ≡ true → is_odd c p i event ≡ false
 odd_later c p i (events.Held index slot count) h = absurd (cc)
@@ -230,14 +231,16 @@ and_by : (a b : Bool) → (a ≡ true → b ≡ false) → (a && b) ≡ false
 and_by true b h = h refl
 and_by false b h = refl
 
-at_even : (c : Config) (p : Past) (i index : ℕ) (root : Root) (task : Task) (n : ℕ) (post : Post) (at : ProtectAt) (found : ℕ) → root ≡ task_root c.buckets task → ((x : ℕ) → carries_at found (upper post.span) at x ≡ true → has_had c i p (began_of i p) (row_of x) ≡ true)
+at_even : (c : Config) (p : Past) (i index : ℕ) (root : Root) (task : Task) (n : ℕ) (post : Post) (at : ProtectAt) (found : ℕ) → root ≡ task_root c.buckets task → ((x : ℕ) → carries_at found (upper post.span) at x ≡ true → has_had c i p (began_of i p) (row_of x) ≡ true) → (loads_found at ≡ true → has_had c i p (began_of i p) (row_of found) ≡ true)
     → at_shows (is_odd c p i) index root n post at found ≡ false
-at_even c p i index root task n post (CheckClock era tries link) found r h =
+at_even c p i index root task n post (CheckClock era tries link) found r h f =
     and_by (found == era) (list_any (is_odd c p i) (told_held index root link n)) (λ e. root_even c p i index root task link n r (h link (both (link == link) (found == era) (same_number link) e)))
-at_even c p i index root task n post (TakeAnswer link era) found r h = root_even c p i index root task link n r (h link (same_number link))
-at_even c p i index root task n post (CheckUpper link) found r h =
+at_even c p i index root task n post (TakeAnswer link era) found r h f = root_even c p i index root task link n r (h link (same_number link))
+at_even c p i index root task n post (CheckUpper link) found r h f =
     and_by (found == upper post.span) (list_any (is_odd c p i) (told_held index root link n)) (λ e. root_even c p i index root task link n r (h link (both (link == link) (found == upper post.span) (same_number link) e)))
-at_even c p i index root task n post at found r h = refl
+at_even c p i index root task n post (ByHazard FirstLink) found r h f = and_by (found == 0) (list_any (is_odd c p i) (told_held index root found n)) (λ e. root_even c p i index root task found n r (f refl))
+at_even c p i index root task n post (ByHazard (CheckLink link)) found r h f = and_by (found == link || found == 0) (list_any (is_odd c p i) (told_held index root found n)) (λ e. root_even c p i index root task found n r (f refl))
+at_even c p i index root task n post at found r h f = refl
 
 carried_had : (c : Config) (w : World) (i : ℕ) (z : Asked) (p : Past) (why : Why) (aim : Aim) (index : ℕ) (root : Root) (count : ℕ) (at : ProtectAt) (x : ℕ) → (w.seat i).phase ≡ Runs why (Protect aim index root count at) → Origins (had_link c p) w z → carries_at (finds w i) (upper (w.seat i).post.span) at x ≡ true → had_link c p i root x ≡ true
 carried_had c w i z p why aim index root count at x q o h =
@@ -249,6 +252,8 @@ next_even : (c : Config) (p : Past) (i index parent n : ℕ) (post : Post) (at :
 next_even c p i index parent n post (CheckClock era tries link) found e = and_by (found == era) (list_any (is_odd c p i) (told_held index (roots.Next parent) link n)) (λ h. one_even c p i index 0 n (link == 0) e)
 next_even c p i index parent n post (TakeAnswer link era) found e = one_even c p i index 0 n (link == 0) e
 next_even c p i index parent n post (CheckUpper link) found e = and_by (found == upper post.span) (list_any (is_odd c p i) (told_held index (roots.Next parent) link n)) (λ h. one_even c p i index 0 n (link == 0) e)
+next_even c p i index parent n post (ByHazard FirstLink) found e = and_by (found == 0) (list_any (is_odd c p i) (told_held index (roots.Next parent) found n)) (λ h. one_even c p i index 0 n (found == 0) e)
+next_even c p i index parent n post (ByHazard (CheckLink link)) found e = and_by (found == link || found == 0) (list_any (is_odd c p i) (told_held index (roots.Next parent) found n)) (λ h. one_even c p i index 0 n (found == 0) e)
 next_even c p i index parent n post at found e = refl
 
 reload_even : (c : Config) (p : Past) (i index slot n : ℕ) → index ≡ 1 → is_odd c p i (events.Held index slot n) ≡ false
@@ -267,6 +272,7 @@ no_protect why x k f g = absurd (cc)
 record Knows (c : Config) (w : World) (i : ℕ) (z : Asked) (p : Past) : Type 0 where
   table : w.layout.config ≡ c
   origins : Origins (had_link c p) w z
+  leads : Leads c.slots w.mem p
   began : began_of i p ≡ Some (w.seat i).call
   serves : Serves (w.seat i).call (w.seat i).phase
   seats : Seats w
@@ -282,7 +288,10 @@ protect_even c w i z p why aim index root count at q k b =
     let serves : TaskServes (w.seat i).call task = subst (λ (f : Phase). Serves (w.seat i).call f) r b.serves in
     at_even c p i index root task (bump count) (counted (w.seat i).post) at (finds w i) of
     (λ x h. subst (λ (y : Option Call). has_had c i p y (row_of x) ≡ true) (sym b.began)
-    (call_had c p i (w.seat i).call task x serves (subst (λ (y : Root). had_link c p i y x ≡ true) of (carried_had c w i z p why aim index root count at x q b.origins h)))))
+    (call_had c p i (w.seat i).call task x serves (subst (λ (y : Root). had_link c p i y x ≡ true) of (carried_had c w i z p why aim index root count at x q b.origins h))))
+    (λ h. subst (λ (y : Option Call). has_had c i p y (row_of (finds w i)) ≡ true) (sym b.began)
+    (call_had c p i (w.seat i).call task (finds w i) serves (subst (λ (y : Root). had_link c p i y (finds w i) ≡ true) of
+    (subst (λ (x : ℕ). had_link c p i root x ≡ true) (sym (found_root w i why aim index root count at q h)) (root_now c w.mem p i root b.leads))))))
     (λ head tail e.
     let r : (w.seat i).phase ≡ Runs (FollowsHead head tail) (Protect aim index root count at) = q ∙ ap (λ (y : Why). Runs y (Protect aim index root count at)) e in
     let a = aimed_at w i (FollowsHead head tail) aim index root count at b.seats r in
@@ -294,7 +303,7 @@ run_even c w i z p why (Protect aim index root count at) q b = protect_even c w 
 run_even c w i z p why (Reload parent index slot era count) q b =
     let r = run_of w i why (Reload parent index slot era count) b.seats q in
     and_by (finds w i == parent + 1) (is_odd c p i (events.Held index slot (bump count))) (λ e. reload_even c p i index slot (bump count) (reload_index why index r.suited r.shape.at))
-run_even c w i z p why (Clear index) q b = cleared_even c p i index (stands (w.seat i).post index)
+run_even c w i z p why (Clear rows index) q b = cleared_even c p i index (stands (w.seat i).post index)
 run_even c w i z p why (Release index) q b = cleared_even c p i index (stands (w.seat i).post index)
 run_even c w i z p why base q b = refl
 
@@ -354,5 +363,5 @@ records_find_sources layout items d = record_each layout (sources_ok layout.conf
       let k = sources_of layout path d in
       even_each layout.config i (told_in w i) p (within_of w i)
       (step_any (is_odd layout.config p i) w i (odd_calm layout.config p i) (odd_later layout.config p i)
-      ∙ phase_even layout.config w i k.asked p (w.seat i).phase refl (record { table = ap (λ (x : Layout). x.config) k.table; origins = k.links; began = (a.seats i).began t.busy; serves = (a.seats i).serves t.busy; seats = a.known.known.seats })) g;
+      ∙ phase_even layout.config w i k.asked p (w.seat i).phase refl (record { table = ap (λ (x : Layout). x.config) k.table; origins = k.links; leads = leads_of layout path d; began = (a.seats i).began t.busy; serves = (a.seats i).serves t.busy; seats = a.known.known.seats })) g;
 })

@@ -11,7 +11,9 @@ use Rattle.law_scans.specs.inv.model.defs.declared.call.Call.{Call}
 use Rattle.law_scans.specs.inv.model.defs.declared.event.Event.{Event}
 use Rattle.law_scans.specs.inv.model.defs.declared.event.Event.TheVariants as events
 use Rattle.law_scans.specs.inv.model.declared.post.Post.{Post}
-use Rattle.law_scans.specs.inv.model.Guards.{guards}
+use Rattle.law_scans.specs.inv.model.Guards.{guard_at, guards}
+use Rattle.law_scans.specs.inv.model.words.Schemes.{publishes_rows}
+use Rattle.law_scans.proofs.reuse.ReadGuards.{reads_are}
 use Rattle.law_scans.specs.inv.model.Steps as steps
 use Rattle.law_scans.specs.inv.model.Phases.AllocateAt.{ClaimSlot}
 use Rattle.law_scans.specs.inv.model.Phases.Base.{Allocate}
@@ -71,6 +73,7 @@ lates c p k s = nat_lt c.slots s || taken_since c.slots k s p
 unmarked : (i : ℕ) (p : Past) (event : Event) → (is_unread event && is_within event) ≡ true → own i is_mark p i event ≡ false
 unmarked i p (events.Begin call) h = absurd (cc)
 unmarked i p (events.Read guard span) h = absurd (cc)
+unmarked i p (events.Saw guard slot) h = absurd (cc)
 unmarked i p (events.Back slot) h = absurd (cc)
 unmarked i p event h = refl
 
@@ -107,6 +110,7 @@ lacks_others c k i told p e h = lacks_to c k p (tells_of p i told) (others_began
 still_same : (event : Event) (x : Search) → is_still event ≡ true → search_by event x ≡ x
 still_same (events.Begin call) x h = absurd (cc)
 still_same (events.Read guard span) x h = absurd (cc)
+still_same (events.Saw guard slot) x h = absurd (cc)
 still_same (events.Give slot birth) x h = absurd (cc)
 still_same (events.Retire slot birth retire) x h = absurd (cc)
 still_same event x h = refl
@@ -316,10 +320,12 @@ step_walks layout made i m false e k g =
 -- the law on scans that make room
 unread_room : (slots s i : ℕ) (p : Past) (event : Event) → is_unread event ≡ true → room_ok slots s p i event ≡ true
 unread_room slots s i p (events.Read guard span) h = absurd (cc)
+unread_room slots s i p (events.Saw guard slot) h = absurd (cc)
 unread_room slots s i p event h = refl
 
 still_room : (slots s i : ℕ) (p : Past) (event : Event) → is_still event ≡ true → room_ok slots s p i event ≡ true
 still_room slots s i p (events.Read guard span) h = absurd (cc)
+still_room slots s i p (events.Saw guard slot) h = absurd (cc)
 still_room slots s i p event h = refl
 
 each_room : (slots s i : ℕ) (quiet : Event → Bool) → ((p : Past) (event : Event) → quiet event ≡ true → room_ok slots s p i event ≡ true) → (told : List Event) (p : Past) → all_of quiet told ≡ true → Each (room_ok slots s) p → Each (room_ok slots s) (tells_of p i told)
@@ -332,7 +338,9 @@ later_room c n s i p (Repeated task) l f = or_more (not (search_of i p).seeks) (
 later_room c n s i p Counted l f = or_left_true (not (search_of i p).seeks) (was_taken c.slots i s p) (ap not f)
 
 scan_room : (c : Config) (s i : ℕ) (p : Past) (later : AfterScan) (at : ScanAt) (post : Post) (found : ℕ) → s ≤ c.slots → LaterFits c (reads_at (guards c) at) later (now_of c i p) → Each (room_ok c.slots s) p → Each (room_ok c.slots s) (tells_of p i (scan_told at post found))
-scan_room c s i p later (ReadGuard n) post found l f g = (later_room c n s i p later l f, g)
+scan_room c s i p later (ReadGuard n) post found l f g =
+    let room = later_room c n s i p later l f in
+    reads_are (λ (event : Event). Each (room_ok c.slots s) (tells_of p i (event ∷ []))) (publishes_rows post.layout.config.scheme) (guard_at post.layout.config n) found (λ span. (room, g)) (λ slot. (room, g))
 scan_room c s i p later (GiveBack place slot) post found l f g = (refl, g)
 
 step_room : (layout : Layout) (made : Made) (i s : ℕ) (phase : Phase) → (made.world.seat i).phase ≡ phase → s ≤ made.world.layout.config.slots → Keeps layout made → Each (room_ok made.world.layout.config.slots s) (tells_of made.past i (told_in made.world i))

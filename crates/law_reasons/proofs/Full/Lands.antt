@@ -4,7 +4,6 @@ use Rattle.std.proofs.lemmas.Bool.Decides.{nat_tests}
 use Rattle.std.specs.Prelude.{◌==◌, nat_lt, if◌then◌else◌}
 use Rattle.law_scans.specs.inv.model.defs.declared.event.Guard.{Guard}
 use Rattle.law_scans.specs.inv.model.defs.declared.lifetime.Interval.{Interval}
-use Rattle.law_scans.specs.inv.model.defs.Shown.{Seen}
 use Rattle.law_scans.specs.inv.model.words.declared.config.Config.{Config}
 use Rattle.law_scans.specs.inv.model.defs.declared.call.Answer.{Answer}
 use Rattle.law_scans.specs.inv.model.defs.declared.call.Answer.TheVariants as the_answers
@@ -19,7 +18,9 @@ use Rattle.law_scans.specs.inv.model.Allocate as allocates
 use Rattle.law_scans.specs.inv.model.Change as alters
 use Rattle.law_scans.specs.inv.model.Desks.{Desk, with_life}
 use Rattle.law_scans.specs.inv.model.Enqueue as enqueues
-use Rattle.law_scans.specs.inv.model.Guards.{guards, guard_at, eras_in, published}
+use Rattle.law_scans.specs.inv.model.Guards.{guards, guard_at, published}
+use Rattle.law_scans.specs.inv.model.words.Schemes.{moves as moves_clock, publishes_rows}
+use Rattle.law_scans.proofs.reuse.ReadGuards.{reads_are}
 use Rattle.law_scans.specs.inv.model.Machine as machine
 use Rattle.law_scans.specs.inv.model.Posts.{stands}
 use Rattle.law_scans.specs.inv.model.Rounds.{let_index, letting, letting_by, release_base, scheme_of, with_clock}
@@ -41,7 +42,7 @@ use Rattle.law_scans.proofs.inv.history.Passes.{scan_told}
 use Rattle.law_scans.proofs.DueScans.Lands.{PhaseRight}
 use Rattle.law_scans.proofs.DueScans.Still.{claim_front, tick_front, base_front, front}
 use Rattle.law_scans.specs.laws.HistoryScans.{Search, search_by, seeks_row}
-use Rattle.law_reasons.proofs.Full.Ties.{Now, parts_fit, is_full, is_walked, reads_in, reads_at, OutcomeSure, WorkSure, TaskFits, WalkFits, RoomFits, FullFits, AnswerFits, NextFits, LaterFits, FillFits, WhyFits, WorkFits, PhaseFits, OutFits, other_task, round_fits, closed_fits, clearing_fits, work_fits, resumed_opens, resumed_follows, resumed_next, resumed_clears, resumed_finishes, resumed_gives, resumed_releases}
+use Rattle.law_reasons.proofs.Full.Ties.{Now, parts_fit, tidy_fits, is_full, is_walked, reads_in, reads_at, OutcomeSure, WorkSure, TaskFits, WalkFits, RoomFits, FullFits, AnswerFits, NextFits, LaterFits, FillFits, WhyFits, WorkFits, PhaseFits, OutFits, other_task, round_fits, closed_fits, clearing_fits, work_fits, resumed_opens, resumed_follows, resumed_next, resumed_clears, resumed_finishes, resumed_gives, resumed_releases}
 
 -- a row is filled
 written_fits : (c : Config) (task : Task) (post : Post) (desk : Desk) (told : List Event) (z : Now) → TaskFits c task z → OutFits c (steps.written_row task post desk told).outcome z
@@ -128,7 +129,7 @@ fills_fits c z task base post desk found h s f a u = absurd (cc)
 
 -- a row is retired
 tidying_fits : (c : Config) (answer : Answer) (post : Post) (desk : Desk) (told : List Event) (due : Bool) (z : Now) → z.search.seeks ≡ false → is_full answer ≡ false → OutFits c (steps.tidying answer post desk told due).outcome z
-tidying_fits c answer post desk told true z k n = (k, n)
+tidying_fits c answer post desk told true z k n = tidy_fits c (Answered answer) (moves_clock (scheme_of post)) post z (k, n)
 tidying_fits c answer post desk told false z k n = λ h. absurd (cc)
 
 retires_fits : (c : Config) (z : Now) (answer : Answer) (base : Base) (post : Post) (desk : Desk) (found : ℕ) → suits base ToRetire ≡ true → is_full answer ≡ false
@@ -319,13 +320,23 @@ read_later c n (Answered answer) guard span z f = f
 read_later c n (Repeated task) guard span z f = record { seeks = f.seeks; reads = ap (λ (k : ℕ). k + 1) f.reads; walked = f.walked; was = f.was }
 read_later c n Counted guard span z f = f
 
+saw_later : (c : Config) (n : ℕ) (later : AfterScan) (guard : Guard) (slot : Option ℕ) (z : Now) → LaterFits c n later z → LaterFits c (n + 1) later (now_by (events.Saw guard slot) z)
+saw_later c n (Answered answer) guard slot z f = f
+saw_later c n (Repeated task) guard slot z f = record { seeks = f.seeks; reads = ap (λ (k : ℕ). k + 1) f.reads; walked = f.walked; was = f.was }
+saw_later c n Counted guard slot z f = f
+
 scan_fits_on : (z : Now) (later : AfterScan) (at : ScanAt) (post : Post) (desk : Desk) (found : ℕ) → scan_fits post.layout.config at ≡ true → LaterFits post.layout.config (reads_at (guards post.layout.config) at) later z
     → OutFits post.layout.config (scan.scan_turn later at post desk found).outcome (after_first (scan_told at post found) z)
 scan_fits_on z later (ReadGuard n) post desk found s f =
     let c : Config = post.layout.config in
     let l : n < guards c = grind (arith, nat_tests) in
-    let seen : Seen = (guard_at c n, published (guard_at c n) found) in
-    reading_fits c n later post (scan.with_read desk n seen) (events.Read seen.0 (eras_in seen.0 found) ∷ []) (nat_lt (n + 1) (guards c)) (now_by (events.Read seen.0 (eras_in seen.0 found)) z) refl l (read_later c n later seen.0 (eras_in seen.0 found) z f)
+    let rows : Bool = publishes_rows c.scheme in
+    let guard : Guard = guard_at c n in
+    let read : Desk = scan.with_read desk n (guard, published rows guard found) in
+    let told : List Event = scan.reads_guard rows guard found ∷ [] in
+    reads_are (λ (event : Event). OutFits c (scan.scan_turn later (ReadGuard n) post desk found).outcome (now_by event z)) rows guard found
+    (λ span. reading_fits c n later post read told (nat_lt (n + 1) (guards c)) (now_by (events.Read guard span) z) refl l (read_later c n later guard span z f))
+    (λ slot. reading_fits c n later post read told (nat_lt (n + 1) (guards c)) (now_by (events.Saw guard slot) z) refl l (saw_later c n later guard slot z f))
 scan_fits_on z later (GiveBack place slot) post desk found s f =
     let c : Config = post.layout.config in
     let y : Now = now_by (events.Back slot) z in

@@ -13,9 +13,9 @@ use Rattle.law_scans.specs.inv.model.Phases.Base.{Allocate, Clear}
 use Rattle.law_scans.specs.inv.model.Locals.{told_by}
 use Rattle.law_scans.proofs.Leaving.{parts_all}
 use Rattle.law_scans.specs.inv.model.Calls.{LetGo, Released, Rehold, Dropped, AfterScan, Answered, Repeated, Counted, ReadGuard, GiveBack, ScanAt, Holds, Task, Phase, Idle, Runs, Scans, Works}
-use Rattle.law_scans.specs.inv.model.Guards.{guards, guard_at, eras_in, published}
+use Rattle.law_scans.specs.inv.model.Guards.{guards, guard_at, published}
 use Rattle.law_scans.specs.inv.model.Posts.{stands, withdrawn}
-use Rattle.law_scans.specs.inv.model.words.Schemes.{has_one_interval}
+use Rattle.law_scans.specs.inv.model.words.Schemes.{has_one_interval, publishes_rows}
 use Rattle.law_scans.specs.inv.model.Rounds.{begin_base, begin_span, kept_row, let_index, letting, letting_by, release_span, round, round_by, scheme_of}
 use Rattle.law_scans.specs.inv.model.Scan as scan
 use Rattle.law_scans.specs.inv.model.Steps as steps
@@ -27,7 +27,7 @@ use Rattle.law_scans.proofs.inv.history.AllOf.{all_of}
 use Rattle.law_scans.proofs.reuse.Once.Calm.{is_unread, run_unread, work_unread}
 use Rattle.law_scans.specs.inv.ends.Walks.{WalkPhase}
 use Rattle.law_scans.specs.inv.model.words.declared.config.SchemeKind.{SchemeKind}
-use Rattle.law_scans.specs.inv.model.words.declared.config.SchemeKind.TheVariants.{He, Ibr, Wfe}
+use Rattle.law_scans.specs.inv.model.words.declared.config.SchemeKind.TheVariants.{He, Hp, Ibr, Wfe}
 use Rattle.law_scans.specs.laws.StateAt.{is_mark}
 
 -- at this position
@@ -112,6 +112,7 @@ base_walks : (slots : ℕ) (seen : ℕ → Bool) (task : Task) (post : Post) (sc
 base_walks slots seen task post He = tt
 base_walks slots seen task post Ibr = span_walks slots seen task post post.span
 base_walks slots seen task post Wfe = tt
+base_walks slots seen task post Hp = tt
 
 round_walks : (slots : ℕ) (seen : ℕ → Bool) (task : Task) (post : Post) → WalkPhase slots seen (round task post)
 round_walks slots seen task post = base_walks slots seen task post (scheme_of post)
@@ -121,12 +122,12 @@ span_unwalks : (slots : ℕ) (seen : ℕ → Bool) (let_go : LetGo) (index : ℕ
 span_unwalks slots seen let_go index None = tt
 span_unwalks slots seen let_go index (Some slot) = tt
 
-base_unwalks : (slots : ℕ) (seen : ℕ → Bool) (let_go : LetGo) (index : ℕ) (x : Option ℕ) (one : Bool) → WalkPhase slots seen (letting_by let_go (if one then release_span index x else Some (Clear index)))
-base_unwalks slots seen let_go index x true = span_unwalks slots seen let_go index x
-base_unwalks slots seen let_go index x false = tt
+base_unwalks : (slots : ℕ) (seen : ℕ → Bool) (let_go : LetGo) (index : ℕ) (x : Option ℕ) (one rows : Bool) → WalkPhase slots seen (letting_by let_go (if one then release_span index x else Some (Clear rows index)))
+base_unwalks slots seen let_go index x true rows = span_unwalks slots seen let_go index x
+base_unwalks slots seen let_go index x false rows = tt
 
 release_walks : (slots : ℕ) (seen : ℕ → Bool) (let_go : LetGo) (post : Post) → WalkPhase slots seen (letting let_go post)
-release_walks slots seen let_go post = base_unwalks slots seen let_go (let_index let_go) (kept_row (withdrawn post (let_index let_go))) (has_one_interval (scheme_of post))
+release_walks slots seen let_go post = base_unwalks slots seen let_go (let_index let_go) (kept_row (withdrawn post (let_index let_go))) (has_one_interval (scheme_of post)) (publishes_rows (scheme_of post))
 
 copying_walks : (slots : ℕ) (seen : ℕ → Bool) (from index : ℕ) (x : Option ℕ) → WalkPhase slots seen (steps.copying from index x)
 copying_walks slots seen from index None = tt
@@ -151,7 +152,7 @@ first_walks slots seen names.Release post = release_walks slots seen Released po
 first_walks slots seen (names.Copy from index) post = copying_walks slots seen from index (stands post from)
 first_walks slots seen (names.DropIndex index) post = release_walks slots seen (Dropped index) post
 first_walks slots seen (names.Look index key) post = looking_walks slots seen index key (stands post index)
-first_walks slots seen names.Leave post = parts_all (λ (phase : Phase). WalkPhase slots seen phase) (record { clears = λ index. tt; hides = tt; marks = tt }) post
+first_walks slots seen names.Leave post = parts_all (λ (phase : Phase). WalkPhase slots seen phase) (record { clears = λ rows index. tt; hides = tt; marks = tt }) post
 first_walks slots seen (names.Adopt place) post = tt
 first_walks slots seen (names.PutIf key value version) post = round_walks slots seen _ post
 first_walks slots seen names.Advance post = tt
@@ -171,5 +172,5 @@ reading_walks slots seen later n post desk told true = tt
 reading_walks slots seen later n post desk told false = giving_walks slots seen later post desk told (scan.unmet_from desk 0)
 
 pub scan_walks : (slots : ℕ) (seen : ℕ → Bool) (later : AfterScan) (at : ScanAt) (post : Post) (desk : Desk) (found : ℕ) → WalkPhase slots seen (phase_left (scan.scan_turn later at post desk found).outcome)
-scan_walks slots seen later (ReadGuard n) post desk found = reading_walks slots seen later n post (scan.with_read desk n (guard_at post.layout.config n, published (guard_at post.layout.config n) found)) (events.Read (guard_at post.layout.config n) (eras_in (guard_at post.layout.config n) found) ∷ []) (nat_lt (n + 1) (guards post.layout.config))
+scan_walks slots seen later (ReadGuard n) post desk found = reading_walks slots seen later n post (scan.with_read desk n (guard_at post.layout.config n, published (publishes_rows post.layout.config.scheme) (guard_at post.layout.config n) found)) (scan.reads_guard (publishes_rows post.layout.config.scheme) (guard_at post.layout.config n) found ∷ []) (nat_lt (n + 1) (guards post.layout.config))
 scan_walks slots seen later (GiveBack place slot) post desk found = giving_walks slots seen later post (scan.with_back desk place) (events.Back slot ∷ []) (scan.unmet_from (scan.with_back desk place) place)

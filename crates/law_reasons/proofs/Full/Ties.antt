@@ -22,10 +22,10 @@ use Rattle.law_scans.specs.inv.model.Enqueue as enqueues
 use Rattle.law_scans.specs.inv.model.Get as gets
 use Rattle.law_scans.specs.inv.model.Guards.{guards}
 use Rattle.law_scans.specs.inv.model.Keep as keeps
-use Rattle.law_scans.specs.inv.model.Posts.{cleared, reserves_index, stands, withdrawn}
-use Rattle.law_scans.specs.inv.model.words.Schemes.{has_one_interval}
+use Rattle.law_scans.specs.inv.model.Posts.{cleared, publishes_index, stands, withdrawn}
+use Rattle.law_scans.specs.inv.model.words.Schemes.{has_one_interval, moves as moves_clock, publishes_rows}
 use Rattle.law_scans.specs.inv.model.Steps as steps
-use Rattle.law_scans.specs.inv.model.Rounds.{scheme_of, let_index, bucket_of, index_of, taken_of, begin_base, round, round_by, finish_base, clear_base, clear_post, clear_told, given_up, closed, finishing_by, finishing, clearing_by, clearing, clearing_next_by, clearing_next}
+use Rattle.law_scans.specs.inv.model.Rounds.{scheme_of, tidy_by, let_index, bucket_of, index_of, taken_of, begin_base, round, round_by, finish_base, clear_base, clear_post, clear_told, given_up, closed, finishing_by, finishing, clearing_by, clearing, clearing_next_by, clearing_next}
 use Rattle.law_scans.specs.inv.model.Phases.{Base, Ending, Outcome, Goes, Ends}
 use Rattle.law_scans.specs.inv.model.Phases.AllocateAt.{LoadBirth, ClaimSlot, StoreLife}
 use Rattle.law_scans.specs.inv.model.Phases.Base.{Allocate}
@@ -200,9 +200,14 @@ given_up_fits : (c : Config) (answer : Answer) (post : Post) (desk : Desk) (told
 given_up_fits c answer post desk told None z s = s
 given_up_fits c answer post desk told (Some slot) z s = s
 
+-- the clock is moved before the scan, or the scan comes at once
+pub tidy_fits : (c : Config) (later : AfterScan) (moving : Bool) (post : Post) (z : Now) → LaterFits c 0 later z → PhaseFits c (tidy_by moving later post) z
+tidy_fits c later true post z f = f
+tidy_fits c later false post z f = f
+
 pub closed_fits : (c : Config) (task : Task) (next : Next) (post : Post) (desk : Desk) (told : List Event) (z : Now) → NextFits c task next z → OutFits c (closed task next post desk told).outcome z
 closed_fits c task Again post desk told z f = round_fits c task post z f
-closed_fits c task MakeRoom post desk told z f = f
+closed_fits c task MakeRoom post desk told z f = tidy_fits c (Repeated task) (moves_clock (scheme_of post)) post z f
 closed_fits c task (Answering answer) post desk told z f = given_up_fits c answer post desk told (taken_of task) z f
 closed_fits c task (Retiring slot answer) post desk told z f = f
 
@@ -370,7 +375,7 @@ dequeue_fits c at post desk found z = tt
 
 -- a seat that leaves
 pub parts_fit : (c : Config) (z : Now) → Parts (λ (phase : Phase). PhaseFits c phase z)
-parts_fit c z = record { clears = λ index. tt; hides = tt; marks = tt }
+parts_fit c z = record { clears = λ rows index. tt; hides = tt; marks = tt }
 
 -- what is kept
 released_fits : (c : Config) (let_go : LetGo) (post : Post) (desk : Desk) (told : List Event) (z : Now) → OutFits c (keeps.released let_go post desk told).outcome z
@@ -404,7 +409,7 @@ look_fits c index key (FindValue slot version pair) post desk found z = λ h. ab
 keep_fits : (c : Config) (at : KeepAt) (post : Post) (desk : Desk) (found : ℕ) (z : Now) → OutFits c (keeps.keep_turn at post desk found).outcome z
 keep_fits c (Loosens let_go) post desk found z = released_fits c let_go (withdrawn post (let_index let_go)) desk (cleared (let_index let_go) (stands post (let_index let_go))) z
 keep_fits c (LoadHeld from index) post desk found z = load_held_fits c from index post desk found (has_one_interval (scheme_of post)) z
-keep_fits c (StoreHeld from index era) post desk found z = copied_fits c from index post desk (reserves_index post index era) (stands post from) z
+keep_fits c (StoreHeld from index era) post desk found z = copied_fits c from index post desk (publishes_index (publishes_rows (scheme_of post)) post index era) (stands post from) z
 keep_fits c (Looks index key at) post desk found z = look_fits c index key at post desk found z
 keep_fits c (Misses index) post desk found z = λ h. absurd (cc)
 keep_fits c HideSpan post desk found z = tt

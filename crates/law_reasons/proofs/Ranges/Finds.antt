@@ -1,11 +1,12 @@
 -- The indexes and rows at which protections are told to end, and those that are cleared, are those of the table.
-use Rattle.std.proofs.Common.{ℕ, ◌≡◌, ◌≤◌, ◌+◌, ◌-◌, Bool, true, false, List, [], ◌∷◌, ◌++◌, Option, Some, None, refl, sym, ap, ◌∙◌, subst}
+use Rattle.std.proofs.Common.{ℕ, ◌≡◌, ◌≤◌, ◌+◌, ◌-◌, Bool, true, false, List, [], ◌∷◌, ◌++◌, Option, Some, None, refl, sym, ap, ◌∙◌, subst, arith}
+use Rattle.std.proofs.lemmas.Bool.Decides.{nat_tests}
 use Rattle.std.specs.List.{list_any}
-use Rattle.std.specs.Prelude.{◌==◌, ◌&&◌, drop, not, nat_le, nat_lt, if◌then◌else◌}
+use Rattle.std.specs.Prelude.{◌==◌, ◌&&◌, ◌||◌, drop, not, nat_le, nat_lt, if◌then◌else◌}
 use Rattle.law_scans.specs.inv.model.words.Place.{is_valid}
 use Rattle.law_scans.specs.inv.model.words.declared.config.Config.{Config}
 use Rattle.law_scans.specs.inv.model.words.declared.config.SchemeKind.{SchemeKind}
-use Rattle.law_scans.specs.inv.model.words.declared.config.SchemeKind.TheVariants.{He, Ibr, Wfe}
+use Rattle.law_scans.specs.inv.model.words.declared.config.SchemeKind.TheVariants.{He, Hp, Ibr, Wfe}
 use Rattle.law_scans.specs.inv.model.words.declared.layout.Layout.{Layout}
 use Rattle.law_scans.specs.inv.model.defs.declared.event.Event.{Event}
 use Rattle.law_scans.specs.inv.model.defs.declared.event.Event.TheVariants as events
@@ -13,13 +14,16 @@ use Rattle.law_scans.specs.inv.model.defs.declared.event.Root.{Root}
 use Rattle.law_scans.specs.inv.model.defs.declared.event.Root.TheVariants as roots
 use Rattle.law_scans.specs.inv.model.declared.post.Post.{Post}
 use Rattle.law_scans.specs.inv.model.Calls.{Getting, Changing, Enqueuing, Dequeuing, Keeping, KeepAt, Loosens, LoadHeld, StoreHeld, Looks, Misses, HideSpan, MarkLeft, TakeList, MarkTaken, Work, ReadGuard, GiveBack, Why, Phase, Idle, Runs, Scans, Works}
+use Rattle.law_scans.specs.inv.model.Guards.{guard_at}
+use Rattle.law_scans.proofs.reuse.ReadGuards.{reads_are}
 use Rattle.law_scans.specs.inv.model.Machine as machine
 use Rattle.law_scans.specs.inv.model.Memory.{bump, found, place_in}
 use Rattle.law_scans.specs.inv.model.Phases.{ProtectAt, Base}
-use Rattle.law_scans.specs.inv.model.Phases.ProtectAt.{CheckClock, TakeAnswer, CheckUpper}
+use Rattle.law_scans.specs.inv.model.Phases.ProtectAt.{CheckClock, TakeAnswer, CheckUpper, ByHazard}
+use Rattle.law_scans.specs.inv.model.Phases.HazardAt.{FirstLink, PublishLink, CheckLink}
 use Rattle.law_scans.specs.inv.model.Phases.Base.{Protect, Reload, Clear, Release}
-use Rattle.law_scans.specs.inv.model.Posts.{stands, counted, cleared, cleared_from, reserves_index, reserves_span, upper}
-use Rattle.law_scans.specs.inv.model.words.Schemes.{has_one_interval}
+use Rattle.law_scans.specs.inv.model.Posts.{stands, counted, cleared, cleared_from, publishes_index, reserves_span, upper}
+use Rattle.law_scans.specs.inv.model.words.Schemes.{has_one_interval, publishes_rows}
 use Rattle.law_scans.specs.inv.model.Protect.{told_held}
 use Rattle.law_scans.specs.inv.model.Rounds.{scheme_of, let_index, clear_post, clear_told}
 use Rattle.law_scans.specs.inv.model.Steps.{phase_move}
@@ -53,7 +57,7 @@ abbrev is_odd : Config → Event → Bool
 is_odd c event = not (finds_in c event)
 
 odd_calm : (c : Config) → Calm (is_odd c)
-odd_calm c = record { reserve = λ g x. refl; read = λ g x. refl; era = λ e. refl; give = λ a b. refl; unused = λ a. refl; retire = λ a b r. refl; back = λ a. refl }
+odd_calm c = record { reserve = λ g x. refl; hazard = λ g x. refl; saw = λ g x. refl; read = λ g x. refl; era = λ e. refl; give = λ a b. refl; unused = λ a. refl; retire = λ a b r. refl; back = λ a. refl }
 
 none_odd : (c : Config) (told : List Event) → list_any (is_odd c) told ≡ false → all_of (finds_in c) told ≡ true
 none_odd c [] h = refl
@@ -77,10 +81,22 @@ held_even c index (roots.Bucket bucket) link n i h = link_even c index link n (l
 held_even c index roots.Head link n i h = link_even c index link n (link == 0) i h
 held_even c index roots.Tail link n i h = link_even c index link n (link == 0) i h
 
+-- where rows are published the link is loaded now: it is null, or the one that was published
+null_even : (c : Config) (index : ℕ) (root : Root) (n found : ℕ) (null : Bool) → (found == 0) ≡ null → nat_lt index c.indexes ≡ true → (null && list_any (is_odd c) (told_held index root found n)) ≡ false
+null_even c index root n found true e i = let z : found ≤ c.slots + 1 = grind (arith, nat_tests) in held_even c index root found n i z
+null_even c index root n found false e i = refl
+
+again_even : (c : Config) (index : ℕ) (root : Root) (n link found : ℕ) (same : Bool) → (found == link || found == 0) ≡ same → nat_lt index c.indexes ≡ true → link ≤ c.slots + 1 → (same && list_any (is_odd c) (told_held index root found n)) ≡ false
+again_even c index root n link found true e i h = let z : found ≤ c.slots + 1 = grind (arith, nat_tests) in held_even c index root found n i z
+again_even c index root n link found false e i h = refl
+
 at_even : (layout : Layout) (index : ℕ) (root : Root) (n : ℕ) (post : Post) (at : ProtectAt) (found : ℕ) → nat_lt index layout.config.indexes ≡ true → ProtectIn layout.config.slots at → at_shows (is_odd layout.config) index root n post at found ≡ false
 at_even layout index root n post (CheckClock era tries link) found i h = and_right_false (found == era) (list_any (is_odd layout.config) (told_held index root link n)) (held_even layout.config index root link n i h)
 at_even layout index root n post (TakeAnswer link era) found i h = held_even layout.config index root link n i h
 at_even layout index root n post (CheckUpper link) found i h = and_right_false (found == upper post.span) (list_any (is_odd layout.config) (told_held index root link n)) (held_even layout.config index root link n i h)
+at_even layout index root n post (ByHazard FirstLink) found i h = null_even layout.config index root n found (found == 0) refl i
+at_even layout index root n post (ByHazard (PublishLink link)) found i h = refl
+at_even layout index root n post (ByHazard (CheckLink link)) found i h = again_even layout.config index root n link found (found == link || found == 0) refl i h.1
 at_even layout index root n post at found i h = refl
 
 stood_in : (layout : Layout) (index : ℕ) (x : Option ℕ) → StandsIn layout x index → all_of (finds_in layout.config) (cleared index x) ≡ true
@@ -99,7 +115,7 @@ base_even layout why (Protect aim index root steps at) post found d y r h q =
 base_even layout why (Reload parent index slot era steps) post found d y r h q =
     and_right_false (found == parent + 1) (is_odd layout.config (events.Held index slot (bump steps)))
     (ap not (both (nat_lt index layout.config.indexes) (nat_le slot layout.config.slots) (lt_test index layout.config.indexes (index_in layout why (Reload parent index slot era steps) post d y r)) (le_test slot layout.config.slots h.1)))
-base_even layout why (Clear index) post found d y r h q = cleared_even layout index (stands post index) (q index)
+base_even layout why (Clear rows index) post found d y r h q = cleared_even layout index (stands post index) (q index)
 base_even layout why (Release index) post found d y r h q = cleared_even layout index (stands post index) (q index)
 base_even layout why base post found d y r h q = refl
 
@@ -118,6 +134,7 @@ clear_in : (layout : Layout) (scheme : SchemeKind) (post : Post) (index : ℕ) �
 clear_in layout He post index q = (q, refl)
 clear_in layout Ibr post index q = (withdrawn_slots layout post index q, stood_in layout index (stands post index) (q index))
 clear_in layout Wfe post index q = (q, refl)
+clear_in layout Hp post index q = (q, refl)
 
 in_closed : (layout : Layout) → Closed (StepIn layout)
 in_closed layout = record {
@@ -159,7 +176,11 @@ left_all ok index (Some slot ∷ rows) f =
 keep_in : (layout : Layout) (at : KeepAt) (post : Post) → KeepIn layout.config at → PostIn layout post → StepIn layout (keep_post at post) (keep_told at post)
 keep_in layout (Loosens let_go) post k q = (withdrawn_slots layout post (let_index let_go) q, stood_in layout (let_index let_go) (stands post (let_index let_go)) (q (let_index let_go)))
 keep_in layout (LoadHeld from index) post k q = load_in layout from index post (has_one_interval (scheme_of post)) k q
-keep_in layout (StoreHeld from index era) post k q = copied_in layout from index post (reserves_index post index era) (stands post from) k (q from) refl q
+keep_in layout (StoreHeld from index era) post k q = copied_in layout from index post (publishes_index (publishes_rows (scheme_of post)) post index era) (stands post from) k (q from) (by (publishes_rows (scheme_of post))) q
+  where
+    by : (rows : Bool) → all_of (finds_in layout.config) (publishes_index rows post index era) ≡ true
+    by true = refl
+    by false = refl
 keep_in layout (Looks index key at) post k q = (q, refl)
 keep_in layout (Misses index) post k q = (q, refl)
 keep_in layout HideSpan post k q = (
@@ -188,7 +209,7 @@ phase_in w i (Runs why base) d e s f h =
       (machine_slots w.layout w.mem (record { told = told_of w d e; links = s.words }) why base post run h.1 (s.seats i).post).post,
       none_odd w.layout.config (machine.after base post there).told (base_any (is_odd w.layout.config) base post there (odd_calm w.layout.config) ∙ base_even w.layout why base post there d h.0 run h.1 (s.seats i).post),
     )
-phase_in w i (Scans later (ReadGuard number)) d e s f h = ((s.seats i).post, refl)
+phase_in w i (Scans later (ReadGuard number)) d e s f h = ((s.seats i).post, reads_are (λ (event : Event). all_of (finds_in w.layout.config) (event ∷ []) ≡ true) _ (guard_at (w.seat i).post.layout.config number) _ (λ span. refl) (λ slot. refl))
 phase_in w i (Scans later (GiveBack place slot)) d e s f h = ((s.seats i).post, refl)
 phase_in w i (Works work) d e s f h = work_in w.layout work (counted (w.seat i).post) h (s.seats i).post
 

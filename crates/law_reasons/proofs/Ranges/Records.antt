@@ -35,13 +35,17 @@ use Rattle.law_scans.specs.laws.StateAt.{bucket_of, began_of, told_of, stood_by,
 use Rattle.law_scans.specs.laws.HistoryTable.{is_in_range, ranges_ok}
 use Rattle.law_reasons.specs.Records.{RecordsStayInRange}
 use Rattle.law_reasons.proofs.Ranges.Finds.{finds_in, step_finds}
+use Rattle.law_reasons.proofs.Ranges.Hazards.{hazards_in, step_hazards}
 use Rattle.law_reasons.proofs.Ranges.Lists.{EachLow, adopted_answer, left_answer, lists_in, step_lists}
 use Rattle.law_reasons.proofs.Ranges.Rows.{rows_in, step_rows}
 use Rattle.law_reasons.proofs.Reasons.Keeps.{records_keep_reasons}
 
 -- what steps show by themselves
+abbrev shows_in : Config → Event → Bool
+shows_in c event = lists_in c event && hazards_in c event
+
 abbrev names_in : Config → Event → Bool
-names_in c event = finds_in c event && lists_in c event
+names_in c event = finds_in c event && shows_in c event
 
 abbrev step_in : Config → ℕ → Event → Bool
 step_in c i event = nat_lt i c.seats && (rows_in c event && names_in c event)
@@ -76,7 +80,8 @@ step_ranges layout made i h =
     subst (λ (table : Layout). all_of (λ event. rows_in table.config event && names_in table.config event) (told_in w i) ≡ true) h.table
     (of_both (rows_in w.layout.config) (names_in w.layout.config) (λ event. rows_in w.layout.config event && names_in w.layout.config event) (told_in w i) (λ event a b. both (rows_in w.layout.config event) (names_in w.layout.config event) a b)
     (of_along (rows_in w.layout.config) (step_tells w i) (told_end t.post t.outcome) (step_rows w i k.valid f.post.layout f.phase (k.slots.seats i).phase) (end_rows w.layout.config t.post t.outcome))
-    (of_both (finds_in w.layout.config) (lists_in w.layout.config) (names_in w.layout.config) (told_in w i) (λ event a b. both (finds_in w.layout.config event) (lists_in w.layout.config event) a b) (step_finds w i k.valid k.seats k.eras k.slots) (step_lists w i h.rows k.whole.both.rows k.slots)))
+    (of_both (finds_in w.layout.config) (shows_in w.layout.config) (names_in w.layout.config) (told_in w i) (λ event a b. both (finds_in w.layout.config event) (shows_in w.layout.config event) a b) (step_finds w i k.valid k.seats k.eras k.slots)
+    (of_both (lists_in w.layout.config) (hazards_in w.layout.config) (shows_in w.layout.config) (told_in w i) (λ event a b. both (lists_in w.layout.config event) (hazards_in w.layout.config event) a b) (step_lists w i h.rows k.whole.both.rows k.slots) (step_hazards w i k.seats k.eras k.slots))))
 
 steady : (layout : Layout) → Steady (Ranged layout)
 steady layout = record {
@@ -110,7 +115,7 @@ stood_low : (c : Config) (k j : ℕ) (p : Past) → Each (λ q i event. step_in 
 stood_low c k j Start g = refl
 stood_low c k j (Then p i event) g =
     low_if c (k == i) (stood_by j event (stood_at k j p)) (stood_at k j p)
-    (low_by c j event (stood_at k j p) (first_of (finds_in c event) (lists_in c event) (rest_of (rows_in c event) (names_in c event) (rest_of (nat_lt i c.seats) (rows_in c event && names_in c event) g.0))) (stood_low c k j p g.1))
+    (low_by c j event (stood_at k j p) (first_of (finds_in c event) (shows_in c event) (rest_of (rows_in c event) (names_in c event) (rest_of (nat_lt i c.seats) (rows_in c event && names_in c event) g.0))) (stood_low c k j p g.1))
     (stood_low c k j p g.1)
 
 row_low : (c : Config) (slot : ℕ) (x : Option ℕ) → is_row slot x ≡ true → stands_low c x ≡ true → nat_le slot c.slots ≡ true
@@ -140,39 +145,45 @@ own_bucket c bucket key b h = let m : key % c.buckets < c.buckets = mod-lt key b
 
 each_low : (c : Config) (p : Past) → Each (λ q i event. step_in c i event) p → EachLow c p
 each_low c Start g = tt
-each_low c (Then p i event) g = (rest_of (finds_in c event) (lists_in c event) (rest_of (rows_in c event) (names_in c event) (rest_of (nat_lt i c.seats) (rows_in c event && names_in c event) g.0)), each_low c p g.1)
+each_low c (Then p i event) g =
+    (first_of (lists_in c event) (hazards_in c event) (rest_of (finds_in c event) (shows_in c event) (rest_of (rows_in c event) (names_in c event) (rest_of (nat_lt i c.seats) (rows_in c event && names_in c event) g.0))), each_low c p g.1)
 
 in_range : (c : Config) (p : Past) (i : ℕ) (event : Event) → 1 ≤ c.buckets → Each (λ q k e. step_in c k e) p → step_in c i event ≡ true → map_ok c.buckets p i event ≡ true
     → ((steps : ℕ) (answer : Answer) → event ≡ events.End steps answer → (answer_right c.buckets (began_of i p) (told_of i p) answer ≡ true) × (reason c i p (began_of i p) answer ≡ true)) → ranges_ok c p i event ≡ true
-in_range c p i event b g s m a = both (nat_lt i c.seats) (is_in_range c event) (first_of (nat_lt i c.seats) (rows_in c event && names_in c event) s) (by event m a (first_of (rows_in c event) (names_in c event) t) (first_of (finds_in c event) (lists_in c event) (rest_of (rows_in c event) (names_in c event) t)) (rest_of (finds_in c event) (lists_in c event) (rest_of (rows_in c event) (names_in c event) t)))
+in_range c p i event b g s m a = both (nat_lt i c.seats) (is_in_range c event) (first_of (nat_lt i c.seats) (rows_in c event && names_in c event) s) (by event m a (first_of (rows_in c event) (names_in c event) t) (first_of (finds_in c event) (shows_in c event) (rest_of (rows_in c event) (names_in c event) t)) (first_of (lists_in c event) (hazards_in c event) u) (rest_of (lists_in c event) (hazards_in c event) u))
   where
     t : (rows_in c event && names_in c event) ≡ true
     t = rest_of (nat_lt i c.seats) (rows_in c event && names_in c event) s
 
-    by : (event : Event) → map_ok c.buckets p i event ≡ true → ((steps : ℕ) (answer : Answer) → event ≡ events.End steps answer → (answer_right c.buckets (began_of i p) (told_of i p) answer ≡ true) × (reason c i p (began_of i p) answer ≡ true)) → rows_in c event ≡ true → finds_in c event ≡ true → lists_in c event ≡ true → is_in_range c event ≡ true
-    by (events.End steps (answers.Holding slot)) m a r f l = let q = a steps (answers.Holding slot) refl in held_low c i p (began_of i p) (told_of i p) slot q.0 q.1 (stood_low c i 2 p g)
-    by (events.End steps (answers.Copied slot)) m a r f l = let q = a steps (answers.Copied slot) refl in copied_low c i p (began_of i p) (told_of i p) slot q.0 q.1 (λ j. stood_low c i j p g)
-    by (events.End steps (answers.Looked slot version value)) m a r f l =
+    u : shows_in c event ≡ true
+    u = rest_of (finds_in c event) (shows_in c event) (rest_of (rows_in c event) (names_in c event) t)
+
+    by : (event : Event) → map_ok c.buckets p i event ≡ true → ((steps : ℕ) (answer : Answer) → event ≡ events.End steps answer → (answer_right c.buckets (began_of i p) (told_of i p) answer ≡ true) × (reason c i p (began_of i p) answer ≡ true)) → rows_in c event ≡ true → finds_in c event ≡ true → lists_in c event ≡ true → hazards_in c event ≡ true → is_in_range c event ≡ true
+    by (events.End steps (answers.Holding slot)) m a r f l z = let q = a steps (answers.Holding slot) refl in held_low c i p (began_of i p) (told_of i p) slot q.0 q.1 (stood_low c i 2 p g)
+    by (events.End steps (answers.Copied slot)) m a r f l z = let q = a steps (answers.Copied slot) refl in copied_low c i p (began_of i p) (told_of i p) slot q.0 q.1 (λ j. stood_low c i j p g)
+    by (events.End steps (answers.Looked slot version value)) m a r f l z =
         let q = a steps (answers.Looked slot version value) refl in looked_low c i p (began_of i p) (told_of i p) slot version value q.0 q.1 (λ j. stood_low c i j p g)
-    by (events.End steps (answers.Left count)) m a r f l = let q = a steps (answers.Left count) refl in left_answer c i p (began_of i p) count q.0 (each_low c p g)
-    by (events.End steps (answers.Adopted count)) m a r f l = let q = a steps (answers.Adopted count) refl in adopted_answer c i p (began_of i p) count q.0 (each_low c p g)
-    by (events.End steps answer) m a r f l = refl
-    by (events.Left count) m a r f l = l
-    by (events.Adopted place count) m a r f l = l
-    by (events.Give slot birth) m a r f l = r
-    by (events.Unused slot) m a r f l = r
-    by (events.Link root slot) m a r f l = r
-    by (events.Cut slot) m a r f l = r
-    by (events.Retire slot birth retire) m a r f l = r
-    by (events.Back slot) m a r f l = r
-    by (events.Held index slot steps) m a r f l = f
-    by (events.Null index steps) m a r f l = f
-    by (events.Clear index slot) m a r f l = f
-    by (events.Copied from index slot) m a r f l = f
-    by (events.Put bucket version key value) m a r f l = own_bucket c bucket key b (rest_of _ (bucket == bucket_of c.buckets key) m)
-    by (events.Removed bucket version key) m a r f l = own_bucket c bucket key b (rest_of _ (bucket == bucket_of c.buckets key) m)
-    by (events.Got bucket version key value) m a r f l = own_bucket c bucket key b (first_of (bucket == bucket_of c.buckets key) _ m)
-    by event m a r f l = refl
+    by (events.End steps (answers.Left count)) m a r f l z = let q = a steps (answers.Left count) refl in left_answer c i p (began_of i p) count q.0 (each_low c p g)
+    by (events.End steps (answers.Adopted count)) m a r f l z = let q = a steps (answers.Adopted count) refl in adopted_answer c i p (began_of i p) count q.0 (each_low c p g)
+    by (events.End steps answer) m a r f l z = refl
+    by (events.Left count) m a r f l z = l
+    by (events.Adopted place count) m a r f l z = l
+    by (events.Hazard guard slot) m a r f l z = z
+    by (events.Saw guard slot) m a r f l z = z
+    by (events.Give slot birth) m a r f l z = r
+    by (events.Unused slot) m a r f l z = r
+    by (events.Link root slot) m a r f l z = r
+    by (events.Cut slot) m a r f l z = r
+    by (events.Retire slot birth retire) m a r f l z = r
+    by (events.Back slot) m a r f l z = r
+    by (events.Held index slot steps) m a r f l z = f
+    by (events.Null index steps) m a r f l z = f
+    by (events.Clear index slot) m a r f l z = f
+    by (events.Copied from index slot) m a r f l z = f
+    by (events.Put bucket version key value) m a r f l z = own_bucket c bucket key b (rest_of _ (bucket == bucket_of c.buckets key) m)
+    by (events.Removed bucket version key) m a r f l z = own_bucket c bucket key b (rest_of _ (bucket == bucket_of c.buckets key) m)
+    by (events.Got bucket version key value) m a r f l z = own_bucket c bucket key b (first_of (bucket == bucket_of c.buckets key) _ m)
+    by event m a r f l z = refl
 
 pub records_stay_in_range : RecordsStayInRange
 records_stay_in_range layout items d before i event later cut =

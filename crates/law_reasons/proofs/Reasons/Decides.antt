@@ -24,10 +24,10 @@ use Rattle.law_scans.specs.inv.model.Locals.{turn}
 use Rattle.law_scans.specs.inv.model.Machine as machine
 use Rattle.law_scans.specs.inv.model.Keep as keeps
 use Rattle.law_scans.specs.inv.model.Desks.{Desk}
-use Rattle.law_scans.specs.inv.model.words.Schemes.{has_one_interval}
+use Rattle.law_scans.specs.inv.model.words.Schemes.{has_one_interval, publishes_rows}
 use Rattle.law_scans.specs.inv.model.defs.declared.event.Event.{Event}
 use Rattle.law_scans.specs.inv.model.defs.Pairs.{pairs_after, value_in}
-use Rattle.law_scans.specs.inv.model.Posts.{cleared, counted, reserves_index, stands, with_row, withdrawn}
+use Rattle.law_scans.specs.inv.model.Posts.{cleared, counted, publishes_index, stands, with_row, withdrawn}
 use Rattle.law_scans.specs.inv.model.Rounds.{key_of, let_index, scheme_of, with_clock}
 use Rattle.law_scans.specs.inv.model.Steps as steps
 use Rattle.law_scans.specs.inv.model.Phases.{Base, Ending, Outcome, Goes, Ends, Turn}
@@ -334,6 +334,7 @@ pub record Stepping (w : World) (i : ℕ) (v : View) (l : Line) (z : Asked) (p q
   pub bounds : Bounds w.layout.config q
   pub serves : Serves (w.seat i).call (w.seat i).phase
   pub emptied : Emptied (λ k. was_empty k p) w z
+  pub empties : w.book.taken ≡ length w.book.queued → was_empty i p ≡ true
   pub says : (why : Why) (base : Base) → (w.seat i).phase ≡ Runs why base → RunSays i why (machine.after base (counted (w.seat i).post) (finds w i)).outcome q
   pub stood : (j : ℕ) → stood_at i j q ≡ stands (turn (offered w i) (finds w i)).post j
   pub shows : Shows w.book p
@@ -413,12 +414,12 @@ empty_right : (w : World) (i : ℕ) (v : View) (l : Line) (z : Asked) (p q : Pas
 empty_right w i v l z p q head tail base g e o =
     let call : (w.seat i).call ≡ names.Dequeue = why_call w i (FollowsHead head tail) base g.serves e in
     let told : has_told i (is_null 1) q ≡ true = end_says w i v l z p q (FollowsHead head tail) base (Followed follow_ends.NoNext) g e o in
-    let seen : was_empty i p ≡ true = no_next_seen w i z (λ k. was_empty k p) head tail base g.shown.known.seats g.emptied e o in
+    let seen : was_empty i p ≡ true = no_next_seen w i v l z (λ k. was_empty k p) head tail base g.shown.known g.emptied g.empties e o in
     record { lasts = refl; right = subst (λ (x : Call). Right w.layout.config i q x the_answers.Empty) (sym call) (both (was_empty i q) (has_told i (is_null 1) q) (g.later.empty seen) told) }
 
 -- what is let go stands no more
 release_stands : (layout : Layout) (let_go : LetGo) (base : Base) (post : Post) (found : ℕ) → Run layout (Releases let_go) base post → stands (machine.after base post found).post (let_index let_go) ≡ None
-release_stands layout let_go (Clear index) post found r = subst (λ (j : ℕ). stands (withdrawn post j) (let_index let_go) ≡ None) (sym r.shape) (stands-withdrawn_same post (let_index let_go))
+release_stands layout let_go (Clear rows index) post found r = subst (λ (j : ℕ). stands (withdrawn post j) (let_index let_go) ≡ None) (sym r.shape) (stands-withdrawn_same post (let_index let_go))
 release_stands layout let_go (Release index) post found r = subst (λ (j : ℕ). stands (withdrawn post j) (let_index let_go) ≡ None) (sym r.shape) (stands-withdrawn_same post (let_index let_go))
 release_stands layout let_go base post found r = let x = r.suited in absurd (cc)
 
@@ -651,7 +652,7 @@ keep_decides w i v l z p q (StoreHeld from index era) g e =
     let a = g.shown.known in
     let post : Post = counted (w.seat i).post in
     let f = keep_fits_of w i (StoreHeld from index era) a.seats e in
-    copied_by (IsRight w i q) from index post (offered w i).desk (reserves_index post index era) (stands post from) f.kept
+    copied_by (IsRight w i q) from index post (offered w i).desk (publishes_index (publishes_rows (scheme_of post)) post index era) (stands post from) f.kept
     (λ slot r. copied_right w i v l z p q from index slot g (keep_call w i (StoreHeld from index era) g.serves e) (keep_in_of w i (StoreHeld from index era) a.slots e) r
     (keep_post_left w i (StoreHeld from index era) e ∙ rw r refl))
 keep_decides w i v l z p q (Looks index key at) g e = λ answer o.

@@ -21,14 +21,14 @@ use Rattle.law_scans.specs.inv.model.Desks.{Desk, with_life}
 use Rattle.law_scans.specs.inv.model.Dequeue as dequeues
 use Rattle.law_scans.specs.inv.model.Enqueue as enqueues
 use Rattle.law_scans.specs.inv.model.Get as gets
-use Rattle.law_scans.specs.inv.model.Guards.{guard_at, guards, eras_in, published}
+use Rattle.law_scans.specs.inv.model.Guards.{guard_at, guards, published}
 use Rattle.law_scans.specs.inv.model.Machine as machine
 use Rattle.law_scans.specs.inv.model.Keep as keeps
-use Rattle.law_scans.specs.inv.model.Posts.{cleared, reserves_index, stands, withdrawn}
-use Rattle.law_scans.specs.inv.model.words.Schemes.{has_one_interval}
+use Rattle.law_scans.specs.inv.model.Posts.{cleared, publishes_index, stands, withdrawn}
+use Rattle.law_scans.specs.inv.model.words.Schemes.{has_one_interval, moves, publishes_rows}
 use Rattle.law_scans.specs.inv.model.Scan as scan
 use Rattle.law_scans.specs.inv.model.Steps as steps
-use Rattle.law_scans.specs.inv.model.Rounds.{scheme_of, taken_of, index_of, bucket_of, begin_base, finish_base, clear_base, given_up, round, round_by, closed, finishing_by, finishing, clearing_by, clearing, clearing_next_by, clearing_next, let_index, letting, letting_by, release_base, with_clock}
+use Rattle.law_scans.specs.inv.model.Rounds.{scheme_of, tidy_by, taken_of, index_of, bucket_of, begin_base, finish_base, clear_base, given_up, round, round_by, closed, finishing_by, finishing, clearing_by, clearing, clearing_next_by, clearing_next, let_index, letting, letting_by, release_base, with_clock}
 use Rattle.law_scans.specs.inv.model.Phases.{Base, Ending, Outcome, Goes, Ends}
 use Rattle.law_scans.specs.inv.model.Phases.Ending.{Done, Protected, Followed, Allocated, Retired, Clocked}
 use Rattle.law_scans.proofs.Leaving.{Parts, parts_all, parts_on, takes_on}
@@ -244,9 +244,14 @@ given_up_keeps : (K R : Answer → Type 0) → Sound K R → (answer : Answer) (
 given_up_keeps K R s answer post desk told None h = s.ends answer h
 given_up_keeps K R s answer post desk told (Some slot) h = h
 
+-- the clock is moved before the scan, or the scan comes at once
+tidy_keeps : (K : Answer → Type 0) (later : AfterScan) (moving : Bool) (post : Post) → LaterKeeps K later → PhaseKeeps K (tidy_by moving later post)
+tidy_keeps K later true post h = h
+tidy_keeps K later false post h = h
+
 closed_keeps : (K R : Answer → Type 0) → Sound K R → (task : Task) (next : Next) (post : Post) (desk : Desk) (told : List Event) → NextKeeps K next → OutKeeps K R (closed task next post desk told).outcome
 closed_keeps K R s task Again post desk told h = round_keeps K task post
-closed_keeps K R s task MakeRoom post desk told h = tt
+closed_keeps K R s task MakeRoom post desk told h = tidy_keeps K (Repeated task) (moves (scheme_of post)) post tt
 closed_keeps K R s task (Answering answer) post desk told h = given_up_keeps K R s answer post desk told (taken_of task) h
 closed_keeps K R s task (Retiring slot answer) post desk told h = h
 
@@ -365,7 +370,7 @@ NextRight K (Answers answer) = Unit {0}
 
 -- a seat that leaves has decided nothing
 parts_keep : (K : Answer → Type 0) → Parts (PhaseKeeps K)
-parts_keep K = record { clears = λ index. tt; hides = tt; marks = tt }
+parts_keep K = record { clears = λ rows index. tt; hides = tt; marks = tt }
 
 let_go_next : (K : Answer → Type 0) (let_go : LetGo) (post : Post) (desk : Desk) (told : List Event) → NextRight K (keeps.released let_go post desk told).outcome
 let_go_next K Released post desk told = tt
@@ -398,7 +403,7 @@ look_next K index key (FindValue slot version pair) post desk found = tt
 keep_next : (K : Answer → Type 0) (at : KeepAt) (post : Post) (desk : Desk) (found : ℕ) → NextRight K (keeps.keep_turn at post desk found).outcome
 keep_next K (Loosens let_go) post desk found = let_go_next K let_go (withdrawn post (let_index let_go)) desk (cleared (let_index let_go) (stands post (let_index let_go)))
 keep_next K (LoadHeld from index) post desk found = load_next K from index post desk found (has_one_interval (scheme_of post))
-keep_next K (StoreHeld from index era) post desk found = copied_next K from index post desk (reserves_index post index era) (stands post from)
+keep_next K (StoreHeld from index era) post desk found = copied_next K from index post desk (publishes_index (publishes_rows (scheme_of post)) post index era) (stands post from)
 keep_next K (Looks index key at) post desk found = look_next K index key at post desk found
 keep_next K (Misses index) post desk found = tt
 keep_next K HideSpan post desk found = tt
@@ -432,7 +437,7 @@ guard_keeps K R s later number post desk told true h = h
 guard_keeps K R s later number post desk told false h = giving_keeps K R s later post desk told (scan.unmet_from desk 0) h
 
 scan_keeps : (K R : Answer → Type 0) → Sound K R → (later : AfterScan) (at : ScanAt) (post : Post) (desk : Desk) (found : ℕ) → LaterKeeps K later → OutKeeps K R (scan.scan_turn later at post desk found).outcome
-scan_keeps K R s later (ReadGuard number) post desk found h = guard_keeps K R s later number post (scan.with_read desk number (guard_at post.layout.config number, published (guard_at post.layout.config number) found)) (events.Read (guard_at post.layout.config number) (eras_in (guard_at post.layout.config number) found) ∷ []) (nat_lt (number + 1) (guards post.layout.config)) h
+scan_keeps K R s later (ReadGuard number) post desk found h = guard_keeps K R s later number post (scan.with_read desk number (guard_at post.layout.config number, published (publishes_rows post.layout.config.scheme) (guard_at post.layout.config number) found)) (scan.reads_guard (publishes_rows post.layout.config.scheme) (guard_at post.layout.config number) found ∷ []) (nat_lt (number + 1) (guards post.layout.config)) h
 scan_keeps K R s later (GiveBack place slot) post desk found h = giving_keeps K R s later post _ _ _ h
 
 -- what comes after a machine
@@ -490,7 +495,7 @@ followed_by_keeps K R s head tail (Retired life) post desk told d = closed_keeps
 followed_by_keeps K R s head tail (Clocked clock) post desk told d = closed_keeps K R s Dequeues Again post desk told tt
 
 tidying_keeps : (K R : Answer → Type 0) → Sound K R → (answer : Answer) (post : Post) (desk : Desk) (told : List Event) (due : Bool) → K answer → OutKeeps K R (steps.tidying answer post desk told due).outcome
-tidying_keeps K R s answer post desk told true h = h
+tidying_keeps K R s answer post desk told true h = tidy_keeps K (Answered answer) (moves (scheme_of post)) post h
 tidying_keeps K R s answer post desk told false h = s.ends answer h
 
 retired_keeps : (K R : Answer → Type 0) → Sound K R → (answer : Answer) (ending : Ending) (post : Post) (desk : Desk) (told : List Event) → K answer → OutKeeps K R (steps.retired_by answer ending post desk told).outcome

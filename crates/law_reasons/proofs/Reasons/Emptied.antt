@@ -33,7 +33,7 @@ use Rattle.law_scans.specs.inv.requests.Views.Deal.{Quiet}
 use Rattle.law_scans.specs.inv.rows.Chain.{queue_of}
 use Rattle.law_scans.specs.inv.rows.Queue.{Line, heads_on, stands_on}
 use Rattle.law_scans.specs.inv.rows.Rows.{View}
-use Rattle.law_scans.proofs.inv.links.Origins.Ends.{end_tracked, end_root}
+use Rattle.law_scans.proofs.inv.links.Origins.Ends.{end_good, end_root}
 use Rattle.law_scans.proofs.inv.ends.Handover.Asks.{run_of}
 
 -- a null next link shows a queue of which all was taken
@@ -106,7 +106,7 @@ pub emptied_kept : (w : World) (i : ℕ) (v : View) (l : Line) (z next : Asked) 
 emptied_kept w i v l z next old new b a d stays fresh e = record {
   links = origins_kept (λ k. null_seen (old k)) (λ k. null_seen (new k)) w i z next (origins_need w i v l z b a) d
       (record {
-        fresh = λ k h. fresh_by w v l z k (new k) (root_in w k) a refl (fresh k);
+        fresh = λ k h t. fresh_by w v l z k (new k) (root_in w k) a refl (fresh k);
         stays = λ k x t g. stays_by (old k) (new k) (root_in w k) x (stays k) g;
       })
       e.links;
@@ -125,8 +125,8 @@ pub emptied_start : (layout : Layout) (z : Asked) (seen : ℕ → Bool) → ((k 
 emptied_start layout z seen q = record { links = origins_start (λ k. null_seen (seen k)) layout z q }
 
 -- a dequeue that finds no next row
-pub no_next_seen : (w : World) (i : ℕ) (z : Asked) (seen : ℕ → Bool) (head tail : ℕ) (base : Base) → Seats w → Emptied seen w z → (w.seat i).phase ≡ Runs (FollowsHead head tail) base → (machine.after base (counted (w.seat i).post) (finds w i)).outcome ≡ Ends (Followed follow_ends.NoNext) → seen i ≡ true
-no_next_seen w i z seen head tail base s e q o =
-    let t : Tracked w z i 0 = end_tracked w i z (FollowsHead head tail) base (Followed follow_ends.NoNext) 0 q o refl in
-    let r : root_in w i ≡ roots.Next head = end_root w i (FollowsHead head tail) base (Followed follow_ends.NoNext) 0 s q o refl in
-    subst (λ (x : Root). null_seen (seen i) x 0 ≡ true) r (e.links.tracked i 0 t)
+pub no_next_seen : (w : World) (i : ℕ) (v : View) (l : Line) (z : Asked) (seen : ℕ → Bool) (head tail : ℕ) (base : Base) → Known w v l z → Emptied seen w z → (w.book.taken ≡ length w.book.queued → seen i ≡ true) → (w.seat i).phase ≡ Runs (FollowsHead head tail) base → (machine.after base (counted (w.seat i).post) (finds w i)).outcome ≡ Ends (Followed follow_ends.NoNext) → seen i ≡ true
+no_next_seen w i v l z seen head tail base a e f q o =
+    let r : root_in w i ≡ roots.Next head = end_root w i (FollowsHead head tail) base (Followed follow_ends.NoNext) 0 a.seats q o refl in
+    let g : null_seen (seen i) (root_in w i) 0 ≡ true = end_good (λ k. null_seen (seen k)) w i z (FollowsHead head tail) base (Followed follow_ends.NoNext) 0 e.links (fresh_by w v l z i (seen i) (root_in w i) a refl f) q o refl in
+    subst (λ (x : Root). null_seen (seen i) x 0 ≡ true) r g

@@ -14,6 +14,8 @@ use Rattle.law_scans.specs.inv.model.Book.{booked_all}
 use Rattle.law_scans.specs.inv.model.Calls.{CallTurn, CallOutcome, GoesOn, Answers}
 use Rattle.law_scans.specs.inv.model.Locals.{Local, begun_post, rounds_told, settled_by, told_by, told_end, turn}
 use Rattle.law_scans.specs.inv.model.Posts.{stands}
+use Rattle.law_scans.specs.inv.model.Rounds.{scheme_of}
+use Rattle.law_scans.specs.inv.model.words.Schemes.{publishes_rows}
 use Rattle.law_scans.specs.inv.model.Steps.{first_phase}
 use Rattle.law_scans.specs.inv.model.World.{World, begin, finds, is_busy, offered, start, step, told_in, may_start}
 use Rattle.law_scans.proofs.inv.model.Facts.{first_of, rest_of}
@@ -138,10 +140,10 @@ record Went (w : World) (i : ℕ) (q : Past) : Type 0 where
   decided : OutKeeps (Kept w.layout.config i q (w.seat i).call) (Right w.layout.config i q (w.seat i).call) (turn (offered w i) (finds w i)).outcome
   says : PhaseSays i (phase_left (turn (offered w i) (finds w i)).outcome) q
 
-went_of : (w : World) (i : ℕ) (v : View) (l : Line) (z : Asked) (p : Past) → i < w.layout.config.seats → is_busy w i ≡ true → Shown w v l z p → answering.Right w.layout.config.buckets (w.seat i) (began_of i p) (told_of i p) → Emptied (λ k. was_empty k p) w z
+went_of : (w : World) (i : ℕ) (v : View) (l : Line) (z : Asked) (p : Past) → i < w.layout.config.seats → is_busy w i ≡ true → Shown w v l z p → answering.Right w.layout.config.buckets (w.seat i) (began_of i p) (told_of i p) → Emptied (λ k. was_empty k p) w z → (w.book.taken ≡ length w.book.queued → was_empty i p ≡ true)
     → Seat w.layout.config i (w.seat i) p → Bounds w.layout.config (tells_of p i (told_in w i)) → ((j : ℕ) → stood_at i j (tells_of p i (told_in w i)) ≡ stands ((step w i).seat i).post j) → Shows w.book p → MissesAt (w.seat i) (times i is_any p) → PlacesSay w.mem p
     → Went w i (tells_of p i (turn (offered w i) (finds w i)).told)
-went_of w i v l z p b y h r e s n stood shows missed placed =
+went_of w i v l z p b y h r e em s n stood shows missed placed =
     let t : CallTurn = turn (offered w i) (finds w i) in
     let q : Past = tells_of p i t.told in
     let within : all_of is_within t.told ≡ true = first_all is_within t.told (told_end t.post t.outcome) (within_of w i) in
@@ -159,6 +161,7 @@ went_of w i v l z p b y h r e s n stood shows missed placed =
             bounds = before_bounds w.layout.config i t.post t.outcome q (subst (λ (x : Past). Bounds w.layout.config x) along n);
             serves = r.serves y;
             emptied = e;
+            empties = em;
             says = λ why base g. ends_say w i why base q h.known.seats g tells said;
             stood = λ j. sym (before_stood i j t.post t.outcome q) ∙ sym (ap (λ (x : Past). stood_at i j x) along) ∙ stood j ∙ ap (λ (x : Post). stands x j) (stepped_post w i);
             shows = shows;
@@ -176,8 +179,8 @@ own_seat w i p g =
     let q : Past = tells_of p i t.told in
     let along : tells_of p i (told_by t) ≡ tells_of q i (told_end t.post t.outcome) = tells_both i t.told (told_end t.post t.outcome) p in
     subst (λ (x : Local). Seat w.layout.config i x (tells_of p i (told_in w i))) (sym (seat_steps w i))
-    (subst (λ (x : Past). Seat w.layout.config i (settled_by (offered w i) t.post (noting t.desk (told_by t)) (rounds_told (w.seat i).rounds (told_by t)) t.outcome) x) (sym along)
-    (settled_seat w.layout.config i (offered w i) t.post (noting t.desk (told_by t)) (rounds_told (w.seat i).rounds (told_by t)) t.outcome (tells_of q i (told_end t.post t.outcome))
+    (subst (λ (x : Past). Seat w.layout.config i (settled_by (offered w i) t.post (noting t.desk (told_by t)) (rounds_told (publishes_rows (scheme_of t.post)) (w.seat i).rounds (told_by t)) t.outcome) x) (sym along)
+    (settled_seat w.layout.config i (offered w i) t.post (noting t.desk (told_by t)) (rounds_told (publishes_rows (scheme_of t.post)) (w.seat i).rounds (told_by t)) t.outcome (tells_of q i (told_end t.post t.outcome))
     (left_keeps w.layout.config i (w.seat i).call q t.post t.outcome g.decided) (left_says i q t.post t.outcome g.says)))
 
 other_seat : (c : Config) (k : ℕ) (l : Local) (p q : Past) → Later k p q → Bounds c q → Seat c k l p → Seat c k l q
@@ -231,7 +234,7 @@ step_missed w i k p true e h =
     let one : k ≡ i = grind (arith, nat_tests) in
     subst (λ (m : ℕ). MissesAt ((step w i).seat m) (times m is_any (tells_of p i (told_in w i)))) (sym one)
     (subst (λ (x : Local). MissesAt x (times i is_any (tells_of p i (told_in w i)))) (sym (seat_steps w i))
-    (step_misses (offered w i) t.post (noting t.desk (told_by t)) (rounds_told (w.seat i).rounds (told_by t)) (finds w i) (times i is_any p) (times i is_any (tells_of p i (told_in w i))) (h i)))
+    (step_misses (offered w i) t.post (noting t.desk (told_by t)) (rounds_told (publishes_rows (scheme_of t.post)) (w.seat i).rounds (told_by t)) (finds w i) (times i is_any p) (times i is_any (tells_of p i (told_in w i))) (h i)))
 step_missed w i k p false e h =
     subst (λ (x : Local). MissesAt x (times k is_any (tells_of p i (told_in w i)))) (sym (seat_stays w i k e)) (other_misses (w.seat k) k i (told_in w i) p e (h k))
 
@@ -253,7 +256,7 @@ step_keeps layout made i b y stood placed g =
     let bounds : Bounds w.layout.config (tells_of p i (told_in w i)) = bounds_of (step w i) (rows_after w i g.rows) (line_after w i g.line) next.0 (tells_of p i (told_in w i)) shown in
     let r = g.answers.seats i in
     let o : Owes n (w.seat i).call (owed n (w.seat i).call (w.seat i).phase) (turn (offered w i) (finds w i)) = owes_of n w i g.answers.table g.answers.known (r.serves y) in
-    let went : Went w i (tells_of p i (turn (offered w i) (finds w i)).told) = went_of w i g.rows g.line g.asked p b y g.shown r g.emptied (g.seats i) bounds (stood i) g.shows (g.misses i) placed in
+    let went : Went w i (tells_of p i (turn (offered w i) (finds w i)).told) = went_of w i g.rows g.line g.asked p b y g.shown r g.emptied (λ a. now_empty i p (all_taken_by w p g.agrees a)) (g.seats i) bounds (stood i) g.shows (g.misses i) placed in
     record {
       table = g.table;
       answers = answering.step_keeps n made i b y g.answers;

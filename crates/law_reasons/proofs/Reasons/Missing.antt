@@ -10,9 +10,9 @@ use Rattle.law_scans.specs.inv.model.Calls.{Keeping, KeepAt, Loosens, LoadHeld, 
 use Rattle.law_scans.specs.inv.model.Desks.{Desk}
 use Rattle.law_scans.specs.inv.model.Keep as keeps
 use Rattle.law_scans.specs.inv.model.Locals.{Local, begun, settled_by, turn}
-use Rattle.law_scans.specs.inv.model.Posts.{counted, reserves_index, stands}
+use Rattle.law_scans.specs.inv.model.Posts.{counted, publishes_index, stands}
 use Rattle.law_scans.specs.inv.model.Rounds.{scheme_of}
-use Rattle.law_scans.specs.inv.model.words.Schemes.{has_one_interval}
+use Rattle.law_scans.specs.inv.model.words.Schemes.{has_one_interval, publishes_rows}
 use Rattle.law_scans.specs.inv.model.Steps as steps
 use Rattle.law_scans.proofs.inv.model.Facts.{same_number}
 use Rattle.law_scans.specs.inv.history.Record.{Past, begins, own, tells_of}
@@ -102,7 +102,7 @@ load_goes from index post desk found false t = refl
 keep_goes : (at : KeepAt) (post : Post) (desk : Desk) (found was t : ℕ) → copy_at at was ≡ true → copy_phase (phase_left (keeps.keep_turn at post desk found).outcome) t ≡ true
 keep_goes (Loosens let_go) post desk found was t h = absurd (cc)
 keep_goes (LoadHeld from index) post desk found was t h = load_goes from index post desk found (has_one_interval (scheme_of post)) t
-keep_goes (StoreHeld from index era) post desk found was t h = copied_goes from index post desk (reserves_index post index era) (stands post from) t
+keep_goes (StoreHeld from index era) post desk found was t h = copied_goes from index post desk (publishes_index (publishes_rows (scheme_of post)) post index era) (stands post from) t
 keep_goes (Looks index key at) post desk found was t h = absurd (cc)
 keep_goes (Misses index) post desk found was t h = refl
 keep_goes HideSpan post desk found was t h = absurd (cc)

@@ -33,7 +33,8 @@ use Rattle.law_scans.proofs.inv.contents.Items.Gives.{items_count}
 use Rattle.law_scans.proofs.reuse.Lawful.Current.{Current, shelf_since, since, since_is}
 use Rattle.law_scans.proofs.reuse.Lawful.Gots.{null_at}
 use Rattle.law_scans.proofs.reuse.Lawful.Maps.{base_of}
-use Rattle.law_scans.proofs.inv.links.Origins.Ends.{end_tracked, end_root}
+use Rattle.law_scans.proofs.inv.links.Origins.Ends.{end_root}
+use Rattle.law_scans.proofs.reuse.Lawful.Current.{ended_since}
 use Rattle.law_scans.specs.laws.StateAt.{queued_of, changes_of, count_of, begun_at, pairs_at}
 use Rattle.law_scans.specs.inv.history.Record.{Past}
 use Rattle.law_scans.specs.inv.links.Tracked.{root_in}
@@ -115,7 +116,7 @@ value_read w i v l z p kept slot count key a h e none =
 pub null_base : (w : World) (i : ℕ) (v : View) (l : Line) (z : Asked) (p : Past) (task : Task) (base : Base) (b : ℕ) → Shown w v l z p → (w.seat i).phase ≡ Runs (Opens task) base → root_by w.layout.config.buckets (Opens task) ≡ roots.Bucket b
     → (machine.after base (counted (w.seat i).post) (finds w i)).outcome ≡ Ends (Protected protect_ends.Null) → begun_at i b p ≤ 0
 null_base w i v l z p task base b h e r o =
-    null_at (base_of p i) w.book (root_in w i) b (end_root w i (Opens task) base (Protected protect_ends.Null) 0 h.known.seats e o refl ∙ r) (h.current.links.tracked i 0 (end_tracked w i z (Opens task) base (Protected protect_ends.Null) 0 e o refl))
+    null_at (base_of p i) w.book (root_in w i) b (end_root w i (Opens task) base (Protected protect_ends.Null) 0 h.known.seats e o refl ∙ r) (ended_since w i v l z (base_of p) (Opens task) base (Protected protect_ends.Null) 0 h.known h.current e o refl)
 
 pub null_read : (w : World) (i : ℕ) (v : View) (l : Line) (z : Asked) (p : Past) (kept : ChangeKept) (base : Base) → Shown w v l z p → (w.seat i).phase ≡ Runs (Opens (Changes kept)) base
     → (machine.after base (counted (w.seat i).post) (finds w i)).outcome ≡ Ends (Protected protect_ends.Null) → ReadAt w.layout.config i (key_of kept.change % w.layout.config.buckets) 0 [] p

@@ -19,8 +19,9 @@ use Rattle.law_scans.specs.inv.model.Desks.{Desk}
 use Rattle.law_scans.specs.inv.model.Locals.{turn, told_end}
 use Rattle.law_scans.specs.inv.model.Machine as machine
 use Rattle.law_scans.specs.inv.model.Memory.{bump}
-use Rattle.law_scans.specs.inv.model.Posts.{counted, reserves_index, stands, upper, reserves_helper}
-use Rattle.law_scans.specs.inv.model.words.Schemes.{has_one_interval}
+use Rattle.law_scans.specs.inv.model.Posts.{counted, publishes_index, stands, upper, reserves_helper}
+use Rattle.law_scans.specs.inv.model.Phases.HazardAt.{FirstLink, PublishLink, CheckLink}
+use Rattle.law_scans.specs.inv.model.words.Schemes.{has_one_interval, publishes_rows}
 use Rattle.law_scans.specs.inv.model.Keep as keeps
 use Rattle.law_scans.specs.inv.model.Protect as protects
 use Rattle.law_scans.specs.inv.model.Rounds.{index_of, scheme_of}
@@ -28,7 +29,7 @@ use Rattle.law_scans.specs.inv.model.SlowPath as slow
 use Rattle.law_scans.specs.inv.model.Steps as steps
 use Rattle.law_scans.specs.inv.model.Phases.{Aim, Alone, Follows, Tries, Endless, Failed, ProtectAt, Base, Ending, Outcome, Goes, Ends, Turn}
 use Rattle.law_scans.specs.inv.model.Phases.Ending.{Done, Protected, Followed, Allocated, Retired, Clocked}
-use Rattle.law_scans.specs.inv.model.Phases.ProtectAt.{PublishEra, LoadLink, CheckClock, PublishRequest, CheckOwnClock, AnswerOwn, LoadAnswer, TakeAnswer, WithdrawRequest, WithdrawHelper, CheckUpper}
+use Rattle.law_scans.specs.inv.model.Phases.ProtectAt.{PublishEra, LoadLink, CheckClock, PublishRequest, CheckOwnClock, AnswerOwn, LoadAnswer, TakeAnswer, WithdrawRequest, WithdrawHelper, CheckUpper, ByHazard}
 use Rattle.law_scans.specs.inv.model.Phases.Base.{Protect, Move}
 use Rattle.law_scans.specs.inv.model.Calls.{Getting, Changing, Enqueuing, Dequeuing, Keeping, KeepAt, Loosens, LoadHeld, StoreHeld, Looks, Misses, HideSpan, MarkLeft, TakeList, MarkTaken, Work, Task, Why, Opens, FollowsHead, Phase, Idle, Runs, Scans, Works, CallTurn, CallOutcome, GoesOn, Answers}
 use Rattle.law_scans.specs.inv.model.World.{World, finds, offered, told_in}
@@ -178,6 +179,22 @@ take_said i post aim index root steps link era found q n = record {
   held = λ f slot l. n.held index slot (both (index == index) (is_end root && link == slot + 1) (same_number index) (both (is_end root) (link == slot + 1) f (is_one_more link slot l)));
 }
 
+-- where rows are published the link is loaded now
+first_said : (i : ℕ) (post : Post) (aim : Aim) (index : ℕ) (root : Root) (steps found : ℕ) (q : Past) → (found == 0) ≡ true → Now i post (Protect aim index root steps (ByHazard FirstLink)) found q → Said i index root found q
+first_said i post aim index root steps found q e n = record {
+  null = λ z. n.null index (both (index == index) (found == 0) (same_number index) z);
+  held = λ f slot l. absurd (grind (arith, nat_tests));
+}
+
+again_said : (i : ℕ) (post : Post) (aim : Aim) (index : ℕ) (root : Root) (steps link found : ℕ) (q : Past) → (found == link || found == 0) ≡ true → Now i post (Protect aim index root steps (ByHazard (CheckLink link))) found q → Said i index root found q
+again_said i post aim index root steps link found q e n = record {
+  null = λ z. n.null index (both (index == index) (found == 0) (same_number index) z);
+  held = λ f slot l.
+      let same : (found == link) ≡ true = grind (arith, nat_tests) in
+      let row : link ≡ slot + 1 = grind (arith, nat_tests) in
+      n.held index slot (both (index == index) ((found == link) && (is_end root && link == slot + 1)) (same_number index) (both (found == link) (is_end root && link == slot + 1) same (both (is_end root) (link == slot + 1) f (is_one_more link slot row))));
+}
+
 trying_says : (i index : ℕ) (root : Root) (config : Config) (era : ℕ) (tries : Tries) (q : Past) → AtSays i index root (protects.trying config era tries) q
 trying_says i index root config era Endless q = tt
 trying_says i index root config era (Failed count) q = by_more (nat_le config.tries count)
@@ -208,6 +225,11 @@ protect_says i aim index root steps n (WithdrawRequest link era) post found q h 
 protect_says i aim index root steps n (WithdrawHelper link era) post found q h e = concluded_says i aim index root n link era (counted post) (reserves_helper (counted post) 0) q h
 protect_says i aim index root steps n (CheckUpper link) post found q h e =
     either_says i index root _ _ (found == upper post.span) q (λ c. concluded_says i aim index root n link found _ _ q (upper_said i post aim index root steps link found q c e)) (λ c. tt)
+protect_says i aim index root steps n (ByHazard FirstLink) post found q h e =
+    either_says i index root _ _ (found == 0) q (λ c. concluded_says i aim index root n found 0 _ _ q (first_said i post aim index root steps found q c e)) (λ c. tt)
+protect_says i aim index root steps n (ByHazard (PublishLink link)) post found q h e = tt
+protect_says i aim index root steps n (ByHazard (CheckLink link)) post found q h e =
+    either_says i index root _ _ (found == link || found == 0) q (λ c. concluded_says i aim index root n found 0 _ _ q (again_said i post aim index root steps link found q c e)) (λ c. tt)
 protect_says i aim index root steps n at post found q h e = tt
 
 -- what it says to the call that it is run for
@@ -322,7 +344,7 @@ load_says i from index post desk found false q = tt
 keep_says : (i : ℕ) (at : KeepAt) (post : Post) (desk : Desk) (found : ℕ) (q : Past) → PhaseSays i (phase_left (keeps.keep_turn at post desk found).outcome) q
 keep_says i (Loosens let_go) post desk found q = start_says i _ q (work_fresh (Keeping (Loosens let_go)) post desk found refl).starts
 keep_says i (LoadHeld from index) post desk found q = load_says i from index post desk found (has_one_interval (scheme_of post)) q
-keep_says i (StoreHeld from index era) post desk found q = copied_says i from index post desk (reserves_index post index era) (stands post from) q
+keep_says i (StoreHeld from index era) post desk found q = copied_says i from index post desk (publishes_index (publishes_rows (scheme_of post)) post index era) (stands post from) q
 keep_says i (Looks index key at) post desk found q = start_says i _ q (work_fresh (Keeping (Looks index key at)) post desk found refl).starts
 keep_says i (Misses index) post desk found q = tt
 keep_says i HideSpan post desk found q = tt

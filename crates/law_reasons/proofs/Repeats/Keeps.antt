@@ -1,7 +1,7 @@
 -- The record of each history keeps the law on how often a call begins anew.
-use Rattle.std.proofs.Common.{ℕ, ◌≡◌, ◌≤◌, ◌<◌, ◌+◌, ◌-◌, ◌*◌, ◌%◌, Bool, true, false, List, [], ◌∷◌, length, Option, Some, None, refl, sym, ap, ◌∙◌, subst, arith}
+use Rattle.std.proofs.Common.{ℕ, ◌≡◌, ◌≤◌, ◌<◌, ◌+◌, ◌-◌, ◌%◌, Bool, true, false, List, [], ◌∷◌, length, Option, Some, None, refl, sym, ap, ◌∙◌, subst, arith}
 use Rattle.std.proofs.lemmas.Bool.Decides.{nat_tests}
-use Rattle.std.specs.Prelude.{◌==◌, nat_le, if◌then◌else◌}
+use Rattle.std.specs.Prelude.{◌==◌, nat_le}
 use Rattle.law_scans.specs.inv.model.words.Place.{is_valid}
 use Rattle.law_scans.specs.inv.model.words.Place.Place.{Tail}
 use Rattle.law_scans.specs.inv.model.words.declared.config.Config.{Config}
@@ -17,13 +17,13 @@ use Rattle.law_scans.specs.inv.model.Guards.{guards}
 use Rattle.law_scans.specs.inv.model.Phases.{Base}
 use Rattle.law_scans.specs.inv.model.Posts.{counted}
 use Rattle.law_scans.specs.inv.model.Rest.{is_told, lost_by}
-use Rattle.law_scans.specs.inv.model.Rounds.{index_of, key_of}
+use Rattle.law_scans.specs.inv.model.Rounds.{index_of, key_of, round, scheme_of}
 use Rattle.law_scans.specs.inv.model.Calls.{Task, Gets, Changes, Holds, Enqueues, Dequeues, Why, Opens, Phase, Idle, Runs, Scans, Works, CallTurn, CallOutcome, GoesOn, Answers}
 use Rattle.law_scans.specs.inv.model.Desks.{noting}
-use Rattle.law_scans.specs.inv.model.Locals.{Local, rounds_told, settled_by, told_by, told_end, turn}
+use Rattle.law_scans.specs.inv.model.Locals.{Local, begun_post, rounds_told, settled_by, told_by, told_end, turn}
 use Rattle.law_scans.specs.inv.model.World.{World, begin, finds, is_busy, offered, start, step, told_in, may_start}
 use Rattle.law_scans.proofs.inv.model.Facts.{same_number, first_of, rest_of}
-use Rattle.law_scans.specs.inv.shapes.Seats.{Run}
+use Rattle.law_scans.specs.inv.shapes.Seats.{Run, Seats, base_fits}
 use Rattle.law_scans.proofs.inv.shapes.Frame.{seat_stays, seat_steps, begin_stays, begin_begins}
 use Rattle.law_scans.proofs.inv.Inv.Begun.{known_start, known_begin}
 use Rattle.law_scans.proofs.inv.Inv.Kept.{known_kept, asked_next}
@@ -50,15 +50,29 @@ use Rattle.law_scans.specs.inv.Tallies.{Tally, once, tally, phase_paced, task_pa
 use Rattle.law_reasons.proofs.Full.Keeps as full
 use Rattle.law_reasons.proofs.Full.Keeps.{now_of}
 use Rattle.law_reasons.proofs.Full.Ties as ties
-use Rattle.law_scans.specs.laws.HistoryScans.{Search, search_by, no_search, search_of}
+use Rattle.law_scans.specs.laws.HistoryScans.{search_by, no_search, search_of}
 use Rattle.law_scans.specs.laws.AnswerLaw.{moves_before, moves_of}
 use Rattle.law_scans.specs.laws.HistoryAnswers.{repeats_ok, whole_scan}
 use Rattle.law_reasons.specs.Records.{RecordsKeepRepeats}
-use Rattle.law_reasons.proofs.Repeats.Finds.{both_finds, finds_in, opens_now, phase_top, run_opens, step_finds, told_finds, top_of}
-use Rattle.law_reasons.proofs.Repeats.Gets.{gets_begin, gets_start, gets_step, once_more}
-use Rattle.law_scans.specs.inv.steps_left.Losses.{Losses, opens_fit, phase_fit}
-use Rattle.law_reasons.proofs.Repeats.Losing.{Few}
-use Rattle.law_reasons.proofs.Repeats.Paces.{Paced, counted_for, few_of, paced_begin, paced_step}
+use Rattle.law_reasons.proofs.Repeats.Finds.{at_over, both_finds, finds_in, is_over, one_at, opens_now, phase_top, run_opens, step_finds, told_finds, told_rounds, top_of}
+use Rattle.law_reasons.proofs.Repeats.Opens.{GetStands, at_pending, base_pending, pending, plain_pending, round_stands, start_pending, step_counted, step_stands}
+use Rattle.law_scans.proofs.inv.Rounds.Grows.{open_task}
+use Rattle.law_scans.proofs.inv.covers.Fresh.{first_begins}
+use Rattle.law_scans.proofs.inv.covers.Held.{stepped_phase}
+use Rattle.law_scans.proofs.inv.steps_left.Rest.Kept.{turn_rows}
+use Rattle.law_scans.specs.inv.model.defs.declared.event.Root.{Root}
+use Rattle.law_scans.specs.inv.model.Phases.{Aim, ProtectAt}
+use Rattle.law_scans.specs.inv.model.Phases.Base.{Protect}
+use Rattle.law_scans.specs.inv.model.Phases.HazardAt.{FirstLink, PublishLink, CheckLink}
+use Rattle.law_scans.specs.inv.model.Phases.ProtectAt.{WithdrawRequest, WithdrawHelper, ByHazard}
+use Rattle.law_scans.specs.inv.model.Rest.{gets_most}
+use Rattle.law_scans.specs.inv.model.Steps as steps
+use Rattle.law_scans.specs.inv.model.words.Schemes.{publishes_rows}
+use Rattle.law_scans.specs.inv.shapes.Slots.{Slots}
+use Rattle.law_reasons.proofs.Repeats.Gets.{begun_losses, first_none, gets_begin, gets_step, losses_start, once_more}
+use Rattle.law_scans.proofs.inv.steps_left.Rest.Fits.{round_fit}
+use Rattle.law_scans.specs.inv.steps_left.Losses.{Losses, opens_fit, phase_fit, tells_fit}
+use Rattle.law_reasons.proofs.Repeats.Paces.{Few, counted_for, counted_step, few_of, paced_begin, paced_step}
 use Rattle.law_reasons.proofs.Repeats.Records.{is_counted, began_stays, before_stays, before_zero, finds_others, finds_tells, moves_grow, whole_grows, whole_once}
 use Rattle.law_reasons.proofs.Repeats.Shift.{rounds_alike, shifted}
 use Rattle.law_reasons.proofs.Repeats.Tails.{tails_step}
@@ -83,8 +97,10 @@ record Keeps (layout : Layout) (made : Made) : Type 0 where
   known : Known made.world rows line asked
   tails : tails_of made.past ≡ line.number (made.world.mem Tail - 1)
   rounds : Rounds (shifted made.world (before_of made.world.layout.config made.past)) line asked
-  gets : Losses (shifted made.world (once_of made.past))
-  found : (k : ℕ) → finds_of k made.past ≡ (made.world.seat k).rounds
+  few : Losses (shifted made.world (before_of made.world.layout.config made.past))
+  gets : publishes_rows made.world.layout.config.scheme ≡ false → Losses (shifted made.world (once_of made.past))
+  opens : publishes_rows made.world.layout.config.scheme ≡ true → (k key : ℕ) → (made.world.seat k).call ≡ calls.Get key → GetStands (finds_of k made.past) (made.world.seat k).phase
+  found : (k : ℕ) → finds_of k made.past + pending (made.world.seat k).phase ≤ (made.world.seat k).rounds
   may : (k : ℕ) → MayFind made.world.layout.config k made.past
   law : Each (repeats_ok made.world.layout.config) made.past
 
@@ -121,7 +137,7 @@ quiet_find c i told p n f g =
     omega (arith, r, a, b, d, m, s, w, f)
 
 -- the root is found, and no more rounds than may be were lost before
-found_once : (c : Config) (i : ℕ) (told : List Event) (p : Past) (rounds lost : ℕ) → all_of is_within told ≡ true → finds_in told ≤ 1 → finds_of i p ≡ rounds → rounds + moves_before c i p ≤ moves_of c (began_of i p) p + lost → lost ≤ whole_scan (guards c) (search_of i p) → MayFind c i (tells_of p i told)
+found_once : (c : Config) (i : ℕ) (told : List Event) (p : Past) (rounds lost : ℕ) → all_of is_within told ≡ true → finds_in told ≤ 1 → finds_of i p ≤ rounds → rounds + moves_before c i p ≤ moves_of c (began_of i p) p + lost → lost ≤ whole_scan (guards c) (search_of i p) → MayFind c i (tells_of p i told)
 found_once c i told p rounds lost n f o r l =
     let e : began_of i (tells_of p i told) ≡ began_of i p = began_stays i i told p n in
     let a = finds_tells i told p n in
@@ -151,49 +167,93 @@ top_one index true e = rw e (omega arith)
 top_one index false e = rw e (omega arith)
 
 -- what is known of a round that has not found its root: of a get, that none has; of a hold, that none is told
-abbrev TaskOnce : Config → Task → (rounds : ℕ) → List Event → Type 0
-TaskOnce c (Gets key) rounds told = rounds ≤ 1
-TaskOnce c (Holds key) rounds told = finds_in told ≤ 0
-TaskOnce c task rounds told = Unit {0}
+abbrev TaskOnce : Task → (found : ℕ) → List Event → Type 0
+TaskOnce (Gets key) found told = found ≡ 0
+TaskOnce (Holds key) found told = finds_in told ≤ 0
+TaskOnce task found told = Unit {0}
 
-task_once : (c : Config) (task : Task) (rounds : ℕ) (told : List Event) → opens_fit c rounds task false → finds_in told ≤ top_of false (index_of task) → TaskOnce c task rounds told
-task_once c (Gets key) rounds told o f = o
-task_once c (Holds key) rounds told o f = f
-task_once c (Changes kept) rounds told o f = tt
-task_once c (Enqueues kept) rounds told o f = tt
-task_once c Dequeues rounds told o f = tt
+-- a get is one that has not found its root: where no row is published since it is counted once more, else since it still looks for it
+one_lost : (c : Config) (rounds once : ℕ) (rows told : Bool) → rows ≡ false → once ≡ 1 → told ≡ false → tells_fit (gets_most c rows) (rounds + once) told → rounds ≡ 0
+one_lost c rounds once false false r o t h = omega (arith, o, h)
+one_lost c rounds once false true r o t h = absurd (cc)
+one_lost c rounds once true told r o t h = absurd (cc)
 
-task_finds : (layout : Layout) (made : Made) (i : ℕ) (told : List Event) (k : Keeps layout made) (task : Task) → began_of i made.past ≡ Some (made.world.seat i).call → TaskServes (made.world.seat i).call task
-    → ties.TaskFits made.world.layout.config task (now_of made.world.layout.config i made.past) → task_paced (tally made.world k.line) task ((made.world.seat i).rounds + moves_before made.world.layout.config i made.past)
-    → all_of is_within told ≡ true → finds_in told ≤ 1 → TaskOnce made.world.layout.config task ((made.world.seat i).rounds + once_of made.past i) told → MayFind made.world.layout.config i (tells_of made.past i told)
-task_finds layout made i told k (Gets key) b s f p n t u =
+untold_base : (c : Config) (base : Base) → is_over base ≡ false → publishes_rows c.scheme ≡ false → base_fits c base ≡ true → is_told base ≡ false
+untold_base c (Protect aim index root steps (ByHazard at)) v r f = let e : publishes_rows c.scheme ≡ true = f in absurd (cc)
+untold_base c (Protect aim index root steps (WithdrawRequest link era)) v r f = absurd (cc)
+untold_base c (Protect aim index root steps (WithdrawHelper link era)) v r f = absurd (cc)
+untold_base c (Protect aim index root steps at) v r f = refl
+untold_base c base v r f = refl
+
+get_unfound : (layout : Layout) (made : Made) (i : ℕ) (k : Keeps layout made) (key : ℕ) (base : Base) (rows : Bool) → publishes_rows made.world.layout.config.scheme ≡ rows → began_of i made.past ≡ Some (made.world.seat i).call → (made.world.seat i).call ≡ calls.Get key
+    → (made.world.seat i).phase ≡ Runs (Opens (Gets key)) base → is_over base ≡ false → finds_of i made.past ≡ 0
+get_unfound layout made i k key base true r b s e v = subst (GetStands (finds_of i made.past)) e (k.opens r i key s)
+get_unfound layout made i k key base false r b s e v =
+    let w : World = made.world in
+    let c : Config = w.layout.config in
+    let once : ℕ = once_of made.past i in
+    let one : once ≡ 1 = ap once_more b ∙ ap (λ (x : Call). once_more (Some x)) s in
+    let fit : opens_fit c ((w.seat i).rounds + once) (Gets key) (is_told base) = subst (λ (phase : Phase). phase_fit c ((w.seat i).rounds + once) phase) e ((k.gets r).few i) in
+    let plain : is_told base ≡ false = untold_base c base v r (run_of w i (Opens (Gets key)) base k.known.seats e).fits in
+    let zero : (w.seat i).rounds ≡ 0 = one_lost c (w.seat i).rounds once (publishes_rows c.scheme) (is_told base) r one plain fit in
+    let o = k.found i in
+    omega (arith, o, zero)
+
+task_once : (layout : Layout) (made : Made) (i : ℕ) (told : List Event) (k : Keeps layout made) (task : Task) (base : Base) → began_of i made.past ≡ Some (made.world.seat i).call → TaskServes (made.world.seat i).call task → (made.world.seat i).phase ≡ Runs (Opens task) base → is_over base ≡ false
+    → finds_in told ≤ top_of false (index_of task) → TaskOnce task (finds_of i made.past) told
+task_once layout made i told k (Gets key) base b s e v f = get_unfound layout made i k key base (publishes_rows made.world.layout.config.scheme) refl b s e v
+task_once layout made i told k (Holds key) base b s e v f = f
+task_once layout made i told k (Changes kept) base b s e v f = tt
+task_once layout made i told k (Enqueues kept) base b s e v f = tt
+task_once layout made i told k Dequeues base b s e v f = tt
+
+task_finds : (layout : Layout) (made : Made) (i : ℕ) (told : List Event) (k : Keeps layout made) (task : Task) (lost : ℕ) → began_of i made.past ≡ Some (made.world.seat i).call → TaskServes (made.world.seat i).call task
+    → ties.TaskFits made.world.layout.config task (now_of made.world.layout.config i made.past) → finds_of i made.past ≤ lost → task_paced (tally made.world k.line) task (lost + moves_before made.world.layout.config i made.past)
+    → all_of is_within told ≡ true → finds_in told ≤ 1 → TaskOnce task (finds_of i made.past) told → MayFind made.world.layout.config i (tells_of made.past i told)
+task_finds layout made i told k (Gets key) lost b s f o p n t u =
     let c : Config = made.world.layout.config in
     let z : moves_before c i made.past ≡ 0 = before_zero c i made.past (made.world.seat i).call b (ap is_counted s) in
-    let one : once_of made.past i ≡ 1 = ap once_more b ∙ ap (λ (x : Call). once_more (Some x)) s in
-    let o = k.found i in
-    get_finds c i told made.past n t (omega (arith, o, one, u)) z
-task_finds layout made i told k (Holds key) b s f p n t u = quiet_find made.world.layout.config i told made.past n u (k.may i)
-task_finds layout made i told k (Changes kept) b s f p n t v =
+    get_finds c i told made.past n t u z
+task_finds layout made i told k (Holds key) lost b s f o p n t u = quiet_find made.world.layout.config i told made.past n u (k.may i)
+task_finds layout made i told k (Changes kept) lost b s f o p n t v =
     let c : Config = made.world.layout.config in
     let u : Tally = tally made.world k.line in
     let call : Call = (made.world.seat i).call in
     let m : moves_of c (began_of i made.past) made.past ≡ u.count (key_of kept.change % u.buckets) =
     ap (λ (x : Option Call). moves_of c x made.past) b ∙ same_moves layout made k call ∙ change_moves u call kept.change kept.wanted s in
-    found_once c i told made.past (made.world.seat i).rounds (once kept.walked) n t (k.found i) (omega (arith, m, p)) (whole_once (guards c) (search_of i made.past) kept.walked (f.reads refl))
-task_finds layout made i told k (Enqueues kept) b s f p n t v =
+    found_once c i told made.past lost (once kept.walked) n t o (omega (arith, m, p)) (whole_once (guards c) (search_of i made.past) kept.walked (f.reads refl))
+task_finds layout made i told k (Enqueues kept) lost b s f o p n t v =
     let c : Config = made.world.layout.config in
     let u : Tally = tally made.world k.line in
     let call : Call = (made.world.seat i).call in
     let m : moves_of c (began_of i made.past) made.past ≡ u.passes = ap (λ (x : Option Call). moves_of c x made.past) b ∙ same_moves layout made k call ∙ ap (world_moves u) s in
-    found_once c i told made.past (made.world.seat i).rounds (once kept.walked) n t (k.found i) (omega (arith, m, p)) (whole_once (guards c) (search_of i made.past) kept.walked (f.reads refl))
-task_finds layout made i told k Dequeues b s f p n t v =
+    found_once c i told made.past lost (once kept.walked) n t o (omega (arith, m, p)) (whole_once (guards c) (search_of i made.past) kept.walked (f.reads refl))
+task_finds layout made i told k Dequeues lost b s f o p n t v =
     let c : Config = made.world.layout.config in
     let u : Tally = tally made.world k.line in
     let call : Call = (made.world.seat i).call in
     let m : moves_of c (began_of i made.past) made.past ≡ u.takes = ap (λ (x : Option Call). moves_of c x made.past) b ∙ same_moves layout made k call ∙ ap (world_moves u) s in
-    found_once c i told made.past (made.world.seat i).rounds 0 n t (k.found i) (omega (arith, m, p)) (omega arith)
+    found_once c i told made.past lost 0 n t o (omega (arith, m, p)) (omega arith)
 
-own_opens : (layout : Layout) (made : Made) (i : ℕ) (told : List Event) (k : Keeps layout made) (task : Task) (base : Base) (flag : Bool) → is_told base ≡ flag → (made.world.seat i).phase ≡ Runs (Opens task) base → is_busy made.world i ≡ true → all_of is_within told ≡ true → finds_in told ≤ top_of flag (index_of task)
+-- a protection that has not told what it found has told its round where its row is pending
+told_base : (base : Base) → is_over base ≡ false → is_told base ≡ base_pending base
+told_base (Protect aim index root steps at) v = told_at aim index root steps at v
+  where
+    told_at : (aim : Aim) (index : ℕ) (root : Root) (steps : ℕ) (at : ProtectAt) → at_over at ≡ false → is_told (Protect aim index root steps at) ≡ at_pending at
+    told_at aim index root steps (WithdrawRequest link era) v = absurd (cc)
+    told_at aim index root steps (WithdrawHelper link era) v = absurd (cc)
+    told_at aim index root steps (ByHazard FirstLink) v = refl
+    told_at aim index root steps (ByHazard (PublishLink link)) v = refl
+    told_at aim index root steps (ByHazard (CheckLink link)) v = refl
+    told_at aim index root steps at v = refl
+told_base base v = refl
+
+-- so many rounds it has lost
+lost_rounds : (found rounds before lost : ℕ) (now : Bool) → found + one_at now ≤ rounds → lost ≡ lost_by (rounds + before) now → (found ≤ rounds - one_at now) × (rounds - one_at now + before ≡ lost)
+lost_rounds found rounds before lost true h e = (omega (arith, h), omega (arith, h, e))
+lost_rounds found rounds before lost false h e = (omega (arith, h), omega (arith, h, e))
+
+own_opens : (layout : Layout) (made : Made) (i : ℕ) (told : List Event) (k : Keeps layout made) (task : Task) (base : Base) (flag : Bool) → is_over base ≡ flag → (made.world.seat i).phase ≡ Runs (Opens task) base → is_busy made.world i ≡ true → all_of is_within told ≡ true → finds_in told ≤ top_of flag (index_of task)
     → MayFind made.world.layout.config i (tells_of made.past i told)
 own_opens layout made i told k task base true g e y n f = quiet_find made.world.layout.config i told made.past n f (k.may i)
 own_opens layout made i told k task base false g e y n f =
@@ -202,18 +262,19 @@ own_opens layout made i told k task base false g e y n f =
     let u : Tally = tally w k.line in
     let m : ℕ = moves_before c i made.past in
     let r = k.full.answers.seats i in
+    let now : Bool = base_pending base in
     let s : TaskServes (w.seat i).call task = subst (λ (phase : Phase). Serves (w.seat i).call phase) e (r.serves y) in
     let fits : ties.TaskFits c task (now_of c i made.past) = subst (λ (phase : Phase). ties.PhaseFits c phase (now_of c i made.past)) e (k.full.seats i) in
     let p : why_paced u ((w.seat i).rounds + m) base (Opens task) = subst (λ (phase : Phase). phase_paced u ((w.seat i).rounds + m) phase) e (k.rounds.paced i) in
-    let q : task_paced u task ((w.seat i).rounds + m) = subst (λ (x : Bool). task_paced u task (lost_by ((w.seat i).rounds + m) x)) g p in
+    let q : task_paced u task (lost_by ((w.seat i).rounds + m) now) = subst (λ (x : Bool). task_paced u task (lost_by ((w.seat i).rounds + m) x)) (told_base base g) (open_task u task base (lost_by ((w.seat i).rounds + m) (is_told base)) p) in
+    let h : finds_of i made.past + one_at now ≤ (w.seat i).rounds = subst (λ (phase : Phase). finds_of i made.past + pending phase ≤ (w.seat i).rounds) e (k.found i) in
+    let l = lost_rounds (finds_of i made.past) (w.seat i).rounds m (lost_by ((w.seat i).rounds + m) now) now h refl in
     let one : finds_in told ≤ 1 = let a = top_one (index_of task) (index_of task == 0) refl in omega (arith, a, f) in
-    let v : opens_fit c ((w.seat i).rounds + once_of made.past i) task (is_told base) = subst (λ (phase : Phase). phase_fit c ((w.seat i).rounds + once_of made.past i) phase) e (k.gets.few i) in
-    let x : opens_fit c ((w.seat i).rounds + once_of made.past i) task false = subst (λ (y : Bool). opens_fit c ((w.seat i).rounds + once_of made.past i) task y) g v in
-    task_finds layout made i told k task (r.began y) s fits q n one (task_once c task ((w.seat i).rounds + once_of made.past i) told x f)
+    task_finds layout made i told k task ((w.seat i).rounds - one_at now) (r.began y) s fits l.0 (subst (λ (x : ℕ). task_paced u task x) (sym l.1) q) n one (task_once layout made i told k task base (r.began y) s e g f)
 
 own_runs : (layout : Layout) (made : Made) (i : ℕ) (told : List Event) (k : Keeps layout made) (why : Why) (base : Base) → (made.world.seat i).phase ≡ Runs why base → is_busy made.world i ≡ true → all_of is_within told ≡ true → finds_in told ≤ opens_now (Runs why base)
     → MayFind made.world.layout.config i (tells_of made.past i told)
-own_runs layout made i told k (Opens task) base e y n f = own_opens layout made i told k task base (is_told base) refl e y n f
+own_runs layout made i told k (Opens task) base e y n f = own_opens layout made i told k task base (is_over base) refl e y n f
 own_runs layout made i told k why base e y n f = quiet_find made.world.layout.config i told made.past n f (k.may i)
 
 own_may : (layout : Layout) (made : Made) (i : ℕ) (told : List Event) (k : Keeps layout made) (phase : Phase) → (made.world.seat i).phase ≡ phase → is_busy made.world i ≡ true → all_of is_within told ≡ true → finds_in told ≤ phase_top phase → MayFind made.world.layout.config i (tells_of made.past i told)
@@ -257,49 +318,63 @@ settled_rounds : (l : Local) (t : CallTurn) (rounds : ℕ) (outcome : CallOutcom
 settled_rounds l t rounds (GoesOn phase) = refl
 settled_rounds l t rounds (Answers answer) = refl
 
-step_found : (layout : Layout) (made : Made) (i m : ℕ) (same : Bool) → (m == i) ≡ same → Keeps layout made → finds_of m (tells_of made.past i (told_in made.world i)) ≡ ((step made.world i).seat m).rounds
-step_found layout made i m true e k =
+-- what a step finds
+seen_in : (w : World) (i : ℕ) (rows : Bool) → publishes_rows w.layout.config.scheme ≡ rows → Seats w → Slots w → Seats (step w i) → finds_in (told_in w i) + pending ((step w i).seat i).phase ≤ rounds_told rows 0 (told_in w i) + pending (w.seat i).phase
+seen_in w i true r s l n = let a = step_counted w i r s l in let e = ap pending (stepped_phase w i) in omega (arith, a, e)
+seen_in w i false r s l n = let e = plain_pending w.layout ((step w i).seat i).post ((step w i).seat i).phase r (n.fits i).phase in omega (arith, e)
+
+own_found : (layout : Layout) (made : Made) (i : ℕ) (k : Keeps layout made) → Seats (step made.world i) → finds_of i (tells_of made.past i (told_in made.world i)) + pending ((step made.world i).seat i).phase ≤ ((step made.world i).seat i).rounds
+own_found layout made i k n =
     let w : World = made.world in
     let t : CallTurn = turn (offered w i) (finds w i) in
-    let q : i ≡ m = grind (arith, nat_tests) in
-    subst (λ (j : ℕ). finds_of j (tells_of made.past i (told_in w i)) ≡ ((step w i).seat j).rounds) q
-    (finds_tells i (told_in w i) made.past (within_of w i) ∙ ap (λ (n : ℕ). rounds_told n (told_in w i)) (k.found i)
-    ∙ sym (ap (λ (l : Local). l.rounds) (seat_steps w i) ∙ settled_rounds (w.seat i) t (rounds_told (w.seat i).rounds (told_by t)) t.outcome))
-step_found layout made i m false e k = finds_others m i (told_in made.world i) made.past e ∙ k.found m ∙ sym (ap (λ (l : Local). l.rounds) (seat_stays made.world i m e))
+    let rows : Bool = publishes_rows w.layout.config.scheme in
+    let here : publishes_rows (scheme_of t.post) ≡ rows = turn_rows w i k.known.valid k.known.seats in
+    let a = finds_tells i (told_in w i) made.past (within_of w i) in
+    let b = told_finds (finds_of i made.past) (told_in w i) in
+    let c : ((step w i).seat i).rounds ≡ rounds_told rows (w.seat i).rounds (told_in w i) =
+    ap (λ (l : Local). l.rounds) (seat_steps w i) ∙ settled_rounds (w.seat i) t (rounds_told (publishes_rows (scheme_of t.post)) (w.seat i).rounds (told_by t)) t.outcome ∙ ap (λ (x : Bool). rounds_told x (w.seat i).rounds (told_in w i)) here in
+    let d = told_rounds rows (w.seat i).rounds (told_in w i) in
+    let s = seen_in w i rows refl k.known.seats k.known.slots n in
+    let f = k.found i in
+    omega (arith, a, b, c, d, s, f)
 
--- what is known of the rounds of each seat
-moves_most : (t : Tally) (last : ℕ) (call : Call) → Few t last → world_moves t call ≤ 2 * last
-moves_most t last (calls.Put key value) f = let a = f.count (key % t.buckets) in omega (arith, a)
-moves_most t last (calls.Remove key) f = let a = f.count (key % t.buckets) in omega (arith, a)
-moves_most t last (calls.PutIf key value version) f = let a = f.count (key % t.buckets) in omega (arith, a)
-moves_most t last (calls.Enqueue value) f = f.passes
-moves_most t last calls.Dequeue f = f.takes
-moves_most t last call f = omega arith
-
-whole_most : (all : ℕ) (x : Search) → whole_scan all x ≤ 1
-whole_most all x = by (nat_le all x.reads)
-  where
-    by : (b : Bool) → (if b then 1 else 0) ≤ 1
-    by true = omega arith
-    by false = omega arith
-
-paced_of : (layout : Layout) (made : Made) → Keeps layout made → (k : ℕ) → Paced made.world (before_of made.world.layout.config made.past) k
-paced_of layout made g k =
+step_found : (layout : Layout) (made : Made) (i m : ℕ) (same : Bool) → (m == i) ≡ same → Keeps layout made → Seats (step made.world i) → finds_of m (tells_of made.past i (told_in made.world i)) + pending ((step made.world i).seat m).phase ≤ ((step made.world i).seat m).rounds
+step_found layout made i m true e k n =
     let w : World = made.world in
-    let c : Config = w.layout.config in
-    let r = g.full.answers.seats k in
-    record {
-      serves = r.serves;
-      zero = λ y h. before_zero c k made.past (w.seat k).call (r.began y) h;
-      most = λ y h.
-          let b = r.began y in
-          let a = g.may k in
-          let m : moves_of c (began_of k made.past) made.past ≡ world_moves (tally w g.line) (w.seat k).call = ap (λ (x : Option Call). moves_of c x made.past) b ∙ same_moves layout made g (w.seat k).call in
-          let f = moves_most (tally w g.line) c.last_version (w.seat k).call (few_of w g.rows g.line g.asked g.known) in
-          let x = whole_most (guards c) (search_of k made.past) in
-          let o = g.found k in
-          omega (arith, a, m, f, x, o);
-    }
+    let q : i ≡ m = grind (arith, nat_tests) in
+    subst (λ (j : ℕ). finds_of j (tells_of made.past i (told_in w i)) + pending ((step w i).seat j).phase ≤ ((step w i).seat j).rounds) q (own_found layout made i k n)
+step_found layout made i m false e k n =
+    let w : World = made.world in
+    let a = finds_others m i (told_in w i) made.past e in
+    let b : pending ((step w i).seat m).phase ≡ pending (w.seat m).phase = ap (λ (l : Local). pending l.phase) (seat_stays w i m e) in
+    let c : ((step w i).seat m).rounds ≡ (w.seat m).rounds = ap (λ (l : Local). l.rounds) (seat_stays w i m e) in
+    let f = k.found m in
+    omega (arith, a, b, c, f)
+
+-- where a get stands
+settled_call : (l : Local) (t : CallTurn) (rounds : ℕ) (outcome : CallOutcome) → (settled_by l t.post (noting t.desk (told_by t)) rounds outcome).call ≡ l.call
+settled_call l t rounds (GoesOn phase) = refl
+settled_call l t rounds (Answers answer) = refl
+
+own_stands : (layout : Layout) (made : Made) (i key : ℕ) (k : Keeps layout made) → publishes_rows made.world.layout.config.scheme ≡ true → ((step made.world i).seat i).call ≡ calls.Get key → GetStands (finds_of i (tells_of made.past i (told_in made.world i))) ((step made.world i).seat i).phase
+own_stands layout made i key k r s =
+    let w : World = made.world in
+    let t : CallTurn = turn (offered w i) (finds w i) in
+    let c : ((step w i).seat i).call ≡ (w.seat i).call = ap (λ (l : Local). l.call) (seat_steps w i) ∙ settled_call (w.seat i) t (rounds_told (publishes_rows (scheme_of t.post)) (w.seat i).rounds (told_by t)) t.outcome in
+    let a : finds_of i (tells_of made.past i (told_in w i)) ≡ finds_of i made.past + finds_in (told_in w i) = finds_tells i (told_in w i) made.past (within_of w i) ∙ told_finds (finds_of i made.past) (told_in w i) in
+    let g = step_stands w i (finds_of i made.past) r k.known.seats (k.opens r i key (sym c ∙ s)) in
+    subst (λ (n : ℕ). GetStands n ((step w i).seat i).phase) (sym a) (subst (GetStands (finds_of i made.past + finds_in (told_in w i))) (sym (stepped_phase w i)) g)
+
+step_opens : (layout : Layout) (made : Made) (i m key : ℕ) (same : Bool) → (m == i) ≡ same → Keeps layout made → publishes_rows made.world.layout.config.scheme ≡ true → ((step made.world i).seat m).call ≡ calls.Get key → GetStands (finds_of m (tells_of made.past i (told_in made.world i))) ((step made.world i).seat m).phase
+step_opens layout made i m key true e k r s =
+    let w : World = made.world in
+    let q : m ≡ i = grind (arith, nat_tests) in
+    subst (λ (j : ℕ). GetStands (finds_of j (tells_of made.past i (told_in w i))) ((step w i).seat j).phase) (sym q) (own_stands layout made i key k r (subst (λ (j : ℕ). ((step w i).seat j).call ≡ calls.Get key) q s))
+step_opens layout made i m key false e k r s =
+    let w : World = made.world in
+    let c : (w.seat m).call ≡ calls.Get key = sym (ap (λ (l : Local). l.call) (seat_stays w i m e)) ∙ s in
+    subst (λ (n : ℕ). GetStands n ((step w i).seat m).phase) (sym (finds_others m i (told_in w i) made.past e))
+    (subst (λ (l : Local). GetStands (finds_of m made.past) l.phase) (sym (seat_stays w i m e)) (k.opens r m key c))
 
 -- the law
 open_ok : (c : Config) (i : ℕ) (p : Past) (event : Event) → is_open event ≡ true → repeats_ok c p i event ≡ true
@@ -335,16 +410,19 @@ step_keeps layout made i b y k =
     let w : World = made.world in
     let c : Config = w.layout.config in
     let q = asked_next w i k.rows k.line k.asked b k.known in
+    let next = known_kept w i k.rows k.line k.asked q.0 b k.known q.1.facts q.1.deal in
     record {
       full = full.step_keeps layout made i b y k.full;
       rows = rows_after w i k.rows;
       line = line_after w i k.line;
       asked = q.0;
-      known = known_kept w i k.rows k.line k.asked q.0 b k.known q.1.facts q.1.deal;
+      known = next;
       tails = tails_step w i k.rows k.line k.asked made.past k.known k.tails;
-      rounds = paced_step w i k.rows k.line k.asked q.0 (before_of c made.past) (before_of c (tells_of made.past i (told_in w i))) b k.known (paced_of layout made k) q.1.deal (λ m. before_stays c m i (told_in w i) made.past (within_of w i)) k.rounds;
-      gets = gets_step w i k.rows k.line k.asked (once_of made.past) (once_of (tells_of made.past i (told_in w i))) b k.known ((k.full.answers.seats i).serves y) (ap once_more ((k.full.answers.seats i).began y)) (λ m. ap once_more (began_stays m i (told_in w i) made.past (within_of w i))) k.gets;
-      found = λ m. step_found layout made i m (m == i) refl k;
+      rounds = paced_step w i k.rows k.line k.asked q.0 (before_of c made.past) (before_of c (tells_of made.past i (told_in w i))) b k.known k.few q.1.deal (λ m. before_stays c m i (told_in w i) made.past (within_of w i)) k.rounds;
+      few = counted_step w i k.rows k.line k.asked (before_of c made.past) (before_of c (tells_of made.past i (told_in w i))) b k.known (λ m. before_stays c m i (told_in w i) made.past (within_of w i)) k.rounds k.few;
+      gets = λ r. gets_step w i k.rows k.line k.asked (once_of made.past) (once_of (tells_of made.past i (told_in w i))) b r k.known ((k.full.answers.seats i).serves y) (ap once_more ((k.full.answers.seats i).began y)) (λ m. ap once_more (began_stays m i (told_in w i) made.past (within_of w i))) (k.gets r);
+      opens = λ r m key s. step_opens layout made i m key (m == i) refl k r s;
+      found = λ m. step_found layout made i m (m == i) refl k next.seats;
       may = λ m. step_may layout made i m (m == i) refl y k;
       law = step_law layout made i y k;
     }
@@ -386,8 +464,8 @@ counted_by t (calls.Remove key) n e = omega (arith, e)
 counted_by t (calls.PutIf key value version) n e = omega (arith, e)
 counted_by t (calls.Enqueue value) n e = omega (arith, e)
 counted_by t calls.Dequeue n e = omega (arith, e)
-counted_by t (calls.Get key) n e = tt
-counted_by t (calls.Hold key) n e = tt
+counted_by t (calls.Get key) n e = omega (arith, e)
+counted_by t (calls.Hold key) n e = omega (arith, e)
 counted_by t calls.Release n e = tt
 counted_by t calls.Advance n e = tt
 counted_by t calls.Scan n e = tt
@@ -400,11 +478,31 @@ counted_by t (calls.Adopt place) n e = tt
 finds_now : (i : ℕ) (call : Call) (p : Past) → finds_of i (Then p i (events.Begin call)) ≡ 0
 finds_now i call p = rw (same_number i) refl
 
-begin_found : (w : World) (i m : ℕ) (call : Call) (p : Past) (same : Bool) → (m == i) ≡ same → ((k : ℕ) → finds_of k p ≡ (w.seat k).rounds) → finds_of m (Then p i (events.Begin call)) ≡ ((begin w i call).seat m).rounds
+begin_found : (w : World) (i m : ℕ) (call : Call) (p : Past) (same : Bool) → (m == i) ≡ same → ((k : ℕ) → finds_of k p + pending (w.seat k).phase ≤ (w.seat k).rounds) → finds_of m (Then p i (events.Begin call)) + pending ((begin w i call).seat m).phase ≤ ((begin w i call).seat m).rounds
 begin_found w i m call p true e g =
     let q : i ≡ m = grind (arith, nat_tests) in
-    subst (λ (j : ℕ). finds_of j (Then p i (events.Begin call)) ≡ ((begin w i call).seat j).rounds) q (finds_now i call p ∙ sym (ap (λ (l : Local). l.rounds) (begin_begins w i call)))
-begin_found w i m call p false e g = finds_others m i (events.Begin call ∷ []) p e ∙ g m ∙ sym (ap (λ (l : Local). l.rounds) (begin_stays w i m call e))
+    let a = finds_now i call p in
+    let b : pending ((begin w i call).seat i).phase ≡ 0 = ap (λ (l : Local). pending l.phase) (begin_begins w i call) ∙ start_pending _ (first_begins call (begun_post (w.seat i).post)).starts in
+    subst (λ (j : ℕ). finds_of j (Then p i (events.Begin call)) + pending ((begin w i call).seat j).phase ≤ ((begin w i call).seat j).rounds) q (omega (arith, a, b))
+begin_found w i m call p false e g =
+    let a = finds_others m i (events.Begin call ∷ []) p e in
+    let b : pending ((begin w i call).seat m).phase ≡ pending (w.seat m).phase = ap (λ (l : Local). pending l.phase) (begin_stays w i m call e) in
+    let c : ((begin w i call).seat m).rounds ≡ (w.seat m).rounds = ap (λ (l : Local). l.rounds) (begin_stays w i m call e) in
+    let f = g m in
+    omega (arith, a, b, c, f)
+
+begin_opens : (w : World) (i m key : ℕ) (call : Call) (p : Past) (same : Bool) → (m == i) ≡ same → ((k n : ℕ) → (w.seat k).call ≡ calls.Get n → GetStands (finds_of k p) (w.seat k).phase) → ((begin w i call).seat m).call ≡ calls.Get key → GetStands (finds_of m (Then p i (events.Begin call))) ((begin w i call).seat m).phase
+begin_opens w i m key call p true e g s =
+    let q : m ≡ i = grind (arith, nat_tests) in
+    let own : ((begin w i call).seat i).call ≡ calls.Get key = subst (λ (j : ℕ). ((begin w i call).seat j).call ≡ calls.Get key) q s in
+    let c : call ≡ calls.Get key = sym (ap (λ (l : Local). l.call) (begin_begins w i call)) ∙ own in
+    let phase : ((begin w i call).seat i).phase ≡ round (Gets key) (begun_post (w.seat i).post) = ap (λ (l : Local). l.phase) (begin_begins w i call) ∙ ap (λ (x : Call). steps.first_phase x (begun_post (w.seat i).post)) c in
+    subst (λ (j : ℕ). GetStands (finds_of j (Then p i (events.Begin call))) ((begin w i call).seat j).phase) (sym q)
+    (subst (λ (n : ℕ). GetStands n ((begin w i call).seat i).phase) (sym (finds_now i call p)) (subst (GetStands 0) (sym phase) (round_stands key (begun_post (w.seat i).post))))
+begin_opens w i m key call p false e g s =
+    let c : (w.seat m).call ≡ calls.Get key = sym (ap (λ (l : Local). l.call) (begin_stays w i m call e)) ∙ s in
+    subst (λ (n : ℕ). GetStands n ((begin w i call).seat m).phase) (sym (finds_others m i (events.Begin call ∷ []) p e))
+    (subst (λ (l : Local). GetStands (finds_of m p) l.phase) (sym (begin_stays w i m call e)) (g m key c))
 
 begin_may : (c : Config) (i m : ℕ) (call : Call) (p : Past) (same : Bool) → (m == i) ≡ same → ((k : ℕ) → MayFind c k p) → MayFind c m (Then p i (events.Begin call))
 begin_may c i m call p true e g =
@@ -425,6 +523,15 @@ begin_may c i m call p false e g =
     let x : whole_scan (guards c) (search_of m (Then p i (events.Begin call))) ≡ whole_scan (guards c) (search_of m p) = ap (whole_scan (guards c)) (seen_stays search_by no_search m i (events.Begin call ∷ []) p e) in
     omega (arith, r, a, b, s, x)
 
+-- a call begins with no more than it may lose
+first_most : (w : World) (i : ℕ) (call : Call) (t : Tally) (n : ℕ) → Few t w.layout.config.last_version → Losses w → n ≡ world_moves t call → phase_fit w.layout.config n (steps.first_phase call (begun_post (w.seat i).post))
+first_most w i (calls.Put key value) t n f h e = let a = f.count (key % t.buckets) in round_fit w.layout.config n (Changes _) (begun_post (w.seat i).post) (omega (arith, a, e))
+first_most w i (calls.Remove key) t n f h e = let a = f.count (key % t.buckets) in round_fit w.layout.config n (Changes _) (begun_post (w.seat i).post) (omega (arith, a, e))
+first_most w i (calls.PutIf key value version) t n f h e = let a = f.count (key % t.buckets) in round_fit w.layout.config n (Changes _) (begun_post (w.seat i).post) (omega (arith, a, e))
+first_most w i (calls.Enqueue value) t n f h e = let a = f.passes in round_fit w.layout.config n (Enqueues _) (begun_post (w.seat i).post) (omega (arith, a, e))
+first_most w i calls.Dequeue t n f h e = let a = f.takes in round_fit w.layout.config n Dequeues (begun_post (w.seat i).post) (omega (arith, a, e))
+first_most w i call t n f h e = subst (λ (x : ℕ). phase_fit w.layout.config x (steps.first_phase call (begun_post (w.seat i).post))) (sym e) (first_none w i call h)
+
 begin_keeps : (layout : Layout) (made : Made) (i : ℕ) (call : Call) → is_busy made.world i ≡ false → may_start made.world i call ≡ true → Keeps layout made → Keeps layout (done made (Begins i call))
 begin_keeps layout made i call f m k =
     let w : World = made.world in
@@ -439,7 +546,9 @@ begin_keeps layout made i call f m k =
       known = known_begin w i call k.rows k.line k.asked q.0 f m k.known q.1.facts q.1.deal;
       tails = k.tails;
       rounds = paced_begin w i call k.line k.asked q.0 (before_of c made.past) (before_of c r) f k.known.requests q.1.deal (λ j e. before_other c j i call made.past e) (counted_by (tally w k.line) call (moves_before c i r) (before_now c i call made.past ∙ same_moves layout made k call)) k.rounds;
-      gets = gets_begin w i call (once_of made.past) (once_of r) (λ j e. ap once_more (began_other j i call made.past e)) (ap once_more (began_now i call made.past)) k.known.losses k.gets;
+      few = begun_losses w i call (before_of c made.past) (before_of c r) (λ j e. before_other c j i call made.past e) (first_most w i call (tally w k.line) (moves_before c i r) (few_of w k.rows k.line k.asked k.known) k.known.losses (before_now c i call made.past ∙ same_moves layout made k call)) k.known.losses k.few;
+      gets = λ plain. gets_begin w i call (once_of made.past) (once_of r) (λ j e. ap once_more (began_other j i call made.past e)) (ap once_more (began_now i call made.past)) k.known.losses (k.gets plain);
+      opens = λ rows n key s. begin_opens w i n key call made.past (n == i) refl (k.opens rows) s;
       found = λ n. begin_found w i n call made.past (n == i) refl k.found;
       may = λ n. begin_may c i n call made.past (n == i) refl k.may;
       law = (refl, k.law);
@@ -457,8 +566,10 @@ first_keeps layout d =
       known = known;
       tails = refl;
       rounds = rounds_alike (start layout) (start layout).seat (shifted (start layout) (before_of layout.config Start)).seat (first_line layout) q.0 (λ m. record { phase = refl; post = refl; desk = refl; rounds = refl }) known.rounds;
-      gets = gets_start layout (once_of Start);
-      found = λ m. refl;
+      few = losses_start layout (before_of layout.config Start);
+      gets = λ r. losses_start layout (once_of Start);
+      opens = λ r m key s. tt;
+      found = λ m. omega arith;
       may = λ m. omega arith;
       law = tt;
     }

@@ -1,5 +1,5 @@
--- Where each seat has found its root as often as its call, and as often more as its bucket or the queue was moved before, no call loses
--- more rounds than it may.
+-- Where a call is counted once more for each time that its bucket or the queue was moved before it began, it still loses no more rounds
+-- than it may.
 use Rattle.std.proofs.Common.{ℕ, ◌≡◌, ◌≤◌, ◌<◌, ◌+◌, ◌-◌, ◌*◌, ◌%◌, Bool, true, false, length, Option, Some, None, refl, sym, ap, subst, arith}
 use Rattle.std.proofs.lemmas.Bool.Decides.{nat_tests}
 use Rattle.std.specs.Prelude.{◌==◌}
@@ -9,7 +9,7 @@ use Rattle.law_scans.specs.inv.model.defs.declared.call.Call.TheVariants as name
 use Rattle.law_scans.specs.inv.model.declared.post.Post.{Post}
 use Rattle.law_scans.proofs.Leaving.{parts_all}
 use Rattle.law_scans.specs.inv.model.Calls.{Gets, Changes, Holds, Enqueues, Dequeues, LetGo, Released, Rehold, Dropped}
-use Rattle.law_scans.specs.inv.model.Locals.{Local, begun_post, busy_in}
+use Rattle.law_scans.specs.inv.model.Locals.{Local, begun_post}
 use Rattle.law_scans.specs.inv.model.Posts.{stands}
 use Rattle.law_scans.specs.inv.model.Phases.{Base}
 use Rattle.law_scans.specs.inv.model.Rounds.{let_index, letting, letting_by, release_base, scheme_of}
@@ -18,7 +18,6 @@ use Rattle.law_scans.specs.inv.model.World.{World, begin, step, is_busy}
 use Rattle.law_scans.proofs.inv.shapes.Frame.{begin_stays, begin_begins}
 use Rattle.law_scans.specs.inv.Known.{Known}
 use Rattle.law_scans.proofs.inv.contents.Items.Gives.{items_count}
-use Rattle.law_scans.proofs.reuse.AnswersTold.Owed.{Serves}
 use Rattle.law_scans.proofs.reuse.Lawful.Current.{idle_untracked}
 use Rattle.law_scans.proofs.inv.links.Origins.Kept.{origins_begin}
 use Rattle.law_scans.specs.inv.links.Origins.{Origins}
@@ -27,6 +26,7 @@ use Rattle.law_scans.specs.inv.requests.NextDeals.{next_deals}
 use Rattle.law_scans.specs.inv.requests.Standing.{Requests}
 use Rattle.law_scans.specs.inv.requests.Views.{View as Asked}
 use Rattle.law_scans.specs.inv.steps_left.Losses.{Losses}
+use Rattle.law_scans.proofs.inv.Rounds.Ending.{rounds_give}
 use Rattle.law_scans.proofs.inv.Rounds.Paced.{round_paced}
 use Rattle.law_scans.specs.inv.Rounds.{Rounds}
 use Rattle.law_scans.specs.inv.Tallies.{Tally, tally, phase_paced, phase_good}
@@ -34,10 +34,15 @@ use Rattle.law_scans.specs.inv.rows.Chain.{line_after, queue_of}
 use Rattle.law_scans.specs.inv.rows.Queue.{Line}
 use Rattle.law_scans.specs.inv.rows.Rows.{View}
 use Rattle.law_scans.specs.inv.model.defs.declared.event.Root.{Root}
-use Rattle.law_reasons.proofs.Repeats.Losing.{Few, phase_more}
-use Rattle.law_reasons.proofs.Repeats.Records.{is_counted}
-use Rattle.law_reasons.proofs.Repeats.Shift.{rounds_alike, shifted, shifted_step, tracked_alike}
+use Rattle.law_reasons.proofs.Repeats.Gets.{losses_step}
+use Rattle.law_reasons.proofs.Repeats.Shift.{rounds_alike, shifted, shifted_needs, shifted_step, tracked_alike}
 use Rattle.law_scans.proofs.inv.Inv.Kept.{rounds_need}
+
+-- no more is counted than the setting allows
+pub record Few (t : Tally) (last : ℕ) : Type 0 where
+  pub count : (b : ℕ) → t.count b ≤ last
+  pub passes : t.passes ≤ 2 * last
+  pub takes : t.takes ≤ 2 * last
 
 -- no more was changed, queued and taken than the setting allows
 pub few_of : (w : World) (v : View) (l : Line) (z : Asked) → Known w v l z → Few (tally w l) w.layout.config.last_version
@@ -51,24 +56,16 @@ few_of w v l z k =
     let t : w.book.taken ≤ length w.book.queued = (items_count w v l k.whole.both k.items).taken in
     record { count = λ b. k.bounded.versions b; passes = omega (arith, n, r); takes = omega (arith, n, r, t) }
 
--- what is known of the rounds of a seat
-pub record Paced (w : World) (n : ℕ → ℕ) (k : ℕ) : Type 0 where
-  pub serves : busy_in (w.seat k).phase ≡ true → Serves (w.seat k).call (w.seat k).phase
-  pub zero : busy_in (w.seat k).phase ≡ true → is_counted (w.seat k).call ≡ false → n k ≡ 0
-  pub most : busy_in (w.seat k).phase ≡ true → is_counted (w.seat k).call ≡ true → (w.seat k).rounds + n k ≤ 2 * w.layout.config.last_version + 2
-
-pub shifted_losses : (w : World) (v : View) (l : Line) (z : Asked) (n : ℕ → ℕ) → Known w v l z → ((k : ℕ) → Paced w n k) → Rounds (shifted w n) l z → Losses (shifted w n)
-shifted_losses w v l z n k g r = record {
-  few = λ m. phase_more w.layout.config (tally w l) (w.seat m).call (w.seat m).rounds (n m) (w.seat m).phase (few_of w v l z k) (g m).zero (g m).most (g m).serves (k.losses.few m) (r.paced m);
-  spans = k.losses.spans;
-}
+-- a step loses no more rounds than it may where what was counted before its call is counted with it
+pub counted_step : (w : World) (i : ℕ) (v : View) (l : Line) (z : Asked) (n m : ℕ → ℕ) → i < w.layout.config.seats → Known w v l z → ((k : ℕ) → m k ≡ n k) → Rounds (shifted w n) l z → Losses (shifted w n) → Losses (shifted (step w i) m)
+counted_step w i v l z n m b k e r f = losses_step w i v l z n m k e (rounds_give (shifted w n) i v l z (shifted_needs w i v l z n (rounds_need w i v l z b k) f) r) f
 
 -- counts that are the same
 pub same_shift : (w : World) (l : Line) (z : Asked) (n m : ℕ → ℕ) → ((k : ℕ) → m k ≡ n k) → Rounds (shifted w n) l z → Rounds (shifted w m) l z
 same_shift w l z n m e r = rounds_alike w (shifted w n).seat (shifted w m).seat l z (λ k. record { phase = refl; post = refl; desk = refl; rounds = ap (λ (x : ℕ). (w.seat k).rounds + x) (sym (e k)) }) r
 
-pub paced_step : (w : World) (i : ℕ) (v : View) (l : Line) (z next : Asked) (n m : ℕ → ℕ) → i < w.layout.config.seats → Known w v l z → ((k : ℕ) → Paced w n k) → next.deal ≡ next_deals w i z.deal → ((k : ℕ) → m k ≡ n k) → Rounds (shifted w n) l z → Rounds (shifted (step w i) m) (line_after w i l) next
-paced_step w i v l z next n m b k g d e r = same_shift (step w i) (line_after w i l) next n m e (shifted_step w i v l z next n (rounds_need w i v l z b k) (shifted_losses w v l z n k g r) d r)
+pub paced_step : (w : World) (i : ℕ) (v : View) (l : Line) (z next : Asked) (n m : ℕ → ℕ) → i < w.layout.config.seats → Known w v l z → Losses (shifted w n) → next.deal ≡ next_deals w i z.deal → ((k : ℕ) → m k ≡ n k) → Rounds (shifted w n) l z → Rounds (shifted (step w i) m) (line_after w i l) next
+paced_step w i v l z next n m b k f d e r = same_shift (step w i) (line_after w i l) next n m e (shifted_step w i v l z next n (rounds_need w i v l z b k) f d r)
 
 -- a call begins with what there is counted before it
 abbrev pub counted_for : Tally → Call → ℕ → Type 0
@@ -77,6 +74,8 @@ counted_for t (names.Remove key) n = n ≤ t.count (key % t.buckets)
 counted_for t (names.PutIf key value version) n = n ≤ t.count (key % t.buckets)
 counted_for t (names.Enqueue value) n = n ≤ t.passes
 counted_for t names.Dequeue n = n ≤ t.takes
+counted_for t (names.Get key) n = n ≤ t.count (key % t.buckets)
+counted_for t (names.Hold key) n = n ≤ t.count (key % t.buckets)
 counted_for t call n = Unit {0}
 
 letting_paced : (t : Tally) (n : ℕ) (let_go : LetGo) (post : Post) → phase_paced t n (letting let_go post)
@@ -94,25 +93,25 @@ looking_paced : (t : Tally) (n index key : ℕ) (x : Option ℕ) → phase_paced
 looking_paced t n index key None = tt
 looking_paced t n index key (Some slot) = tt
 
-holding_paced : (t : Tally) (n key : ℕ) (post : Post) (stood : Option ℕ) → phase_paced t n (steps.holding key post stood)
-holding_paced t n key post None = round_paced t n (Holds key) post tt
-holding_paced t n key post (Some slot) = letting_paced t n (Rehold key) post
+holding_paced : (t : Tally) (n key : ℕ) (post : Post) (stood : Option ℕ) → n ≤ t.count (key % t.buckets) → phase_paced t n (steps.holding key post stood)
+holding_paced t n key post None h = round_paced t n (Holds key) post h
+holding_paced t n key post (Some slot) h = letting_paced t n (Rehold key) post
 
 no_more : (n m : ℕ) → n ≤ m → n ≤ m + 0
 no_more n m h = omega (arith, h)
 
 first_paced : (t : Tally) (call : Call) (n : ℕ) (post : Post) → counted_for t call n → phase_paced t n (steps.first_phase call post)
-first_paced t (names.Get key) n post h = round_paced t n (Gets key) post tt
+first_paced t (names.Get key) n post h = round_paced t n (Gets key) post h
 first_paced t (names.Put key value) n post h = round_paced t n (Changes _) post (no_more n (t.count (key % t.buckets)) h)
 first_paced t (names.Remove key) n post h = round_paced t n (Changes _) post (no_more n (t.count (key % t.buckets)) h)
 first_paced t (names.Enqueue value) n post h = round_paced t n (Enqueues _) post (no_more n t.passes h)
 first_paced t names.Dequeue n post h = round_paced t n Dequeues post h
-first_paced t (names.Hold key) n post h = holding_paced t n key post (stands post 2)
+first_paced t (names.Hold key) n post h = holding_paced t n key post (stands post 2) h
 first_paced t names.Release n post h = letting_paced t n Released post
 first_paced t (names.Copy from index) n post h = copying_paced t n from index (stands post from)
 first_paced t (names.DropIndex index) n post h = letting_paced t n (Dropped index) post
 first_paced t (names.Look index key) n post h = looking_paced t n index key (stands post index)
-first_paced t names.Leave n post h = parts_all (phase_paced t n) (record { clears = λ index. tt; hides = tt; marks = tt }) post
+first_paced t names.Leave n post h = parts_all (phase_paced t n) (record { clears = λ rows index. tt; hides = tt; marks = tt }) post
 first_paced t (names.Adopt place) n post h = tt
 first_paced t (names.PutIf key value version) n post h = round_paced t n (Changes _) post (no_more n (t.count (key % t.buckets)) h)
 first_paced t names.Advance n post h = tt

@@ -1,5 +1,5 @@
 -- What a record says of how often a call has found its root, and of what makes it begin anew, after what a step tells.
-use Rattle.std.proofs.Common.{ℕ, ◌≡◌, ◌≤◌, ◌+◌, Bool, true, false, List, [], ◌∷◌, Option, Some, refl, ap, ◌∙◌, arith}
+use Rattle.std.proofs.Common.{ℕ, ◌≡◌, ◌≤◌, ◌+◌, Bool, true, false, List, [], ◌∷◌, Option, Some, refl, sym, ap, ◌∙◌, arith}
 use Rattle.std.proofs.lemmas.Bool.Decides.{nat_tests}
 use Rattle.std.specs.Prelude.{◌==◌, ◌&&◌, nat_le, if◌then◌else◌}
 use Rattle.law_scans.specs.inv.model.words.declared.config.Config.{Config}
@@ -8,7 +8,7 @@ use Rattle.law_scans.specs.inv.model.defs.declared.call.Call.TheVariants as call
 use Rattle.law_scans.specs.inv.model.defs.declared.event.Event.{Event}
 use Rattle.law_scans.specs.inv.model.defs.declared.event.Event.TheVariants as events
 use Rattle.law_scans.specs.inv.model.defs.declared.event.Root.TheVariants as roots
-use Rattle.law_scans.specs.inv.model.Locals.{round_told, rounds_told}
+use Rattle.law_scans.specs.inv.model.Locals.{found_by, rounds_told}
 use Rattle.law_scans.proofs.inv.model.Facts.{same_number, first_of, rest_of}
 use Rattle.law_scans.specs.inv.history.Record.{Past, begins, value_since, tells_of}
 use Rattle.law_scans.specs.inv.history.Record.Past.{Start, Then}
@@ -22,6 +22,7 @@ use Rattle.law_scans.specs.laws.HistoryScans.{Search, search_by, no_search, sear
 use Rattle.law_scans.specs.laws.AnswerLaw.{moves_of, moves_before}
 use Rattle.law_scans.specs.laws.HistoryAnswers.{whole_scan}
 use Rattle.law_scans.proofs.reuse.AnswersTold.Answering.{one_began}
+use Rattle.law_reasons.proofs.Repeats.Finds.{row_none}
 
 -- finds
 one_found : (i index n : ℕ) → (if (index == 0) && (i == i) then n + 1 else n) ≡ (if index == 0 then n + 1 else n)
@@ -31,16 +32,17 @@ one_found i index n = rw (same_number i) (by (index == 0))
     by true = refl
     by false = refl
 
-finds_own : (i : ℕ) (p : Past) (event : Event) → is_within event ≡ true → finds_of i (Then p i event) ≡ round_told (finds_of i p) event
+finds_own : (i : ℕ) (p : Past) (event : Event) → is_within event ≡ true → finds_of i (Then p i event) ≡ found_by false (finds_of i p) event
 finds_own i p (events.Begin call) h = absurd (cc)
 finds_own i p (events.Held index slot steps) h = one_found i index (finds_of i p)
 finds_own i p (events.Null index steps) h = one_found i index (finds_of i p)
+finds_own i p (events.Hazard guard slot) h = sym (row_none (finds_of i p) guard slot)
 finds_own i p event h = refl
 
-pub finds_tells : (i : ℕ) (told : List Event) (p : Past) → all_of is_within told ≡ true → finds_of i (tells_of p i told) ≡ rounds_told (finds_of i p) told
+pub finds_tells : (i : ℕ) (told : List Event) (p : Past) → all_of is_within told ≡ true → finds_of i (tells_of p i told) ≡ rounds_told false (finds_of i p) told
 finds_tells i [] p h = refl
 finds_tells i (event ∷ told) p h =
-    finds_tells i told (Then p i event) (rest_of (is_within event) (all_of is_within told) h) ∙ ap (λ (n : ℕ). rounds_told n told) (finds_own i p event (first_of (is_within event) (all_of is_within told) h))
+    finds_tells i told (Then p i event) (rest_of (is_within event) (all_of is_within told) h) ∙ ap (λ (n : ℕ). rounds_told false n told) (finds_own i p event (first_of (is_within event) (all_of is_within told) h))
 
 pub finds_others : (k i : ℕ) (told : List Event) (p : Past) → (k == i) ≡ false → finds_of k (tells_of p i told) ≡ finds_of k p
 finds_others k i [] p e = refl
@@ -127,6 +129,7 @@ moves_grow c call i told p h = omega arith
 one_read : (event : Event) (x : Search) → is_within event ≡ true → x.reads ≤ (search_by event x).reads
 one_read (events.Begin call) x h = absurd (cc)
 one_read (events.Read guard span) x h = omega arith
+one_read (events.Saw guard slot) x h = omega arith
 one_read event x h = omega arith
 
 reads_grow : (i : ℕ) (told : List Event) (p : Past) → all_of is_within told ≡ true → (search_of i p).reads ≤ (search_of i (tells_of p i told)).reads

@@ -1,5 +1,5 @@
 -- A World in which each seat has found its root so many times more: what holds of the World holds of it, but for the rounds.
-use Rattle.std.proofs.Common.{ℕ, ◌≡◌, ◌+◌, Bool, true, false, List, [], ◌∷◌, refl, sym, ap, ◌∙◌, subst, arith}
+use Rattle.std.proofs.Common.{ℕ, ◌≡◌, ◌+◌, Bool, true, false, List, [], ◌∷◌, Option, Some, None, refl, sym, ap, ◌∙◌, subst, arith}
 use Rattle.std.proofs.lemmas.Bool.Decides.{nat_tests}
 use Rattle.std.specs.Prelude.{◌==◌, if◌then◌else◌}
 use Rattle.law_scans.specs.inv.model.defs.declared.event.Event.{Event}
@@ -8,7 +8,12 @@ use Rattle.law_scans.specs.inv.model.Calls.{Phase, CallOutcome, GoesOn, Answers}
 use Rattle.law_scans.specs.inv.model.Desks.{Desk, noting}
 use Rattle.law_scans.specs.inv.model.Posts.{upper}
 use Rattle.law_scans.specs.inv.model.words.Place.Place.{Clock}
-use Rattle.law_scans.specs.inv.model.Locals.{Local, round_told, rounds_told, settled, settled_by, told_by, turn}
+use Rattle.law_scans.specs.inv.model.Locals.{Local, counts_at, found_by, held_told, row_told, rounds_told, settled, settled_by, told_by, turn}
+use Rattle.law_scans.specs.inv.model.Rounds.{scheme_of}
+use Rattle.law_scans.specs.inv.model.words.Schemes.{publishes_rows}
+use Rattle.law_scans.specs.inv.model.defs.declared.event.Guard.{Guard}
+use Rattle.law_scans.specs.inv.model.defs.declared.event.Guard.TheVariants.{Helper, Index, Whole}
+use Rattle.law_scans.specs.inv.shapes.Slots.{Slots}
 use Rattle.law_scans.specs.inv.model.declared.post.Post.{Post}
 use Rattle.law_scans.specs.inv.model.World.{World, finds, offered, step}
 use Rattle.law_scans.specs.inv.shapes.Eras.{Eras}
@@ -49,6 +54,9 @@ shifted_both w n v l b = record {
   queue = record { line = b.queue.line; walks = b.queue.walks };
 }
 
+pub shifted_slots : (w : World) (n : ℕ → ℕ) → Slots w → Slots (shifted w n)
+shifted_slots w n s = record { words = s.words; seats = λ k. record { post = (s.seats k).post; list = (s.seats k).list; phase = (s.seats k).phase } }
+
 pub shifted_needs : (w : World) (i : ℕ) (v : View) (l : Line) (z : Asked) (n : ℕ → ℕ) → RoundsNeeds w i v l z → Losses (shifted w n) → RoundsNeeds (shifted w n) i v l z
 shifted_needs w i v l z n h f = record {
   origins = record {
@@ -63,25 +71,36 @@ shifted_needs w i v l z n h f = record {
   items = record { rows = h.items.rows; seats = h.items.seats };
   bounded = record { versions = h.bounded.versions; pairs = h.bounded.pairs };
   losses = f;
+  slots = shifted_slots w n h.slots;
 }
 
 -- a step finds the root as often, wherever the count begins
-one_told : (event : Event) (rounds n : ℕ) → round_told (rounds + n) event ≡ round_told rounds event + n
-one_told (events.Held index slot steps) rounds n = by (index == 0)
-  where
-    by : (x : Bool) → (if x then rounds + n + 1 else rounds + n) ≡ (if x then rounds + 1 else rounds) + n
-    by true = omega arith
-    by false = refl
-one_told (events.Null index steps) rounds n = by (index == 0)
-  where
-    by : (x : Bool) → (if x then rounds + n + 1 else rounds + n) ≡ (if x then rounds + 1 else rounds) + n
-    by true = omega arith
-    by false = refl
-one_told event rounds n = refl
+more_if : (x : Bool) (rounds n : ℕ) → (if x then rounds + n + 1 else rounds + n) ≡ (if x then rounds + 1 else rounds) + n
+more_if true rounds n = omega arith
+more_if false rounds n = refl
 
-pub more_told : (told : List Event) (rounds n : ℕ) → rounds_told (rounds + n) told ≡ rounds_told rounds told + n
-more_told [] rounds n = refl
-more_told (event ∷ told) rounds n = ap (λ (k : ℕ). rounds_told k told) (one_told event rounds n) ∙ more_told told (round_told rounds event) n
+held_more : (rows : Bool) (index rounds n : ℕ) → held_told rows (rounds + n) index ≡ held_told rows rounds index + n
+held_more true index rounds n = refl
+held_more false index rounds n = more_if (index == 0) rounds n
+
+row_more : (rows : Bool) (guard : Guard) (slot : Option ℕ) (rounds n : ℕ) → row_told rows (rounds + n) guard slot ≡ row_told rows rounds guard slot + n
+row_more rows guard None rounds n = refl
+row_more true (Index seat index) (Some slot) rounds n = more_if (counts_at true index) rounds n
+row_more true (Helper seat) (Some slot) rounds n = refl
+row_more true (Whole seat) (Some slot) rounds n = refl
+row_more false (Index seat index) (Some slot) rounds n = refl
+row_more false (Helper seat) (Some slot) rounds n = refl
+row_more false (Whole seat) (Some slot) rounds n = refl
+
+one_told : (rows : Bool) (event : Event) (rounds n : ℕ) → found_by rows (rounds + n) event ≡ found_by rows rounds event + n
+one_told rows (events.Held index slot steps) rounds n = held_more rows index rounds n
+one_told rows (events.Null index steps) rounds n = more_if (counts_at rows index) rounds n
+one_told rows (events.Hazard guard slot) rounds n = row_more rows guard slot rounds n
+one_told rows event rounds n = refl
+
+pub more_told : (rows : Bool) (told : List Event) (rounds n : ℕ) → rounds_told rows (rounds + n) told ≡ rounds_told rows rounds told + n
+more_told rows [] rounds n = refl
+more_told rows (event ∷ told) rounds n = ap (λ (k : ℕ). rounds_told rows k told) (one_told rows event rounds n) ∙ more_told rows told (found_by rows rounds event) n
 
 -- the seats after a step
 pub record Alike (one two : Local) : Type 0 where
@@ -90,9 +109,9 @@ pub record Alike (one two : Local) : Type 0 where
   pub desk : one.desk ≡ two.desk
   pub rounds : one.rounds ≡ two.rounds
 
-settled_alike : (l : Local) (n : ℕ) (post : Post) (desk : Desk) (told : List Event) (outcome : CallOutcome) → Alike (settled_by (more_rounds l n) post desk (rounds_told (l.rounds + n) told) outcome) (more_rounds (settled_by l post desk (rounds_told l.rounds told) outcome) n)
-settled_alike l n post desk told (GoesOn phase) = record { phase = refl; post = refl; desk = refl; rounds = more_told told l.rounds n }
-settled_alike l n post desk told (Answers answer) = record { phase = refl; post = refl; desk = refl; rounds = more_told told l.rounds n }
+settled_alike : (rows : Bool) (l : Local) (n : ℕ) (post : Post) (desk : Desk) (told : List Event) (outcome : CallOutcome) → Alike (settled_by (more_rounds l n) post desk (rounds_told rows (l.rounds + n) told) outcome) (more_rounds (settled_by l post desk (rounds_told rows l.rounds told) outcome) n)
+settled_alike rows l n post desk told (GoesOn phase) = record { phase = refl; post = refl; desk = refl; rounds = more_told rows told l.rounds n }
+settled_alike rows l n post desk told (Answers answer) = record { phase = refl; post = refl; desk = refl; rounds = more_told rows told l.rounds n }
 
 alike_by : (w : World) (i k : ℕ) (n : ℕ → ℕ) (same : Bool) → (k == i) ≡ same → Alike ((step (shifted w n) i).seat k) (more_rounds ((step w i).seat k) (n k))
 alike_by w i k n true e =
@@ -100,7 +119,7 @@ alike_by w i k n true e =
     let t = turn (offered w i) (finds w i) in
     subst (λ (j : ℕ). Alike ((step (shifted w n) i).seat j) (more_rounds ((step w i).seat j) (n j))) q
     (subst (λ (l : Local). Alike l (more_rounds ((step w i).seat i) (n i))) (sym (seat_steps (shifted w n) i))
-    (subst (λ (l : Local). Alike (settled (more_rounds (w.seat i) (n i)) t) (more_rounds l (n i))) (sym (seat_steps w i)) (settled_alike (w.seat i) (n i) t.post (noting t.desk (told_by t)) (told_by t) t.outcome)))
+    (subst (λ (l : Local). Alike (settled (more_rounds (w.seat i) (n i)) t) (more_rounds l (n i))) (sym (seat_steps w i)) (settled_alike (publishes_rows (scheme_of t.post)) (w.seat i) (n i) t.post (noting t.desk (told_by t)) (told_by t) t.outcome)))
 alike_by w i k n false e =
     subst (λ (l : Local). Alike l (more_rounds ((step w i).seat k) (n k))) (sym (seat_stays (shifted w n) i k e))
     (subst (λ (l : Local). Alike (more_rounds (w.seat k) (n k)) (more_rounds l (n k))) (sym (seat_stays w i k e)) (record { phase = refl; post = refl; desk = refl; rounds = refl }))

@@ -1,5 +1,7 @@
 -- The record of each history keeps the law of answers.
 use Rattle.std.proofs.Common.{ℕ, ◌≡◌, ◌<◌, ◌%◌, Bool, true, false, List, [], ◌∷◌, ◌++◌, Option, Some, None, refl, sym, ap, ◌∙◌, subst, arith}
+use Rattle.inv_all.specs.model.words.Schemes.{publishes_rows}
+use Rattle.inv_all.specs.model.Rounds.{scheme_of}
 use Rattle.std.proofs.lemmas.Bool.Decides.{nat_tests}
 use Rattle.std.specs.Prelude.{◌==◌, ◌&&◌}
 use Rattle.inv_all.specs.model.words.Place.{is_valid}
@@ -180,7 +182,7 @@ step_right n w i k p true e b a d g =
     let r = g i in
     let t : CallTurn = turn (offered w i) (finds w i) in
     let o = owes_of n w i d a (r.serves b) in
-    let s = settled_right n (w.seat i) t.post (noting t.desk (told_by t)) (rounds_told (w.seat i).rounds (told_by t)) t.outcome (began_of i (tells_of p i (told_in w i))) (told_of i (tells_of p i (told_in w i)))
+    let s = settled_right n (w.seat i) t.post (noting t.desk (told_by t)) (rounds_told (publishes_rows (scheme_of t.post)) (w.seat i).rounds (told_by t)) t.outcome (began_of i (tells_of p i (told_in w i))) (told_of i (tells_of p i (told_in w i)))
     (began_along i (told_in w i) p (within_of w i) ∙ r.began b) (step_told n i (w.seat i).call p t (owed n (w.seat i).call (w.seat i).phase) (within_of w i) (r.told b) o) o.serves in
     subst (λ (m : ℕ). Right n ((step w i).seat m) (began_of m (tells_of p i (told_in w i))) (told_of m (tells_of p i (told_in w i)))) (sym one)
     (subst (λ (l : Local). Right n l (began_of i (tells_of p i (told_in w i))) (told_of i (tells_of p i (told_in w i)))) (sym (seat_steps w i)) s)

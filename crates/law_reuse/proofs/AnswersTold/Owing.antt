@@ -27,14 +27,16 @@ use Rattle.inv_all.specs.model.Desks.{Desk, with_life}
 use Rattle.inv_all.specs.model.Dequeue as dequeues
 use Rattle.inv_all.specs.model.Enqueue as enqueues
 use Rattle.inv_all.specs.model.Get as gets
-use Rattle.inv_all.specs.model.Guards.{guards, guard_at, eras_in, published}
+use Rattle.inv_all.specs.model.Guards.{guards, guard_at, published}
 use Rattle.inv_all.specs.model.Machine as machine
 use Rattle.inv_all.specs.model.Keep as keeps
-use Rattle.inv_all.specs.model.Posts.{cleared, reserves_index, stands, withdrawn, standing_from, cleared_from, reserves_span}
+use Rattle.inv_all.specs.model.Posts.{cleared, publishes_index, stands, withdrawn, standing_from, cleared_from, reserves_span}
 use Rattle.inv_all.specs.model.Scan as scan
 use Rattle.inv_all.specs.model.Steps as steps
-use Rattle.inv_all.specs.model.Rounds.{scheme_of, bucket_of, index_of, key_of, taken_of, begin_base, round, round_by, finish_base, clear_base, clear_post, clear_told, given_up, closed, finishing_by, finishing, clearing_by, clearing, clearing_next_by, clearing_next, let_index, letting_by, release_base}
-use Rattle.inv_all.specs.model.words.Schemes.{has_one_interval}
+use Rattle.inv_all.specs.model.Rounds.{scheme_of, bucket_of, index_of, key_of, taken_of, begin_base, round, round_by, finish_base, clear_base, clear_post, clear_told, given_up, closed, finishing_by, finishing, clearing_by, clearing, clearing_next_by, clearing_next, let_index, letting_by, release_base, tidy_by}
+use Rattle.inv_all.specs.model.words.Schemes.{has_one_interval, publishes_rows, moves as moves_clock}
+use Rattle.inv_all.specs.model.defs.declared.event.Guard.{Guard}
+use Rattle.law_reuse.proofs.ReadGuards.{reads_are}
 use Rattle.inv_all.specs.model.Phases.{Base, Ending, Outcome, Goes, Ends}
 use Rattle.inv_all.specs.model.Phases.Ending.{Done, Protected, Followed, Allocated, Retired, Clocked}
 use Rattle.inv_all.specs.model.Calls.{Task, Gets, Changes, Holds, Enqueues, Dequeues, Next, Again, MakeRoom, Answering, Retiring, AfterScan, Answered, Repeated, Counted, ChangeKept, EnqueueKept, GetAt, FindVersion, FindCount, FindKey, FindValue, ChangeAt, LoadVersion, LoadCount, LoadKey, LoadValue, ExchangeRoot, EnqueueAt, LoadNumber, LoadNext, PassTail, ExchangeNext, ExchangeTail, DequeueAt, SwingTail, ExchangeHead, Work, Getting, Changing, Enqueuing, Dequeuing, Keeping, KeepAt, Loosens, LoadHeld, StoreHeld, Looks, Misses, HideSpan, MarkLeft, TakeList, MarkTaken, LetGo, Released, Rehold, Dropped, Parting, ScanAt, ReadGuard, GiveBack, Why, Opens, FollowsHead, Fills, ClearsNext, Clears, Finishes, GivesUp, Retires, Tidies, Advances, Releases, Phase, Idle, Runs, Scans, Works, answers, goes_on}
@@ -70,9 +72,14 @@ again_owes n call before task post told s t = let r = round_of n call task post 
 round_serves : (n : ℕ) (call : Call) (task : Task) (post : Post) → TaskServes call task → Serves call (round task post)
 round_serves n call task post s = let r = round_of n call task post s in r.serves
 
+-- retirements that move the clock do so before they scan
+tidy_owes : (n : ℕ) (call : Call) (before : List Event) (later : AfterScan) (moving : Bool) (post : Post) (desk : Desk) (told : List Event) → LaterServes call later → Told before told (later_owed n call later) → Owes n call before (goes_on post desk told (tidy_by moving later post))
+tidy_owes n call before later true post desk told s t = record { told = t; serves = s }
+tidy_owes n call before later false post desk told s t = record { told = t; serves = s }
+
 closed_owes : (n : ℕ) (call : Call) (before : List Event) (task : Task) (next : Next) (post : Post) (desk : Desk) (told : List Event) → TaskServes call task → NextServes call next → Told before told (next_owed n call next) → Owes n call before (closed task next post desk told)
 closed_owes n call before task Again post desk told s k t = record { told = again_owes n call before task post told s t; serves = round_serves n call task post s }
-closed_owes n call before task MakeRoom post desk told s k t = record { told = t; serves = s }
+closed_owes n call before task MakeRoom post desk told s k t = tidy_owes n call before (Repeated task) (moves_clock (scheme_of post)) post desk told s t
 closed_owes n call before task (Answering answer) post desk told s k t = given_up_owes n call before answer post desk told (taken_of task) k t
 closed_owes n call before task (Retiring slot answer) post desk told s k t = record { told = t; serves = k }
 
@@ -301,16 +308,16 @@ dequeue_owes n call (ExchangeHead head next number value) post desk found c = ta
 dequeue_owes n call at post desk found c = record { told = told_none; serves = c }
 
 -- a seat that leaves
-parting_owes : (n : ℕ) (call : Call) (post : Post) (desk : Desk) (told : List Event) (x : Option ℕ) → call ≡ names.Leave → Told [] told [] → Owes n call [] (goes_on post desk told (keeps.parting_index x))
-parting_owes n call post desk told None c t = record { told = t; serves = c }
-parting_owes n call post desk told (Some index) c t = record { told = t; serves = c }
+parting_owes : (n : ℕ) (call : Call) (post : Post) (desk : Desk) (told : List Event) (rows : Bool) (x : Option ℕ) → call ≡ names.Leave → Told [] told [] → Owes n call [] (goes_on post desk told (keeps.parting_index rows x))
+parting_owes n call post desk told rows None c t = record { told = t; serves = c }
+parting_owes n call post desk told rows (Some index) c t = record { told = t; serves = c }
 
 -- what stands at indexes from 2 on
 released_owes : (n : ℕ) (call : Call) (let_go : LetGo) (post : Post) (desk : Desk) (told : List Event) → FreeServes call let_go → Told [] told [] → Owes n call [] (keeps.released let_go post desk told)
 released_owes n call Released post desk told c t = record { told = rw c t; serves = rw c refl }
 released_owes n call (Rehold key) post desk told c t = record { told = again_owes n call [] (Holds key) post told c t; serves = round_serves n call (Holds key) post c }
 released_owes n call (Dropped index) post desk told c t = record { told = rw c t; serves = rw c refl }
-released_owes n call (Parting index) post desk told c t = parting_owes n call post desk told (standing_from (index + 1) (drop (index + 1) post.standing)) c t
+released_owes n call (Parting index) post desk told c t = parting_owes n call post desk told (publishes_rows (scheme_of post)) (standing_from (index + 1) (drop (index + 1) post.standing)) c t
 
 copied_owes : (n : ℕ) (call : Call) (from index : ℕ) (post : Post) (desk : Desk) (reserved : List Event) (o : Option ℕ) → call ≡ names.Copy from index → all_of is_machine reserved ≡ true → Owes n call [] (keeps.copied from index post desk reserved o)
 copied_owes n call from index post desk reserved None c m = record { told = rw c told_none; serves = rw c refl }
@@ -368,7 +375,11 @@ keep_owes n call (Loosens let_go) post desk found c =
     let told : List Event = cleared (let_index let_go) (stands post (let_index let_go)) in
     released_owes n call let_go (withdrawn post (let_index let_go)) desk told c (told_machine [] told (cleared_all is_machine (let_index let_go) (stands post (let_index let_go)) (λ index slot. refl)))
 keep_owes n call (LoadHeld from index) post desk found c = load_owes n call from index post desk found (has_one_interval (scheme_of post)) c
-keep_owes n call (StoreHeld from index era) post desk found c = copied_owes n call from index post desk (reserves_index post index era) (stands post from) c refl
+keep_owes n call (StoreHeld from index number) post desk found c = copied_owes n call from index post desk (publishes_index (publishes_rows (scheme_of post)) post index number) (stands post from) c (by (publishes_rows (scheme_of post)))
+  where
+    by : (rows : Bool) → all_of is_machine (publishes_index rows post index number) ≡ true
+    by true = refl
+    by false = refl
 keep_owes n call (Looks index key at) post desk found c = look_owes n call index key at post desk found c
 keep_owes n call (Misses index) post desk found c = miss_owes n call index post desk c
 keep_owes n call HideSpan post desk found c =
@@ -403,8 +414,10 @@ guard_owes n call later number post desk told false s t = giving_owes n call lat
 
 scan_owes : (n : ℕ) (call : Call) (later : AfterScan) (at : ScanAt) (post : Post) (desk : Desk) (found : ℕ) → LaterServes call later → Owes n call (later_owed n call later) (scan.scan_turn later at post desk found)
 scan_owes n call later (ReadGuard number) post desk found s =
-    guard_owes n call later number post (scan.with_read desk number (guard_at post.layout.config number, published (guard_at post.layout.config number) found)) (events.Read (guard_at post.layout.config number) (eras_in (guard_at post.layout.config number) found) ∷ []) (nat_lt (number + 1) (guards post.layout.config)) s
-    (record { sum = append_none (later_owed n call later); goes = refl })
+    let rows : Bool = publishes_rows post.layout.config.scheme in
+    let guard : Guard = guard_at post.layout.config number in
+    guard_owes n call later number post (scan.with_read desk number (guard, published rows guard found)) (scan.reads_guard rows guard found ∷ []) (nat_lt (number + 1) (guards post.layout.config)) s
+    (reads_are (λ (event : Event). Told (later_owed n call later) (event ∷ []) (later_owed n call later)) rows guard found (λ span. record { sum = append_none (later_owed n call later); goes = refl }) (λ slot. record { sum = append_none (later_owed n call later); goes = refl }))
 scan_owes n call later (GiveBack place slot) post desk found s =
     giving_owes n call later post (scan.with_back desk place) (events.Back slot ∷ []) (scan.unmet_from (scan.with_back desk place) place) s (record { sum = append_none (later_owed n call later); goes = refl })
 
@@ -475,7 +488,7 @@ followed_by_owes n call head tail (Retired life) post desk told c t = closed_owe
 followed_by_owes n call head tail (Clocked clock) post desk told c t = closed_owes n call [] Dequeues Again post desk told c tt t
 
 tidying_owes : (n : ℕ) (call : Call) (answer : Answer) (post : Post) (desk : Desk) (told : List Event) (due : Bool) → suits call answer ≡ true → Told (owes n call answer) told (owes n call answer) → Owes n call (owes n call answer) (steps.tidying answer post desk told due)
-tidying_owes n call answer post desk told true s t = record { told = t; serves = s }
+tidying_owes n call answer post desk told true s t = tidy_owes n call (owes n call answer) (Answered answer) (moves_clock (scheme_of post)) post desk told s t
 tidying_owes n call answer post desk told false s t = record { told = t; serves = s }
 
 retired_owes : (n : ℕ) (call : Call) (answer : Answer) (ending : Ending) (post : Post) (desk : Desk) (told : List Event) → suits call answer ≡ true → Told (owes n call answer) told (owes n call answer) → Owes n call (owes n call answer) (steps.retired_by answer ending post desk told)
@@ -579,13 +592,13 @@ first_serves names.Leave post = leave_serves (has_one_interval (scheme_of post))
     span_serves None = refl
     span_serves (Some span) = refl
 
-    index_serves : (x : Option ℕ) → Serves names.Leave (keeps.parting_index x)
-    index_serves None = refl
-    index_serves (Some index) = refl
+    index_serves : (rows : Bool) (x : Option ℕ) → Serves names.Leave (keeps.parting_index rows x)
+    index_serves rows None = refl
+    index_serves rows (Some index) = refl
 
     leave_serves : (one : Bool) → Serves names.Leave (if one then keeps.parting_span post.span else keeps.parting_from 2 post)
     leave_serves true = span_serves post.span
-    leave_serves false = index_serves (standing_from 2 (drop 2 post.standing))
+    leave_serves false = index_serves (publishes_rows (scheme_of post)) (standing_from 2 (drop 2 post.standing))
 first_serves (names.Adopt place) post = refl
 first_serves names.Advance post = refl
 first_serves names.Scan post = refl
@@ -623,13 +636,13 @@ first_owes n names.Leave post = leave_none (has_one_interval (scheme_of post))
     span_none None = refl
     span_none (Some span) = refl
 
-    index_none : (x : Option ℕ) → owed n names.Leave (keeps.parting_index x) ≡ []
-    index_none None = refl
-    index_none (Some index) = refl
+    index_none : (rows : Bool) (x : Option ℕ) → owed n names.Leave (keeps.parting_index rows x) ≡ []
+    index_none rows None = refl
+    index_none rows (Some index) = refl
 
     leave_none : (one : Bool) → owed n names.Leave (if one then keeps.parting_span post.span else keeps.parting_from 2 post) ≡ []
     leave_none true = span_none post.span
-    leave_none false = index_none (standing_from 2 (drop 2 post.standing))
+    leave_none false = index_none (publishes_rows (scheme_of post)) (standing_from 2 (drop 2 post.standing))
 first_owes n (names.Adopt place) post = refl
 first_owes n names.Advance post = refl
 first_owes n names.Scan post = refl

@@ -47,15 +47,18 @@ scans_other k i (event ∷ told) p h = scans_other k i told (Then p i event) h �
 -- an event of no scan
 unread_keeps : (all : ℕ) (event : Event) (read : List Seen) → is_unread event ≡ true → read_by all event read ≡ read
 unread_keeps all (events.Read guard span) read h = absurd (cc)
+unread_keeps all (events.Saw guard slot) read h = absurd (cc)
 unread_keeps all event read h = refl
 
 unread_scans : (event : Event) → is_unread event ≡ true → is_scan event ≡ false
 unread_scans (events.Read guard span) h = absurd (cc)
+unread_scans (events.Saw guard slot) h = absurd (cc)
 unread_scans (events.Back slot) h = absurd (cc)
 unread_scans event h = refl
 
 unread_by : (config : Config) (read : List Seen) (list : List Lifetime) (scans : Bool) (event : Event) → is_unread event ≡ true → (not scans || is_over (guards config) read list) ≡ true → scan_by config read list scans event ≡ true
 unread_by config read list scans (events.Read guard span) u h = absurd (cc)
+unread_by config read list scans (events.Saw guard slot) u h = absurd (cc)
 unread_by config read list scans (events.Back slot) u h = absurd (cc)
 unread_by config read list scans event u h = h
 

@@ -1,5 +1,7 @@
 -- A call that only scans makes one block, and counts what goes back.
 use Rattle.std.proofs.Common.{ℕ, ◌≡◌, ◌<◌, ◌+◌, Bool, true, false, List, [], ◌∷◌, ◌++◌, length, Option, Some, None, refl, sym, ap, ◌∙◌, subst, arith}
+use Rattle.inv_all.specs.model.words.Schemes.{publishes_rows}
+use Rattle.inv_all.specs.model.Rounds.{scheme_of}
 use Rattle.std.proofs.lemmas.Bool.Decides.{nat_tests}
 use Rattle.std.specs.Prelude.{◌==◌, ◌&&◌, nat_lt, if◌then◌else◌}
 use Rattle.laws.specs.defs.Shown.{Seen}
@@ -14,10 +16,10 @@ use Rattle.laws.specs.defs.declared.event.Event.TheVariants as events
 use Rattle.inv_all.specs.model.declared.post.Post.{Post}
 use Rattle.inv_all.specs.model.Calls.{AfterScan, Counted, ScanAt, ReadGuard, GiveBack, Phase, Idle, Runs, Scans, Works, CallTurn, CallOutcome, GoesOn, Answers}
 use Rattle.inv_all.specs.model.Desks.{Desk, Report, noting}
-use Rattle.inv_all.specs.model.Guards.{guards, guard_at, eras_in, published}
+use Rattle.inv_all.specs.model.Guards.{guards, guard_at, published}
 use Rattle.inv_all.specs.model.Locals.{Local, after, begun, settled, rounds_told, told_by, told_end, turn}
 use Rattle.inv_all.specs.model.Posts.{counted}
-use Rattle.inv_all.specs.model.Scan.{Entry, giving_back, reading, with_read, with_back, unmet_from, scan_turn}
+use Rattle.inv_all.specs.model.Scan.{Entry, giving_back, reading, reads_guard, with_read, with_back, unmet_from, scan_turn}
 use Rattle.inv_all.specs.model.Steps.{phase_turn}
 use Rattle.inv_all.specs.model.World.{World, begin, finds, is_busy, offered, step, told_in, may_start}
 use Rattle.inv_all.proofs.model.Facts.{same_number, both, first_of, rest_of}
@@ -44,6 +46,7 @@ use Rattle.law_reuse.specs.Records.{RecordsCountScans}
 use Rattle.law_reuse.proofs.Blocks.Keeps.{ScanFits, scans_fit}
 use Rattle.law_reuse.proofs.Blocks.Placed.{scan_event, scan_tells}
 use Rattle.inv_all.proofs.history.AllOf.{all_of, of_along}
+use Rattle.law_reuse.proofs.ReadGuards.{reads_are}
 use Rattle.inv_all.proofs.Machines.{is_within}
 use Rattle.inv_all.proofs.Inv.Whole.{covers_of}
 use Rattle.inv_all.proofs.rows.Kept.{busy_plays}
@@ -153,16 +156,25 @@ reading_counts config i number post desk told true p m n r b z l = record { at =
 reading_counts config i number post desk told false p m n r b z l =
     let e : times i is_read p ≡ guards config = grind (arith, nat_tests) in giving_counts config i post desk told (unmet_from desk 0) p e (b ∙ sym z) l
 
+-- a guard that is read is counted so
+record Reading (i : ℕ) (event : Event) (p : Past) : Type 0 where
+  starts : begins i p i event ≡ false
+  reads : is_read event ≡ true
+  backs : is_back event ≡ false
+  lists : list_of i (Then p i event) ≡ list_of i p
+
 scan_counts : (i : ℕ) (at : ScanAt) (post : Post) (desk : Desk) (found : ℕ) (p : Past) → scan_fits post.layout.config at ≡ true → times i is_read p ≡ upto_at (guards post.layout.config) at → times i is_back p ≡ back_at at desk.report
     → list_of i p ≡ desk.list → each_once desk.list ≡ true → scans_right at desk.list ≡ true
     → Counts post.layout.config i (scan_turn Counted at post desk found).desk.report (Then p i (scan_event at post found)) (scan_turn Counted at post desk found).outcome
 scan_counts i (ReadGuard n) post desk found p f r b l d s =
     let config : Config = post.layout.config in
-    let seen : Seen = (guard_at config n, published (guard_at config n) found) in
-    let event : Event = events.Read seen.0 (eras_in seen.0 found) in
+    let rows : Bool = publishes_rows config.scheme in
+    let seen : Seen = (guard_at config n, published rows (guard_at config n) found) in
+    let event : Event = reads_guard rows seen.0 found in
     let m : n < guards config = grind (arith, nat_tests) in
+    let quiet : Reading i event p = reads_are (λ (e : Event). Reading i e p) rows seen.0 found (λ span. record { starts = refl; reads = refl; backs = refl; lists = list_own i (events.Read seen.0 span) p refl }) (λ slot. record { starts = refl; reads = refl; backs = refl; lists = list_own i (events.Saw seen.0 slot) p refl }) in
     reading_counts config i n post (with_read desk n seen) (event ∷ []) (nat_lt (n + 1) (guards config)) (Then p i event) refl m
-    (times_read i is_read event p refl refl ∙ ap (λ (x : ℕ). x + 1) r) (times_quiet i is_back event p refl refl ∙ b) refl (list_own i event p refl ∙ l)
+    (times_read i is_read event p quiet.starts quiet.reads ∙ ap (λ (x : ℕ). x + 1) r) (times_quiet i is_back event p quiet.starts quiet.backs ∙ b) refl (quiet.lists ∙ l)
 scan_counts i (GiveBack place slot) post desk found p f r b l d s =
     let event : Event = events.Back slot in
     giving_counts post.layout.config i post (with_back desk place) (event ∷ []) (unmet_from (with_back desk place) place) (Then p i event)
@@ -180,7 +192,7 @@ other_counts config i t p w h =
     record { later = λ y. absurd (cc); each = other_each config i (told_by t) p w h }
 
 event_counts : (config : Config) (at : ScanAt) (post : Post) (found i : ℕ) (p : Past) → count_ok config p i (scan_event at post found) ≡ true
-event_counts config (ReadGuard n) post found i p = refl
+event_counts config (ReadGuard n) post found i p = reads_are (λ (event : Event). count_ok config p i event ≡ true) (publishes_rows post.layout.config.scheme) (guard_at post.layout.config n) found (λ span. refl) (λ slot. refl)
 event_counts config (GiveBack place slot) post found i p = refl
 
 end_counts : (config : Config) (i steps : ℕ) (answer : Answer) (p : Past) → answers_scan config i p answer ≡ true → count_ok config p i (events.End steps answer) ≡ true
@@ -221,7 +233,7 @@ scan_within later at post desk found =
     of_along is_within t.told (told_end t.post t.outcome) (ap (all_of is_within) (scan_tells later at post desk found) ∙ one at) (ends t.post t.outcome)
   where
     one : (at : ScanAt) → all_of is_within (scan_event at post found ∷ []) ≡ true
-    one (ReadGuard n) = refl
+    one (ReadGuard n) = reads_are (λ (event : Event). all_of is_within (event ∷ []) ≡ true) (publishes_rows post.layout.config.scheme) (guard_at post.layout.config n) found (λ span. refl) (λ slot. refl)
     one (GiveBack place slot) = refl
 
     ends : (post : Post) (outcome : CallOutcome) → all_of is_within (told_end post outcome) ≡ true
@@ -258,8 +270,8 @@ phase_counts i (Works work) post desk found p f c l d s =
 -- a step
 settled_counts : (all i : ℕ) (l : Local) (t : CallTurn) (p : Past) → (is_scan_call (call_of i p) ≡ true → Counting all i (phase_left t.outcome) t.desk.report p) → SeatCounts all i (settled l t) p
 settled_counts all i l t p h =
-    let d : (settled l t).desk ≡ noting t.desk (told_by t) = settled_list l t.post (noting t.desk (told_by t)) (rounds_told l.rounds (told_by t)) t.outcome in
-    let e : (settled l t).phase ≡ phase_left t.outcome = settled_phase l t.post (noting t.desk (told_by t)) (rounds_told l.rounds (told_by t)) t.outcome in
+    let d : (settled l t).desk ≡ noting t.desk (told_by t) = settled_list l t.post (noting t.desk (told_by t)) (rounds_told (publishes_rows (scheme_of t.post)) l.rounds (told_by t)) t.outcome in
+    let e : (settled l t).phase ≡ phase_left t.outcome = settled_phase l t.post (noting t.desk (told_by t)) (rounds_told (publishes_rows (scheme_of t.post)) l.rounds (told_by t)) t.outcome in
     λ y. subst (λ (desk : Desk). Counting all i (settled l t).phase desk.report p) (sym d) (subst (λ (phase : Phase). Counting all i phase t.desk.report p) (sym e) (h y))
 
 -- what a history keeps

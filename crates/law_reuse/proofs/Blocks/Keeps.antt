@@ -1,5 +1,7 @@
 -- A history's record keeps the law on scans.
 use Rattle.std.proofs.Common.{ℕ, ◌≡◌, ◌<◌, Bool, true, false, List, [], ◌∷◌, ◌++◌, refl, sym, ap, ◌∙◌, subst, arith}
+use Rattle.inv_all.specs.model.words.Schemes.{publishes_rows}
+use Rattle.inv_all.specs.model.Rounds.{scheme_of}
 use Rattle.std.proofs.lemmas.Bool.Decides.{nat_tests}
 use Rattle.std.specs.Prelude.{◌==◌, if◌then◌else◌}
 use Rattle.laws.specs.defs.Shown.{Seen}
@@ -13,7 +15,7 @@ use Rattle.laws.specs.defs.declared.lifetime.Lifetime.{Lifetime}
 use Rattle.inv_all.specs.model.declared.post.Post.{Post}
 use Rattle.inv_all.specs.model.Calls.{AfterScan, ScanAt, Phase, Idle, Runs, Scans, Works, CallTurn, CallOutcome, GoesOn, Answers}
 use Rattle.inv_all.specs.model.Desks.{Desk, Report, noting}
-use Rattle.inv_all.specs.model.Guards.{guards}
+use Rattle.inv_all.specs.model.Guards.{guards, guard_at}
 use Rattle.inv_all.specs.model.Locals.{Local, after, begun, begun_post, busy_in, settled, rounds_told, told_by, told_end, turn}
 use Rattle.inv_all.specs.model.Posts.{counted}
 use Rattle.inv_all.specs.model.Scan.{scan_turn}
@@ -39,6 +41,7 @@ use Rattle.law_reuse.specs.Records.{RecordsKeepScans}
 use Rattle.law_reuse.proofs.Blocks.Calm.{read_own, scans_own, read_other, scans_other, RestsAt, told_same, told_rests, one_allowed, told_each, unread_rests, unread_same, run_report, work_report, run_fresh, works_fresh}
 use Rattle.law_reuse.proofs.Blocks.Placed.{Rests, PlacedAt, Placed, fresh_placed, TurnPlaced, scan_event, scan_placed, scan_tells, scan_reads, scan_allowed}
 use Rattle.inv_all.proofs.history.AllOf.{all_of}
+use Rattle.law_reuse.proofs.ReadGuards.{reads_are}
 use Rattle.law_reuse.proofs.Once.Lists.{settled_list, begins_own, busy_list, stepped_own}
 use Rattle.laws.proofs.Along.{list_own}
 
@@ -103,7 +106,7 @@ end_each config i event p post (Answers answer) read list s r l h o t =
     (one_allowed config i (events.End post.steps answer) (Then p i event) refl (rests_at (guards config) i (Then p i event) read list r l x), (o, t))
 
 event_scans : (at : ScanAt) (post : Post) (found : ℕ) → is_scan (scan_event at post found) ≡ true
-event_scans (ScanAt.ReadGuard number) post found = refl
+event_scans (ScanAt.ReadGuard number) post found = reads_are (λ (event : Event). is_scan event ≡ true) (publishes_rows post.layout.config.scheme) (guard_at post.layout.config number) found (λ span. refl) (λ slot. refl)
 event_scans (ScanAt.GiveBack place slot) post found = refl
 
 scan_told : (i : ℕ) (later : AfterScan) (at : ScanAt) (post : Post) (desk : Desk) (found : ℕ) (p : Past) → scan_fits post.layout.config at ≡ true → read_of (guards post.layout.config) i p ≡ desk.report.read → list_of i p ≡ desk.list → PlacedAt (guards post.layout.config) at desk.report.read desk.list (scans_of i p)
@@ -150,12 +153,12 @@ phase_told i (Works work) post desk found p f r l h q =
 -- a step
 settled_placed : (all i : ℕ) (l : Local) (t : CallTurn) (p : Past) → Placed all (phase_left t.outcome) t.desk.report.read t.desk.list (scans_of i p) → SeatPlaced all i (settled l t) p
 settled_placed all i l t p h =
-    let d : (settled l t).desk ≡ noting t.desk (told_by t) = settled_list l t.post (noting t.desk (told_by t)) (rounds_told l.rounds (told_by t)) t.outcome in
-    let e : (settled l t).phase ≡ phase_left t.outcome = settled_phase l t.post (noting t.desk (told_by t)) (rounds_told l.rounds (told_by t)) t.outcome in
+    let d : (settled l t).desk ≡ noting t.desk (told_by t) = settled_list l t.post (noting t.desk (told_by t)) (rounds_told (publishes_rows (scheme_of t.post)) l.rounds (told_by t)) t.outcome in
+    let e : (settled l t).phase ≡ phase_left t.outcome = settled_phase l t.post (noting t.desk (told_by t)) (rounds_told (publishes_rows (scheme_of t.post)) l.rounds (told_by t)) t.outcome in
     subst (λ (desk : Desk). Placed all (settled l t).phase desk.report.read desk.list (scans_of i p)) (sym d) (subst (λ (phase : Phase). Placed all phase t.desk.report.read t.desk.list (scans_of i p)) (sym e) h)
 
 pub after_desk : (l : Local) (found : ℕ) → (after l found).desk ≡ noting (turn l found).desk (told_by (turn l found))
-after_desk l found = let t : CallTurn = turn l found in settled_list l t.post (noting t.desk (told_by t)) (rounds_told l.rounds (told_by t)) t.outcome
+after_desk l found = let t : CallTurn = turn l found in settled_list l t.post (noting t.desk (told_by t)) (rounds_told (publishes_rows (scheme_of t.post)) l.rounds (told_by t)) t.outcome
 
 own_told : (layout : Layout) (w : World) (i : ℕ) (p : Past) → w.layout ≡ layout → Seats w → Tied (guards layout.config) w p → list_of i p ≡ (w.seat i).desk.list → list_of i (tells_of p i (told_in w i)) ≡ ((step w i).seat i).desk.list → Told layout.config i (turn (offered w i) (finds w i)) p
 own_told layout w i p e s h l q =

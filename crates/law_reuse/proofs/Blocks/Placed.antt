@@ -14,15 +14,17 @@ use Rattle.laws.specs.defs.declared.lifetime.Lifetime.{Lifetime}
 use Rattle.inv_all.specs.model.declared.post.Post.{Post}
 use Rattle.inv_all.specs.model.Calls.{AfterScan, Answered, Repeated, Counted, ScanAt, ReadGuard, GiveBack, Phase, Idle, Runs, Scans, Works, CallTurn}
 use Rattle.inv_all.specs.model.Desks.{Desk, Report}
-use Rattle.inv_all.specs.model.Guards.{guards, guard_at, eras_in, published}
-use Rattle.inv_all.specs.model.Scan.{Entry, read_before, scanned, giving_back, reading, with_kept, with_read, with_back, unmet_from, scan_turn}
+use Rattle.inv_all.specs.model.Guards.{guards, guard_at, published}
+use Rattle.inv_all.specs.model.Scan.{Entry, read_before, scanned, giving_back, reading, reads_guard, with_kept, with_read, with_back, unmet_from, scan_turn}
 use Rattle.inv_all.proofs.model.Facts.{both}
 use Rattle.inv_all.specs.shapes.Frame.{phase_left}
 use Rattle.inv_all.specs.shapes.Seats.{scan_fits}
 use Rattle.inv_all.specs.covers.Covers.{is_fresh}
 use Rattle.inv_all.proofs.covers.Fresh.{round_fresh}
 use Rattle.laws.specs.StateAt.{read_by, same_guard}
-use Rattle.laws.specs.ScanLaw.{next_back, is_over, is_partial, next_number, scan_by}
+use Rattle.laws.specs.ScanLaw.{next_back, is_over, is_partial, next_number, read_next, scan_by}
+use Rattle.laws.specs.words.Schemes.{publishes_rows}
+use Rattle.law_reuse.proofs.ReadGuards.{reads_are}
 use Rattle.laws.specs.ScanLaw.{is_life_of}
 use Rattle.law_reuse.proofs.Blocks.Found.{met_before, met_none, PlaceOf, place_from, met_remove}
 
@@ -106,14 +108,15 @@ read_length all n report list scans seen h = let e = before_length all n report 
 
 -- the event of a scan's step
 abbrev pub scan_event : ScanAt → Post → ℕ → Event
-scan_event (ReadGuard number) post found = events.Read (guard_at post.layout.config number) (eras_in (guard_at post.layout.config number) found)
+scan_event (ReadGuard number) post found = reads_guard (publishes_rows post.layout.config.scheme) (guard_at post.layout.config number) found
 scan_event (GiveBack place slot) post found = events.Back slot
 
 pub scan_placed : (later : AfterScan) (at : ScanAt) (post : Post) (desk : Desk) (found : ℕ) (scans : Bool) → scan_fits post.layout.config at ≡ true → PlacedAt (guards post.layout.config) at desk.report.read desk.list scans → TurnPlaced (guards post.layout.config) (scan_turn later at post desk found)
 scan_placed later (ReadGuard n) post desk found scans f h =
-    let seen : Seen = (guard_at post.layout.config n, published (guard_at post.layout.config n) found) in
+    let rows : Bool = publishes_rows post.layout.config.scheme in
+    let seen : Seen = (guard_at post.layout.config n, published rows (guard_at post.layout.config n) found) in
     let b : n < guards post.layout.config = grind (arith, nat_tests) in
-    reading_placed (guards post.layout.config) later n post (with_read desk n seen) (events.Read seen.0 (eras_in seen.0 found) ∷ []) (nat_lt (n + 1) (guards post.layout.config)) refl (read_length (guards post.layout.config) n desk.report desk.list scans seen h) b
+    reading_placed (guards post.layout.config) later n post (with_read desk n seen) (reads_guard rows seen.0 found ∷ []) (nat_lt (n + 1) (guards post.layout.config)) refl (read_length (guards post.layout.config) n desk.report desk.list scans seen h) b
 scan_placed later (GiveBack place slot) post desk found scans f h =
     giving_placed (guards post.layout.config) later post (with_back desk place) (events.Back slot ∷ []) (unmet_from (with_back desk place) place) h.whole
     (place_from desk.report.read place (remove desk.list place) (met_remove desk.report.read place desk.list h.met))
@@ -134,8 +137,9 @@ reading_tells later number post desk told false = giving_tells later post desk t
 
 pub scan_tells : (later : AfterScan) (at : ScanAt) (post : Post) (desk : Desk) (found : ℕ) → (scan_turn later at post desk found).told ≡ scan_event at post found ∷ []
 scan_tells later (ReadGuard n) post desk found =
-    let seen : Seen = (guard_at post.layout.config n, published (guard_at post.layout.config n) found) in
-    reading_tells later n post (with_read desk n seen) (events.Read seen.0 (eras_in seen.0 found) ∷ []) (nat_lt (n + 1) (guards post.layout.config))
+    let rows : Bool = publishes_rows post.layout.config.scheme in
+    let seen : Seen = (guard_at post.layout.config n, published rows (guard_at post.layout.config n) found) in
+    reading_tells later n post (with_read desk n seen) (reads_guard rows seen.0 found ∷ []) (nat_lt (n + 1) (guards post.layout.config))
 scan_tells later (GiveBack place slot) post desk found = giving_tells later post (with_back desk place) (events.Back slot ∷ []) (unmet_from (with_back desk place) place)
 
 scanned_reads : (later : AfterScan) (post : Post) (desk : Desk) (told : List Event) → (scanned later post desk told).desk.report.read ≡ desk.report.read
@@ -151,13 +155,20 @@ reading_reads : (later : AfterScan) (number : ℕ) (post : Post) (desk : Desk) (
 reading_reads later number post desk told true = refl
 reading_reads later number post desk told false = giving_reads later post desk told (unmet_from desk 0)
 
+-- the guard with what it publishes is read
+reads_with : (all : ℕ) (rows : Bool) (guard : Guard) (word : ℕ) (read : List Seen) → read_by all (reads_guard rows guard word) read ≡ (if length read == all then [] else read) ++ (guard, published rows guard word) ∷ []
+reads_with all false guard word read = refl
+reads_with all true guard word read = refl
+
 pub scan_reads : (later : AfterScan) (at : ScanAt) (post : Post) (desk : Desk) (found : ℕ) (scans : Bool) → scan_fits post.layout.config at ≡ true → PlacedAt (guards post.layout.config) at desk.report.read desk.list scans
     → (scan_turn later at post desk found).desk.report.read ≡ read_by (guards post.layout.config) (scan_event at post found) desk.report.read
 scan_reads later (ReadGuard n) post desk found scans f h =
-    let seen : Seen = (guard_at post.layout.config n, published (guard_at post.layout.config n) found) in
+    let rows : Bool = publishes_rows post.layout.config.scheme in
+    let seen : Seen = (guard_at post.layout.config n, published rows (guard_at post.layout.config n) found) in
     let b : n < guards post.layout.config = grind (arith, nat_tests) in
-    reading_reads later n post (with_read desk n seen) (events.Read seen.0 (eras_in seen.0 found) ∷ []) (nat_lt (n + 1) (guards post.layout.config))
+    reading_reads later n post (with_read desk n seen) (reads_guard rows seen.0 found ∷ []) (nat_lt (n + 1) (guards post.layout.config))
     ∙ ap (λ (read : List Seen). read ++ seen ∷ []) (read_before_is (guards post.layout.config) n desk.report desk.list scans b h)
+    ∙ sym (reads_with (guards post.layout.config) rows (guard_at post.layout.config n) found desk.report.read)
 scan_reads later (GiveBack place slot) post desk found scans f h = giving_reads later post (with_back desk place) (events.Back slot ∷ []) (unmet_from (with_back desk place) place)
 
 -- it is allowed
@@ -191,8 +202,10 @@ pub scan_allowed : (at : ScanAt) (post : Post) (read : List Seen) (list : List L
 scan_allowed (ReadGuard n) post read list found scans f h =
     let config : Config = post.layout.config in
     let b : n < guards config = grind (arith, nat_tests) in
+    let next : read_next config read list scans (guard_at config n) ≡ true =
     both (same_guard (guard_at config n) (guard_at config (next_number (guards config) read))) (if is_partial (guards config) read then scans else (not scans || is_over (guards config) read list))
-    (guard_next config n (next_number (guards config) read) (number_next (guards config) n read list scans b h)) (read_allowed (guards config) n read list scans b h)
+    (guard_next config n (next_number (guards config) read) (number_next (guards config) n read list scans b h)) (read_allowed (guards config) n read list scans b h) in
+    reads_are (λ (event : Event). scan_by config read list scans event ≡ true) (publishes_rows config.scheme) (guard_at config n) found (λ span. next) (λ slot. next)
 scan_allowed (GiveBack place slot) post read list found scans f h =
     let all : ℕ = guards post.layout.config in
     let e : length read ≡ all = h.whole in

@@ -48,7 +48,7 @@ apart (Whole s) (Place.Index seat index) h = absurd (cc)
 apart (Whole s) (Place.Interval seat) h = absurd (cc)
 apart (Whole s) place h = refl
 
-written_plain : (guard : Guard) (mem : Place → ℕ) (m : Move) → leaves m ≡ true → written mem m (guard_place guard) ≡ mem (guard_place guard)
+pub written_plain : (guard : Guard) (mem : Place → ℕ) (m : Move) → leaves m ≡ true → written mem m (guard_place guard) ≡ mem (guard_place guard)
 written_plain guard mem (Load place) h = refl
 written_plain guard mem (Store place value) h = written_other mem (Store place value) (guard_place guard) (apart guard place h)
 written_plain guard mem (Cas place old new) h = written_other mem (Cas place old new) (guard_place guard) (apart guard place h)

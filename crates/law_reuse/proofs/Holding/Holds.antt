@@ -1,17 +1,17 @@
 -- What a history keeps of guards and of lives, and so what stands is held.
-use Rattle.std.proofs.Common.{ℕ, ◌≡◌, ◌<◌, Bool, true, false, List, Option, Some, refl, sym, ap, ◌∙◌, subst, arith}
+use Rattle.std.proofs.Common.{ℕ, ◌≡◌, ◌<◌, Bool, true, false, List, Some, refl, sym, ap, ◌∙◌, subst, arith}
 use Rattle.std.proofs.lemmas.Bool.Decides.{nat_tests}
 use Rattle.std.specs.Prelude.{◌==◌, if◌then◌else◌}
-use Rattle.laws.specs.defs.Shown.{Shown, keeps}
-use Rattle.laws.specs.defs.Shown.Shown.{Nothing, Eras}
-use Rattle.laws.specs.defs.Shown as values
+use Rattle.laws.specs.defs.declared.shown.Shown.{Shown}
+use Rattle.laws.specs.defs.Shown.{keeps}
+use Rattle.laws.specs.defs.declared.shown.Shown.TheVariants.{Nothing, Eras, Row}
+use Rattle.laws.specs.words.Schemes.{publishes_rows}
 use Rattle.laws.specs.words.Place.{is_valid}
 use Rattle.laws.specs.words.Place.Place.{Clock}
 use Rattle.laws.specs.words.declared.layout.Layout.{Layout}
 use Rattle.laws.specs.defs.declared.call.Call.{Call}
 use Rattle.laws.specs.defs.declared.event.Event.{Event}
 use Rattle.laws.specs.defs.declared.event.Guard.{Guard}
-use Rattle.laws.specs.defs.declared.lifetime.Interval.{Interval}
 use Rattle.inv_all.specs.model.Calls.{Why, Runs}
 use Rattle.inv_all.specs.model.Guards.{own_guard}
 use Rattle.inv_all.specs.model.Phases.{Base}
@@ -26,7 +26,7 @@ use Rattle.inv_all.specs.rows.Queue.{Line}
 use Rattle.inv_all.specs.rows.Rows.{Status, View, is_settled, is_taken, retire_in}
 use Rattle.inv_all.specs.rows.Rows.Status.{Free, Claimed, Born, Linked, InQueue, Cut, Sealed, Listed}
 use Rattle.inv_all.specs.shapes.Slots.{PhaseIn}
-use Rattle.inv_all.specs.covers.Covers.{eras_shown, shown, retired_at, life_of}
+use Rattle.inv_all.specs.covers.Covers.{shown, retired_at, life_of}
 use Rattle.inv_all.proofs.covers.Kept.{before_at}
 use Rattle.laws.specs.records.Record.{Past, tells_of}
 use Rattle.laws.specs.records.Record.Past.{Start}
@@ -45,19 +45,20 @@ use Rattle.inv_all.proofs.Inv.Rows.{rows_need, covers_need, settled_life}
 use Rattle.inv_all.proofs.Inv.Shapes.{eras_of}
 use Rattle.inv_all.proofs.Inv.Shown.{clock_small}
 use Rattle.law_reuse.proofs.Reuse.Keeps.{record_stands}
-use Rattle.laws.specs.StateAt.{taken_by, taken_at, value_of, birth_of, retire_of, ended_by, life_at}
+use Rattle.laws.specs.StateAt.{taken_by, taken_at, published_at, birth_of, retire_of, ended_by, life_at}
 use Rattle.laws.proofs.Along.{along, along_kind, taken_tells, taken_quiet}
 use Rattle.law_reuse.proofs.Once.Moves.{taken_made}
 use Rattle.laws.specs.HoldLaw.{is_held}
-use Rattle.law_reuse.specs.Records.{RecordsHold, RecordValues}
+use Rattle.law_reuse.specs.Records.{RecordHazards, RecordPublishes, RecordsHold, RecordValues}
 use Rattle.law_reuse.proofs.Holding.Lives.{retire_tells, retire_quiet, birth_tells, retire_made}
 use Rattle.law_reuse.proofs.Holding.Values.{Ranges}
-use Rattle.law_reuse.proofs.Blocks.Reserves.{PhaseWords, phase_words, step_shown, start_shown}
+use Rattle.law_reuse.proofs.Blocks.Published.{Values, published_is, values_begin, values_start, values_step}
+use Rattle.law_reuse.proofs.Blocks.Reserves.{PhaseWords, phase_words}
 use Rattle.inv_all.proofs.ends.Handover.Asks.{run_of}
 
 -- what a record says of guards and lives is so
 pub record Tied (w : World) (v : View) (p : Past) (births : ℕ → ℕ) : Type 0 where
-  pub values : (guard : Guard) → value_of guard p ≡ eras_shown w guard
+  pub values : Values w p
   pub given : Given w v births
   pub told : (s : ℕ) → birth_of s p ≡ births s
   pub retires : (s : ℕ) → is_taken (v.status s) ≡ true → retire_of s p ≡ retire_in (v.status s)
@@ -74,7 +75,7 @@ first_taken slots s false e = rw e refl
 
 tied_start : (layout : Layout) → Tied (start layout) (first_rows layout) Start (λ s. 1)
 tied_start layout = record {
-  values = λ guard. sym (start_shown layout guard);
+  values = values_start layout;
   given = given_start layout;
   told = λ s. refl;
   retires = λ s t. first_retire layout.config.slots s (s == layout.config.slots) refl;
@@ -97,13 +98,13 @@ ranges_of w i v l z why base k e = record {
   eras = eras_of w i why base k.eras e;
 }
 
-words_of : (w : World) (i : ℕ) (v : View) (l : Line) (z : Asked) → Known w v l z → PhaseWords (w.seat i).phase (w.seat i).post
-words_of w i v l z k =
-    phase_words w.layout (w.mem Clock) (w.seat i).phase (w.seat i).post (eras_need w i v z k.valid k.seats k.whole.both.rows k.requests).tags (clock_small w k.valid k.eras) (k.eras.seats i).post.span (k.seats.fits i).post.layout (k.seats.fits i).phase (k.eras.seats i).phase
+words_of : (w : World) (i : ℕ) (v : View) (l : Line) (z : Asked) → publishes_rows w.layout.config.scheme ≡ false → Known w v l z → PhaseWords (w.seat i).phase (w.seat i).post
+words_of w i v l z e k =
+    phase_words w.layout (w.mem Clock) (w.seat i).phase (w.seat i).post e (eras_need w i v z k.valid k.seats k.whole.both.rows k.requests).tags (clock_small w k.valid k.eras) (k.eras.seats i).post.span (k.seats.fits i).post.layout (k.seats.fits i).phase (k.eras.seats i).phase
 
 tied_step : (w : World) (i : ℕ) (v : View) (l : Line) (z : Asked) (p : Past) (births : ℕ → ℕ) → Known w v l z → Tied w v p births → Tied (step w i) (rows_after w i v) (tells_of p i (told_in w i)) (given_after w i births)
 tied_step w i v l z p births k h = record {
-  values = λ guard. sym (step_shown w i p guard (words_of w i v l z k) (sym (h.values guard)));
+  values = values_step w i p (λ e. words_of w i v l z e k) (k.seats.fits i).post.layout (k.seats.fits i).phase h.values;
   given = given_kept w i v births (given_need w i v l z k) h.given;
   told = λ s. birth_tells i (told_in w i) p births h.told s;
   retires = λ s t.
@@ -139,7 +140,7 @@ begin_held layout made i call f m g =
       known = known_begin made.world i call g.rows g.line g.asked q.0 f m k q.1.facts q.1.deal;
       births = g.births;
       tied = record {
-        values = g.tied.values;
+        values = values_begin made.world i call made.past g.tied.values;
         given = given_begin made.world i call g.rows g.births k.valid k.seats g.tied.given;
         told = g.tied.told;
         retires = g.tied.retires;
@@ -181,7 +182,19 @@ pub history_held : (layout : Layout) (items : List Item) → is_valid layout ≡
 history_held layout items d = items_keep (Held layout) (steady layout) items (first_made layout) (first_held layout d)
 
 pub record_values : RecordValues
-record_values layout items guard d = let g = history_held layout items d in g.tied.values guard
+record_values layout items guard d e =
+    let g = history_held layout items d in
+    g.tied.values.eras (ap (λ (table : Layout). publishes_rows table.config.scheme) g.table ∙ e) guard
+
+pub record_hazards : RecordHazards
+record_hazards layout items guard d e =
+    let g = history_held layout items d in
+    g.tied.values.rows (ap (λ (table : Layout). publishes_rows table.config.scheme) g.table ∙ e) guard
+
+pub record_publishes : RecordPublishes
+record_publishes layout items guard d =
+    let g = history_held layout items d in
+    subst (λ (table : Layout). published_at table.config.scheme guard (record_of layout items) ≡ shown (world_of layout items) guard) g.table (published_is (world_of layout items) (record_of layout items) guard g.tied.values)
 
 -- what the guard of a row that stands covers meets its life
 pub settled_taken : (x : Status) → is_settled x ≡ true → is_taken x ≡ true
@@ -198,12 +211,13 @@ settled_taken (Listed by retire) h = refl
 still_keeps : (s birth retire : ℕ) (value : Shown) → keeps (life_of s birth retire) value ≡ true → keeps (life_of s birth 0) value ≡ true
 still_keeps s birth retire Nothing h = h
 still_keeps s birth retire (Eras span) h = grind (arith, nat_tests)
+still_keeps s birth retire (Row slot) h = h
 
 pub stored_keeps : (s birth : ℕ) (x : Status) (value : Shown) → keeps (life_of s birth (retired_at x)) value ≡ true → keeps (life_of s birth (retire_in x)) value ≡ true
 stored_keeps s birth (Sealed by retire) value h = still_keeps s birth retire value h
 stored_keeps s birth x value h = h
 
-same_life : (s : ℕ) (p : Past) (birth retire : ℕ) (value other : Option Interval) → birth_of s p ≡ birth → retire_of s p ≡ retire → value ≡ other → keeps (life_of s birth retire) (values.shown other) ≡ true → keeps (life_at s p) (values.shown value) ≡ true
+same_life : (s : ℕ) (p : Past) (birth retire : ℕ) (value other : Shown) → birth_of s p ≡ birth → retire_of s p ≡ retire → value ≡ other → keeps (life_of s birth retire) other ≡ true → keeps (life_at s p) value ≡ true
 same_life s p birth retire value other a b c h = rw (a, b, c) h
 
 pub records_hold : RecordsHold
@@ -217,8 +231,9 @@ records_hold layout items k j s d e =
     let c = h.covers.settled in
     let b : birth_of s p ≡ v.birth s = g.tied.told s ∙ sym (g.tied.given.born s (settled_life (v.status s) c)) in
     let r : retire_of s p ≡ retire_in (v.status s) = g.tied.retires s (settled_taken (v.status s) c) in
-    let x : value_of (own_guard w.layout.config.scheme k j) p ≡ eras_shown w (own_guard w.layout.config.scheme k j) = g.tied.values (own_guard w.layout.config.scheme k j) in
-    let m = same_life s p (v.birth s) (retire_in (v.status s)) (value_of (own_guard w.layout.config.scheme k j) p) (eras_shown w (own_guard w.layout.config.scheme k j)) b r x (stored_keeps s (v.birth s) (v.status s) (shown w (own_guard w.layout.config.scheme k j)) h.covers.kept) in
+    let guard : Guard = own_guard w.layout.config.scheme k j in
+    let x : published_at w.layout.config.scheme guard p ≡ shown w guard = published_is w p guard g.tied.values in
+    let m = same_life s p (v.birth s) (retire_in (v.status s)) (published_at w.layout.config.scheme guard p) (shown w guard) b r x (stored_keeps s (v.birth s) (v.status s) (shown w guard) h.covers.kept) in
     let n : taken_at w.layout.config.slots s p ≡ true = g.tied.taken s ∙ settled_taken (v.status s) c in
     subst (λ (table : Layout). is_held table.config k j s p ≡ true) g.table
-    (both (taken_at w.layout.config.slots s p) (keeps (life_at s p) (values.shown (value_of (own_guard w.layout.config.scheme k j) p))) n m)
+    (both (taken_at w.layout.config.slots s p) (keeps (life_at s p) (published_at w.layout.config.scheme guard p)) n m)

@@ -1,5 +1,5 @@
 -- What a protection tells, it tells within its steps.
-use Rattle.std.proofs.Common.{ℕ, ◌≡◌, ◌≤◌, ◌<◌, ◌+◌, ◌*◌, Bool, true, false, List, refl, sym, subst, arith}
+use Rattle.std.proofs.Common.{ℕ, ◌≡◌, ◌≤◌, ◌<◌, ◌+◌, ◌*◌, Bool, true, false, List, [], ◌∷◌, refl, sym, subst, arith}
 use Rattle.std.proofs.lemmas.Bool.Decides.{nat_tests}
 use Rattle.std.specs.Prelude.{◌==◌, nat_le, if◌then◌else◌}
 use Rattle.inv_all.specs.model.words.declared.layout.Layout.{Layout}
@@ -10,12 +10,16 @@ use Rattle.inv_all.specs.model.declared.post.Post.{Post}
 use Rattle.inv_all.specs.model.Memory.{bump}
 use Rattle.inv_all.specs.model.Posts.{counted}
 use Rattle.inv_all.specs.model.Phases.{Aim, ProtectAt, Base}
-use Rattle.inv_all.specs.model.Phases.ProtectAt.{CheckClock, TakeAnswer, CheckUpper}
+use Rattle.inv_all.specs.model.Phases.ProtectAt.{CheckClock, TakeAnswer, CheckUpper, ByHazard}
+use Rattle.inv_all.specs.model.words.declared.config.SchemeKind.{SchemeKind}
+use Rattle.inv_all.specs.model.words.declared.config.SchemeKind.TheVariants.{He, Hp, Ibr, Wfe}
+use Rattle.inv_all.specs.model.Guards.{guard_at}
+use Rattle.law_reuse.proofs.ReadGuards.{reads_are}
 use Rattle.inv_all.specs.model.Phases.Base.{Protect, Reload}
 use Rattle.inv_all.specs.model.Calls.{Why, FollowsHead, ScanAt, ReadGuard, GiveBack, Phase, Idle, Runs, Scans, Works}
 use Rattle.inv_all.specs.model.World.{World, finds, offered, told_in}
 use Rattle.inv_all.proofs.model.Facts.{first_of, rest_of, number_is}
-use Rattle.inv_all.specs.model.words.Schemes.{is_wfe}
+use Rattle.inv_all.specs.model.words.Schemes.{is_wfe, publishes_rows}
 use Rattle.inv_all.specs.shapes.Seats.{protect_fits, kind_of, reloads, index_by, Run}
 use Rattle.inv_all.specs.requests.Paces.{InTime}
 use Rattle.inv_all.specs.Inv.{Inv}
@@ -58,11 +62,18 @@ reload_index (FollowsHead head tail) index h e = e
 reload_index why index h e = absurd (cc)
 
 -- so many steps a protection has made where it finds its row
+wfe_not_rows : (scheme : SchemeKind) → is_wfe scheme ≡ true → publishes_rows scheme ≡ true → ⊥
+wfe_not_rows He f r = cc
+wfe_not_rows Ibr f r = cc
+wfe_not_rows Wfe f r = cc
+wfe_not_rows Hp f r = cc
+
 counts_at : (w : World) (i : ℕ) (why : Why) (aim : Aim) (index : ℕ) (root : Root) (steps : ℕ) (at : ProtectAt) → is_wfe w.layout.config.scheme ≡ true → InTime w i → (w.seat i).phase ≡ Runs why (Protect aim index root steps at) → protect_fits w.layout.config.scheme w.layout.config.tries at ≡ true → may.at_finds at ≡ true
     → bump steps ≤ 3 * w.layout.config.tries + 12
 counts_at w i why aim index root steps (CheckClock era failed link) f t e r h = let a = t.tries why aim index root steps era failed link f e in let b = bump_near steps in omega arith
 counts_at w i why aim index root steps (TakeAnswer link era) f t e r h = let a = t.takes why aim index root steps link era e in let b = bump_near steps in omega arith
 counts_at w i why aim index root steps (CheckUpper link) f t e r h = absurd (wfe_not_ibr w.layout.config.scheme f r)
+counts_at w i why aim index root steps (ByHazard at) f t e r h = absurd (wfe_not_rows w.layout.config.scheme f r)
 counts_at w i why aim index root steps at f t e r h = absurd (cc)
 
 one_few : (w : World) (i : ℕ) (why : Why) (base : Base) (found : ℕ) (event : Event) → is_wfe w.layout.config.scheme ≡ true → InTime w i → (w.seat i).phase ≡ Runs why base → Run w.layout why base (w.seat i).post → may.Tells base (counted (w.seat i).post) found event → few_steps w.layout.config.tries event ≡ true
@@ -85,14 +96,14 @@ one_few w i why base found (events.Null index n) f t e r h = absurd (cc)
 one_few w i why base found event f t e r h = refl
 
 scan_few : (tries : ℕ) (at : ScanAt) (post : Post) (found : ℕ) → Few tries (scan_told at post found)
-scan_few tries (ReadGuard number) post found = refl
+scan_few tries (ReadGuard number) post found = reads_are (λ (event : Event). Few tries (event ∷ [])) (publishes_rows post.layout.config.scheme) (guard_at post.layout.config number) found (λ span. refl) (λ slot. refl)
 scan_few tries (GiveBack place slot) post found = refl
 
 first_few : (w : World) (i : ℕ) (phase : Phase) (found : ℕ) → is_wfe w.layout.config.scheme ≡ true → InTime w i → Inv w → (w.seat i).phase ≡ phase → First (LeavesFew w.layout.config.tries) phase (counted (w.seat i).post) found
 first_few w i Idle found f t a e = refl
 first_few w i (Runs why base) found f t a e = let k = a.known in may.base_all (few_steps w.layout.config.tries) base (counted (w.seat i).post) found (λ event. one_few w i why base found event f t e (run_of w i why base k.seats e))
 first_few w i (Scans later at) found f t a e = scan_few w.layout.config.tries at (counted (w.seat i).post) found
-first_few w i (Works work) found f t a e = may.work_all (few_steps w.layout.config.tries) (λ index slot. refl) (λ from index slot. refl) (λ seat index era. refl) (λ seat. refl) work (counted (w.seat i).post)
+first_few w i (Works work) found f t a e = may.work_all (few_steps w.layout.config.tries) (λ index slot. refl) (λ from index slot. refl) (λ seat index era. refl) (λ seat. refl) (λ seat index link. refl) work (counted (w.seat i).post)
 
 told_few : (w : World) (i : ℕ) → is_wfe w.layout.config.scheme ≡ true → i < w.layout.config.seats → Inv w → Few w.layout.config.tries (told_in w i)
 told_few w i f b a =

@@ -1,5 +1,5 @@
 -- What a get has read is no older than its bucket was when its call began.
-use Rattle.std.proofs.Common.{ℕ, None, ◌≡◌, ◌≤◌, ◌<◌, ◌+◌, ◌-◌, ◌%◌, Bool, true, false, List, [], ◌∷◌, ◌++◌, length, refl, sym, ap, ◌∙◌, subst, arith, length-append}
+use Rattle.std.proofs.Common.{ℕ, None, Some, ◌≡◌, ◌≤◌, ◌<◌, ◌+◌, ◌-◌, ◌%◌, Bool, true, false, List, [], ◌∷◌, ◌++◌, length, refl, sym, ap, ◌∙◌, subst, arith, length-append}
 use Rattle.std.proofs.lemmas.Bool.Decides.{nat_tests}
 use Rattle.std.specs.Prelude.{◌==◌, nat_le, if◌then◌else◌}
 use Rattle.inv_all.specs.model.words.Place.{Place}
@@ -24,7 +24,7 @@ use Rattle.inv_all.specs.model.Machine as machine
 use Rattle.inv_all.specs.model.Posts.{counted, upper}
 use Rattle.inv_all.specs.model.Rounds.{key_of}
 use Rattle.inv_all.specs.model.Steps.{first_phase, phase_turn}
-use Rattle.inv_all.specs.model.Phases.{Base, Ends, Protected}
+use Rattle.inv_all.specs.model.Phases.{Base, Ending, Ends, Protected}
 use Rattle.inv_all.specs.model.Phases.Base.{Begin, Protect, Reload, Clear, Finish, Release, Allocate, Write, GiveUp, Retire, Move}
 use Rattle.inv_all.specs.model.Calls.{Again, Changes, Enqueues, Gets, Opens, Why, LoadVersion, LoadCount, LoadKey, LoadValue, ExchangeRoot, LoadNumber, LoadNext, PassTail, ExchangeNext, ExchangeTail, Getting, Changing, Enqueuing, Dequeuing, Keeping, Phase, Idle, Runs, Scans, Works, CallTurn}
 use Rattle.inv_all.specs.model.World.{World, begin, finds, is_busy, offered, start, step, told_in, list_in}
@@ -43,10 +43,10 @@ use Rattle.inv_all.specs.rows.Rows.{View}
 use Rattle.inv_all.specs.rows.Rows.Status.{Linked}
 use Rattle.inv_all.specs.covers.Covers.{takes_or_frees}
 use Rattle.inv_all.specs.covers.Held.{under}
-use Rattle.inv_all.specs.links.Origins.{Origins, loads_link}
+use Rattle.inv_all.specs.links.Origins.{Origins, link_of, loads_link}
 use Rattle.inv_all.specs.links.Tracked.{carries_in, root_in, Tracked, Carried, Given, Helped}
 use Rattle.inv_all.proofs.links.Origins.Came.{link_busy, helps_busy}
-use Rattle.inv_all.proofs.links.Origins.Ends.{end_tracked, end_root}
+use Rattle.inv_all.proofs.links.Origins.Ends.{end_good, end_root}
 use Rattle.inv_all.proofs.links.Origins.Kept.{origins_kept, origins_start, origins_begin, idle_deal}
 use Rattle.inv_all.specs.contents.Knows.{Ground, Knows, looks_in}
 use Rattle.inv_all.specs.contents.Shelf.{Shelf, shelf_of}
@@ -136,7 +136,7 @@ loads_free s (Runs why (Move at)) post found h = refl
 loads_free s Idle post found h = absurd (cc)
 loads_free s (Runs why (Begin at)) post found h = absurd (cc)
 loads_free s (Runs why (Reload parent index slot era steps)) post found h = absurd (cc)
-loads_free s (Runs why (Clear index)) post found h = absurd (cc)
+loads_free s (Runs why (Clear rows index)) post found h = absurd (cc)
 loads_free s (Runs why Finish) post found h = absurd (cc)
 loads_free s (Runs why (Release index)) post found h = absurd (cc)
 loads_free s (Runs why (Allocate at)) post found h = absurd (cc)
@@ -149,13 +149,17 @@ loads_free s (Works work) post found h = absurd (cc)
 none_before : (base many : ℕ) → base ≤ many → (many == 0) ≡ true → (base == 0) ≡ true
 none_before base many h e = grind (arith, nat_tests)
 
-latest_row : (w : World) (i : ℕ) (v : View) (l : Line) (z : Asked) (base : ℕ → ℕ) (b s : ℕ) → Known w v l z → base b ≤ length (w.book.changes b) → loads_link (w.seat i).phase ≡ true → w.mem (Bucket b) ≡ s + 1 → nat_le (base b) ((step w i).book.row s).version ≡ true
-latest_row w i v l z base b s a m h e =
+latest_here : (w : World) (v : View) (l : Line) (z : Asked) (base : ℕ → ℕ) (b s : ℕ) → Known w v l z → base b ≤ length (w.book.changes b) → w.mem (Bucket b) ≡ s + 1 → base b ≤ (w.book.row s).version
+latest_here w v l z base b s a m e =
     let g = a.whole.both.rows in
     let t : v.status s ≡ Linked b = g.good.roots b s (sym (g.words.roots b) ∙ e) in
     let n = a.contents.rows.latest s b t in
+    rw n m
+
+latest_row : (w : World) (i : ℕ) (v : View) (l : Line) (z : Asked) (base : ℕ → ℕ) (b s : ℕ) → Known w v l z → base b ≤ length (w.book.changes b) → loads_link (w.seat i).phase ≡ true → w.mem (Bucket b) ≡ s + 1 → nat_le (base b) ((step w i).book.row s).version ≡ true
+latest_row w i v l z base b s a m h e =
     let k = version_stays w i s (loads_free s (w.seat i).phase (w.seat i).post (finds w i) h) in
-    let q : base b ≤ ((step w i).book.row s).version = rw k (rw n m) in
+    let q : base b ≤ ((step w i).book.row s).version = rw k (latest_here w v l z base b s a m e) in
     grind (arith, nat_tests)
 
 fresh_by : (w : World) (i : ℕ) (v : View) (l : Line) (z : Asked) (base : ℕ → ℕ) (b : ℕ) (null : Bool) → (w.mem (Bucket b) == 0) ≡ null → Known w v l z → base b ≤ length (w.book.changes b) → loads_link (w.seat i).phase ≡ true → (if null then base b == 0 else nat_le (base b) ((step w i).book.row (w.mem (Bucket b) - 1)).version) ≡ true
@@ -187,7 +191,7 @@ links_kept : (w : World) (i : ℕ) (v : View) (l : Line) (z next : Asked) (base 
 links_kept w i v l z next base b a d c =
     origins_kept (λ k. link_since (base k) w.book) (λ k. link_since (base k) (step w i).book) w i z next (origins_need w i v l z b a) d
     (record {
-      fresh = λ k h. fresh_since w i v l z (base k) (root_in w k) a (c.low k) h;
+      fresh = λ k h t. fresh_since w i v l z (base k) (root_in w k) a (c.low k) h;
       stays = λ k x t g. stays_since w i k v l z (base k) (root_in w k) x a refl t g;
     })
     c.links
@@ -206,9 +210,27 @@ link_version base book b slot h = by_null (slot + 1 == 0) refl h
 root_version : (base : ℕ → ℕ) (book : Book) (root : Root) (b slot : ℕ) → root ≡ roots.Bucket b → link_since base book root (slot + 1) ≡ true → base b ≤ (book.row slot).version
 root_version base book root b slot e h = link_version base book b slot (subst (λ (r : Root). link_since base book r (slot + 1) ≡ true) e h)
 
+-- so is a root now
+current_by : (w : World) (v : View) (l : Line) (z : Asked) (base : ℕ → ℕ) (b : ℕ) (null : Bool) → (w.mem (Bucket b) == 0) ≡ null → Known w v l z → base b ≤ length (w.book.changes b) → (if null then base b == 0 else nat_le (base b) (w.book.row (w.mem (Bucket b) - 1)).version) ≡ true
+current_by w v l z base b true e a m = let n = (buckets_show w v b a.whole.both.rows a.contents).null in none_before (base b) (length (w.book.changes b)) m (sym n ∙ e)
+current_by w v l z base b false e a m =
+    let q : base b ≤ (w.book.row (w.mem (Bucket b) - 1)).version = latest_here w v l z base b (w.mem (Bucket b) - 1) a m (grind (arith, nat_tests)) in
+    grind (arith, nat_tests)
+
+current_root : (w : World) (v : View) (l : Line) (z : Asked) (base : ℕ → ℕ) (root : Root) → Known w v l z → ((b : ℕ) → base b ≤ length (w.book.changes b)) → link_since base w.book root (w.mem (link_place root)) ≡ true
+current_root w v l z base (roots.Bucket b) a m = current_by w v l z base b (w.mem (Bucket b) == 0) refl a (m b)
+current_root w v l z base (roots.Next parent) a m = refl
+current_root w v l z base roots.Head a m = refl
+current_root w v l z base roots.Tail a m = refl
+
+-- and so is the link with which a protection ends
+pub ended_since : (w : World) (i : ℕ) (v : View) (l : Line) (z : Asked) (base : ℕ → ℕ → ℕ) (why : Why) (one : Base) (ending : Ending) (link : ℕ) → Known w v l z → Current base w z → (w.seat i).phase ≡ Runs why one → (machine.after one (counted (w.seat i).post) (finds w i)).outcome ≡ Ends ending → link_of ending ≡ Some link → link_since (base i) w.book (root_in w i) link ≡ true
+ended_since w i v l z base why one ending link a c e o k = end_good (λ m. link_since (base m) w.book) w i z why one ending link c.links (current_root w v l z (base i) (root_in w i) a (c.low i)) e o k
+
 held_since : (w : World) (i : ℕ) (v : View) (l : Line) (z : Asked) (base : ℕ → ℕ → ℕ) (why : Why) (one : Base) (b slot era : ℕ) → Known w v l z → Current base w z → (w.seat i).phase ≡ Runs why one → root_by w.layout.config.buckets why ≡ roots.Bucket b → (machine.after one (counted (w.seat i).post) (finds w i)).outcome ≡ Ends (Protected (protect_ends.Held slot era)) → base i b ≤ (w.book.row slot).version
 held_since w i v l z base why one b slot era a c e r o =
-    root_version (base i) w.book (root_in w i) b slot (end_root w i why one (Protected (protect_ends.Held slot era)) (slot + 1) a.seats e o refl ∙ r) (c.links.tracked i (slot + 1) (end_tracked w i z why one (Protected (protect_ends.Held slot era)) (slot + 1) e o refl))
+    root_version (base i) w.book (root_in w i) b slot (end_root w i why one (Protected (protect_ends.Held slot era)) (slot + 1) a.seats e o refl ∙ r)
+    (ended_since w i v l z base why one (Protected (protect_ends.Held slot era)) (slot + 1) a c e o refl)
 
 own_turns : (w : World) (i : ℕ) (v : View) (l : Line) (z : Asked) (base : ℕ → ℕ → ℕ) → i < w.layout.config.seats → Known w v l z → Current base w z → links_in (w.seat i).phase (finds w i) ≡ false
     → Beside (on w.layout.config.buckets (shelf_since (base i) w.book) (step w i).mem) (turn (offered w i) (finds w i))

@@ -3,7 +3,7 @@ use Rattle.std.proofs.Common.{ℕ, ◌≡◌, ◌≤◌, ◌+◌, ◌%◌, Bool,
 use Rattle.std.proofs.lemmas.Bool.Decides.{nat_tests}
 use Rattle.std.specs.Prelude.{◌==◌, ◌&&◌, nat_le, if◌then◌else◌}
 use Rattle.inv_all.specs.model.words.declared.config.SchemeKind.{SchemeKind}
-use Rattle.inv_all.specs.model.words.declared.config.SchemeKind.TheVariants.{He, Ibr, Wfe}
+use Rattle.inv_all.specs.model.words.declared.config.SchemeKind.TheVariants.{He, Hp, Ibr, Wfe}
 use Rattle.inv_all.specs.model.words.declared.layout.Layout.{Layout}
 use Rattle.inv_all.specs.model.defs.declared.event.Event.{Event}
 use Rattle.inv_all.specs.model.defs.declared.event.Event.TheVariants as events
@@ -35,11 +35,11 @@ use Rattle.inv_all.specs.contents.Knows.{Knows, GetKnows, FoundRow, looks_in}
 use Rattle.inv_all.proofs.contents.Contents.Lasts.{on}
 use Rattle.inv_all.specs.Known.{Known}
 use Rattle.inv_all.proofs.history.Passes.{Closing, First, copied_post, keep_post, work_post, scan_told, get_allows, ending_allows, why_allows, outcome_allows, work_allows, phase_allows, step_closes}
-use Rattle.law_reuse.proofs.Lawful.Current.{Current, shelf_since, since_is, link_since}
+use Rattle.law_reuse.proofs.Lawful.Current.{Current, ended_since, shelf_since, since_is, link_since}
 use Rattle.inv_all.proofs.history.AllOf.{all_of, of_along, of_weaker}
 use Rattle.inv_all.proofs.history.MayTell.{work_all}
 use Rattle.inv_all.proofs.Machines.{is_machine, is_still, machine_still, base_machine, scan_machine, clear_machine, cut_still, link_still, end_still}
-use Rattle.inv_all.proofs.links.Origins.Ends.{end_tracked, end_root}
+use Rattle.inv_all.proofs.links.Origins.Ends.{end_root}
 
 -- among so many buckets, which had been changed so often
 abbrev pub got_new : ℕ → (ℕ → ℕ) → Event → Bool
@@ -70,6 +70,7 @@ pub cleared_table : (scheme : SchemeKind) (post : Post) (index : ℕ) → (clear
 cleared_table He post index = refl
 cleared_table Ibr post index = refl
 cleared_table Wfe post index = refl
+cleared_table Hp post index = refl
 
 -- a call on what is kept leaves a post of this table
 copied_table : (index : ℕ) (post : Post) (o : Option ℕ) → (copied_post index post o).layout ≡ post.layout
@@ -143,7 +144,7 @@ first_before layout (Runs why base) post found e = record {
   still = of_weaker is_machine is_still (machine.after base post found).told machine_still (base_machine base post found);
 }
 first_before layout (Scans later at) post found e = record { table = e; still = of_weaker is_machine is_still (scan_told at post found) machine_still (scan_machine at post found) }
-first_before layout (Works work) post found e = record { table = work_table work post ∙ e; still = work_all is_still (λ index slot. refl) (λ from index slot. refl) (λ seat index era. refl) (λ seat. refl) work post }
+first_before layout (Works work) post found e = record { table = work_table work post ∙ e; still = work_all is_still (λ index slot. refl) (λ from index slot. refl) (λ seat index era. refl) (λ seat. refl) (λ seat index link. refl) work post }
 
 -- what a get knows allows the version that it tells
 row_allows : (w : World) (base : ℕ → ℕ) (key slot version : ℕ) → FoundRow (on w.layout.config.buckets (shelf_since base w.book) w.mem) (key % w.layout.config.buckets) slot version → Allowed w.layout base key version
@@ -174,7 +175,7 @@ null_at base book root b e h = none_at base book b (subst (λ (r : Root). link_s
 
 ending_knows : (w : World) (i : ℕ) (v : View) (l : Line) (z : Asked) (base : ℕ → ℕ → ℕ) (task : Task) (one : Base) (ending : Ending) → Known w v l z → Current base w z → (w.seat i).phase ≡ Runs (Opens task) one → (machine.after one (counted (w.seat i).post) (finds w i)).outcome ≡ Ends ending → ending_allows (Allowed w.layout (base i)) task ending
 ending_knows w i v l z base (Gets key) one (Protected protect_ends.Null) a c e o =
-    null_at (base i) w.book (root_in w i) (key % w.layout.config.buckets) (end_root w i (Opens (Gets key)) one (Protected protect_ends.Null) 0 a.seats e o refl) (c.links.tracked i 0 (end_tracked w i z (Opens (Gets key)) one (Protected protect_ends.Null) 0 e o refl))
+    null_at (base i) w.book (root_in w i) (key % w.layout.config.buckets) (end_root w i (Opens (Gets key)) one (Protected protect_ends.Null) 0 a.seats e o refl) (ended_since w i v l z base (Opens (Gets key)) one (Protected protect_ends.Null) 0 a c e o refl)
 ending_knows w i v l z base (Changes kept) one (Protected protect_ends.Null) a c e o = tt
 ending_knows w i v l z base (Holds key) one (Protected protect_ends.Null) a c e o = tt
 ending_knows w i v l z base (Enqueues kept) one (Protected protect_ends.Null) a c e o = tt

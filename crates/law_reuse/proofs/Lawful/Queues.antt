@@ -43,6 +43,8 @@ one_agrees a i p (events.End steps answer) g = record { queued = g.queued; taken
 one_agrees a i p (events.Era era) g = record { queued = g.queued; taken = g.taken }
 one_agrees a i p (events.Reserve guard span) g = record { queued = g.queued; taken = g.taken }
 one_agrees a i p (events.Read guard span) g = record { queued = g.queued; taken = g.taken }
+one_agrees a i p (events.Hazard guard slot) g = record { queued = g.queued; taken = g.taken }
+one_agrees a i p (events.Saw guard slot) g = record { queued = g.queued; taken = g.taken }
 one_agrees a i p (events.Give slot birth) g = record { queued = g.queued; taken = g.taken }
 one_agrees a i p (events.Unused slot) g = record { queued = g.queued; taken = g.taken }
 one_agrees a i p (events.Cut slot) g = record { queued = g.queued; taken = g.taken }

@@ -22,15 +22,15 @@ use Rattle.inv_all.specs.model.Desks.{Desk, with_life}
 use Rattle.inv_all.specs.model.Dequeue as dequeues
 use Rattle.inv_all.specs.model.Enqueue as enqueues
 use Rattle.inv_all.specs.model.Get as gets
-use Rattle.inv_all.specs.model.Guards.{guards, guard_at, eras_in, published}
+use Rattle.inv_all.specs.model.Guards.{guards, guard_at, published}
 use Rattle.inv_all.specs.model.Keep as keeps
 use Rattle.inv_all.specs.model.Locals.{told_by, told_end}
 use Rattle.inv_all.specs.model.Machine as machine
-use Rattle.inv_all.specs.model.Posts.{cleared, reserves_index, stands, withdrawn}
+use Rattle.inv_all.specs.model.Posts.{cleared, publishes_index, stands, withdrawn}
 use Rattle.inv_all.specs.model.Scan as scan
 use Rattle.inv_all.specs.model.Steps as steps
 use Rattle.inv_all.specs.model.Rounds.{scheme_of, bucket_of, index_of, taken_of, finish_base, clear_base, clear_post, clear_told, given_up, closed, finishing_by, finishing, clearing_by, clearing, clearing_next_by, clearing_next, let_index}
-use Rattle.inv_all.specs.model.words.Schemes.{has_one_interval}
+use Rattle.inv_all.specs.model.words.Schemes.{has_one_interval, publishes_rows}
 use Rattle.inv_all.specs.model.Phases.{Base, Ending, Outcome, Goes, Ends}
 use Rattle.inv_all.specs.model.Phases.Ending.{Done, Protected, Followed, Allocated, Retired, Clocked}
 use Rattle.inv_all.specs.model.Calls.{Task, Gets, Changes, Holds, Enqueues, Dequeues, Next, Again, MakeRoom, Answering, Retiring, AfterScan, Answered, Repeated, Counted, ChangeKept, EnqueueKept, GetAt, FindVersion, FindCount, FindKey, FindValue, ChangeAt, LoadVersion, LoadCount, LoadKey, LoadValue, ExchangeRoot, EnqueueAt, LoadNumber, LoadNext, PassTail, ExchangeNext, ExchangeTail, DequeueAt, SwingTail, ExchangeHead, Work, Getting, Changing, Enqueuing, Dequeuing, Keeping, KeepAt, Loosens, LoadHeld, StoreHeld, Looks, Misses, HideSpan, MarkLeft, TakeList, MarkTaken, LetGo, Released, Rehold, Dropped, Parting, ScanAt, ReadGuard, GiveBack, Why, Opens, FollowsHead, Fills, ClearsNext, Clears, Finishes, GivesUp, Retires, Tidies, Advances, Releases, Phase, Idle, Runs, Scans, Works, CallTurn, CallOutcome, GoesOn, Answers}
@@ -227,7 +227,7 @@ keeps_lists at = true
 keep_keeps : (at : KeepAt) (post : Post) (desk : Desk) (found : ℕ) → keeps_lists at ≡ true → Kept (keep_told at post) → Kept (keeps.keep_turn at post desk found).told
 keep_keeps (Loosens let_go) post desk found q h = released_keeps let_go (withdrawn post (let_index let_go)) desk (cleared (let_index let_go) (stands post (let_index let_go))) h
 keep_keeps (LoadHeld from index) post desk found q h = load_held_keeps from index post desk found (has_one_interval (scheme_of post)) h
-keep_keeps (StoreHeld from index era) post desk found q h = copied_keeps from index post desk (reserves_index post index era) (stands post from) h
+keep_keeps (StoreHeld from index era) post desk found q h = copied_keeps from index post desk (publishes_index (publishes_rows (scheme_of post)) post index era) (stands post from) h
 keep_keeps (Looks index key at) post desk found q h = look_keeps index key at post desk found h
 keep_keeps (Misses index) post desk found q h = h
 keep_keeps HideSpan post desk found q h = h
@@ -262,8 +262,8 @@ guard_keeps later number post desk told false h = giving_back_keeps later post d
 
 scan_keeps : (later : AfterScan) (at : ScanAt) (post : Post) (desk : Desk) (found : ℕ) → Kept (scan_told at post found) → Kept (scan.scan_turn later at post desk found).told
 scan_keeps later (ReadGuard number) post desk found h =
-    let seen : Seen = (guard_at post.layout.config number, published (guard_at post.layout.config number) found) in
-    guard_keeps later number post (scan.with_read desk number seen) (events.Read seen.0 (eras_in seen.0 found) ∷ []) (nat_lt (number + 1) (guards post.layout.config)) h
+    let seen : Seen = (guard_at post.layout.config number, published (publishes_rows post.layout.config.scheme) (guard_at post.layout.config number) found) in
+    guard_keeps later number post (scan.with_read desk number seen) (scan.reads_guard (publishes_rows post.layout.config.scheme) seen.0 found ∷ []) (nat_lt (number + 1) (guards post.layout.config)) h
 scan_keeps later (GiveBack place slot) post desk found h = giving_back_keeps later post (scan.with_back desk place) (events.Back slot ∷ []) (scan.unmet_from (scan.with_back desk place) place) h
 
 -- what comes after a machine
@@ -383,7 +383,7 @@ turn_keeps Idle post desk found q = refl
 turn_keeps (Runs why base) post desk found q =
     resumed_keeps why desk (machine.after base post found).post (machine.after base post found).told (machine.after base post found).outcome tt (base_all is_kept base post found (λ event h. machine_kept event (tells_machine base post found event h)))
 turn_keeps (Scans later at) post desk found q = scan_keeps later at post desk found (of_weaker is_machine is_kept (scan_told at post found) machine_kept (scan_machine at post found))
-turn_keeps (Works work) post desk found q = work_keeps work post desk found q (work_all is_kept (λ index slot. refl) (λ from index slot. refl) (λ seat index era. refl) (λ seat. refl) work post)
+turn_keeps (Works work) post desk found q = work_keeps work post desk found q (work_all is_kept (λ index slot. refl) (λ from index slot. refl) (λ seat index era. refl) (λ seat. refl) (λ seat index link. refl) work post)
 
 end_kept : (post : Post) (outcome : CallOutcome) → Kept (told_end post outcome)
 end_kept post (GoesOn phase) = refl

@@ -11,7 +11,8 @@ use Rattle.inv_all.specs.model.Memory as memory
 use Rattle.inv_all.specs.model.Memory.{Move, Load, Store, Cas, Or, And, change, place_in, written}
 use Rattle.inv_all.specs.model.Phases.{Base, BeginAt, ProtectAt, AllocateAt, RetireAt, MoveAt}
 use Rattle.inv_all.specs.model.Phases.BeginAt.{LoadLower, PublishSpan}
-use Rattle.inv_all.specs.model.Phases.ProtectAt.{LoadClock, PublishEra, LoadLink, CheckClock, PublishRequest, LoadOwnClock, PublishHelper, LoadOwnLink, CheckOwnClock, AnswerOwn, LoadAnswer, TakeAnswer, WithdrawRequest, WithdrawHelper, LoadWithin, CheckUpper, RaiseUpper}
+use Rattle.inv_all.specs.model.Phases.ProtectAt.{LoadClock, PublishEra, LoadLink, CheckClock, PublishRequest, LoadOwnClock, PublishHelper, LoadOwnLink, CheckOwnClock, AnswerOwn, LoadAnswer, TakeAnswer, WithdrawRequest, WithdrawHelper, LoadWithin, CheckUpper, RaiseUpper, ByHazard}
+use Rattle.inv_all.specs.model.Phases.HazardAt.{FirstLink, PublishLink, CheckLink}
 use Rattle.inv_all.specs.model.Phases.AllocateAt.{LoadBirth, ClaimSlot, StoreLife}
 use Rattle.inv_all.specs.model.Phases.RetireAt.{LoadLife, LoadRetire, StoreRetired}
 use Rattle.inv_all.specs.model.Phases.MoveAt.{LoadEra, LoadRequest, ShowEra, LoadAsked, CheckEra, AnswerAsked, LoadReserved, HandOver, HideEra, HideLate, ExchangeClock}
@@ -66,6 +67,9 @@ protect_places index root (WithdrawHelper link era) post = refl
 protect_places index root LoadWithin post = refl
 protect_places index root (CheckUpper link) post = refl
 protect_places index root (RaiseUpper era) post = refl
+protect_places index root (ByHazard FirstLink) post = refl
+protect_places index root (ByHazard (PublishLink link)) post = refl
+protect_places index root (ByHazard (CheckLink link)) post = refl
 
 move_places : (at : MoveAt) (post : Post) → is_placing (machine.move_move at post) ≡ false
 move_places (LoadEra helps) post = refl
@@ -98,7 +102,7 @@ base_places : (base : Base) (post : Post) → is_placing (base_move base post) �
 base_places (Begin at) post = begin_places at post
 base_places (Protect aim index root steps at) post = protect_places index root at post
 base_places (Reload parent index slot era steps) post = refl
-base_places (Clear index) post = refl
+base_places (Clear rows index) post = refl
 base_places Finish post = refl
 base_places (Release index) post = refl
 base_places (Allocate at) post = allocate_places at

@@ -15,7 +15,8 @@ use Rattle.inv_all.specs.model.Protect as protects
 use Rattle.inv_all.specs.model.Steps as steps
 use Rattle.inv_all.specs.model.Phases.{Aim, Alone, Follows, BeginAt, ProtectAt, AllocateAt, RetireAt, MoveAt, Walk, Base, Turn, Outcome, Goes, Ends}
 use Rattle.inv_all.specs.model.Phases.BeginAt.{LoadLower, PublishSpan}
-use Rattle.inv_all.specs.model.Phases.ProtectAt.{CheckClock, CheckOwnClock, AnswerOwn, WithdrawHelper, CheckUpper}
+use Rattle.inv_all.specs.model.Phases.ProtectAt.{CheckClock, CheckOwnClock, AnswerOwn, WithdrawHelper, CheckUpper, ByHazard}
+use Rattle.inv_all.specs.model.Phases.HazardAt.{FirstLink, PublishLink, CheckLink}
 use Rattle.inv_all.specs.model.Phases.AllocateAt.{LoadBirth, ClaimSlot, StoreLife}
 use Rattle.inv_all.specs.model.Phases.RetireAt.{LoadLife, LoadRetire, StoreRetired}
 use Rattle.inv_all.specs.model.Phases.MoveAt.{LoadEra, CheckEra, AnswerAsked, LoadReserved, HandOver, ExchangeClock}
@@ -26,19 +27,21 @@ use Rattle.laws.specs.words.Packed.{read_reservation, reservation_word}
 use Rattle.inv_all.specs.model.Phases.Ending.{Done, Protected, Followed, Allocated, Retired, Clocked}
 use Rattle.inv_all.specs.model.SlowPath.{own_request, asking}
 use Rattle.inv_all.specs.model.WriteRow.{last_written}
-use Rattle.std.specs.Prelude.{◌==◌, if◌then◌else◌}
+use Rattle.std.specs.Prelude.{◌==◌, ◌||◌, if◌then◌else◌}
 use Rattle.inv_all.proofs.history.AllOf.{all_of, of_weaker}
 use Rattle.inv_all.proofs.history.MayTell.{Tells, base_all, Passes, step_all, work_all}
 
 -- no guard is read, and no row goes back
 abbrev pub is_unread : Event → Bool
 is_unread (events.Read guard span) = false
+is_unread (events.Saw guard slot) = false
 is_unread (events.Back slot) = false
 is_unread event = true
 
 -- and no call begins
 abbrev pub is_calm : Event → Bool
 is_calm (events.Read guard span) = false
+is_calm (events.Saw guard slot) = false
 is_calm (events.Back slot) = false
 is_calm (events.Begin call) = false
 is_calm event = true
@@ -48,6 +51,7 @@ All told = all_of is_calm told ≡ true
 
 tells_calm : (base : Base) (post : Post) (found : ℕ) (event : Event) → Tells base post found event → is_calm event ≡ true
 tells_calm base post found (events.Read guard span) h = absurd (cc)
+tells_calm base post found (events.Saw guard slot) h = absurd (cc)
 tells_calm base post found (events.Back slot) h = absurd (cc)
 tells_calm base post found (events.Begin call) h = absurd (cc)
 tells_calm base post found event h = refl
@@ -55,6 +59,7 @@ tells_calm base post found event h = refl
 -- what comes after a machine reads nothing either
 quiet_calm : (event : Event) → is_quiet event ≡ true → is_calm event ≡ true
 quiet_calm (events.Read guard span) h = absurd (cc)
+quiet_calm (events.Saw guard slot) h = absurd (cc)
 quiet_calm (events.Back slot) h = absurd (cc)
 quiet_calm (events.Begin call) h = absurd (cc)
 quiet_calm event h = refl
@@ -66,10 +71,11 @@ pub run_calm : (why : Why) (base : Base) (post : Post) (desk : Desk) (found : �
 run_calm why base post desk found = step_all is_calm passes (Runs why base) post desk found (base_all is_calm base post found (tells_calm base post found))
 
 pub work_calm : (work : Work) (post : Post) (desk : Desk) (found : ℕ) → All (told_by (steps.phase_turn (Works work) post desk found))
-work_calm work post desk found = step_all is_calm passes (Works work) post desk found (work_all is_calm (λ index slot. refl) (λ from index slot. refl) (λ seat index era. refl) (λ seat. refl) work post)
+work_calm work post desk found = step_all is_calm passes (Works work) post desk found (work_all is_calm (λ index slot. refl) (λ from index slot. refl) (λ seat index era. refl) (λ seat. refl) (λ seat index link. refl) work post)
 
 calm_unread : (event : Event) → is_calm event ≡ true → is_unread event ≡ true
 calm_unread (events.Read guard span) h = absurd (cc)
+calm_unread (events.Saw guard slot) h = absurd (cc)
 calm_unread (events.Back slot) h = absurd (cc)
 calm_unread event h = refl
 
@@ -106,6 +112,9 @@ protect_keeps aim index root n (CheckOwnClock first era last link) post found = 
 protect_keeps aim index root n (AnswerOwn first era link) post found = either_keeps _ _ (found == own_request post index root) refl refl
 protect_keeps aim index root n (WithdrawHelper link era) post found = concluded_keeps aim index root n link era post (reserves_helper post 0)
 protect_keeps aim index root n (CheckUpper link) post found = either_keeps _ _ (found == upper post.span) (protected_keeps aim index root n link found post) refl
+protect_keeps aim index root n (ByHazard FirstLink) post found = either_keeps _ _ (found == 0) (protected_keeps aim index root n found 0 post) refl
+protect_keeps aim index root n (ByHazard (PublishLink link)) post found = refl
+protect_keeps aim index root n (ByHazard (CheckLink link)) post found = either_keeps _ _ (found == link || found == 0) (protected_keeps aim index root n found 0 post) refl
 protect_keeps aim index root n at post found = refl
 
 hand_keeps : (era seat tag index old : ℕ) (post : Post) (same : Bool) → keeps_list (movers.after_hand_over era seat tag index old post same).outcome ≡ true

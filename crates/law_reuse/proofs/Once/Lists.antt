@@ -1,5 +1,7 @@
 -- A step tells of a seat's list what it makes of it, and a list that is taken over goes to another seat whole.
 use Rattle.std.proofs.Common.{ℕ, ◌≡◌, Bool, true, false, List, [], ◌∷◌, ◌++◌, length, refl, sym, ap, ◌∙◌, subst, arith}
+use Rattle.inv_all.specs.model.words.Schemes.{publishes_rows}
+use Rattle.inv_all.specs.model.Rounds.{scheme_of}
 use Rattle.std.proofs.lemmas.Bool.Decides.{nat_tests}
 use Rattle.std.specs.Prelude.{◌==◌, ◌||◌, not, nat_lt, if◌then◌else◌}
 use Rattle.laws.specs.words.Place.Place.{PlaceOf}
@@ -98,7 +100,7 @@ settled_list l post desk rounds (GoesOn phase) = refl
 settled_list l post desk rounds (Answers answer) = refl
 
 pub after_list : (l : Local) (found : ℕ) → (after l found).desk.list ≡ (turn l found).desk.list
-after_list l found = let t : CallTurn = turn l found in ap (λ (d : Desk). d.list) (settled_list l t.post (noting t.desk (told_by t)) (rounds_told l.rounds (told_by t)) t.outcome)
+after_list l found = let t : CallTurn = turn l found in ap (λ (d : Desk). d.list) (settled_list l t.post (noting t.desk (told_by t)) (rounds_told (publishes_rows (scheme_of t.post)) l.rounds (told_by t)) t.outcome)
 
 stepped_list : (w : World) (i : ℕ) → ((step w i).seat i).desk.list ≡ (turn (offered w i) (finds w i)).desk.list
 stepped_list w i = ap (λ (x : Local). x.desk.list) (seat_steps w i) ∙ after_list (offered w i) (finds w i)

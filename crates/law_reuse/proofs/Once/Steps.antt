@@ -17,7 +17,8 @@ use Rattle.inv_all.specs.model.Allocate.{is_claimed}
 use Rattle.inv_all.specs.model.Calls.{ChangeKept, Task, Changes, Dequeues, Next, Again, MakeRoom, Answering, Retiring, AfterScan, Answered, Repeated, Counted, Why, Fills, Retires, ReadGuard, GiveBack, LoadVersion, LoadCount, LoadKey, LoadValue, ExchangeRoot, LoadNumber, LoadNext, PassTail, ExchangeNext, ExchangeTail, LoadTail, SwingTail, TakeNumber, TakeValue, ExchangeHead, Work, Getting, Changing, Enqueuing, Dequeuing, Phase, Idle, Runs, Scans, Works, CallTurn, KeepAt, Loosens, LoadHeld, StoreHeld, Looks, Misses, HideSpan, MarkLeft, TakeList, MarkTaken, Keeping}
 use Rattle.inv_all.specs.model.Change.{told_linked, told_change, changed_bucket, answer_done}
 use Rattle.inv_all.specs.model.Desks.{Desk}
-use Rattle.inv_all.specs.model.Guards.{guards, guard_at, eras_in, published}
+use Rattle.inv_all.specs.model.Guards.{guards, guard_at, published}
+use Rattle.laws.specs.words.Schemes.{publishes_rows}
 use Rattle.inv_all.specs.model.Locals.{told_by, told_end}
 use Rattle.inv_all.specs.model.Machine.{after}
 use Rattle.inv_all.specs.model.Phases.{Base, Outcome, Goes, Ends}
@@ -149,7 +150,7 @@ run_list : (why : Why) (base : Base) (last post : Post) (desk : Desk) (found : �
 run_list why (Begin at) last post desk found h = calm_list why (Begin at) post desk found refl
 run_list why (Protect aim index root steps at) last post desk found h = calm_list why (Protect aim index root steps at) post desk found refl
 run_list why (Reload parent index slot era steps) last post desk found h = calm_list why (Reload parent index slot era steps) post desk found refl
-run_list why (Clear index) last post desk found h = calm_list why (Clear index) post desk found refl
+run_list why (Clear rows index) last post desk found h = calm_list why (Clear rows index) post desk found refl
 run_list why Finish last post desk found h = calm_list why Finish post desk found refl
 run_list why (Release index) last post desk found h = calm_list why (Release index) post desk found refl
 run_list why (Allocate at) last post desk found h = calm_list why (Allocate at) post desk found refl
@@ -164,8 +165,8 @@ pub phase_list : (phase : Phase) (last post : Post) (desk : Desk) (found : ℕ) 
 phase_list Idle last post desk found n h d = refl
 phase_list (Runs why base) last post desk found n h d = run_list why base last post desk found h
 phase_list (Scans later (ReadGuard number)) last post desk found n h d =
-    let seen : Seen = (guard_at post.layout.config number, published (guard_at post.layout.config number) found) in
-    reading_list later number post (scan.with_read desk number seen) (events.Read seen.0 (eras_in seen.0 found) ∷ []) (nat_lt (number + 1) (guards post.layout.config))
+    let seen : Seen = (guard_at post.layout.config number, published (publishes_rows post.layout.config.scheme) (guard_at post.layout.config number) found) in
+    reading_list later number post (scan.with_read desk number seen) (scan.reads_guard (publishes_rows post.layout.config.scheme) seen.0 found ∷ []) (nat_lt (number + 1) (guards post.layout.config))
 phase_list (Scans later (GiveBack place slot)) last post desk found n h d =
     giving_list later post (scan.with_back desk place) (events.Back slot ∷ []) (scan.unmet_from (scan.with_back desk place) place) ∙ removed desk.list place slot d h
 phase_list (Works work) last post desk found n h d = ap (λ (d : Desk). d.list) (work_desk work post desk found n) ∙ sym (work_list work last found desk.list)

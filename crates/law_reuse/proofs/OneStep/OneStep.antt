@@ -12,8 +12,10 @@ use Rattle.inv_all.specs.model.Desks.{Desk}
 use Rattle.inv_all.specs.model.Enqueue as enqueues
 use Rattle.inv_all.specs.model.Locals.{told_by, told_end}
 use Rattle.inv_all.specs.model.Machine as machine
-use Rattle.inv_all.specs.model.Posts.{cleared, counted, reserves_index, stands, cleared_from, reserves_span}
-use Rattle.inv_all.specs.model.words.Schemes.{has_one_interval}
+use Rattle.inv_all.specs.model.Posts.{cleared, counted, publishes_index, stands, cleared_from, reserves_span}
+use Rattle.inv_all.specs.model.words.Schemes.{has_one_interval, publishes_rows}
+use Rattle.inv_all.specs.model.Guards.{guard_at}
+use Rattle.law_reuse.proofs.ReadGuards.{reads_are}
 use Rattle.inv_all.specs.model.Rounds.{scheme_of, clear_told, bucket_of, let_index}
 use Rattle.inv_all.specs.model.Steps as steps
 use Rattle.inv_all.specs.model.Phases.{Base}
@@ -27,7 +29,7 @@ use Rattle.laws.specs.HistoryTurns.{is_atomic, none_atomic, one_atomic, one_step
 use Rattle.law_reuse.specs.Answers.{TurnsTellOne}
 use Rattle.law_reuse.proofs.OneStep.Along.{Kept, history_keeps}
 use Rattle.inv_all.proofs.history.AllOf.{all_of}
-use Rattle.inv_all.proofs.history.MayTell.{Shape, Silent, Single, Clears, Takes, is_find, shape_of, clear_all, cleared_all, cleared_from_all}
+use Rattle.inv_all.proofs.history.MayTell.{Shape, Silent, Single, Clears, Drops, Takes, is_find, shape_of, clear_all, cleared_all, cleared_from_all}
 use Rattle.inv_all.specs.model.World.{offered}
 
 none_along : (xs ys : List Event) → none_atomic xs ≡ true → none_atomic ys ≡ true → none_atomic (xs ++ ys) ≡ true
@@ -81,13 +83,14 @@ shape_one : (base : Base) (post : Post) (found : ℕ) (told : List Event) → Sh
 shape_one base post found told (Silent e) = rw e refl
 shape_one base post found told (Single event e a) = rw e (single_one event)
 shape_one base post found told (Clears index slot guard e a b) = rw e refl
+shape_one base post found told (Drops index slot guard e a b) = rw e refl
 shape_one base post found told (Takes guard span event e t f a b) = rw e (find_none event f)
 
 base_one : (base : Base) (post : Post) (found : ℕ) → One (machine.after base post found).told
 base_one base post found = shape_one base post found (machine.after base post found).told (shape_of base post found)
 
 scan_one : (at : ScanAt) (post : Post) (found : ℕ) → One (scan_told at post found)
-scan_one (ReadGuard number) post found = refl
+scan_one (ReadGuard number) post found = reads_are (λ (event : Event). One (event ∷ [])) (publishes_rows post.layout.config.scheme) (guard_at post.layout.config number) found (λ span. refl) (λ slot. refl)
 scan_one (GiveBack place slot) post found = refl
 
 -- a call on what is kept stores one index word at most
@@ -105,7 +108,11 @@ keep_one (LoadHeld from index) post = by (has_one_interval (scheme_of post))
     by : (one : Bool) → One (if one then copied_told from index post [] (stands post from) else [])
     by true = copied_one from index post [] (stands post from) refl
     by false = refl
-keep_one (StoreHeld from index era) post = copied_one from index post (reserves_index post index era) (stands post from) refl
+keep_one (StoreHeld from index number) post = copied_one from index post (publishes_index (publishes_rows (scheme_of post)) post index number) (stands post from) (by (publishes_rows (scheme_of post)))
+  where
+    by : (rows : Bool) → One (publishes_index rows post index number)
+    by true = refl
+    by false = refl
 keep_one (Looks index key at) post = refl
 keep_one (Misses index) post = refl
 keep_one HideSpan post =

@@ -2,9 +2,9 @@
 use Rattle.inv_all.specs.ends.Stands as ends
 use Rattle.std.proofs.Common.{ℕ, ◌≡◌, ◌<◌, ◌+◌, ◌-◌, Bool, true, false, List, [], ◌∷◌, ◌++◌, length, Option, Some, None, refl, sym, ap, ◌∙◌, subst, arith}
 use Rattle.std.proofs.lemmas.Bool.Decides.{nat_tests}
-use Rattle.std.specs.Prelude.{◌==◌, if◌then◌else◌, drop}
+use Rattle.std.specs.Prelude.{◌==◌, ◌||◌, if◌then◌else◌, drop}
 use Rattle.laws.specs.words.declared.config.SchemeKind.{SchemeKind}
-use Rattle.laws.specs.words.declared.config.SchemeKind.TheVariants.{He, Ibr, Wfe}
+use Rattle.laws.specs.words.declared.config.SchemeKind.TheVariants.{He, Hp, Ibr, Wfe}
 use Rattle.laws.specs.words.Packed.{reservation_word, read_reservation}
 use Rattle.laws.specs.defs.declared.event.Event.{Event}
 use Rattle.laws.specs.defs.declared.event.Event.TheVariants as events
@@ -15,12 +15,13 @@ use Rattle.inv_all.specs.model.Allocate as allocates
 use Rattle.inv_all.specs.model.Machine as machine
 use Rattle.inv_all.specs.model.Memory.{bump}
 use Rattle.inv_all.specs.model.MoveClock as movers
-use Rattle.inv_all.specs.model.Posts.{stands, cleared, reserves_helper, with_row, with_tag, withdrawn, tag_of, upper, reserves_index, cleared_from, reserves_span, withdrawn_all}
+use Rattle.inv_all.specs.model.Posts.{stands, cleared, reserves_helper, with_row, with_tag, withdrawn, tag_of, upper, publishes_index, cleared_from, reserves_span, withdrawn_all}
 use Rattle.inv_all.specs.model.Protect as protects
 use Rattle.inv_all.specs.model.Rounds.{scheme_of, clear_post, clear_told, let_index}
 use Rattle.inv_all.specs.model.Phases.{Aim, Alone, Follows, BeginAt, ProtectAt, AllocateAt, RetireAt, MoveAt, Walk, Base, Turn, RowOf, Tries}
 use Rattle.inv_all.specs.model.Phases.BeginAt.{LoadLower, PublishSpan}
-use Rattle.inv_all.specs.model.Phases.ProtectAt.{CheckClock, CheckOwnClock, AnswerOwn, TakeAnswer, WithdrawHelper, CheckUpper}
+use Rattle.inv_all.specs.model.Phases.ProtectAt.{CheckClock, CheckOwnClock, AnswerOwn, TakeAnswer, WithdrawHelper, CheckUpper, ByHazard}
+use Rattle.inv_all.specs.model.Phases.HazardAt.{FirstLink, PublishLink, CheckLink}
 use Rattle.inv_all.specs.model.Phases.AllocateAt.{LoadBirth, ClaimSlot, StoreLife}
 use Rattle.inv_all.specs.model.Phases.RetireAt.{LoadLife, LoadRetire, StoreRetired}
 use Rattle.inv_all.specs.model.Phases.MoveAt.{LoadEra, CheckEra, AnswerAsked, LoadReserved, HandOver, ExchangeClock}
@@ -36,7 +37,7 @@ use Rattle.inv_all.specs.model.Guards.{one_era}
 use Rattle.inv_all.proofs.model.Facts.{first_of, rest_of, number_is}
 use Rattle.inv_all.proofs.model.Standing.{stands-withdrawn_same, stands-with_row_same, stands-withdrawn_other, stands-with_row_other}
 use Rattle.inv_all.specs.model.Calls.{Work, Getting, Changing, Enqueuing, Dequeuing, Keeping, Loosens, LoadHeld, StoreHeld, Looks, Misses, HideSpan, MarkLeft, TakeList, MarkTaken}
-use Rattle.laws.specs.words.Schemes.{has_one_interval}
+use Rattle.laws.specs.words.Schemes.{has_one_interval, publishes_rows}
 use Rattle.inv_all.specs.covers.Rests.{Vacant, spare}
 use Rattle.inv_all.proofs.ends.Ends.Left.{hidden_stood}
 
@@ -91,6 +92,7 @@ clear_follows : (scheme : SchemeKind) (post : Post) (index : ℕ) → Follow pos
 clear_follows He post index j = refl
 clear_follows Ibr post index j = cleared_follows post index (stands post index) refl j
 clear_follows Wfe post index j = refl
+clear_follows Hp post index j = refl
 
 -- one after another
 follow_on : (post middle next : Post) (told more : List Event) → Follow post middle told → Follow middle next more → Follow post next (told ++ more)
@@ -139,6 +141,14 @@ upper_follows : (post : Post) (aim : Aim) (index : ℕ) (root : Root) (n link fo
 upper_follows post aim index root n link found true e h = rw e (protected_follows post aim index root n link found h)
 upper_follows post aim index root n link found false e h = rw e (λ j. refl)
 
+first_follows : (post : Post) (aim : Aim) (index : ℕ) (root : Root) (n found : ℕ) (same : Bool) → (found == 0) ≡ same → index < length post.standing → Turns post (machine.protect_turn aim index root n (ByHazard FirstLink) post found)
+first_follows post aim index root n found true e h = rw e (protected_follows post aim index root n found 0 h)
+first_follows post aim index root n found false e h = rw e (λ j. refl)
+
+link_follows : (post : Post) (aim : Aim) (index : ℕ) (root : Root) (n link found : ℕ) (same : Bool) → (found == link || found == 0) ≡ same → index < length post.standing → Turns post (machine.protect_turn aim index root n (ByHazard (CheckLink link)) post found)
+link_follows post aim index root n link found true e h = rw e (protected_follows post aim index root n found 0 h)
+link_follows post aim index root n link found false e h = rw e (λ j. refl)
+
 own_follows : (post : Post) (aim : Aim) (index : ℕ) (root : Root) (n first era : ℕ) (last : Bool) (link found : ℕ) (same : Bool) → (found == era) ≡ same → Turns post (machine.protect_turn aim index root n (CheckOwnClock first era last link) post found)
 own_follows post aim index root n first era last link found true e = rw e (λ j. refl)
 own_follows post aim index root n first era last link found false e = rw e (λ j. refl)
@@ -154,6 +164,9 @@ protect_follows post aim index root n (AnswerOwn first era link) found h j = ans
 protect_follows post aim index root n (TakeAnswer link era) found h j = held_follows (with_tag post index (tag_of post index + 1)) index root link n h j
 protect_follows post aim index root n (WithdrawHelper link era) found h j = concluded_follows post aim index root n link era post (reserves_helper post 0) (λ i. refl) j
 protect_follows post aim index root n (CheckUpper link) found h j = upper_follows post aim index root n link found (found == upper post.span) refl h j
+protect_follows post aim index root n (ByHazard FirstLink) found h j = first_follows post aim index root n found (found == 0) refl h j
+protect_follows post aim index root n (ByHazard (PublishLink link)) found h j = refl
+protect_follows post aim index root n (ByHazard (CheckLink link)) found h j = link_follows post aim index root n link found (found == link || found == 0) refl h j
 protect_follows post aim index root n at found h j = refl
 
 reload_follows : (post : Post) (parent index slot n found : ℕ) (same : Bool) → (found == parent + 1) ≡ same → index < length post.standing → Turns post (after_reload parent index slot n post found)
@@ -226,7 +239,8 @@ pub base_follows : (post : Post) (base : Base) (found : ℕ) → index_base base
 base_follows post (Begin at) found h = begin_follows post at found
 base_follows post (Protect aim index root steps at) found h = protect_follows post aim index root (bump steps) at found h
 base_follows post (Reload parent index slot era steps) found h = reload_follows post parent index slot (bump steps) found (found == parent + 1) refl h
-base_follows post (Clear index) found h = quiet_last post (withdrawn post index) (cleared index (stands post index)) (events.Reserve (the_guards.Index post.seat index) (one_era 0)) (λ j x. refl) (cleared_follows post index (stands post index) refl)
+base_follows post (Clear false index) found h = quiet_last post (withdrawn post index) (cleared index (stands post index)) (events.Reserve (the_guards.Index post.seat index) (one_era 0)) (λ j x. refl) (cleared_follows post index (stands post index) refl)
+base_follows post (Clear true index) found h = quiet_last post (withdrawn post index) (cleared index (stands post index)) (events.Hazard (the_guards.Index post.seat index) None) (λ j x. refl) (cleared_follows post index (stands post index) refl)
 base_follows post Finish found h = λ j. refl
 base_follows post (Release index) found h = quiet_last post (withdrawn post index) (cleared index (stands post index)) (events.Reserve (the_guards.Whole post.seat) None) (λ j x. refl) (cleared_follows post index (stands post index) refl)
 base_follows post (Allocate at) found h = allocate_follows post at found
@@ -247,6 +261,10 @@ copied_follows post from index reserved (Some slot) q h =
     follow_on post (withdrawn post index) (with_row post index slot) (gone ++ reserved) (events.Copied from index slot ∷ [])
     (λ j. stood_along j gone reserved (stands post j) ∙ q j (stood j gone (stands post j)) ∙ cleared_follows post index (stands post index) refl j)
     (λ j. over_stood post index slot j (j == index) refl h)
+
+published_stood : (post : Post) (index number : ℕ) (rows : Bool) (j : ℕ) (y : Option ℕ) → stood j (publishes_index rows post index number) y ≡ y
+published_stood post index number false j y = refl
+published_stood post index number true j y = refl
 
 -- the index that a copy goes to
 abbrev pub copy_index : Work → ℕ
@@ -282,7 +300,7 @@ work_follows post (Enqueuing kept at) h n = λ j. refl
 work_follows post (Dequeuing at) h n = λ j. refl
 work_follows post (Keeping (Loosens let_go)) h n = cleared_follows post (let_index let_go) (stands post (let_index let_go)) refl
 work_follows post (Keeping (LoadHeld from index)) h n = load_follows post from index (has_one_interval (scheme_of post)) h
-work_follows post (Keeping (StoreHeld from index era)) h n = copied_follows post from index (reserves_index post index era) (stands post from) (λ j y. refl) h
+work_follows post (Keeping (StoreHeld from index era)) h n = copied_follows post from index (publishes_index (publishes_rows (scheme_of post)) post index era) (stands post from) (λ j y. published_stood post index era (publishes_rows (scheme_of post)) j y) h
 work_follows post (Keeping (Looks index key at)) h n = λ j. refl
 work_follows post (Keeping (Misses index)) h n = λ j. refl
 work_follows post (Keeping HideSpan) h n = hidden_follows post (n refl)

@@ -8,7 +8,10 @@ use Rattle.laws.specs.defs.declared.call.Call.{Call}
 use Rattle.laws.specs.defs.declared.event.Event.{Event}
 use Rattle.laws.specs.defs.declared.event.Event.TheVariants as events
 use Rattle.inv_all.specs.model.declared.post.Post.{Post}
+use Rattle.inv_all.specs.model.Guards.{guard_at}
 use Rattle.inv_all.specs.model.Locals.{Local}
+use Rattle.laws.specs.words.Schemes.{publishes_rows}
+use Rattle.law_reuse.proofs.ReadGuards.{reads_are}
 use Rattle.inv_all.specs.model.Posts.{stands, counted}
 use Rattle.inv_all.specs.model.Phases.{Base}
 use Rattle.inv_all.specs.model.Phases.Base.{Begin, Protect, Reload, Clear, Finish, Release, Allocate, Write, GiveUp, Retire, Move}
@@ -50,8 +53,8 @@ use Rattle.inv_all.specs.covers.Rests.{Rests, Vacant, spare, vacant}
 
 -- a step leaves of what stands what it tells
 scan_follows : (post : Post) (at : ScanAt) (found : ℕ) → Follow post post (scan_told at post found)
-scan_follows post (ReadGuard number) found j = refl
-scan_follows post (GiveBack place slot) found j = refl
+scan_follows post (ReadGuard number) found = reads_are (λ (event : Event). Follow post post (event ∷ [])) (publishes_rows post.layout.config.scheme) (guard_at post.layout.config number) found (λ span j. refl) (λ slot j. refl)
+scan_follows post (GiveBack place slot) found = λ j. refl
 
 first_follows : (phase : Phase) (post : Post) (found : ℕ) → ((why : Why) (base : Base) → phase ≡ Runs why base → index_base base < length post.standing) → ((work : Work) → phase ≡ Works work → copy_index work < length post.standing) → (phase ≡ Works (Keeping HideSpan) → Vacant spare post) → First (Follow post) phase post found
 first_follows Idle post found h c n = λ j. refl
@@ -162,7 +165,7 @@ protects_free s Idle post found h = absurd (cc)
 protects_free s (Runs why (Begin at)) post found h = absurd (cc)
 protects_free s (Runs why (Protect aim index root steps at)) post found h = refl
 protects_free s (Runs why (Reload parent index slot era steps)) post found h = refl
-protects_free s (Runs why (Clear index)) post found h = absurd (cc)
+protects_free s (Runs why (Clear rows index)) post found h = absurd (cc)
 protects_free s (Runs why Finish) post found h = absurd (cc)
 protects_free s (Runs why (Release index)) post found h = absurd (cc)
 protects_free s (Runs why (Allocate at)) post found h = absurd (cc)

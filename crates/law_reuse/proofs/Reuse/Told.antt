@@ -5,7 +5,10 @@ use Rattle.laws.specs.defs.declared.event.Event.{Event}
 use Rattle.laws.specs.defs.declared.event.Event.TheVariants as events
 use Rattle.inv_all.specs.model.declared.post.Post.{Post}
 use Rattle.inv_all.specs.model.Desks.{Desk}
+use Rattle.inv_all.specs.model.Guards.{guard_at}
 use Rattle.inv_all.specs.model.Locals.{told_by}
+use Rattle.laws.specs.words.Schemes.{publishes_rows}
+use Rattle.law_reuse.proofs.ReadGuards.{reads_are}
 use Rattle.inv_all.specs.model.Steps as steps
 use Rattle.inv_all.specs.model.Phases.{Base}
 use Rattle.inv_all.specs.model.Phases.AllocateAt.{ClaimSlot}
@@ -63,9 +66,9 @@ quiet_one s event h = refl
 first_kept : (s : ℕ) (phase : Phase) (last post : Post) (found : ℕ) → takes_or_frees (row_move phase last found) s ≡ false → First (λ next told. all_of (λ event. not (is_reuse s event)) told ≡ true) phase post found
 first_kept s Idle last post found h = refl
 first_kept s (Runs why base) last post found h = base_all (λ event. not (is_reuse s event)) base post found (λ event. one_kept s base post found event h)
-first_kept s (Scans later (ReadGuard number)) last post found h = refl
+first_kept s (Scans later (ReadGuard number)) last post found h = reads_are (λ (event : Event). all_of (λ other. not (is_reuse s other)) (event ∷ []) ≡ true) (publishes_rows post.layout.config.scheme) (guard_at post.layout.config number) found (λ span. refl) (λ slot. refl)
 first_kept s (Scans later (GiveBack place slot)) last post found h = and_true (not (s == slot)) (not_of_false (s == slot) h)
-first_kept s (Works work) last post found h = work_all (λ event. not (is_reuse s event)) (λ index slot. refl) (λ from index slot. refl) (λ seat index era. refl) (λ seat. refl) work post
+first_kept s (Works work) last post found h = work_all (λ event. not (is_reuse s event)) (λ index slot. refl) (λ from index slot. refl) (λ seat index era. refl) (λ seat. refl) (λ seat index link. refl) work post
 
 pub told_free : (s : ℕ) (phase : Phase) (last post : Post) (desk : Desk) (found : ℕ) → takes_or_frees (row_move phase last found) s ≡ false → Free s (told_by (steps.phase_turn phase post desk found))
 told_free s phase last post desk found h =

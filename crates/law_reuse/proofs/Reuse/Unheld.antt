@@ -1,5 +1,5 @@
 -- A step that gives or frees a row tells of no row that it is held or copied.
-use Rattle.std.proofs.Common.{ℕ, ◌≡◌, Bool, true, false, List, refl}
+use Rattle.std.proofs.Common.{ℕ, ◌≡◌, Bool, true, false, List, [], ◌∷◌, refl}
 use Rattle.laws.specs.defs.declared.event.Event.{Event}
 use Rattle.laws.specs.defs.declared.event.Event.TheVariants as events
 use Rattle.inv_all.specs.model.declared.post.Post.{Post}
@@ -12,6 +12,9 @@ use Rattle.inv_all.specs.model.Calls.{ScanAt, ReadGuard, GiveBack, Phase, Idle, 
 use Rattle.inv_all.proofs.history.Passes.{is_quiet, First, scan_told}
 use Rattle.inv_all.proofs.history.MayTell.{Tells, base_all, step_all}
 use Rattle.inv_all.proofs.history.AllOf.{all_of}
+use Rattle.inv_all.specs.model.Guards.{guard_at}
+use Rattle.laws.specs.words.Schemes.{publishes_rows}
+use Rattle.law_reuse.proofs.ReadGuards.{reads_are}
 
 abbrev pub is_unheld : Event → Bool
 is_unheld (events.Held index slot steps) = false
@@ -35,7 +38,7 @@ abbrev pub holds_none : Base → Bool
 holds_none (Begin at) = true
 holds_none (Protect aim index root steps at) = false
 holds_none (Reload parent index slot era steps) = false
-holds_none (Clear index) = true
+holds_none (Clear rows index) = true
 holds_none Finish = true
 holds_none (Release index) = true
 holds_none (Allocate at) = true
@@ -64,7 +67,7 @@ one_unheld base post found (events.Copied from index slot) h t = absurd (cc)
 one_unheld base post found event h t = refl
 
 scan_unheld : (at : ScanAt) (post : Post) (found : ℕ) → unheld (scan_told at post found) ≡ true
-scan_unheld (ReadGuard number) post found = refl
+scan_unheld (ReadGuard number) post found = reads_are (λ (event : Event). unheld (event ∷ []) ≡ true) (publishes_rows post.layout.config.scheme) (guard_at post.layout.config number) found (λ span. refl) (λ slot. refl)
 scan_unheld (GiveBack place slot) post found = refl
 
 first_unheld : (phase : Phase) (post : Post) (found : ℕ) → phase_holds_none phase ≡ true → First Unheld phase post found

@@ -1,5 +1,7 @@
 -- The histories of the machines are schedules whose turns are counted.
 use Rattle.std.proofs.Common.{ℕ, ◌≡◌, ◌≤◌, ◌<◌, ◌+◌, ◌^◌, Bool, true, false, List, [], ◌∷◌, ◌++◌, refl, sym, ap, ◌∙◌, subst, arith}
+use Rattle.inv_all.specs.model.words.Schemes.{publishes_rows}
+use Rattle.inv_all.specs.model.Rounds.{scheme_of}
 use Rattle.std.proofs.lemmas.Bool.Decides.{nat_tests}
 use Rattle.std.specs.Prelude.{◌==◌, ◌&&◌, ◌||◌, not, nat_lt, if◌then◌else◌}
 use Rattle.inv_all.specs.model.words.declared.layout.Layout.{Layout}
@@ -78,7 +80,7 @@ settled_steps : (l : Local) (post : Post) (desk : Desk) (rounds : ℕ) (outcome 
 settled_steps l post desk rounds (GoesOn phase) = refl
 settled_steps l post desk rounds (Answers answer) = refl
 
-step_seat : (w : World) (i : ℕ) → (step w i).seat i ≡ settled_by (offered w i) (turn (offered w i) (finds w i)).post (noting (turn (offered w i) (finds w i)).desk (told_by (turn (offered w i) (finds w i)))) (rounds_told (w.seat i).rounds (told_by (turn (offered w i) (finds w i)))) (turn (offered w i) (finds w i)).outcome
+step_seat : (w : World) (i : ℕ) → (step w i).seat i ≡ settled_by (offered w i) (turn (offered w i) (finds w i)).post (noting (turn (offered w i) (finds w i)).desk (told_by (turn (offered w i) (finds w i)))) (rounds_told (publishes_rows (scheme_of (turn (offered w i) (finds w i)).post)) (w.seat i).rounds (told_by (turn (offered w i) (finds w i)))) (turn (offered w i) (finds w i)).outcome
 step_seat w i = seat_steps w i
 
 step_busy : (n : ℕ) (w : World) (i : ℕ) → Owes n (w.seat i).call (owed n (w.seat i).call (w.seat i).phase) (turn (offered w i) (finds w i)) → not (schedule.tells_end (told_in w i)) ≡ is_busy (step w i) i
@@ -86,7 +88,7 @@ step_busy n w i o =
     let t : CallTurn = turn (offered w i) (finds w i) in
     let there : Told (owed n (w.seat i).call (w.seat i).phase) t.told (out_owed n (w.seat i).call t.outcome) = o.told in
     ap not (tells_after t.told (told_end t.post t.outcome) there.goes)
-    ∙ end_busy (w.seat i).call (w.seat i) t.post (noting t.desk (told_by t)) (rounds_told (w.seat i).rounds (told_by t)) t.outcome o.serves
+    ∙ end_busy (w.seat i).call (w.seat i) t.post (noting t.desk (told_by t)) (rounds_told (publishes_rows (scheme_of t.post)) (w.seat i).rounds (told_by t)) t.outcome o.serves
     ∙ sym (ap (λ (l : Local). busy_in l.phase) (step_seat w i))
 
 -- a call has few steps left, so that the count is exact

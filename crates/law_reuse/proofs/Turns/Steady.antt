@@ -1,8 +1,8 @@
 -- No step of a call changes the count of its steps besides counting itself.
 use Rattle.std.proofs.Common.{ℕ, ◌≡◌, Bool, true, false, List, refl, ◌∙◌}
-use Rattle.std.specs.Prelude.{◌==◌, if◌then◌else◌, Option, Some, None}
+use Rattle.std.specs.Prelude.{◌==◌, ◌||◌, if◌then◌else◌, Option, Some, None}
 use Rattle.inv_all.specs.model.words.declared.config.SchemeKind.{SchemeKind}
-use Rattle.inv_all.specs.model.words.declared.config.SchemeKind.TheVariants.{He, Ibr, Wfe}
+use Rattle.inv_all.specs.model.words.declared.config.SchemeKind.TheVariants.{He, Hp, Ibr, Wfe}
 use Rattle.inv_all.specs.model.defs.declared.event.Event.{Event}
 use Rattle.inv_all.specs.model.defs.declared.event.Root.{Root}
 use Rattle.inv_all.specs.model.defs.declared.event.Root.TheVariants as roots
@@ -10,7 +10,8 @@ use Rattle.inv_all.specs.model.declared.post.Post.{Post}
 use Rattle.inv_all.specs.model.Posts.{stands, with_tag}
 use Rattle.inv_all.specs.model.Phases.{Aim, Alone, Follows, Walk, Base, Turn}
 use Rattle.inv_all.specs.model.Phases.BeginAt.{LoadLower}
-use Rattle.inv_all.specs.model.Phases.ProtectAt.{CheckClock, CheckOwnClock, AnswerOwn, TakeAnswer, WithdrawHelper, CheckUpper}
+use Rattle.inv_all.specs.model.Phases.ProtectAt.{CheckClock, CheckOwnClock, AnswerOwn, TakeAnswer, WithdrawHelper, CheckUpper, ByHazard}
+use Rattle.inv_all.specs.model.Phases.HazardAt.{FirstLink, PublishLink, CheckLink}
 use Rattle.inv_all.specs.model.Phases.AllocateAt.{ClaimSlot}
 use Rattle.inv_all.specs.model.Phases.RetireAt.{LoadLife}
 use Rattle.inv_all.specs.model.Phases.MoveAt.{LoadEra, CheckEra, AnswerAsked, LoadReserved, HandOver, ExchangeClock}
@@ -74,6 +75,10 @@ after_steps (Protect aim index root steps (TakeAnswer link era)) post found =
 after_steps (Protect aim index root steps (WithdrawHelper link era)) post found = concluded_same aim index root _ link era post _
 after_steps (Protect aim index root steps (CheckUpper link)) post found =
     same_if _ post _ _ (protected_same aim index root _ link found post _) refl
+after_steps (Protect aim index root steps (ByHazard FirstLink)) post found = same_if (found == 0) post _ _ (protected_same aim index root _ found 0 post _) refl
+after_steps (Protect aim index root steps (ByHazard (PublishLink link))) post found = refl
+after_steps (Protect aim index root steps (ByHazard (CheckLink link))) post found =
+    same_if (found == link || found == 0) post _ _ (protected_same aim index root _ found 0 post _) refl
 after_steps (Reload parent index slot era steps) post found = same_if _ post _ _ (refl) refl
 after_steps (Allocate (ClaimSlot birth walk)) post found =
     same_if (is_claimed found walk.slot) post _ _ (walking_same birth post (walk_past post.layout.config.slots walk found)) (refl)
@@ -91,6 +96,7 @@ cleared_steps : (scheme : SchemeKind) (post : Post) (index : ℕ) → (clear_pos
 cleared_steps He post index = refl
 cleared_steps Ibr post index = refl
 cleared_steps Wfe post index = refl
+cleared_steps Hp post index = refl
 
 -- a call on what is kept
 copied_steps : (index : ℕ) (post : Post) (o : Option ℕ) → (copied_post index post o).steps ≡ post.steps

@@ -3,6 +3,8 @@ use Rattle.std.proofs.Common.{ℕ, ◌≡◌, Bool, true, false, List, [], ◌�
 use Rattle.std.proofs.lemmas.Bool.Decides.{nat_tests}
 use Rattle.std.specs.Prelude.{◌==◌, None}
 use Rattle.law_reuse.specs.laws.words.Place.{is_valid}
+use Rattle.law_reuse.specs.laws.words.Schemes.{moves}
+use Rattle.law_reuse.specs.laws.words.declared.config.Config.{Config}
 use Rattle.law_reuse.specs.laws.words.declared.layout.Layout.{Layout}
 use Rattle.law_reuse.specs.laws.defs.declared.call.Call.{Call}
 use Rattle.law_reuse.specs.laws.defs.declared.event.Event.{Event}
@@ -49,33 +51,33 @@ still_along every (event ∷ told) x h =
     ap (along (clock_by every) told) (still_same every event x (first_of (is_still event) (all_of is_still told) h)) ∙ still_along every told x (rest_of (is_still event) (all_of is_still told) h)
 
 -- only an end is judged
-open_right : (last : ℕ) (event : Event) (x : ClockTally) → is_open event ≡ true → clock_right last event x ≡ true
-open_right last (events.End steps answer) x h = absurd (cc)
-open_right last event x h = refl
+open_right : (config : Config) (event : Event) (x : ClockTally) → is_open event ≡ true → clock_right (moves config.scheme) config.last_era event x ≡ true
+open_right config (events.End steps answer) x h = absurd (cc)
+open_right config event x h = refl
 
-each_open : (every last : ℕ) (told : List Event) (x : ClockTally) → all_of is_open told ≡ true → AllRight (clock_by every) (clock_right last) told x
-each_open every last [] x h = tt
-each_open every last (event ∷ told) x h = (open_right last event x (first_of (is_open event) (all_of is_open told) h), each_open every last told (clock_by every event x) (rest_of (is_open event) (all_of is_open told) h))
+each_open : (every : ℕ) (config : Config) (told : List Event) (x : ClockTally) → all_of is_open told ≡ true → AllRight (clock_by every) (clock_right (moves config.scheme) config.last_era) told x
+each_open every config [] x h = tt
+each_open every config (event ∷ told) x h = (open_right config event x (first_of (is_open event) (all_of is_open told) h), each_open every config told (clock_by every event x) (rest_of (is_open event) (all_of is_open told) h))
 
 -- a seat's tally fits where it stands
-pub record SeatClock (last : ℕ) (phase : Phase) (post : Post) (x : ClockTally) : Type 0 where
+pub record SeatClock (config : Config) (phase : Phase) (post : Post) (x : ClockTally) : Type 0 where
   pub retired : x.retired ≡ post.retired
-  pub fits : PhaseFits last phase x
+  pub fits : PhaseFits config phase x
 
-left_fits : (last : ℕ) (outcome : CallOutcome) (x : ClockTally) → OutFits last outcome x → PhaseFits last (phase_left outcome) x
-left_fits last (GoesOn phase) x f = f
-left_fits last (Answers answer) x f = tt
+left_fits : (config : Config) (outcome : CallOutcome) (x : ClockTally) → OutFits config outcome x → PhaseFits config (phase_left outcome) x
+left_fits config (GoesOn phase) x f = f
+left_fits config (Answers answer) x f = tt
 
 -- what a history keeps
 pub record KeepsClocks (layout : Layout) (made : Made) : Type 0 where
   pub base : Keeps layout made
-  pub seats : (k : ℕ) → SeatClock layout.config.last_era (made.world.seat k).phase (made.world.seat k).post (clock_tally layout.config.every k made.past)
+  pub seats : (k : ℕ) → SeatClock layout.config (made.world.seat k).phase (made.world.seat k).post (clock_tally layout.config.every k made.past)
   pub law : Each (clocks_ok layout.config) made.past
 
 abbrev pub fronts : World → ℕ → List Event
 fronts w i = front (w.seat i).phase (counted (w.seat i).post) (finds w i)
 
-pub own_lands : (layout : Layout) (made : Made) (i : ℕ) (k : KeepsClocks layout made) → Lands layout.config.every layout.config.last_era (clock_tally layout.config.every i made.past) (made.world.seat i).phase (fronts made.world i) (turn (offered made.world i) (finds made.world i)).outcome
+pub own_lands : (layout : Layout) (made : Made) (i : ℕ) (k : KeepsClocks layout made) → Lands layout.config.every layout.config (clock_tally layout.config.every i made.past) (made.world.seat i).phase (fronts made.world i) (turn (offered made.world i) (finds made.world i)).outcome
 own_lands layout made i k =
     let w : World = made.world in
     let own : Local = offered w i in
@@ -84,8 +86,8 @@ own_lands layout made i k =
     let a : own.post.layout ≡ layout = (g.known.seats.fits i).post.layout ∙ g.table in
     let s = k.seats i in
     let r : PhaseRight own.phase (counted own.post) = phase_right w.layout own.phase own.post (list_in w i) (g.known.seats.fits i).post.layout (g.known.seats.fits i).phase (g.known.whole.both.rows.plays i).right in
-    let f : PhaseFits own.post.layout.config.last_era own.phase x = subst (λ (table : Layout). PhaseFits table.config.last_era own.phase x) (sym a) s.fits in
-    subst (λ (table : Layout). Lands table.config.every table.config.last_era x own.phase (fronts w i) (turn own (finds w i)).outcome) a
+    let f : PhaseFits own.post.layout.config own.phase x = subst (λ (table : Layout). PhaseFits table.config own.phase x) (sym a) s.fits in
+    subst (λ (table : Layout). Lands table.config.every table.config x own.phase (fronts w i) (turn own (finds w i)).outcome) a
     (turn_lands x own.phase (counted own.post) own.desk (finds w i) r s.retired f)
 
 -- the tally after what a step tells
@@ -109,7 +111,7 @@ open_tally every w i p =
     ∙ sym (along_both (clock_by every) t.told (told_end t.post t.outcome) x)
     ∙ along_told every w i x
 
-own_fits : (layout : Layout) (made : Made) (i : ℕ) (k : KeepsClocks layout made) → SeatClock layout.config.last_era ((step made.world i).seat i).phase ((step made.world i).seat i).post (clock_tally layout.config.every i (tells_of made.past i (told_in made.world i)))
+own_fits : (layout : Layout) (made : Made) (i : ℕ) (k : KeepsClocks layout made) → SeatClock layout.config ((step made.world i).seat i).phase ((step made.world i).seat i).post (clock_tally layout.config.every i (tells_of made.past i (told_in made.world i)))
 own_fits layout made i k =
     let w : World = made.world in
     let l = own_lands layout made i k in
@@ -120,19 +122,19 @@ own_fits layout made i k =
     let r = k.seats i in
     record {
       retired = ap (λ (y : ClockTally). y.retired) e ∙ l.count ∙ ap (counts (w.seat i).phase) r.retired ∙ sym s.count ∙ sym (ap (λ (y : Post). y.retired) (stepped_post w i));
-      fits = subst (λ (y : ClockTally). PhaseFits layout.config.last_era ((step w i).seat i).phase y) (sym e)
-          (subst (λ (phase : Phase). PhaseFits layout.config.last_era phase (along (clock_by layout.config.every) (fronts w i) x)) (sym (stepped_phase w i)) (left_fits layout.config.last_era t.outcome _ l.fits));
+      fits = subst (λ (y : ClockTally). PhaseFits layout.config ((step w i).seat i).phase y) (sym e)
+          (subst (λ (phase : Phase). PhaseFits layout.config phase (along (clock_by layout.config.every) (fronts w i) x)) (sym (stepped_phase w i)) (left_fits layout.config t.outcome _ l.fits));
     }
 
-step_fits : (layout : Layout) (made : Made) (i : ℕ) (k : KeepsClocks layout made) (m : ℕ) (same : Bool) → (m == i) ≡ same → SeatClock layout.config.last_era ((step made.world i).seat m).phase ((step made.world i).seat m).post (clock_tally layout.config.every m (tells_of made.past i (told_in made.world i)))
+step_fits : (layout : Layout) (made : Made) (i : ℕ) (k : KeepsClocks layout made) (m : ℕ) (same : Bool) → (m == i) ≡ same → SeatClock layout.config ((step made.world i).seat m).phase ((step made.world i).seat m).post (clock_tally layout.config.every m (tells_of made.past i (told_in made.world i)))
 step_fits layout made i k m true e =
     let q : i ≡ m = grind (arith, nat_tests) in
-    subst (λ (j : ℕ). SeatClock layout.config.last_era ((step made.world i).seat j).phase ((step made.world i).seat j).post (clock_tally layout.config.every j (tells_of made.past i (told_in made.world i)))) q (own_fits layout made i k)
+    subst (λ (j : ℕ). SeatClock layout.config ((step made.world i).seat j).phase ((step made.world i).seat j).post (clock_tally layout.config.every j (tells_of made.past i (told_in made.world i)))) q (own_fits layout made i k)
 step_fits layout made i k m false e =
-    subst (λ (l : Local). SeatClock layout.config.last_era l.phase l.post (clock_tally layout.config.every m (tells_of made.past i (told_in made.world i)))) (sym (seat_stays made.world i m e))
-    (subst (λ (x : ClockTally). SeatClock layout.config.last_era (made.world.seat m).phase (made.world.seat m).post x) (sym (seen_stays (clock_by layout.config.every) no_clock m i (told_in made.world i) made.past e)) (k.seats m))
+    subst (λ (l : Local). SeatClock layout.config l.phase l.post (clock_tally layout.config.every m (tells_of made.past i (told_in made.world i)))) (sym (seat_stays made.world i m e))
+    (subst (λ (x : ClockTally). SeatClock layout.config (made.world.seat m).phase (made.world.seat m).post x) (sym (seen_stays (clock_by layout.config.every) no_clock m i (told_in made.world i) made.past e)) (k.seats m))
 
-end_each : (layout : Layout) (i : ℕ) (q : Past) (post : Post) (outcome : CallOutcome) → OutFits layout.config.last_era outcome (clock_tally layout.config.every i q) → Each (clocks_ok layout.config) q → Each (clocks_ok layout.config) (tells_of q i (told_end post outcome))
+end_each : (layout : Layout) (i : ℕ) (q : Past) (post : Post) (outcome : CallOutcome) → OutFits layout.config outcome (clock_tally layout.config.every i q) → Each (clocks_ok layout.config) q → Each (clocks_ok layout.config) (tells_of q i (told_end post outcome))
 end_each layout i q post (GoesOn phase) f g = g
 end_each layout i q post (Answers answer) f g = (f, g)
 
@@ -145,25 +147,25 @@ step_law layout made i y k =
     let l = own_lands layout made i k in
     let o : Owes n (w.seat i).call (owed n (w.seat i).call (w.seat i).phase) t = owes_of n w i b.answers.table b.answers.known ((b.answers.seats i).serves y) in
     let q : Past = tells_of made.past i t.told in
-    let e : Each (clocks_ok layout.config) q = each_tells (clock_by layout.config.every) no_clock (clock_right layout.config.last_era) i t.told made.past (each_open layout.config.every layout.config.last_era t.told (clock_tally layout.config.every i made.past) o.told.goes) k.law in
+    let e : Each (clocks_ok layout.config) q = each_tells (clock_by layout.config.every) no_clock (clock_right (moves layout.config.scheme) layout.config.last_era) i t.told made.past (each_open layout.config.every layout.config t.told (clock_tally layout.config.every i made.past) o.told.goes) k.law in
     subst (λ (r : Past). Each (clocks_ok layout.config) r) (sym (tells_both i t.told (told_end t.post t.outcome) made.past))
-    (end_each layout i q t.post t.outcome (subst (λ (x : ClockTally). OutFits layout.config.last_era t.outcome x) (sym (open_tally layout.config.every w i made.past)) l.fits) e)
+    (end_each layout i q t.post t.outcome (subst (λ (x : ClockTally). OutFits layout.config t.outcome x) (sym (open_tally layout.config.every w i made.past)) l.fits) e)
 
-begin_fits : (every last : ℕ) (w : World) (i k : ℕ) (call : Call) (p : Past) (same : Bool) → (k == i) ≡ same → ((m : ℕ) → SeatClock last (w.seat m).phase (w.seat m).post (clock_tally every m p)) → SeatClock last ((begin w i call).seat k).phase ((begin w i call).seat k).post (clock_tally every k (Then p i (events.Begin call)))
-begin_fits every last w i k call p true e g =
+begin_fits : (every : ℕ) (config : Config) (w : World) (i k : ℕ) (call : Call) (p : Past) (same : Bool) → (k == i) ≡ same → ((m : ℕ) → SeatClock config (w.seat m).phase (w.seat m).post (clock_tally every m p)) → SeatClock config ((begin w i call).seat k).phase ((begin w i call).seat k).post (clock_tally every k (Then p i (events.Begin call)))
+begin_fits every config w i k call p true e g =
     let q : i ≡ k = grind (arith, nat_tests) in
     let r = g i in
     let x : ClockTally = record { retired = (clock_tally every i p).retired; due = is_advance call; moved = None } in
-    let s : SeatClock last (begun (w.seat i) call).phase (begun (w.seat i) call).post x = record { retired = r.retired; fits = first_fits last (clock_tally every i p).retired call (begun_post (w.seat i).post) } in
-    subst (λ (j : ℕ). SeatClock last ((begin w i call).seat j).phase ((begin w i call).seat j).post (clock_tally every j (Then p i (events.Begin call)))) q
-    (subst (λ (l : Local). SeatClock last l.phase l.post (clock_tally every i (Then p i (events.Begin call)))) (sym (begin_begins w i call))
-    (subst (λ (t : ClockTally). SeatClock last (begun (w.seat i) call).phase (begun (w.seat i) call).post t) (sym (seen_own (clock_by every) no_clock i p (events.Begin call))) s))
-begin_fits every last w i k call p false e g =
-    subst (λ (l : Local). SeatClock last l.phase l.post (clock_tally every k (Then p i (events.Begin call)))) (sym (begin_stays w i k call e))
-    (subst (λ (x : ClockTally). SeatClock last (w.seat k).phase (w.seat k).post x) (sym (seen_other (clock_by every) no_clock k i p (events.Begin call) e)) (g k))
+    let s : SeatClock config (begun (w.seat i) call).phase (begun (w.seat i) call).post x = record { retired = r.retired; fits = first_fits config (clock_tally every i p).retired call (begun_post (w.seat i).post) } in
+    subst (λ (j : ℕ). SeatClock config ((begin w i call).seat j).phase ((begin w i call).seat j).post (clock_tally every j (Then p i (events.Begin call)))) q
+    (subst (λ (l : Local). SeatClock config l.phase l.post (clock_tally every i (Then p i (events.Begin call)))) (sym (begin_begins w i call))
+    (subst (λ (t : ClockTally). SeatClock config (begun (w.seat i) call).phase (begun (w.seat i) call).post t) (sym (seen_own (clock_by every) no_clock i p (events.Begin call))) s))
+begin_fits every config w i k call p false e g =
+    subst (λ (l : Local). SeatClock config l.phase l.post (clock_tally every k (Then p i (events.Begin call)))) (sym (begin_stays w i k call e))
+    (subst (λ (x : ClockTally). SeatClock config (w.seat k).phase (w.seat k).post x) (sym (seen_other (clock_by every) no_clock k i p (events.Begin call) e)) (g k))
 
 pub steady : (layout : Layout) → Steady (KeepsClocks layout)
-steady layout = record { begins = λ made i call b y m g. record { base = begin_keeps layout made i call y m g.base; seats = λ j. begin_fits layout.config.every layout.config.last_era made.world i j call made.past (j == i) refl g.seats; law = (refl, g.law) }; steps = λ made i b y g. record { base = step_keeps layout made i b y g.base; seats = λ m. step_fits layout made i g m (m == i) refl; law = step_law layout made i y g } }
+steady layout = record { begins = λ made i call b y m g. record { base = begin_keeps layout made i call y m g.base; seats = λ j. begin_fits layout.config.every layout.config made.world i j call made.past (j == i) refl g.seats; law = (refl, g.law) }; steps = λ made i b y g. record { base = step_keeps layout made i b y g.base; seats = λ m. step_fits layout made i g m (m == i) refl; law = step_law layout made i y g } }
 
 pub first_clocks : (layout : Layout) → is_valid layout ≡ true → KeepsClocks layout (first_made layout)
 first_clocks layout d = record { base = first_keeps layout d; seats = λ k. record { retired = refl; fits = tt }; law = tt }

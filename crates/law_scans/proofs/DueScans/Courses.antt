@@ -18,7 +18,7 @@ use Rattle.law_reuse.specs.inv.model.Enqueue as enqueues
 use Rattle.law_reuse.specs.inv.model.Get as gets
 use Rattle.law_reuse.specs.inv.model.Keep as keeps
 use Rattle.law_reuse.specs.inv.model.Steps as steps
-use Rattle.law_reuse.specs.inv.model.Rounds.{scheme_of, bucket_of, index_of, taken_of, begin_base, round, round_by, finish_base, clear_base, clear_post, clear_told, given_up, closed, finishing_by, finishing, clearing_by, clearing, clearing_next_by, clearing_next, let_index, letting, letting_by, release_base}
+use Rattle.law_reuse.specs.inv.model.Rounds.{scheme_of, bucket_of, index_of, taken_of, begin_base, round, round_by, finish_base, clear_base, clear_post, clear_told, given_up, closed, finishing_by, finishing, clearing_by, clearing, clearing_next_by, clearing_next, let_index, letting, letting_by, release_base, tidy_by}
 use Rattle.law_reuse.specs.inv.model.Phases.{Base, Ending, Outcome, Goes, Ends}
 use Rattle.law_reuse.specs.inv.model.Phases.AllocateAt.{StoreLife}
 use Rattle.law_reuse.specs.inv.model.Phases.Base.{Allocate, Retire, Move}
@@ -28,13 +28,13 @@ use Rattle.law_reuse.specs.inv.shapes.Seats.{Kind, ToFill, ToRetire, ToMove, kin
 use Rattle.law_reuse.specs.inv.rows.Hands.{holds_none}
 use Rattle.law_reuse.proofs.laws.Along.{along}
 use Rattle.law_reuse.proofs.laws.Tells.{AllRight}
-use Rattle.law_reuse.specs.laws.HistoryScans.{Course, Advancing, MayScan, MustScan, Reading, Tally, is_settled, scan_right}
+use Rattle.law_reuse.specs.laws.HistoryScans.{Course, Advancing, MayScan, MustScan, Reading, Tally, is_settled, moved_course, scan_right}
 use Rattle.law_scans.specs.Scans.{tally_by}
-use Rattle.law_reuse.specs.laws.HistoryEras.{move_right}
+use Rattle.law_reuse.specs.laws.HistoryEras.{may_move, move_right}
 use Rattle.law_scans.proofs.DueScans.Still.{base_front, counts}
 use Rattle.law_scans.proofs.Leaving.{Parts, parts_on, takes_on}
-use Rattle.law_reuse.specs.laws.words.Schemes.{has_one_interval}
-use Rattle.law_reuse.specs.inv.model.Posts.{stands, withdrawn, cleared, reserves_index}
+use Rattle.law_reuse.specs.laws.words.Schemes.{has_one_interval, publishes_rows, moves as moves_clock}
+use Rattle.law_reuse.specs.inv.model.Posts.{stands, withdrawn, cleared, publishes_index}
 
 -- both laws at once
 abbrev pub course_right : (all : ℕ) → Event → Tally → Bool
@@ -139,6 +139,26 @@ pub record Lands (every all : ℕ) (x : Tally) (phase : Phase) (first : List Eve
 pub other_task : (all : ℕ) (task : Task) (c : Course) → is_fresh task ≡ false → is_settled all c ≡ true → TaskFits all task c
 other_task all task c f s = record { settled = s; fresh = λ h. absurd (cc) }
 
+-- before a scan
+pub record Before (later : AfterScan) (c : Course) : Type 0 where
+  pub guard : at_guard 0 c ≡ true
+  pub after : AfterFits later
+  pub moves : may_move c ≡ true
+  pub moved : at_guard 0 (moved_course c) ≡ true
+
+before_course : (later : AfterScan) (c other : Course) → c ≡ other → at_guard 0 other ≡ true → AfterFits later → may_move other ≡ true → at_guard 0 (moved_course other) ≡ true → Before later c
+before_course later c other e g f m d = record { guard = ap (at_guard 0) e ∙ g; after = f; moves = ap may_move e ∙ m; moved = ap (λ (x : Course). at_guard 0 (moved_course x)) e ∙ d }
+
+pub before_of : (later : AfterScan) (c : Course) → LaterFits later c → Before later c
+before_of (Answered answer) c f = before_course (Answered answer) c (MustScan true) f refl tt refl refl
+before_of (Repeated task) c f = before_course (Repeated task) c MayScan f.0 refl f.1 refl refl
+before_of Counted c f = before_course Counted c (MustScan true) f refl tt refl refl
+
+-- the clock is moved before the scan, or the scan comes at once
+pub tidy_fits : (all : ℕ) (later : AfterScan) (moving : Bool) (post : Post) (c : Course) → LaterFits later c → PhaseFits all (tidy_by moving later post) c
+tidy_fits all later true post c f = f
+tidy_fits all later false post c f = let b : Before later c = before_of later c f in (b.guard, b.after)
+
 -- the end of a round
 pub round_fits : (all : ℕ) (task : Task) (post : Post) (c : Course) → TaskFits all task c → PhaseFits all (round task post) c
 round_fits all task post c f = by (begin_base (scheme_of post) post)
@@ -153,7 +173,7 @@ given_up_fits all answer post desk told (Some slot) c s = s
 
 pub closed_fits : (all : ℕ) (task : Task) (next : Next) (post : Post) (desk : Desk) (told : List Event) (c : Course) → NextFits all task next c → OutFits all (closed task next post desk told).outcome c
 closed_fits all task Again post desk told c f = round_fits all task post c f
-closed_fits all task MakeRoom post desk told c f = f
+closed_fits all task MakeRoom post desk told c f = tidy_fits all (Repeated task) (moves_clock (scheme_of post)) post c f
 closed_fits all task (Answering answer) post desk told c f = given_up_fits all answer post desk told (taken_of task) c f
 closed_fits all task (Retiring slot answer) post desk told c f = f
 
@@ -289,7 +309,7 @@ dequeue_fits all at post desk found c s = s
 
 -- a seat that leaves
 pub parts_fit : (all : ℕ) (c : Course) → is_settled all c ≡ true → Parts (λ (phase : Phase). PhaseFits all phase c)
-parts_fit all c s = record { clears = λ index. s; hides = s; marks = s }
+parts_fit all c s = record { clears = λ rows index. s; hides = s; marks = s }
 
 -- what is let go, a copy and a look
 released_fits : (all : ℕ) (let_go : LetGo) (post : Post) (desk : Desk) (told : List Event) (c : Course) → is_settled all c ≡ true → OutFits all (keeps.released let_go post desk told).outcome c
@@ -323,7 +343,7 @@ look_fits all index key (FindValue slot version pair) post desk found c s = s
 keep_fits : (all : ℕ) (at : KeepAt) (post : Post) (desk : Desk) (found : ℕ) (c : Course) → is_settled all c ≡ true → OutFits all (keeps.keep_turn at post desk found).outcome c
 keep_fits all (Loosens let_go) post desk found c s = released_fits all let_go (withdrawn post (let_index let_go)) desk (cleared (let_index let_go) (stands post (let_index let_go))) c s
 keep_fits all (LoadHeld from index) post desk found c s = load_fits all from index post desk found (has_one_interval (scheme_of post)) c s
-keep_fits all (StoreHeld from index era) post desk found c s = copied_fits all from index post desk (reserves_index post index era) (stands post from) c s
+keep_fits all (StoreHeld from index era) post desk found c s = copied_fits all from index post desk (publishes_index (publishes_rows (scheme_of post)) post index era) (stands post from) c s
 keep_fits all (Looks index key at) post desk found c s = look_fits all index key at post desk found c s
 keep_fits all (Misses index) post desk found c s = s
 keep_fits all HideSpan post desk found c s = s

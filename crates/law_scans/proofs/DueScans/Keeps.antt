@@ -56,6 +56,7 @@ still_same : (every : ℕ) (event : Event) (x : Tally) → is_still event ≡ tr
 still_same every (events.Begin call) x h = absurd (cc)
 still_same every (events.Era era) x h = absurd (cc)
 still_same every (events.Read guard span) x h = absurd (cc)
+still_same every (events.Saw guard slot) x h = absurd (cc)
 still_same every (events.Give slot birth) x h = absurd (cc)
 still_same every (events.Retire slot birth retire) x h = absurd (cc)
 still_same every event x h = refl
@@ -69,6 +70,7 @@ still_along every (event ∷ told) x h =
 open_right : (all : ℕ) (event : Event) (x : Tally) → is_still event ≡ true → is_open event ≡ true → course_right all event x ≡ true
 open_right all (events.Era era) x h o = absurd (cc)
 open_right all (events.Read guard span) x h o = absurd (cc)
+open_right all (events.Saw guard slot) x h o = absurd (cc)
 open_right all (events.Give slot birth) x h o = absurd (cc)
 open_right all (events.Retire slot birth retire) x h o = absurd (cc)
 open_right all (events.End steps answer) x h o = absurd (cc)
@@ -77,6 +79,7 @@ open_right all event x h o = refl
 settled_right : (all : ℕ) (event : Event) (x : Tally) → is_still event ≡ true → is_settled all x.course ≡ true → course_right all event x ≡ true
 settled_right all (events.Era era) x h o = absurd (cc)
 settled_right all (events.Read guard span) x h o = absurd (cc)
+settled_right all (events.Saw guard slot) x h o = absurd (cc)
 settled_right all (events.Give slot birth) x h o = absurd (cc)
 settled_right all (events.Retire slot birth retire) x h o = absurd (cc)
 settled_right all (events.End steps answer) x h o = both (is_settled all x.course) true o refl

@@ -1,8 +1,11 @@
 -- Each step of a call tells what may come, and leaves what fits the phase that comes next.
-use Rattle.std.proofs.Common.{ℕ, ◌≡◌, ◌<◌, ◌+◌, ◌%◌, Bool, true, false, List, [], ◌∷◌, Option, Some, None, refl, sym, ap, ◌∙◌, subst, arith}
+use Rattle.std.proofs.Common.{ℕ, ◌≡◌, ◌<◌, ◌+◌, ◌%◌, Bool, true, false, List, [], ◌∷◌, Option, Some, None, refl, sym, ap, subst, arith}
 use Rattle.std.proofs.lemmas.Bool.Decides.{nat_tests}
 use Rattle.std.specs.Prelude.{◌==◌, ◌&&◌, not, nat_lt}
-use Rattle.law_reuse.specs.laws.defs.Shown.{Seen}
+use Rattle.law_reuse.specs.laws.defs.declared.event.Guard.{Guard}
+use Rattle.law_reuse.specs.laws.words.Schemes.{moves as moves_clock, publishes_rows}
+use Rattle.law_reuse.specs.inv.model.Rounds.{scheme_of}
+use Rattle.law_reuse.proofs.ReadGuards.{reads_are}
 use Rattle.law_reuse.specs.laws.defs.declared.call.Answer.{Answer}
 use Rattle.law_reuse.specs.laws.defs.declared.call.Call.{Call}
 use Rattle.law_reuse.specs.laws.defs.declared.call.Call.TheVariants as names
@@ -16,7 +19,7 @@ use Rattle.law_reuse.specs.inv.model.Allocate as allocates
 use Rattle.law_reuse.specs.inv.model.Change as alters
 use Rattle.law_reuse.specs.inv.model.Desks.{Desk, with_life}
 use Rattle.law_reuse.specs.inv.model.Enqueue as enqueues
-use Rattle.law_reuse.specs.inv.model.Guards.{guards, guard_at, eras_in, published}
+use Rattle.law_reuse.specs.inv.model.Guards.{guards, guard_at, published}
 use Rattle.law_reuse.specs.inv.model.Machine as machine
 use Rattle.law_reuse.specs.inv.model.Memory.{bump}
 use Rattle.law_reuse.specs.inv.model.Posts.{stands}
@@ -29,7 +32,7 @@ use Rattle.law_reuse.specs.inv.model.Phases.RetireAt.{LoadLife, LoadRetire, Stor
 use Rattle.law_reuse.specs.inv.model.Phases.MoveAt.{LoadEra, LoadRequest, ShowEra, LoadAsked, CheckEra, AnswerAsked, LoadReserved, HandOver, HideEra, HideLate, ExchangeClock}
 use Rattle.law_reuse.specs.inv.model.Phases.Base.{Allocate, Write, Retire, Move}
 use Rattle.law_reuse.specs.inv.model.Phases.Ending.{Done, Protected, Followed, Allocated, Retired, Clocked}
-use Rattle.law_reuse.specs.inv.model.Calls.{Task, Gets, Changes, Holds, Enqueues, Dequeues, Again, AfterScan, Answered, Repeated, Counted, ScanAt, ReadGuard, GiveBack, Why, Opens, FollowsHead, Fills, ClearsNext, Clears, Finishes, GivesUp, Retires, Tidies, Advances, Releases, Released, Rehold, Dropped, Phase, Idle, Runs, Scans, Works}
+use Rattle.law_reuse.specs.inv.model.Calls.{Task, Gets, Changes, Holds, Enqueues, Dequeues, Again, AfterScan, Answered, Repeated, Counted, ScanAt, ReadGuard, GiveBack, Why, Opens, FollowsHead, Fills, ClearsNext, Clears, Finishes, GivesUp, Retires, Tidies, Advances, Releases, Released, Rehold, Dropped, Phase, Idle, Runs, Scans, Works, CallTurn}
 use Rattle.law_reuse.proofs.laws.records.defs.Facts.{both, rest_of}
 use Rattle.law_reuse.specs.inv.shapes.Seats.{ToFill, ToRetire, ToMove, kind_of, suits, scan_fits}
 use Rattle.law_reuse.specs.inv.rows.Hands.{holds_none, task_fills, runs_right}
@@ -38,7 +41,7 @@ use Rattle.law_reuse.specs.laws.HistoryScans.{Course, Plain, Advancing, MayScan,
 use Rattle.law_reuse.specs.laws.HistoryEras.{may_move}
 use Rattle.law_scans.proofs.DueScans.Still.{claim_front, tick_front, base_front, front}
 use Rattle.law_scans.proofs.Leaving.{parts_all}
-use Rattle.law_scans.proofs.DueScans.Courses.{letting_fits, parts_fit, is_may, is_fresh, is_walked, TaskFits, NextFits, LaterFits, AfterFits, at_guard, at_end, ScanAtFits, FillFits, WhyFits, PhaseFits, OutFits, Lands, other_task, round_fits, closed_fits, clearing_fits, work_fits, silent_lands, resumed_opens, resumed_follows, resumed_next, resumed_clears, resumed_finishes, resumed_gives, resumed_releases}
+use Rattle.law_scans.proofs.DueScans.Courses.{letting_fits, parts_fit, is_may, is_fresh, is_walked, TaskFits, NextFits, LaterFits, AfterFits, at_guard, at_end, Before, before_of, tidy_fits, ScanAtFits, FillFits, WhyFits, PhaseFits, OutFits, Lands, other_task, round_fits, closed_fits, clearing_fits, work_fits, silent_lands, resumed_opens, resumed_follows, resumed_next, resumed_clears, resumed_finishes, resumed_gives, resumed_releases}
 
 -- a row is filled
 written_fits : (all : ℕ) (task : Task) (post : Post) (desk : Desk) (told : List Event) (c : Course) → TaskFits all task c → OutFits all (steps.written_row task post desk told).outcome c
@@ -106,7 +109,7 @@ fills_lands every all x task base post desk found h s f = absurd (cc)
 
 -- a row is retired
 tidying_fits : (all : ℕ) (answer : Answer) (post : Post) (desk : Desk) (told : List Event) (due : Bool) → OutFits all (steps.tidying answer post desk told due).outcome (retired_course due)
-tidying_fits all answer post desk told true = refl
+tidying_fits all answer post desk told true = tidy_fits all (Answered answer) (moves_clock (scheme_of post)) post (MustScan true) refl
 tidying_fits all answer post desk told false = refl
 
 pub due_same : (n m every : ℕ) → n ≡ m → (bump n % every == 0) ≡ (bump m % every == 0)
@@ -139,21 +142,6 @@ tidied_fits all later (Protected end) post desk told c g f = (g, f)
 tidied_fits all later (Followed end) post desk told c g f = (g, f)
 tidied_fits all later (Allocated end) post desk told c g f = (g, f)
 tidied_fits all later (Retired life) post desk told c g f = (g, f)
-
--- before a scan
-record Before (later : AfterScan) (c : Course) : Type 0 where
-  guard : at_guard 0 c ≡ true
-  after : AfterFits later
-  moves : may_move c ≡ true
-  moved : at_guard 0 (moved_course c) ≡ true
-
-before_course : (later : AfterScan) (c other : Course) → c ≡ other → at_guard 0 other ≡ true → AfterFits later → may_move other ≡ true → at_guard 0 (moved_course other) ≡ true → Before later c
-before_course later c other e g f m d = record { guard = ap (at_guard 0) e ∙ g; after = f; moves = ap may_move e ∙ m; moved = ap (λ (x : Course). at_guard 0 (moved_course x)) e ∙ d }
-
-before_of : (later : AfterScan) (c : Course) → LaterFits later c → Before later c
-before_of (Answered answer) c f = before_course (Answered answer) c (MustScan true) f refl tt refl refl
-before_of (Repeated task) c f = before_course (Repeated task) c MayScan f.0 refl f.1 refl refl
-before_of Counted c f = before_course Counted c (MustScan true) f refl tt refl refl
 
 resumed_tidies : (all : ℕ) (later : AfterScan) (desk : Desk) (post : Post) (told : List Event) (outcome : Outcome) (c : Course) → LaterFits later c → OutFits all (steps.resumed (Tidies later) desk post told outcome).outcome c
 resumed_tidies all later desk post told (Goes base) c f = f
@@ -291,12 +279,13 @@ scan_lands every x later (ReadGuard n) post desk found s g f =
     let all : ℕ = guards post.layout.config in
     let l : n < all = grind (arith, nat_tests) in
     let o : OneRead all n x.course = one_read all n x.course l g in
-    let seen : Seen = (guard_at post.layout.config n, published (guard_at post.layout.config n) found) in
-    record {
-      right = (both (may_read all x.course) true o.may refl, tt);
-      fits = reading_fits all n later post (scan.with_read desk n seen) (events.Read seen.0 (eras_in seen.0 found) ∷ []) (nat_lt (n + 1) all) x.course refl l g f;
-      count = refl;
-    }
+    let rows : Bool = publishes_rows post.layout.config.scheme in
+    let guard : Guard = guard_at post.layout.config n in
+    let t : CallTurn = scan.scan_turn later (ReadGuard n) post desk found in
+    let fits : OutFits all t.outcome (read_course x.course) = reading_fits all n later post (scan.with_read desk n (guard, published rows guard found)) (scan.reads_guard rows guard found ∷ []) (nat_lt (n + 1) all) x.course refl l g f in
+    reads_are (λ (event : Event). Lands every all x (Scans later (ReadGuard n)) (event ∷ []) t.outcome) rows guard found
+    (λ span. record { right = (both (may_read all x.course) true o.may refl, tt); fits = fits; count = refl })
+    (λ slot. record { right = (both (may_read all x.course) true o.may refl, tt); fits = fits; count = refl })
 scan_lands every x later (GiveBack place slot) post desk found s g f = record {
   right = (refl, tt);
   fits = giving_fits (guards post.layout.config) later post (scan.with_back desk place) (events.Back slot ∷ []) (scan.unmet_from (scan.with_back desk place) place) x.course g f;

@@ -2,9 +2,9 @@
 -- tells changes nothing of it, and only a retirement raises the post's count.
 use Rattle.std.proofs.Common.{ℕ, ◌≡◌, ◌+◌, Bool, true, false, List, [], ◌∷◌, ◌++◌, Option, Some, None, refl, ap, ◌∙◌}
 use Rattle.std.proofs.lemmas.List.{append_assoc}
-use Rattle.std.specs.Prelude.{◌==◌, if◌then◌else◌}
+use Rattle.std.specs.Prelude.{◌==◌, ◌||◌, if◌then◌else◌}
 use Rattle.law_reuse.specs.laws.words.declared.config.SchemeKind.{SchemeKind}
-use Rattle.law_reuse.specs.laws.words.declared.config.SchemeKind.TheVariants.{He, Ibr, Wfe}
+use Rattle.law_reuse.specs.laws.words.declared.config.SchemeKind.TheVariants.{He, Hp, Ibr, Wfe}
 use Rattle.law_reuse.specs.laws.words.Packed.{reservation_word, read_reservation}
 use Rattle.law_reuse.specs.laws.defs.declared.event.Event.{Event}
 use Rattle.law_reuse.specs.laws.defs.declared.event.Event.TheVariants as events
@@ -26,7 +26,8 @@ use Rattle.law_reuse.specs.inv.model.SlowPath.{asking, own_request}
 use Rattle.law_reuse.specs.inv.model.WriteRow.{last_written}
 use Rattle.law_reuse.specs.inv.model.Phases.{Aim, Alone, Follows, ProtectAt, AllocateAt, RetireAt, MoveAt, Walk, Base, Turn}
 use Rattle.law_reuse.specs.inv.model.Phases.BeginAt.{LoadLower, PublishSpan}
-use Rattle.law_reuse.specs.inv.model.Phases.ProtectAt.{CheckClock, CheckOwnClock, AnswerOwn, TakeAnswer, WithdrawHelper, CheckUpper}
+use Rattle.law_reuse.specs.inv.model.Phases.ProtectAt.{CheckClock, CheckOwnClock, AnswerOwn, TakeAnswer, WithdrawHelper, CheckUpper, ByHazard}
+use Rattle.law_reuse.specs.inv.model.Phases.HazardAt.{FirstLink, PublishLink, CheckLink}
 use Rattle.law_reuse.specs.inv.model.Phases.AllocateAt.{LoadBirth, ClaimSlot, StoreLife}
 use Rattle.law_reuse.specs.inv.model.Phases.RetireAt.{LoadLife, LoadRetire, StoreRetired}
 use Rattle.law_reuse.specs.inv.model.Phases.MoveAt.{LoadEra, CheckEra, AnswerAsked, LoadReserved, HandOver, ExchangeClock}
@@ -41,6 +42,7 @@ abbrev pub is_still : Event → Bool
 is_still (events.Begin call) = false
 is_still (events.Era era) = false
 is_still (events.Read guard span) = false
+is_still (events.Saw guard slot) = false
 is_still (events.Give slot birth) = false
 is_still (events.Retire slot birth retire) = false
 is_still event = true
@@ -73,6 +75,9 @@ protect_count aim index root n (AnswerOwn first era link) post found = same_coun
 protect_count aim index root n (TakeAnswer link era) post found = held_count (with_tag post index _) index root link
 protect_count aim index root n (WithdrawHelper link era) post found = concluded_count aim index root n link era post post (reserves_helper post 0) refl
 protect_count aim index root n (CheckUpper link) post found = same_count (found == upper post.span) post _ _ (concluded_count aim index root n link found (protects.held_post post index root link) post (protects.told_held index root link n) (held_count post index root link)) refl
+protect_count aim index root n (ByHazard FirstLink) post found = same_count (found == 0) post _ _ (concluded_count aim index root n found 0 (protects.held_post post index root found) post (protects.told_held index root found n) (held_count post index root found)) refl
+protect_count aim index root n (ByHazard (PublishLink link)) post found = refl
+protect_count aim index root n (ByHazard (CheckLink link)) post found = same_count (found == link || found == 0) post _ _ (concluded_count aim index root n found 0 (protects.held_post post index root found) post (protects.told_held index root found n) (held_count post index root found)) refl
 protect_count aim index root n at post found = refl
 
 handed_count : (era seat tag index old : ℕ) (post : Post) (same : Bool) → (movers.after_hand_over era seat tag index old post same).post.retired ≡ post.retired
@@ -157,6 +162,7 @@ one_still (Move at) post found (events.Era era) c t = absurd (cc)
 one_still base post found (events.Begin call) c t = absurd (cc)
 one_still base post found (events.Era era) c t = absurd (cc)
 one_still base post found (events.Read guard span) c t = absurd (cc)
+one_still base post found (events.Saw guard slot) c t = absurd (cc)
 one_still base post found (events.Give slot birth) c t = absurd (cc)
 one_still base post found (events.Retire slot birth retire) c t = absurd (cc)
 one_still base post found event c t = refl
@@ -212,6 +218,7 @@ quiet_still : (event : Event) → is_quiet event ≡ true → is_still event ≡
 quiet_still (events.Begin call) h = absurd (cc)
 quiet_still (events.Era era) h = absurd (cc)
 quiet_still (events.Read guard span) h = absurd (cc)
+quiet_still (events.Saw guard slot) h = absurd (cc)
 quiet_still (events.Give slot birth) h = absurd (cc)
 quiet_still (events.Retire slot birth retire) h = absurd (cc)
 quiet_still event h = refl
@@ -220,6 +227,7 @@ clear_count : (scheme : SchemeKind) (post : Post) (index : ℕ) → (clear_post 
 clear_count He post index = refl
 clear_count Ibr post index = refl
 clear_count Wfe post index = refl
+clear_count Hp post index = refl
 
 begins_closed : (first : List Event) (n : ℕ) → Closed (Begins first n)
 begins_closed first n = record {
@@ -256,7 +264,7 @@ first_begins : (phase : Phase) (post : Post) (found : ℕ) → First (Begins (fr
 first_begins Idle post found = begins_all [] post
 first_begins (Runs why base) post found = base_begins base post found
 first_begins (Scans later at) post found = begins_all (scan_told at post found) post
-first_begins (Works work) post found = record { rest = work_told work post; is = refl; still = work_all is_still (λ index slot. refl) (λ from index slot. refl) (λ seat index era. refl) (λ seat. refl) work post; count = work_count work post }
+first_begins (Works work) post found = record { rest = work_told work post; is = refl; still = work_all is_still (λ index slot. refl) (λ from index slot. refl) (λ seat index era. refl) (λ seat. refl) (λ seat index link. refl) work post; count = work_count work post }
 
 pub told_begins : (phase : Phase) (post : Post) (desk : Desk) (found : ℕ) → Begins (front phase post found) (counts phase post.retired) (steps.phase_turn phase post desk found).post (told_by (steps.phase_turn phase post desk found))
 told_begins phase post desk found = step_goes (Begins (front phase post found) (counts phase post.retired)) (begins_closed (front phase post found) (counts phase post.retired)) phase post desk found (first_begins phase post found)

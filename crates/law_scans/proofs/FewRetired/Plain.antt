@@ -3,6 +3,7 @@ use Rattle.std.proofs.Common.{ℕ, ◌≡◌, ◌≤◌, ◌<◌, ◌+◌, ◌%�
 use Rattle.std.proofs.lemmas.Bool.Decides.{nat_tests}
 use Rattle.std.specs.Prelude.{◌==◌, ◌&&◌, nat_lt, if◌then◌else◌}
 use Rattle.law_reuse.specs.laws.words.Place.{is_valid}
+use Rattle.law_reuse.specs.laws.words.Schemes.{moves}
 use Rattle.law_reuse.specs.laws.words.declared.layout.Layout.{Layout}
 use Rattle.law_reuse.specs.laws.defs.Entry.{Entry}
 use Rattle.law_reuse.specs.laws.defs.declared.event.Event.{Event}
@@ -49,6 +50,7 @@ one_counts every (events.Retire slot birth retire) x = refl
 one_counts every (events.Begin call) x = omega arith
 one_counts every (events.Era era) x = omega arith
 one_counts every (events.Read guard span) x = omega arith
+one_counts every (events.Saw guard slot) x = omega arith
 one_counts every (events.Give slot birth) x = omega arith
 one_counts every event x = omega arith
 
@@ -148,5 +150,5 @@ records_move_plainly layout items d before i event later cut =
 pub records_answer_plainly : RecordsAnswerPlainly
 records_answer_plainly layout items d before i event later cut =
     let c = records_count_plainly layout items d in
-    subst (λ (x : ClockTally). clock_right layout.config.last_era event x ≡ true) (c.clocks i before (record { seat = i; event = event } ∷ later) (cut ∙ position before i event later))
+    subst (λ (x : ClockTally). clock_right (moves layout.config.scheme) layout.config.last_era event x ≡ true) (c.clocks i before (record { seat = i; event = event } ∷ later) (cut ∙ position before i event later))
     (records_keep_outcomes layout items d before i event later cut)

@@ -21,11 +21,11 @@ use Rattle.law_reuse.specs.inv.model.Dequeue as dequeues
 use Rattle.law_reuse.specs.inv.model.Desks.{Desk, with_gift, with_life}
 use Rattle.law_reuse.specs.inv.model.Enqueue as enqueues
 use Rattle.law_reuse.specs.inv.model.Get as gets
-use Rattle.law_reuse.specs.inv.model.Guards.{guards, guard_at, eras_in, published}
+use Rattle.law_reuse.specs.inv.model.Guards.{guards, guard_at, published}
 use Rattle.law_reuse.specs.inv.model.Keep as keeps
 use Rattle.law_reuse.specs.inv.model.Machine as machine
-use Rattle.law_reuse.specs.inv.model.Posts.{cleared, cleared_from, reserves_index, reserves_span, stands, with_row, withdrawn, withdrawn_all}
-use Rattle.law_reuse.specs.inv.model.words.Schemes.{has_one_interval}
+use Rattle.law_reuse.specs.inv.model.Posts.{cleared, cleared_from, publishes_index, reserves_span, stands, with_row, withdrawn, withdrawn_all}
+use Rattle.law_reuse.specs.inv.model.words.Schemes.{has_one_interval, publishes_rows}
 use Rattle.law_reuse.specs.inv.model.Scan as scan
 use Rattle.law_reuse.specs.inv.model.Steps as steps
 use Rattle.law_reuse.specs.inv.model.Rounds.{scheme_of, bucket_of, index_of, taken_of, finish_base, clear_base, clear_post, clear_told, given_up, closed, finishing_by, finishing, clearing_by, clearing, clearing_next_by, clearing_next, let_index}
@@ -42,6 +42,7 @@ abbrev pub is_after : Event → Bool
 is_after (events.Got bucket version key value) = true
 is_after (events.Clear index slot) = true
 is_after (events.Reserve guard span) = true
+is_after (events.Hazard guard slot) = true
 is_after (events.Copied from index slot) = true
 is_after (events.Left count) = true
 is_after (events.Adopted place count) = true
@@ -256,12 +257,16 @@ taking_starts : (place : ℕ) (post : Post) (desk : Desk) (left : Bool) (found :
 taking_starts place post desk true found = later [] (events.Adopted place (length desk.gift) ∷ []) _ refl (here (events.Adopted place (length desk.gift) ∷ []) post (with_gift desk) _)
 taking_starts place post desk false found = here [] post desk _
 
+published_after : (post : Post) (index number : ℕ) (rows : Bool) → all_of is_after (publishes_index rows post index number) ≡ true
+published_after post index number true = refl
+published_after post index number false = refl
+
 keep_starts : (at : KeepAt) (post : Post) (desk : Desk) (found : ℕ) → Starts [] (keeps.keep_turn at post desk found)
 keep_starts (Loosens let_go) post desk found =
     let told : List Event = cleared (let_index let_go) (stands post (let_index let_go)) in
     later [] told _ (cleared_after (let_index let_go) (stands post (let_index let_go))) (released_starts let_go (withdrawn post (let_index let_go)) desk told)
 keep_starts (LoadHeld from index) post desk found = load_starts from index post desk found (has_one_interval (scheme_of post))
-keep_starts (StoreHeld from index era) post desk found = copied_starts from index post desk (reserves_index post index era) (stands post from) refl
+keep_starts (StoreHeld from index era) post desk found = copied_starts from index post desk (publishes_index (publishes_rows (scheme_of post)) post index era) (stands post from) (published_after post index era (publishes_rows (scheme_of post)))
 keep_starts (Looks index key at) post desk found = look_starts index key at post desk found
 keep_starts (Misses index) post desk found = here [] post desk _
 keep_starts HideSpan post desk found =
@@ -302,7 +307,7 @@ guard_starts later number post desk told false = giving_starts later post desk t
 
 scan_starts : (later : AfterScan) (at : ScanAt) (post : Post) (desk : Desk) (found : ℕ) → Starts (scan_told at post found) (scan.scan_turn later at post desk found)
 scan_starts later (ReadGuard number) post desk found =
-    guard_starts later number post (scan.with_read desk number (guard_at post.layout.config number, published (guard_at post.layout.config number) found)) (events.Read (guard_at post.layout.config number) (eras_in (guard_at post.layout.config number) found) ∷ []) (nat_lt (number + 1) (guards post.layout.config))
+    guard_starts later number post (scan.with_read desk number (guard_at post.layout.config number, published (publishes_rows post.layout.config.scheme) (guard_at post.layout.config number) found)) (scan.reads_guard (publishes_rows post.layout.config.scheme) (guard_at post.layout.config number) found ∷ []) (nat_lt (number + 1) (guards post.layout.config))
 scan_starts later (GiveBack place slot) post desk found = giving_starts later post (scan.with_back desk place) (events.Back slot ∷ []) (scan.unmet_from (scan.with_back desk place) place)
 
 -- what comes after a machine

@@ -14,10 +14,10 @@ use Rattle.law_scans.specs.inv.model.Guards.{one_era}
 use Rattle.law_scans.specs.inv.model.Machine as machine
 use Rattle.law_scans.specs.inv.model.Memory.{bump}
 use Rattle.law_scans.specs.inv.model.MoveClock as movers
-use Rattle.law_scans.specs.inv.model.Posts.{stands, cleared, cleared_from, reserves_index, reserves_helper, reserves_span}
+use Rattle.law_scans.specs.inv.model.Posts.{stands, cleared, cleared_from, publishes_index, reserves_index, reserves_helper, reserves_span}
 use Rattle.law_scans.specs.inv.model.Protect as protects
 use Rattle.law_scans.specs.inv.model.Rounds.{scheme_of, clear_told, index_of, let_index}
-use Rattle.law_scans.specs.inv.model.words.Schemes.{has_one_interval}
+use Rattle.law_scans.specs.inv.model.words.Schemes.{has_one_interval, publishes_rows}
 use Rattle.law_scans.specs.inv.model.Phases.{Aim, ProtectAt, MoveAt, Base}
 use Rattle.law_scans.specs.inv.model.Phases.BeginAt.{PublishSpan}
 use Rattle.law_scans.specs.inv.model.Phases.ProtectAt.{PublishEra, PublishHelper, TakeAnswer, WithdrawHelper, RaiseUpper}
@@ -124,6 +124,11 @@ taken false x h = refl
 index_asks : (c : Config) (i : ℕ) (p : Past) (post : Post) (index era : ℕ) → shown_of i p ≡ false → Asks c i (reserves_index post index era) p
 index_asks c i p post index era h = (hidden (post.seat == i) (shown_of i p) (failed_at c.tries i index p) h, tt)
 
+-- an index word publishes an era, or a row
+publish_asks : (c : Config) (i : ℕ) (p : Past) (post : Post) (rows : Bool) (index number : ℕ) → shown_of i p ≡ false → Asks c i (publishes_index rows post index number) p
+publish_asks c i p post false index number h = index_asks c i p post index number h
+publish_asks c i p post true index number h = (refl, tt)
+
 -- an era in the helper word
 helper_asks : (c : Config) (i : ℕ) (p : Past) (post : Post) (era : ℕ) → (may_move (tally_of c.every i p).course || failed_once c.tries i p) ≡ true → Asks c i (reserves_helper post era) p
 helper_asks c i p post era h = (by (one_era era), tt)
@@ -186,9 +191,9 @@ move_asks c i p at post found a m = bare_asks c i p (Move at) post found refl
 shown_here : (i : ℕ) (p : Past) (index slot : ℕ) → shown_of i (Then p i (events.Clear index slot)) ≡ shown_of i p
 shown_here i p index slot = rw (same_number i) refl
 
-clear_asks : (c : Config) (i : ℕ) (p : Past) (post : Post) (index : ℕ) (standing : Option ℕ) → shown_of i p ≡ false → Asks c i (cleared index standing ++ reserves_index post index 0) p
-clear_asks c i p post index None h = index_asks c i p post index 0 h
-clear_asks c i p post index (Some slot) h = (refl, index_asks c i (Then p i (events.Clear index slot)) post index 0 (shown_here i p index slot ∙ h))
+clear_asks : (c : Config) (i : ℕ) (p : Past) (post : Post) (rows : Bool) (index : ℕ) (standing : Option ℕ) → shown_of i p ≡ false → Asks c i (cleared index standing ++ publishes_index rows post index 0) p
+clear_asks c i p post rows index None h = publish_asks c i p post rows index 0 h
+clear_asks c i p post rows index (Some slot) h = (refl, publish_asks c i (Then p i (events.Clear index slot)) post rows index 0 (shown_here i p index slot ∙ h))
 
 release_asks : (c : Config) (i : ℕ) (p : Past) (post : Post) (index : ℕ) (standing : Option ℕ) → Asks c i (cleared index standing ++ reserves_span post None) p
 release_asks c i p post index None = (refl, tt)
@@ -197,7 +202,7 @@ release_asks c i p post index (Some slot) = (refl, (refl, tt))
 pub base_asks : (c : Config) (i : ℕ) (p : Past) (buckets last : ℕ) (why : Why) (base : Base) (post : Post) (found : ℕ) → Site c i p buckets found last why base → Asks c i (machine.after base post found).told p
 base_asks c i p buckets last why (Begin (PublishSpan era)) post found s = (refl, tt)
 base_asks c i p buckets last why (Protect aim index root steps at) post found s = protect_asks c i p buckets last why aim index root steps at post found s
-base_asks c i p buckets last why (Clear index) post found s = clear_asks c i p post index (stands post index) s.shown
+base_asks c i p buckets last why (Clear rows index) post found s = clear_asks c i p post rows index (stands post index) s.shown
 base_asks c i p buckets last why Finish post found s = (refl, tt)
 base_asks c i p buckets last why (Release index) post found s = release_asks c i p post index (stands post index)
 base_asks c i p buckets last why (Move at) post found s = move_asks c i p at post found s.apart (s.moves at refl)
@@ -212,9 +217,11 @@ load_by : (c : Config) (i : ℕ) (p : Past) (from index slot : ℕ) (standing : 
 load_by c i p from index slot None = (refl, tt)
 load_by c i p from index slot (Some row) = (refl, (refl, tt))
 
-store_by : (c : Config) (i : ℕ) (p : Past) (post : Post) (from index era slot : ℕ) (standing : Option ℕ) → shown_of i p ≡ false → Asks c i ((cleared index standing ++ reserves_index post index era) ++ events.Copied from index slot ∷ []) p
-store_by c i p post from index era slot None h = ((index_asks c i p post index era h).0, (refl, tt))
-store_by c i p post from index era slot (Some row) h = (refl, ((index_asks c i (Then p i (events.Clear index row)) post index era (shown_here i p index row ∙ h)).0, (refl, tt)))
+store_by : (c : Config) (i : ℕ) (p : Past) (post : Post) (rows : Bool) (from index era slot : ℕ) (standing : Option ℕ) → shown_of i p ≡ false → Asks c i ((cleared index standing ++ publishes_index rows post index era) ++ events.Copied from index slot ∷ []) p
+store_by c i p post false from index era slot None h = ((index_asks c i p post index era h).0, (refl, tt))
+store_by c i p post false from index era slot (Some row) h = (refl, ((index_asks c i (Then p i (events.Clear index row)) post index era (shown_here i p index row ∙ h)).0, (refl, tt)))
+store_by c i p post true from index era slot None h = (refl, (refl, tt))
+store_by c i p post true from index era slot (Some row) h = (refl, (refl, (refl, tt)))
 
 loads_asks : (c : Config) (i : ℕ) (p : Past) (from index : ℕ) (post : Post) (x : Option ℕ) → Asks c i (copied_told from index post [] x) p
 loads_asks c i p from index post None = tt
@@ -224,9 +231,9 @@ load_asks : (c : Config) (i : ℕ) (p : Past) (from index : ℕ) (post : Post) (
 load_asks c i p from index post true = loads_asks c i p from index post (stands post from)
 load_asks c i p from index post false = tt
 
-store_asks : (c : Config) (i : ℕ) (p : Past) (from index era : ℕ) (post : Post) (x : Option ℕ) → shown_of i p ≡ false → Asks c i (copied_told from index post (reserves_index post index era) x) p
-store_asks c i p from index era post None h = tt
-store_asks c i p from index era post (Some slot) h = store_by c i p post from index era slot (stands post index) h
+store_asks : (c : Config) (i : ℕ) (p : Past) (rows : Bool) (from index era : ℕ) (post : Post) (x : Option ℕ) → shown_of i p ≡ false → Asks c i (copied_told from index post (publishes_index rows post index era) x) p
+store_asks c i p rows from index era post None h = tt
+store_asks c i p rows from index era post (Some slot) h = store_by c i p post rows from index era slot (stands post index) h
 
 pub work_asks : (c : Config) (i : ℕ) (p : Past) (work : Work) (post : Post) → shown_of i p ≡ false → Asks c i (work_told work post) p
 work_asks c i p (Getting key at) post h = tt
@@ -235,7 +242,7 @@ work_asks c i p (Enqueuing kept at) post h = tt
 work_asks c i p (Dequeuing at) post h = tt
 work_asks c i p (Keeping (Loosens let_go)) post h = cleared_asks c i p (let_index let_go) (stands post (let_index let_go))
 work_asks c i p (Keeping (LoadHeld from index)) post h = load_asks c i p from index post (has_one_interval (scheme_of post))
-work_asks c i p (Keeping (StoreHeld from index era)) post h = store_asks c i p from index era post (stands post from) h
+work_asks c i p (Keeping (StoreHeld from index era)) post h = store_asks c i p (publishes_rows (scheme_of post)) from index era post (stands post from) h
 work_asks c i p (Keeping (Looks index key at)) post h = tt
 work_asks c i p (Keeping (Misses index)) post h = tt
 work_asks c i p (Keeping HideSpan) post h =

@@ -10,7 +10,7 @@ use Rattle.law_scans.specs.inv.model.defs.declared.event.Guard.TheVariants.{Help
 use Rattle.law_scans.specs.inv.model.defs.declared.event.Root.{Root}
 use Rattle.law_scans.specs.inv.model.defs.declared.lifetime.Interval.{Interval}
 use Rattle.law_scans.specs.inv.model.declared.post.Post.{Post}
-use Rattle.law_scans.specs.inv.model.Guards.{one_era}
+use Rattle.law_scans.specs.inv.model.Guards.{guard_at, one_era}
 use Rattle.law_scans.specs.inv.model.Machine as machine
 use Rattle.law_scans.specs.inv.model.Posts.{counted, reserves_helper}
 use Rattle.law_scans.specs.inv.model.Rounds.{scheme_of, clear_told}
@@ -21,7 +21,7 @@ use Rattle.law_scans.specs.inv.model.Phases.MoveAt.{ShowEra}
 use Rattle.law_scans.specs.inv.model.Phases.Base.{Protect, Clear, Move}
 use Rattle.law_scans.specs.inv.model.Calls.{Work, Why, Opens, FollowsHead, Fills, ClearsNext, Clears, Finishes, GivesUp, Retires, Tidies, Advances, Releases, ReadGuard, GiveBack, Phase, Idle, Runs, Scans, Works}
 use Rattle.law_scans.proofs.inv.model.Facts.{same_number, both, first_of, rest_of}
-use Rattle.law_scans.specs.inv.model.words.Schemes.{is_wfe}
+use Rattle.law_scans.specs.inv.model.words.Schemes.{is_wfe, publishes_rows}
 use Rattle.law_scans.specs.inv.shapes.Seats.{PhaseFits, kind_of, suits}
 use Rattle.law_scans.specs.laws.records.Record.{Past, Each, tells_of}
 use Rattle.law_scans.specs.laws.records.Record.Past.{Then}
@@ -34,6 +34,7 @@ use Rattle.law_scans.specs.reuse.Heard.{IsCounted}
 use Rattle.law_scans.proofs.reuse.Turns.Counted.{histories_count}
 use Rattle.law_scans.proofs.reuse.history.Passes.{Closed, First, step_goes, work_told}
 use Rattle.law_scans.proofs.reuse.history.MayTell.{work_all}
+use Rattle.law_scans.proofs.reuse.ReadGuards.{reads_are}
 use Rattle.law_scans.proofs.reuse.OneStep.Along.{Around, Kept, history_keeps}
 use Rattle.law_scans.specs.laws.HistoryTurns.{turns_since}
 use Rattle.law_scans.specs.laws.StateAt.{tried_by, tried_of, last_of}
@@ -84,12 +85,12 @@ helps_closed i j tries n = record {
 }
 
 abbrev pub is_clearing : Base → Bool
-is_clearing (Clear index) = true
+is_clearing (Clear rows index) = true
 is_clearing base = false
 
 -- and a call's own step publishes no helper word
 pub work_plain : (work : Work) (post : Post) → all_plain (work_told work post) ≡ true
-work_plain work post = work_all is_plain (λ index slot. refl) (λ from index slot. refl) (λ seat index era. refl) (λ seat. refl) work post
+work_plain work post = work_all is_plain (λ index slot. refl) (λ from index slot. refl) (λ seat index era. refl) (λ seat. refl) (λ seat index link. refl) work post
 
 helper_helps : (i j tries n : ℕ) (post : Post) (era : ℕ) → tried_enough tries n ≡ true → helps_along i j tries (reserves_helper post era) n ≡ true
 helper_helps i j tries n post era h = by (one_era era)
@@ -113,7 +114,7 @@ asks_enough c index root j times h = by (index == j) h
     by false h = enough_other c.tries times h
 
 pub other_why : (c : Config) (u : ℕ) (why : Why) (base : Base) (j times last : ℕ) → suits base (kind_of why) ≡ true → is_clearing base ≡ false → why_tried c u why base j times last ≡ true → base_tried c base j times last ≡ true
-other_why c u (ClearsNext next) (Clear index) j times last s b h = absurd (cc)
+other_why c u (ClearsNext next) (Clear rows index) j times last s b h = absurd (cc)
 other_why c u (ClearsNext next) base j times last s b h = absurd (cc)
 other_why c u (Opens task) base j times last s b h = h
 other_why c u (FollowsHead head tail) base j times last s b h = h
@@ -138,7 +139,8 @@ helping_base c i j times last u why base post found s h = plain_helps i j c.trie
 phase_helps : (w : World) (i j times last u : ℕ) (phase : Phase) → PhaseFits w.layout (w.seat i).post phase → phase_tried w.layout.config u phase j times last ≡ true → First (λ post told. helps_along i j w.layout.config.tries told times ≡ true) phase (counted (w.seat i).post) (finds w i)
 phase_helps w i j times last u Idle f h = refl
 phase_helps w i j times last u (Runs why base) f h = helping_base w.layout.config i j times last u why base (counted (w.seat i).post) (finds w i) f.suited h
-phase_helps w i j times last u (Scans later (ReadGuard number)) f h = refl
+phase_helps w i j times last u (Scans later (ReadGuard number)) f h =
+    reads_are (λ (event : Event). helps_along i j w.layout.config.tries (event ∷ []) times ≡ true) (publishes_rows (w.seat i).post.layout.config.scheme) (guard_at (w.seat i).post.layout.config number) (finds w i) (λ span. refl) (λ slot. refl)
 phase_helps w i j times last u (Scans later (GiveBack place slot)) f h = refl
 phase_helps w i j times last u (Works work) f h = plain_helps i j w.layout.config.tries (work_told work (counted (w.seat i).post)) times (work_plain work (counted (w.seat i).post))
 

@@ -1,5 +1,5 @@
 -- The record of each history keeps the laws on where helper words show eras.
-use Rattle.std.proofs.Common.{ℕ, ◌≡◌, ◌<◌, true, List, ◌∷◌, Some, None, refl, sym, subst}
+use Rattle.std.proofs.Common.{ℕ, ◌≡◌, ◌<◌, true, List, [], ◌∷◌, Some, None, refl, sym, subst}
 use Rattle.std.specs.Prelude.{◌||◌}
 use Rattle.law_scans.specs.inv.model.words.Place.{is_valid}
 use Rattle.law_scans.specs.inv.model.words.declared.config.Config.{Config}
@@ -9,12 +9,12 @@ use Rattle.law_scans.specs.inv.model.defs.declared.event.Event.TheVariants as ev
 use Rattle.law_scans.specs.inv.model.defs.declared.event.Guard.TheVariants.{Helper, Index, Whole}
 use Rattle.law_scans.specs.inv.model.declared.post.Post.{Post}
 use Rattle.law_scans.specs.inv.model.Calls.{Why, Opens, FollowsHead, Fills, ClearsNext, Clears, Finishes, GivesUp, Retires, Tidies, Advances, Releases, ReadGuard, GiveBack, Phase, Idle, Runs, Scans, Works}
-use Rattle.law_scans.specs.inv.model.Guards.{guards}
+use Rattle.law_scans.specs.inv.model.Guards.{guards, guard_at}
 use Rattle.law_scans.specs.inv.model.Phases.{Base}
 use Rattle.law_scans.specs.inv.model.Phases.Base.{Protect}
 use Rattle.law_scans.specs.inv.model.Posts.{counted}
 use Rattle.law_scans.specs.inv.model.World.{World, finds, offered, told_in}
-use Rattle.law_scans.specs.inv.model.words.Schemes.{is_wfe}
+use Rattle.law_scans.specs.inv.model.words.Schemes.{is_wfe, publishes_rows}
 use Rattle.law_scans.specs.inv.shapes.Seats.{kind_of, suits}
 use Rattle.law_scans.specs.inv.shapes.Seats as seats
 use Rattle.law_scans.specs.laws.records.Record.{Past, Each, EachEntry}
@@ -26,6 +26,7 @@ use Rattle.law_scans.specs.inv.history.History as histories
 use Rattle.law_scans.specs.reuse.Heard.{IsCounted}
 use Rattle.law_scans.proofs.reuse.Turns.Counted.{histories_count}
 use Rattle.law_scans.proofs.reuse.history.Passes.{First, step_goes}
+use Rattle.law_scans.proofs.reuse.ReadGuards.{reads_are}
 use Rattle.law_scans.proofs.reuse.OneStep.Along.{Around, Kept, history_keeps}
 use Rattle.law_turns.proofs.Counting.Passing.{Apart}
 use Rattle.law_scans.specs.laws.HistoryTurns.{turns_since}
@@ -80,7 +81,8 @@ phase_asks c layout i p turns all last found post (Runs why base) s =
       tried = tries_of c i p turns last why base r.suited s.tried;
       moves = λ at e. move_course all why base at (tally_of c.every i p).course e r.suited s.course;
     })
-phase_asks c layout i p turns all last found post (Scans later (ReadGuard number)) s = (refl, tt)
+phase_asks c layout i p turns all last found post (Scans later (ReadGuard number)) s =
+    reads_are (λ (event : Event). Asks c i (event ∷ []) p) (publishes_rows post.layout.config.scheme) (guard_at post.layout.config number) found (λ span. (refl, tt)) (λ slot. (refl, tt))
 phase_asks c layout i p turns all last found post (Scans later (GiveBack place slot)) s = (refl, tt)
 phase_asks c layout i p turns all last found post (Works work) s = work_asks c i p work (counted post) s.shown
 

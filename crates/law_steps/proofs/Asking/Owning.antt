@@ -2,7 +2,7 @@
 use Rattle.std.proofs.Common.{ℕ, ◌≡◌, ◌≤◌, ◌+◌, Bool, true, false, List, [], ◌∷◌, ◌++◌, Option, Some, None, refl, sym, ap, ◌∙◌, subst}
 use Rattle.std.specs.Prelude.{◌==◌, ◌&&◌, ◌||◌, nat_le, if◌then◌else◌}
 use Rattle.law_scans.specs.inv.model.words.Place.Place.{Clock}
-use Rattle.law_scans.specs.inv.model.words.Schemes.{is_ibr, is_wfe}
+use Rattle.law_scans.specs.inv.model.words.Schemes.{is_ibr, is_wfe, publishes_rows}
 use Rattle.law_scans.specs.inv.model.words.declared.config.Config.{Config}
 use Rattle.law_scans.specs.inv.model.words.declared.layout.Layout.{Layout}
 use Rattle.law_scans.specs.inv.model.defs.declared.call.Call.{Call}
@@ -12,7 +12,7 @@ use Rattle.law_scans.specs.inv.model.defs.declared.event.Guard.TheVariants.{Help
 use Rattle.law_scans.specs.inv.model.defs.declared.lifetime.Interval.{Interval}
 use Rattle.law_scans.specs.inv.model.declared.post.Post.{Post}
 use Rattle.law_scans.specs.inv.model.Calls.{ReadGuard, GiveBack, Why, Phase, Idle, Runs, Scans, Works}
-use Rattle.law_scans.specs.inv.model.Guards.{one_era}
+use Rattle.law_scans.specs.inv.model.Guards.{guard_at, one_era}
 use Rattle.law_scans.specs.inv.model.Locals.{Local, begun_post}
 use Rattle.law_scans.specs.inv.model.Machine as machine
 use Rattle.law_scans.specs.inv.model.Memory.{found, place_in}
@@ -36,6 +36,7 @@ use Rattle.law_scans.specs.laws.records.Turns as schedule
 use Rattle.law_scans.specs.laws.records.Turns.{record_of}
 use Rattle.law_scans.specs.laws.records.Turns.History.{Starts}
 use Rattle.law_scans.specs.reuse.Heard.{IsCounted}
+use Rattle.law_scans.proofs.reuse.ReadGuards.{reads_are}
 use Rattle.law_scans.proofs.reuse.OneStep.Along.{Around, Kept, history_keeps}
 use Rattle.law_scans.proofs.reuse.Turns.Counted.{histories_count}
 use Rattle.law_scans.proofs.inv.Inv.Shapes.{eras_of}
@@ -115,7 +116,8 @@ base_fine c j i p u last why base post there s t h = plain_fine j i (machine.aft
 phase_fine : (w : World) (i j : ℕ) (p : Past) (u last : ℕ) (phase : Phase) → PhaseFits w.layout (w.seat i).post phase → phase_tried w.layout.config u phase j (tried_of i j p) last ≡ true → phase_own phase j (own_last_of i j p) (own_rising_of i j p) ≡ true → First (λ post told. Fine j i told p) phase (counted (w.seat i).post) (finds w i)
 phase_fine w i j p u last Idle f t h = tt
 phase_fine w i j p u last (Runs why base) f t h = base_fine w.layout.config j i p u last why base (counted (w.seat i).post) (finds w i) f.suited t h
-phase_fine w i j p u last (Scans later (ReadGuard number)) f t h = (refl, tt)
+phase_fine w i j p u last (Scans later (ReadGuard number)) f t h =
+    reads_are (λ (event : Event). Fine j i (event ∷ []) p) (publishes_rows (w.seat i).post.layout.config.scheme) (guard_at (w.seat i).post.layout.config number) (finds w i) (λ span. (refl, tt)) (λ slot. (refl, tt))
 phase_fine w i j p u last (Scans later (GiveBack place slot)) f t h = (refl, tt)
 phase_fine w i j p u last (Works work) f t h = plain_fine j i (work_told work (counted (w.seat i).post)) p (work_plain work (counted (w.seat i).post))
 

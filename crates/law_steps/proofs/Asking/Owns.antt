@@ -1,7 +1,7 @@
 -- What a seat itself has told of the index word of its protection, by where the protection stands, over each step of a machine.
 use Rattle.std.proofs.Common.{ℕ, ◌≡◌, ◌≤◌, ◌+◌, Bool, true, false, List, [], ◌∷◌, ◌++◌, Option, Some, None, refl, sym, ◌∙◌, subst, arith}
 use Rattle.std.proofs.lemmas.Bool.Decides.{nat_tests}
-use Rattle.std.specs.Prelude.{◌==◌, ◌&&◌, nat_le, nat_lt, if◌then◌else◌}
+use Rattle.std.specs.Prelude.{◌||◌, ◌==◌, ◌&&◌, nat_le, nat_lt, if◌then◌else◌}
 use Rattle.law_scans.specs.inv.model.words.Packed.{read_request, read_reservation, reservation_word}
 use Rattle.law_scans.specs.inv.model.words.declared.config.Config.{Config}
 use Rattle.law_scans.specs.inv.model.words.declared.packed.Request.{Request}
@@ -20,7 +20,8 @@ use Rattle.law_scans.specs.inv.model.Memory.{bump}
 use Rattle.law_scans.specs.inv.model.MoveClock as movers
 use Rattle.law_scans.specs.inv.model.Phases.{Aim, Alone, Follows, Tries, Endless, Failed, ProtectAt, MoveAt, Walk, Base, Turn, Outcome, Goes, Ends}
 use Rattle.law_scans.specs.inv.model.Phases.BeginAt.{LoadLower}
-use Rattle.law_scans.specs.inv.model.Phases.ProtectAt.{LoadClock, PublishEra, LoadLink, CheckClock, PublishRequest, LoadOwnClock, PublishHelper, LoadOwnLink, CheckOwnClock, AnswerOwn, LoadAnswer, TakeAnswer, WithdrawRequest, WithdrawHelper, LoadWithin, CheckUpper, RaiseUpper}
+use Rattle.law_scans.specs.inv.model.Phases.HazardAt.{FirstLink, PublishLink, CheckLink}
+use Rattle.law_scans.specs.inv.model.Phases.ProtectAt.{ByHazard, LoadClock, PublishEra, LoadLink, CheckClock, PublishRequest, LoadOwnClock, PublishHelper, LoadOwnLink, CheckOwnClock, AnswerOwn, LoadAnswer, TakeAnswer, WithdrawRequest, WithdrawHelper, LoadWithin, CheckUpper, RaiseUpper}
 use Rattle.law_scans.specs.inv.model.Phases.AllocateAt.{ClaimSlot}
 use Rattle.law_scans.specs.inv.model.Phases.RetireAt.{LoadLife}
 use Rattle.law_scans.specs.inv.model.Phases.MoveAt.{LoadEra, CheckEra, AnswerAsked, LoadReserved, HandOver, ExchangeClock}
@@ -168,6 +169,11 @@ new_base (Protect aim index root steps LoadWithin) j x r h = by (index == j)
     by : (own : Bool) → (if own then true else true) ≡ true
     by true = refl
     by false = refl
+new_base (Protect aim index root steps (ByHazard at)) j x r h = by (index == j)
+  where
+    by : (own : Bool) → (if own then true else true) ≡ true
+    by true = refl
+    by false = refl
 new_base (Protect aim index root steps at) j x r h = absurd (cc)
 new_base base j x r h = refl
 
@@ -295,6 +301,11 @@ protect_leaves i j x r aim index root steps LoadWithin post found s e b h = any_
 protect_leaves i j x r aim index root steps (CheckUpper link) post found s e b h =
     leaves_if i j x r (found == upper post.span) _ _ (λ q. concluded_leaves i j x r aim index root (bump steps) link found _ _) (λ q. any_own index j (RaiseUpper found) x r refl)
 protect_leaves i j x r aim index root steps (RaiseUpper era) post found s e b h = any_own index j LoadWithin x r refl
+protect_leaves i j x r aim index root steps (ByHazard FirstLink) post found s e b h =
+    leaves_if i j x r (found == 0) _ _ (λ q. concluded_leaves i j x r aim index root (bump steps) found 0 _ _) (λ q. any_own index j (ByHazard (PublishLink found)) x r refl)
+protect_leaves i j x r aim index root steps (ByHazard (PublishLink link)) post found s e b h = any_own index j (ByHazard (CheckLink link)) x r refl
+protect_leaves i j x r aim index root steps (ByHazard (CheckLink link)) post found s e b h =
+    leaves_if i j x r (found == link || found == 0) _ _ (λ q. concluded_leaves i j x r aim index root (bump steps) found 0 _ _) (λ q. any_own index j (ByHazard (PublishLink found)) x r refl)
 
 -- the other machines go on to no protection
 handed_leaves : (i j : ℕ) (x : Option Interval) (r : Bool) (era seat tag index old : ℕ) (post : Post) (same : Bool) → Leaves i j x r (movers.after_hand_over era seat tag index old post same)

@@ -7,13 +7,14 @@ use Rattle.law_scans.specs.inv.model.defs.declared.call.Call.{Call}
 use Rattle.law_scans.specs.inv.model.defs.declared.call.Call.TheVariants as calls
 use Rattle.law_scans.specs.inv.model.defs.declared.event.Event.{Event}
 use Rattle.law_scans.specs.inv.model.defs.declared.event.Event.TheVariants as events
+use Rattle.law_scans.specs.inv.model.defs.declared.event.Guard.{Guard}
 use Rattle.law_scans.specs.inv.model.declared.post.Post.{Post}
 use Rattle.law_scans.specs.inv.model.Desks.{Desk}
-use Rattle.law_scans.specs.inv.model.Guards.{guards, guard_at, eras_in, published}
+use Rattle.law_scans.specs.inv.model.Guards.{guards, guard_at, published}
 use Rattle.law_scans.specs.inv.model.Rest.{move_left}
 use Rattle.law_scans.specs.inv.model.Rounds.{helps, scheme_of}
 use Rattle.law_scans.specs.inv.model.Keep as keeps
-use Rattle.law_scans.specs.inv.model.Posts.{reserves_index, stands}
+use Rattle.law_scans.specs.inv.model.Posts.{publishes_index, stands}
 use Rattle.law_scans.specs.inv.model.Scan as scans
 use Rattle.law_scans.specs.inv.model.Steps as steps
 use Rattle.law_scans.specs.inv.model.Phases.{Alone, MoveAt, Base}
@@ -21,7 +22,7 @@ use Rattle.law_scans.specs.inv.model.Phases.MoveAt.{LoadEra, ExchangeClock}
 use Rattle.law_scans.specs.inv.model.Phases.Base.{Protect, Clear, Release, Move}
 use Rattle.law_scans.specs.inv.model.Calls.{Gets, Holds, Answering, Counted, Opens, Clears, Advances, Releases, Released, Rehold, Dropped, KeepAt, Loosens, LoadHeld, StoreHeld, Looks, Misses, HideSpan, MarkLeft, TakeList, MarkTaken, Keeping, ScanAt, ReadGuard, GiveBack, GetAt, FindVersion, FindCount, FindKey, FindValue, Getting, Phase, Runs, Scans, Works, CallOutcome, GoesOn, Answers}
 use Rattle.law_scans.proofs.inv.model.Facts.{both}
-use Rattle.law_scans.specs.inv.model.words.Schemes.{has_one_interval, is_wfe}
+use Rattle.law_scans.specs.inv.model.words.Schemes.{has_one_interval, is_wfe, publishes_rows}
 use Rattle.law_scans.specs.inv.shapes.Frame.{KeepFits}
 use Rattle.law_scans.specs.inv.shapes.Slots.{GetIn, KeepIn}
 use Rattle.law_scans.specs.inv.shapes.Seats.{Kind, suits}
@@ -116,12 +117,12 @@ Out c call backs steps (Answers answer) = steps_right c call backs answer steps 
 
 -- a release and a drop
 pub release_out : (c : Config) (base : Base) (post : Post) (desk : Desk) (found backs n m : ℕ) → suits base Kind.ToRelease ≡ true → (n == 0) ≡ true → m ≡ n + 1 → Out c calls.Release backs m (steps.phase_turn (Runs (Releases Released) base) post desk found).outcome
-release_out c (Clear index) post desk found backs n m s h e = grind (arith, nat_tests)
+release_out c (Clear rows index) post desk found backs n m s h e = grind (arith, nat_tests)
 release_out c (Release index) post desk found backs n m s h e = grind (arith, nat_tests)
 release_out c base post desk found backs n m s h e = absurd (cc)
 
 pub drop_out : (c : Config) (index own : ℕ) (base : Base) (post : Post) (desk : Desk) (found backs n m : ℕ) → suits base Kind.ToRelease ≡ true → (n == 0) ≡ true → m ≡ n + 1 → Out c (calls.DropIndex index) backs m (steps.phase_turn (Runs (Releases (Dropped own)) base) post desk found).outcome
-drop_out c index own (Clear at) post desk found backs n m s h e = grind (arith, nat_tests)
+drop_out c index own (Clear rows at) post desk found backs n m s h e = grind (arith, nat_tests)
 drop_out c index own (Release at) post desk found backs n m s h e = grind (arith, nat_tests)
 drop_out c index own base post desk found backs n m s h e = absurd (cc)
 
@@ -153,7 +154,7 @@ store_out c a b from index post desk reserved (Some slot) backs m s o e = two_ma
 pub copy_out : (c : Config) (a b : ℕ) (at : KeepAt) (post : Post) (desk : Desk) (found backs n m : ℕ) → scheme_of post ≡ c.scheme → KeepFits post at → at_copy (Works (Keeping at)) n ≡ true → m ≡ n + 1 → Out c (calls.Copy a b) backs m (steps.phase_turn (Works (Keeping at)) post desk found).outcome
 copy_out c a b (LoadHeld from index) post desk found backs n m s f h e = load_out c a b from index post desk found backs m (has_one_interval (scheme_of post)) (ap has_one_interval (sym s)) (grind (arith, nat_tests))
 copy_out c a b (StoreHeld from index era) post desk found backs n m s f h e =
-    store_out c a b from index post desk (reserves_index post index era) (stands post from) backs m f.kept (ap has_one_interval (sym s) ∙ f.plain) (grind (arith, nat_tests))
+    store_out c a b from index post desk (publishes_index (publishes_rows (scheme_of post)) post index era) (stands post from) backs m f.kept (ap has_one_interval (sym s) ∙ f.plain) (grind (arith, nat_tests))
 copy_out c a b (Misses index) post desk found backs n m s f h e = none_made m (not (has_one_interval c.scheme)) (grind (arith, nat_tests))
 copy_out c a b HideSpan post desk found backs n m s f h e = absurd (cc)
 copy_out c a b MarkLeft post desk found backs n m s f h e = absurd (cc)
@@ -214,7 +215,10 @@ scan_out c (ReadGuard number) post desk found before backs n m e s h k b =
     let z : before ≡ 0 = grind (arith, nat_tests) in
     let q : m ≡ number + 1 = grind (arith, nat_tests) in
     let l : number < guards c = grind (arith, nat_tests) in
-    subst (λ (d : Config). Out c calls.Scan backs m (scans.reading Counted number post (scans.with_read desk number (guard_at post.layout.config number, published (guard_at post.layout.config number) found)) (events.Read (guard_at post.layout.config number) (eras_in (guard_at post.layout.config number) found) ∷ []) (nat_lt (number + 1) (guards d))).outcome) (sym e)
-    (read_out c number post (scans.with_read desk number (guard_at post.layout.config number, published (guard_at post.layout.config number) found)) (events.Read (guard_at post.layout.config number) (eras_in (guard_at post.layout.config number) found) ∷ []) (nat_lt (number + 1) (guards c)) backs m refl l q (b ∙ z))
+    let rows : Bool = publishes_rows post.layout.config.scheme in
+    let guard : Guard = guard_at post.layout.config number in
+    let read : Desk = scans.with_read desk number (guard, published rows guard found) in
+    let told : List Event = scans.reads_guard rows guard found ∷ [] in
+    subst (λ (d : Config). Out c calls.Scan backs m (scans.reading Counted number post read told (nat_lt (number + 1) (guards d))).outcome) (sym e) (read_out c number post read told (nat_lt (number + 1) (guards c)) backs m refl l q (b ∙ z))
 scan_out c (GiveBack place slot) post desk found before backs n m e s h k b =
     let q : m ≡ guards c + backs = grind (arith, nat_tests) in given_out c post (scans.with_back desk place) (events.Back slot ∷ []) (scans.unmet_from (scans.with_back desk place) place) backs m q

@@ -4,7 +4,7 @@ use Rattle.std.proofs.lemmas.Bool.Decides.{nat_tests}
 use Rattle.std.specs.Prelude.{◌==◌, ◌||◌, ◌*◌, not, nat_le, nat_lt, if◌then◌else◌}
 use Rattle.law_scans.specs.inv.model.words.declared.config.Config.{Config}
 use Rattle.law_scans.specs.inv.model.words.declared.config.SchemeKind.{SchemeKind}
-use Rattle.law_scans.specs.inv.model.words.declared.config.SchemeKind.TheVariants.{He, Ibr, Wfe}
+use Rattle.law_scans.specs.inv.model.words.declared.config.SchemeKind.TheVariants.{He, Ibr, Wfe, Hp}
 use Rattle.law_scans.specs.inv.model.defs.declared.call.Answer.{Answer}
 use Rattle.law_scans.specs.inv.model.defs.declared.call.Answer.TheVariants as the_answers
 use Rattle.law_scans.specs.inv.model.defs.declared.call.Call.TheVariants as calls
@@ -23,7 +23,8 @@ use Rattle.law_scans.specs.inv.model.Rounds.{scheme_of, bucket_of, index_of, roo
 use Rattle.law_scans.specs.inv.model.SlowPath as slow
 use Rattle.law_scans.specs.inv.model.Steps as steps
 use Rattle.law_scans.specs.inv.model.Phases.{Aim, Alone, Follows, Failed, ProtectAt, MoveAt, Base, Turn, Outcome, Goes, Ends}
-use Rattle.law_scans.specs.inv.model.Phases.ProtectAt.{LoadClock, CheckClock, CheckOwnClock, AnswerOwn, WithdrawHelper, CheckUpper}
+use Rattle.law_scans.specs.inv.model.Phases.ProtectAt.{LoadClock, CheckClock, CheckOwnClock, AnswerOwn, WithdrawHelper, CheckUpper, ByHazard}
+use Rattle.law_scans.specs.inv.model.Phases.HazardAt.{FirstLink, PublishLink, CheckLink}
 use Rattle.law_scans.specs.inv.model.Phases.MoveAt.{LoadEra, ExchangeClock}
 use Rattle.law_scans.specs.inv.model.Phases.Base.{Protect, Clear, Release, Move}
 use Rattle.law_scans.specs.inv.model.Phases.Ending.{Protected, Clocked}
@@ -93,10 +94,13 @@ protect_alone index root n (CheckOwnClock first era last link) post found = alon
 protect_alone index root n (AnswerOwn first era link) post found = alone_if n (found == slow.own_request post index root) _ _ refl refl
 protect_alone index root n (WithdrawHelper link era) post found = tt
 protect_alone index root n (CheckUpper link) post found = alone_if n (found == upper post.span) _ _ tt refl
+protect_alone index root n (ByHazard FirstLink) post found = alone_if n (found == 0) _ _ tt refl
+protect_alone index root n (ByHazard (PublishLink link)) post found = refl
+protect_alone index root n (ByHazard (CheckLink link)) post found = alone_if n (found == link || found == 0) _ _ tt refl
 protect_alone index root n at post found = refl
 
 -- how a round goes on under Wait-Free Eras
-clearing_next : (task : Task) (next : Next) (post : Post) (desk : Desk) (told : List Event) → scheme_of post ≡ Wfe → (clearing task next post desk told).outcome ≡ GoesOn (Runs (Clears task next) (Clear (index_of task)))
+clearing_next : (task : Task) (next : Next) (post : Post) (desk : Desk) (told : List Event) → scheme_of post ≡ Wfe → (clearing task next post desk told).outcome ≡ GoesOn (Runs (Clears task next) (Clear false (index_of task)))
 clearing_next task next post desk told h = rw h refl
 
 hold_answers : (key : ℕ) (answer : Answer) (post : Post) (desk : Desk) (told : List Event) → scheme_of post ≡ Wfe → (finishing (Holds key) (Answering answer) post desk told).outcome ≡ Answers answer
@@ -136,6 +140,7 @@ pub wfe_scheme : (scheme : SchemeKind) → is_wfe scheme ≡ true → scheme ≡
 wfe_scheme He h = absurd (cc)
 wfe_scheme Ibr h = absurd (cc)
 wfe_scheme Wfe h = refl
+wfe_scheme Hp h = absurd (cc)
 
 held_by : (c : Config) (p : Bool) → is_wfe c.scheme ≡ true → (not (is_wfe c.scheme) || p) ≡ true → p ≡ true
 held_by c p f h = by (is_wfe c.scheme) f h
@@ -154,14 +159,14 @@ free_get c k backs m (GoesOn phase) f = rw f refl
 free_get c k backs m (Answers answer) f = rw f refl
 
 hold_released : (c : Config) (k key : ℕ) (base : Base) (post : Post) (desk : Desk) (found backs n m : ℕ) → is_wfe c.scheme ≡ true → scheme_of post ≡ Wfe → suits base Kind.ToRelease ≡ true → (n == 0) ≡ true → m ≡ n + 1 → Out c (calls.Hold k) backs m (steps.phase_turn (Runs (Releases (Rehold key)) base) post desk found).outcome
-hold_released c k key (Clear index) post desk found backs n m f s u h e = rw f (subst (λ (x : Phase). at_hold c x m ≡ true) (sym (round_next (Holds key) _ s)) (grind (arith, nat_tests)))
+hold_released c k key (Clear rows index) post desk found backs n m f s u h e = rw f (subst (λ (x : Phase). at_hold c x m ≡ true) (sym (round_next (Holds key) _ s)) (grind (arith, nat_tests)))
 hold_released c k key (Release index) post desk found backs n m f s u h e = rw f (subst (λ (x : Phase). at_hold c x m ≡ true) (sym (round_next (Holds key) _ s)) (grind (arith, nat_tests)))
 hold_released c k key base post desk found backs n m f s u h e = absurd (cc)
 
 hold_cleared : (c : Config) (k key : ℕ) (answer : Answer) (base : Base) (post : Post) (desk : Desk) (found backs n m : ℕ) → is_wfe c.scheme ≡ true → scheme_of post ≡ Wfe → suits base Kind.ToClear ≡ true → nat_le n (3 * c.tries + 15) ≡ true → m ≡ n + 1
     → Out c (calls.Hold k) backs m (steps.phase_turn (Runs (Clears (Holds key) (Answering answer)) base) post desk found).outcome
-hold_cleared c k key answer (Clear index) post desk found backs n m f s u h e =
-    let t : Turn = machine.after (Clear index) post found in
+hold_cleared c k key answer (Clear rows index) post desk found backs n m f s u h e =
+    let t : Turn = machine.after (Clear rows index) post found in
     subst (λ (x : CallOutcome). Out c (calls.Hold k) backs m x) (sym (hold_answers key answer t.post desk t.told s)) (rw f (grind (arith, nat_tests)))
 hold_cleared c k key answer base post desk found backs n m f s u h e = absurd (cc)
 
@@ -210,8 +215,8 @@ get_protects c k key Follows index root made at post desk found backs n m f s t 
 
 get_cleared : (c : Config) (k key : ℕ) (answer : Answer) (base : Base) (post : Post) (desk : Desk) (found backs n m : ℕ) → is_wfe c.scheme ≡ true → scheme_of post ≡ Wfe → suits base Kind.ToClear ≡ true → nat_le n (3 * c.tries + 17 + c.pairs) ≡ true → m ≡ n + 1
     → Out c (calls.Get k) backs m (steps.phase_turn (Runs (Clears (Gets key) (Answering answer)) base) post desk found).outcome
-get_cleared c k key answer (Clear index) post desk found backs n m f s u h e =
-    let t : Turn = machine.after (Clear index) post found in
+get_cleared c k key answer (Clear rows index) post desk found backs n m f s u h e =
+    let t : Turn = machine.after (Clear rows index) post found in
     subst (λ (x : CallOutcome). Out c (calls.Get k) backs m x) (sym (get_answers key answer t.post desk t.told s)) (rw f (grind (arith, nat_tests)))
 get_cleared c k key answer base post desk found backs n m f s u h e = absurd (cc)
 

@@ -28,7 +28,7 @@ use Rattle.law_scans.specs.inv.model.Steps as steps
 use Rattle.law_scans.specs.inv.model.World.{World, begin, finds, is_busy, offered, step, told_in, may_start}
 use Rattle.law_scans.proofs.inv.model.Frames.{after_same}
 use Rattle.law_scans.proofs.inv.model.Facts.{same_number, first_of, rest_of}
-use Rattle.law_scans.specs.inv.model.words.Schemes.{is_wfe}
+use Rattle.law_scans.specs.inv.model.words.Schemes.{is_wfe, publishes_rows}
 use Rattle.law_scans.specs.inv.shapes.Seats.{PhaseFits, Run}
 use Rattle.law_scans.specs.inv.shapes.Slots.{PhaseIn}
 use Rattle.law_scans.proofs.reuse.shapes.Frame.{seat_stays, seat_steps, begin_stays, begin_begins}
@@ -51,6 +51,7 @@ use Rattle.law_scans.proofs.reuse.AnswersTold.Moves.{phase_ends}
 use Rattle.law_scans.proofs.reuse.AnswersTold.Owed.{is_open}
 use Rattle.law_scans.proofs.reuse.AnswersTold.Owing.{PhaseEnds}
 use Rattle.law_scans.proofs.reuse.history.AllOf.{all_of}
+use Rattle.law_scans.proofs.reuse.ReadGuards.{reads_are}
 use Rattle.law_scans.proofs.reuse.OneStep.Along.{Around, Kept, history_keeps}
 use Rattle.law_scans.specs.laws.HistorySteps.{steps_right, end_ok}
 use Rattle.law_steps.specs.Records.{RecordsKeepEnds}
@@ -107,7 +108,7 @@ reading_tells number post desk told false = giving_tells post desk told (scans.u
 
 scan_tells : (at : ScanAt) (post : Post) (desk : Desk) (found : ℕ) → (scans.scan_turn Counted at post desk found).told ≡ scan_event at post found ∷ []
 scan_tells (ReadGuard number) post desk found =
-    reading_tells number post (scans.with_read desk number (guard_at post.layout.config number, publishes (guard_at post.layout.config number) found)) (scan_event (ReadGuard number) post found ∷ []) (nat_lt (number + 1) (guards post.layout.config))
+    reading_tells number post (scans.with_read desk number (guard_at post.layout.config number, publishes (publishes_rows post.layout.config.scheme) (guard_at post.layout.config number) found)) (scan_event (ReadGuard number) post found ∷ []) (nat_lt (number + 1) (guards post.layout.config))
 scan_tells (GiveBack place slot) post desk found = giving_tells post (scans.with_back desk place) (events.Back slot ∷ []) (scans.unmet_from (scans.with_back desk place) place)
 
 release_case : (w : World) (i : ℕ) (phase : Phase) (before backs m : ℕ) → Inv w → (w.seat i).phase ≡ phase → (at_release phase && (w.seat i).post.steps == 0) ≡ true → m ≡ (w.seat i).post.steps + 1 → Goal w i calls.Release backs m phase
@@ -156,7 +157,8 @@ scan_case w i (Scans Counted at) before backs m a e h q b =
     told_backs at = ap (λ (es : List Event). backs_along es before) (scan_tells at (counted (w.seat i).post) (offered w i).desk (finds w i)) ∙ one at
       where
         one : (at : ScanAt) → backs_along (scan_event at (counted (w.seat i).post) (finds w i) ∷ []) before ≡ backs_at at before
-        one (ReadGuard number) = refl
+        one (ReadGuard number) =
+            reads_are (λ (event : Event). backs_along (event ∷ []) before ≡ before) (publishes_rows (w.seat i).post.layout.config.scheme) (guard_at (w.seat i).post.layout.config number) (finds w i) (λ span. refl) (λ slot. refl)
         one (GiveBack place slot) = refl
 scan_case w i phase before backs m a e h q b = absurd (cc)
 
@@ -248,7 +250,7 @@ step_own layout made h i a y g =
     let b : backs_of i (tells_of made.past i (told_in w i)) ≡ backs_along t.told (backs_of i made.past) = ap (backs_of i) (tells_both i t.told (told_end t.post t.outcome) made.past) ∙ backs_tells i (told_end t.post t.outcome) (tells_of made.past i t.told) ∙ end_backs t.post t.outcome (backs_of i (tells_of made.past i t.told)) ∙ backs_tells i t.told made.past in
     subst (λ (n : ℕ). SeatCounts w.layout.config n ((step w i).seat i)) (sym b)
     (subst (λ (l : Local). SeatCounts w.layout.config (backs_along t.told (backs_of i made.past)) l) (sym (seat_steps w i))
-    (settled_counts w.layout.config (backs_along t.told (backs_of i made.past)) (offered w i) t.post (noting t.desk (told_by t)) (rounds_told (offered w i).rounds (told_by t)) t.outcome o))
+    (settled_counts w.layout.config (backs_along t.told (backs_of i made.past)) (offered w i) t.post (noting t.desk (told_by t)) (rounds_told (publishes_rows (scheme_of t.post)) (offered w i).rounds (told_by t)) t.outcome o))
 
 step_seats : (layout : Layout) (made : Made) (h : schedule.History) (i k : ℕ) (same : Bool) → (k == i) ≡ same → Around made h → is_busy made.world i ≡ true → Counts layout made h → SeatCounts made.world.layout.config (backs_of k (tells_of made.past i (told_in made.world i))) ((step made.world i).seat k)
 step_seats layout made h i k true e a y g =

@@ -28,9 +28,9 @@ use Rattle.law_scans.specs.inv.model.Phases.Base.{Begin, Protect, Reload, Clear,
 use Rattle.law_scans.specs.inv.model.Phases.Ending.{Done, Protected, Followed, Allocated, Retired, Clocked}
 use Rattle.law_scans.specs.inv.model.Calls.{Task, Gets, Changes, Holds, Enqueues, Dequeues, Why, Opens, FollowsHead, Fills, ClearsNext, Clears, Finishes, GivesUp, Retires, Tidies, Advances, Releases}
 use Rattle.law_scans.proofs.inv.model.Facts.{both, first_of, rest_of, and_true, zero_of_test, le_of_test, le_one_more, no_truth}
-use Rattle.law_scans.specs.inv.model.words.Schemes.{is_ibr}
+use Rattle.law_scans.specs.inv.model.words.Schemes.{has_one_interval, is_ibr, publishes_rows}
 use Rattle.law_scans.specs.inv.shapes.Frame.{Moves, Passed}
-use Rattle.law_scans.specs.inv.shapes.Seats.{PostFits, PhaseFits, Run, protect_fits, kind_of, protects as protecting, index_by, root_by, aim_by}
+use Rattle.law_scans.specs.inv.shapes.Seats.{PostFits, PhaseFits, Run, agree, protect_fits, kind_of, protects as protecting, index_by, root_by, aim_by}
 use Rattle.law_scans.specs.laws.StateAt.{is_whole, spanned_by, raised_by}
 use Rattle.law_scans.specs.laws.StepLaw.{number_raised}
 use Rattle.law_steps.proofs.Raises.Raising.{spanned_along, raised_along, counts_along, still_spans, still_raises, still_counts, at_raised, base_raised, Out, Made, made_if, calm_still, calm_span}
@@ -320,9 +320,9 @@ reload_made i s r parent index slot era made n post found e h q b =
     (λ x. record { spans = h; counts = and_true (number_raised (events.Held index slot (bump made)) r) (rw e (subst (λ (m : ℕ). (m == 3 * r + 3) ≡ true) b q)); out = refl })
     (λ x. record { spans = h; counts = refl; out = refl })
 
-no_fit : (b : Bool) → b ≡ true → not b ≡ true → ⊥
-no_fit true h k = cc
-no_fit false h k = cc
+-- no index is cleared by itself
+not_cleared : (scheme : SchemeKind) (rows : Bool) → scheme ≡ Ibr → (not (has_one_interval scheme) && agree rows (publishes_rows scheme)) ≡ true → ⊥
+not_cleared scheme rows e h = no_truth (subst (λ (x : SchemeKind). (not (has_one_interval x) && agree rows (publishes_rows x)) ≡ true) e h)
 
 is_interval : (scheme : SchemeKind) → scheme ≡ Ibr → is_ibr scheme ≡ true
 is_interval scheme e = rw e refl
@@ -359,9 +359,9 @@ run_made i s r layout (FollowsHead head tail) (Reload parent index slot era made
     reload_made i s r parent index slot era made (bump made) post found a.at x.spans (next_more (bump made) r (number_next (bump made) made (3 * r + 2) b (rest_of (nat_le made count) (made == 3 * r + 2) x.right))) refl
 run_made i s r layout (Opens task) (Begin at) post found count x = begin_made i s r at post found x.seat x.spans x.run.posted (zero_of_test r x.right)
 run_made i s r layout (Fills task) base post found count x = calm_made false i s r layout (Fills task) base post found count refl x
-run_made i s r layout (ClearsNext next) (Clear index) post found count x = absurd (no_fit (is_ibr layout.config.scheme) (is_interval layout.config.scheme x.interval) x.run.fits)
-run_made i s r layout (Clears task next) (Clear index) post found count x = absurd (no_fit (is_ibr layout.config.scheme) (is_interval layout.config.scheme x.interval) x.run.fits)
-run_made i s r layout (Releases key) (Clear index) post found count x = absurd (no_fit (is_ibr layout.config.scheme) (is_interval layout.config.scheme x.interval) x.run.fits)
+run_made i s r layout (ClearsNext next) (Clear rows index) post found count x = absurd (not_cleared layout.config.scheme rows x.interval x.run.fits)
+run_made i s r layout (Clears task next) (Clear rows index) post found count x = absurd (not_cleared layout.config.scheme rows x.interval x.run.fits)
+run_made i s r layout (Releases key) (Clear rows index) post found count x = absurd (not_cleared layout.config.scheme rows x.interval x.run.fits)
 run_made i s r layout (Releases key) (Release index) post found count x = release_made i s r index post found x.seat (zero_of_test r x.right)
 run_made i s r layout (Finishes task next) Finish post found count x = finish_made i s r post found x.seat (zero_of_test r x.right)
 run_made i s r layout (GivesUp answer) base post found count x = calm_made false i s r layout (GivesUp answer) base post found count refl x

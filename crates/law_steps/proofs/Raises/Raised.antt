@@ -3,7 +3,7 @@ use Rattle.std.proofs.Common.{ℕ, ◌≡◌, ◌<◌, ◌+◌, ◌^◌, Bool, t
 use Rattle.std.proofs.lemmas.Bool.Decides.{nat_tests}
 use Rattle.std.specs.Prelude.{◌==◌, ◌&&◌, ◌||◌, nat_le, is_some, if◌then◌else◌}
 use Rattle.law_scans.specs.inv.model.words.declared.config.SchemeKind.{SchemeKind}
-use Rattle.law_scans.specs.inv.model.words.declared.config.SchemeKind.TheVariants.{He, Ibr, Wfe}
+use Rattle.law_scans.specs.inv.model.words.declared.config.SchemeKind.TheVariants.{He, Ibr, Wfe, Hp}
 use Rattle.law_scans.specs.inv.model.words.declared.layout.Layout.{Layout}
 use Rattle.law_scans.specs.inv.model.defs.declared.call.Call.{Call}
 use Rattle.law_scans.specs.inv.model.defs.declared.event.Event.{Event}
@@ -13,18 +13,19 @@ use Rattle.law_scans.specs.inv.model.declared.post.Post.{Post}
 use Rattle.law_scans.specs.inv.model.Desks.{Desk}
 use Rattle.law_scans.specs.inv.model.Locals.{Local, busy_in, begun_post, told_by}
 use Rattle.law_scans.specs.inv.model.Machine as machine
+use Rattle.law_scans.specs.inv.model.Guards.{guard_at}
 use Rattle.law_scans.specs.inv.model.Posts.{counted, stands, withdrawn, cleared}
 use Rattle.law_scans.specs.inv.model.Rest.{rest}
 use Rattle.law_scans.specs.inv.model.Rounds.{scheme_of, clearing_next}
 use Rattle.law_scans.specs.inv.model.Steps as steps
 use Rattle.law_scans.specs.inv.model.World.{World, begin, finds, is_busy, offered, step, told_in}
 use Rattle.law_scans.specs.inv.model.Phases.{ProtectAt, Base, Turn, Ending, Outcome, Goes, Ends}
-use Rattle.law_scans.specs.inv.model.Phases.ProtectAt.{LoadClock, LoadWithin}
+use Rattle.law_scans.specs.inv.model.Phases.ProtectAt.{LoadClock, LoadWithin, ByHazard}
 use Rattle.law_scans.specs.inv.model.Phases.Base.{Protect, Reload}
 use Rattle.law_scans.specs.inv.model.Phases.Ending.{Done, Protected, Followed, Allocated, Retired, Clocked}
 use Rattle.law_scans.specs.inv.model.Calls.{Again, Why, Opens, FollowsHead, Fills, ClearsNext, Clears, Finishes, GivesUp, Retires, Tidies, Advances, Releases, ReadGuard, GiveBack, Phase, Idle, Runs, Scans, Works, CallTurn}
 use Rattle.law_scans.proofs.inv.model.Facts.{same_number, first_of, rest_of, zero_of_test}
-use Rattle.law_scans.specs.inv.model.words.Schemes.{is_ibr}
+use Rattle.law_scans.specs.inv.model.words.Schemes.{is_ibr, publishes_rows}
 use Rattle.law_scans.specs.inv.shapes.Frame.{Moves, phase_left}
 use Rattle.law_scans.specs.inv.shapes.Seats.{PostFits, PhaseFits, Run}
 use Rattle.law_scans.proofs.reuse.shapes.Frame.{seat_stays, begin_stays, begin_begins}
@@ -45,6 +46,7 @@ use Rattle.law_scans.specs.inv.Inv.{Inv}
 use Rattle.law_scans.proofs.reuse.history.Passes.{First, step_goes, work_told}
 use Rattle.law_scans.specs.reuse.Heard.{IsCounted}
 use Rattle.law_scans.proofs.reuse.Turns.Counted.{histories_count}
+use Rattle.law_scans.proofs.reuse.ReadGuards.{reads_are}
 use Rattle.law_scans.proofs.reuse.OneStep.Along.{Around, Kept, history_keeps}
 use Rattle.law_turns.proofs.Counting.Runs.{bump_low}
 use Rattle.law_scans.specs.laws.StateAt.{spanned_by, spanned_of, raised_by, raised_of}
@@ -64,6 +66,7 @@ phase_raised phase most raised = raised == 0
 -- a new phase
 new_protect : (at : ProtectAt) (steps most : ℕ) → (protects_at at && steps == 0) ≡ true → (nat_le steps most && at_raised at steps 0) ≡ true
 new_protect (LoadClock tries) steps most h = let z : (steps == 0) ≡ true = rest_of _ (steps == 0) h in grind (arith, nat_tests)
+new_protect (ByHazard at) steps most h = let z : (steps == 0) ≡ true = rest_of _ (steps == 0) h in grind (arith, nat_tests)
 new_protect LoadWithin steps most h = grind (arith, nat_tests)
 new_protect at steps most h = absurd (cc)
 
@@ -168,7 +171,8 @@ first_spans : (w : World) (i : ℕ) (s : Bool) (r : ℕ) (phase : Phase) → (w.
 first_spans w i s r Idle e k = k.spans
 first_spans w i s r (Runs why base) e k =
     let m = run_made i s r w.layout why base (counted (w.seat i).post) (finds w i) (w.seat i).post.steps (stage_of w i s r k.known why base k.scheme e (k.low (ap busy_in e)) k.spans (subst (λ (phase : Phase). phase_raised phase (w.seat i).post.steps r ≡ true) e k.right)) in m.spans
-first_spans w i s r (Scans later (ReadGuard number)) e k = k.spans
+first_spans w i s r (Scans later (ReadGuard number)) e k =
+    reads_are (λ (event : Event). spanned_along i (event ∷ []) s ≡ is_some (w.seat i).post.span) (publishes_rows (w.seat i).post.layout.config.scheme) (guard_at (w.seat i).post.layout.config number) (finds w i) (λ span. k.spans) (λ slot. k.spans)
 first_spans w i s r (Scans later (GiveBack place slot)) e k = k.spans
 first_spans w i s r (Works work) e k =
     let f = k.known.known in
@@ -178,7 +182,8 @@ first_counts : (w : World) (i : ℕ) (s : Bool) (r : ℕ) (phase : Phase) → (w
 first_counts w i s r Idle e k = refl
 first_counts w i s r (Runs why base) e k =
     let m = run_made i s r w.layout why base (counted (w.seat i).post) (finds w i) (w.seat i).post.steps (stage_of w i s r k.known why base k.scheme e (k.low (ap busy_in e)) k.spans (subst (λ (phase : Phase). phase_raised phase (w.seat i).post.steps r ≡ true) e k.right)) in m.counts
-first_counts w i s r (Scans later (ReadGuard number)) e k = refl
+first_counts w i s r (Scans later (ReadGuard number)) e k =
+    reads_are (λ (event : Event). counts_along i (event ∷ []) s r ≡ true) (publishes_rows (w.seat i).post.layout.config.scheme) (guard_at (w.seat i).post.layout.config number) (finds w i) (λ span. refl) (λ slot. refl)
 first_counts w i s r (Scans later (GiveBack place slot)) e k = refl
 first_counts w i s r (Works work) e k = low_counts i (work_told work (counted (w.seat i).post)) s r (work_low work (counted (w.seat i).post))
 
@@ -199,7 +204,10 @@ turn_final w i s r interval (Runs why base) e k l =
     let a : OutcomeStands why t.outcome t.post = machine_stands w.layout i why base (counted (w.seat i).post) (finds w i) (counted_fits w.layout i (w.seat i).post (f.seats.fits i).post) x.run st in
     run_final i s r interval why (offered w i).desk t.post t.told t.outcome m.out q a l (none_phase w i s r (Runs why base))
 turn_final w i s r interval (Scans later (ReadGuard number)) e k l =
-    over i s r (steps.phase_turn (Scans later (ReadGuard number)) (counted (w.seat i).post) (offered w i).desk (finds w i)) l (none_phase w i s r (Scans later (ReadGuard number)) (zero_of_test r (subst (λ (phase : Phase). phase_raised phase (w.seat i).post.steps r ≡ true) e k.right)))
+    let z : r ≡ 0 = zero_of_test r (subst (λ (phase : Phase). phase_raised phase (w.seat i).post.steps r ≡ true) e k.right) in
+    over i s r (steps.phase_turn (Scans later (ReadGuard number)) (counted (w.seat i).post) (offered w i).desk (finds w i)) l
+    (none_phase w i s r (Scans later (ReadGuard number))
+    (reads_are (λ (event : Event). raised_along i (event ∷ []) s r ≡ 0) (publishes_rows (w.seat i).post.layout.config.scheme) (guard_at (w.seat i).post.layout.config number) (finds w i) (λ span. z) (λ slot. z)))
 turn_final w i s r interval (Scans later (GiveBack place slot)) e k l =
     over i s r (steps.phase_turn (Scans later (GiveBack place slot)) (counted (w.seat i).post) (offered w i).desk (finds w i)) l (none_phase w i s r (Scans later (GiveBack place slot)) (zero_of_test r (subst (λ (phase : Phase). phase_raised phase (w.seat i).post.steps r ≡ true) e k.right)))
 turn_final w i s r interval (Works work) e k l =
@@ -337,6 +345,7 @@ interval_of : (scheme : SchemeKind) → is_ibr scheme ≡ true → scheme ≡ Ib
 interval_of He h = absurd (cc)
 interval_of Ibr h = refl
 interval_of Wfe h = absurd (cc)
+interval_of Hp h = absurd (cc)
 
 pub records_keep_raises : RecordsKeepRaises
 records_keep_raises layout items d f =

@@ -3,7 +3,7 @@ use Rattle.std.proofs.Common.{ℕ, ◌≡◌, ◌+◌, Bool, true, false, List, 
 use Rattle.std.specs.Prelude.{◌==◌, ◌&&◌, ◌||◌, ◌*◌, drop, nat_le, is_some, if◌then◌else◌}
 use Rattle.law_scans.specs.inv.model.words.Packed.{reservation_word, read_reservation}
 use Rattle.law_scans.specs.inv.model.words.declared.config.SchemeKind.{SchemeKind}
-use Rattle.law_scans.specs.inv.model.words.declared.config.SchemeKind.TheVariants.{He, Ibr, Wfe}
+use Rattle.law_scans.specs.inv.model.words.declared.config.SchemeKind.TheVariants.{He, Ibr, Wfe, Hp}
 use Rattle.law_scans.specs.inv.model.defs.declared.event.Event.{Event}
 use Rattle.law_scans.specs.inv.model.defs.declared.event.Event.TheVariants as events
 use Rattle.law_scans.specs.inv.model.defs.declared.event.Guard.TheVariants.{Helper, Index, Whole}
@@ -14,8 +14,8 @@ use Rattle.law_scans.specs.inv.model.Allocate as allocates
 use Rattle.law_scans.specs.inv.model.Machine as machine
 use Rattle.law_scans.specs.inv.model.MoveClock as movers
 use Rattle.law_scans.specs.inv.model.Calls.{Work, Getting, Changing, Enqueuing, Dequeuing, Keeping, Loosens, LoadHeld, StoreHeld, Looks, Misses, HideSpan, MarkLeft, TakeList, MarkTaken}
-use Rattle.law_scans.specs.inv.model.Posts.{cleared, cleared_from, reserves_index, reserves_span, stands}
-use Rattle.law_scans.specs.inv.model.words.Schemes.{has_one_interval}
+use Rattle.law_scans.specs.inv.model.Posts.{cleared, cleared_from, publishes_index, reserves_span, stands}
+use Rattle.law_scans.specs.inv.model.words.Schemes.{has_one_interval, publishes_rows}
 use Rattle.law_scans.specs.inv.model.Rounds.{scheme_of, clear_told, clear_post, let_index}
 use Rattle.law_scans.specs.inv.model.SlowPath as slow
 use Rattle.law_scans.specs.inv.model.WriteRow.{last_written}
@@ -148,6 +148,7 @@ pub clear_span : (scheme : SchemeKind) (post : Post) (index : ℕ) → (clear_po
 clear_span He post index = refl
 clear_span Ibr post index = refl
 clear_span Wfe post index = refl
+clear_span Hp post index = refl
 
 -- whether the interval word publishes, and whether the numbers told are right
 pub spans_closed : (i : ℕ) (s : Bool) → Closed (λ post told. spanned_along i told s ≡ is_some post.span)
@@ -239,14 +240,14 @@ calm_span (Move at) post found h = move_span at post found
 calm_span (Begin at) post found h = absurd (cc)
 calm_span (Protect aim index root steps at) post found h = absurd (cc)
 calm_span (Reload parent index slot era steps) post found h = absurd (cc)
-calm_span (Clear index) post found h = absurd (cc)
+calm_span (Clear rows index) post found h = absurd (cc)
 calm_span Finish post found h = absurd (cc)
 calm_span (Release index) post found h = absurd (cc)
 calm_span base post found h = refl
 
 -- a call's own step raises no interval
 pub work_low : (work : Work) (post : Post) → all_low (work_told work post) ≡ true
-work_low work post = work_all is_low (λ index slot. refl) (λ from index slot. refl) (λ seat index era. refl) (λ seat. refl) work post
+work_low work post = work_all is_low (λ index slot. refl) (λ from index slot. refl) (λ seat index era. refl) (λ seat. refl) (λ seat index link. refl) work post
 
 -- and leaves it as it is, but where a seat that leaves withdraws it
 copied_span : (index : ℕ) (post : Post) (x : Option ℕ) → (copied_post index post x).span ≡ post.span
@@ -266,6 +267,10 @@ copied_spans i from index post reserved (Some slot) s h =
     spanned_both i (cleared index (stands post index) ++ reserved) (events.Copied from index slot ∷ []) s ∙ spanned_both i (cleared index (stands post index)) reserved s
     ∙ still_spans i reserved (spanned_along i (cleared index (stands post index)) s) h ∙ cleared_spans i index (stands post index) s
 
+publishes_still : (rows : Bool) (post : Post) (index number : ℕ) → all_still (publishes_index rows post index number) ≡ true
+publishes_still true post index number = refl
+publishes_still false post index number = refl
+
 load_spans : (i from index : ℕ) (post : Post) (s one : Bool) → spanned_along i (if one then copied_told from index post [] (stands post from) else []) s ≡ s
 load_spans i from index post s true = copied_spans i from index post [] (stands post from) s refl
 load_spans i from index post s false = refl
@@ -282,7 +287,7 @@ pub work_spans : (i : ℕ) (work : Work) (post : Post) (s : Bool) → post.seat 
 work_spans i (Keeping (LoadHeld from index)) post s e h =
     load_spans i from index post s (has_one_interval (scheme_of post)) ∙ h ∙ sym (ap (λ (x : Option Interval). is_some x) (load_span index post (stands post from) (has_one_interval (scheme_of post))))
 work_spans i (Keeping (StoreHeld from index era)) post s e h =
-    copied_spans i from index post (reserves_index post index era) (stands post from) s refl ∙ h ∙ sym (ap (λ (x : Option Interval). is_some x) (copied_span index post (stands post from)))
+    copied_spans i from index post (publishes_index (publishes_rows (scheme_of post)) post index era) (stands post from) s (publishes_still (publishes_rows (scheme_of post)) post index era) ∙ h ∙ sym (ap (λ (x : Option Interval). is_some x) (copied_span index post (stands post from)))
 work_spans i (Keeping (Loosens let_go)) post s e h = cleared_spans i (let_index let_go) (stands post (let_index let_go)) s ∙ h
 work_spans i (Keeping (Looks index key at)) post s e h = h
 work_spans i (Keeping (Misses index)) post s e h = h

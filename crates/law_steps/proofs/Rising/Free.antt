@@ -3,6 +3,8 @@ use Rattle.std.proofs.Common.{ℕ, ◌≡◌, ◌+◌, Bool, true, false, List, 
 use Rattle.std.proofs.lemmas.Bool.Decides.{nat_tests}
 use Rattle.std.specs.Prelude.{◌==◌, ◌&&◌, ◌||◌, not, is_some, nat_lt, if◌then◌else◌, nat_le}
 use Rattle.law_scans.specs.inv.model.words.Place.{is_valid}
+use Rattle.law_scans.specs.inv.model.words.declared.config.SchemeKind.{SchemeKind}
+use Rattle.law_scans.specs.inv.model.words.declared.config.SchemeKind.TheVariants.{He, Ibr, Wfe, Hp}
 use Rattle.law_scans.specs.inv.model.words.declared.layout.Layout.{Layout}
 use Rattle.law_scans.specs.inv.model.defs.declared.event.Event.{Event}
 use Rattle.law_scans.specs.inv.model.defs.declared.event.Event.TheVariants as events
@@ -11,11 +13,14 @@ use Rattle.law_scans.specs.inv.model.defs.declared.event.Guard.TheVariants.{Help
 use Rattle.law_scans.specs.inv.model.defs.declared.event.Root.{Root}
 use Rattle.law_scans.specs.inv.model.defs.declared.lifetime.Interval.{Interval}
 use Rattle.law_scans.specs.inv.model.Calls.{Why, Phase, Runs}
-use Rattle.law_scans.specs.inv.model.Phases.{Aim, Tries}
+use Rattle.law_scans.specs.inv.model.Phases.{Aim, Endless, Failed, Tries}
 use Rattle.law_scans.specs.inv.model.Phases.ProtectAt.{LoadClock}
 use Rattle.law_scans.specs.inv.model.Phases.Base.{Protect}
 use Rattle.law_scans.proofs.inv.model.Facts.{first_of, rest_of}
-use Rattle.law_scans.specs.inv.model.words.Schemes.{is_ibr}
+use Rattle.law_scans.specs.inv.model.words.Schemes.{is_ibr, publishes_rows}
+use Rattle.law_scans.specs.inv.model.World.{World}
+use Rattle.law_scans.specs.inv.shapes.Seats.{PhaseFits, Run, tries_fit}
+use Rattle.law_scans.proofs.inv.Inv.Reached.{inv_reached}
 use Rattle.law_scans.specs.laws.records.Record.{Past, tells_of}
 use Rattle.law_scans.specs.laws.records.Record.Past.{Then}
 use Rattle.law_scans.specs.laws.records.Turns as schedule
@@ -102,15 +107,33 @@ none_of : (value : Option Interval) (n : ℕ) → (n == 0) ≡ true → (not (is
 none_of None n e m = refl
 none_of (Some span) n e m = absurd (grind (arith, nat_tests))
 
+-- no protection of tries begins where rows are published
+by_tries : (scheme : SchemeKind) (most : ℕ) (tries : Tries) → publishes_rows scheme ≡ true → tries_fit scheme most tries ≡ true → ⊥
+by_tries He most tries p h = cc
+by_tries Ibr most tries p h = cc
+by_tries Wfe most tries p h = cc
+by_tries Hp most Endless p h = cc
+by_tries Hp most (Failed count) p h = cc
+
 -- a protection of tries begins
 pub free_index : (layout : Layout) (items : List Item) (i : ℕ) (why : Why) (aim : Aim) (index : ℕ) (root : Root) (made : ℕ) (tries : Tries) → is_valid layout ≡ true → is_ibr layout.config.scheme ≡ false → ((world_of layout items).seat i).phase ≡ Runs why (Protect aim index root made (LoadClock tries))
     → value_of (Index i index) (record_of layout items) ≡ None
-free_index layout items i why aim index root made tries d n q =
-    let h : schedule.History = heard_of layout items in
-    let c : IsCounted layout items = histories_count layout items d in
-    let g = history_keeps layout (Keeps layout) (kept layout n) d items (first_kept layout n) in
-    let f = g.seats i in
-    let o = subst (λ (p : Phase). own (λ j. reserves_of i j (schedule.record_of h)) (λ j. turns_since i j h) ((world_of layout items).seat i).post p ≡ true) q f.own in
-    let z : (reserves_of i index (schedule.record_of h) == 0) ≡ true = first_of (reserves_of i index (schedule.record_of h) == 0) (made == 0) (first_of (reserves_of i index (schedule.record_of h) == 0 && made == 0) (nat_le made ((world_of layout items).seat i).post.steps && true) o) in
-    let m = history_marked i index h (handovers_meet layout items d n) in
-    subst (λ (p : Past). value_of (Index i index) p ≡ None) c.tells (none_of (value_of (Index i index) (schedule.record_of h)) (reserves_of i index (schedule.record_of h)) z m)
+free_index layout items i why aim index root made tries d n q = by (publishes_rows layout.config.scheme) refl
+  where
+    by : (rows : Bool) → publishes_rows layout.config.scheme ≡ rows → value_of (Index i index) (record_of layout items) ≡ None
+    by true s =
+        let w : World = world_of layout items in
+        let g = history_keeps layout (Keeps true layout) (kept true layout n) d items (first_kept true layout n s) in
+        let a = inv_reached layout items d in
+        let k = a.known in
+        let r : Run w.layout why (Protect aim index root made (LoadClock tries)) (w.seat i).post = subst (λ (p : Phase). PhaseFits w.layout (w.seat i).post p) q (k.seats.fits i).phase in
+        absurd (by_tries layout.config.scheme layout.config.tries tries s (subst (λ (table : Layout). tries_fit table.config.scheme table.config.tries tries ≡ true) g.table r.fits))
+    by false s =
+        let h : schedule.History = heard_of layout items in
+        let c : IsCounted layout items = histories_count layout items d in
+        let g = history_keeps layout (Keeps false layout) (kept false layout n) d items (first_kept false layout n s) in
+        let f = g.seats i in
+        let o = subst (λ (p : Phase). own (λ j. reserves_of i j (schedule.record_of h)) (λ j. turns_since i j h) ((world_of layout items).seat i).post p ≡ true) q f.own in
+        let z : (reserves_of i index (schedule.record_of h) == 0) ≡ true = first_of (reserves_of i index (schedule.record_of h) == 0) (made == 0) (first_of (reserves_of i index (schedule.record_of h) == 0 && made == 0) (nat_le made ((world_of layout items).seat i).post.steps && true) o) in
+        let m = history_marked i index h (handovers_meet layout items d n) in
+        subst (λ (p : Past). value_of (Index i index) p ≡ None) c.tells (none_of (value_of (Index i index) (schedule.record_of h)) (reserves_of i index (schedule.record_of h)) z m)

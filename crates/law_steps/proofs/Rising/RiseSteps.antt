@@ -13,6 +13,7 @@ use Rattle.law_scans.specs.inv.model.Phases.ProtectAt.{LoadClock, PublishEra, Ch
 use Rattle.law_scans.specs.inv.model.Phases.Base.{Protect}
 use Rattle.law_scans.specs.inv.model.Posts.{counted, upper}
 use Rattle.law_scans.specs.inv.model.World.{World, step, finds}
+use Rattle.law_scans.specs.inv.model.words.Schemes.{publishes_rows}
 use Rattle.law_scans.specs.inv.shapes.Eras.{SpanIn, PhaseEras}
 use Rattle.law_scans.specs.inv.requests.Deals.{is_quiet}
 use Rattle.law_scans.specs.inv.requests.Roles.{shows, publishes}
@@ -79,28 +80,28 @@ later_era value era found h m e = by (value == 0) refl
     by true z = refl
     by false z = grind (arith, nat_tests)
 
-pub own_protect : (w : World) (i : ℕ) (v : View) (z : Asked) (why : Why) (aim : Aim) (index : ℕ) (root : Root) (n : ℕ) (at : ProtectAt) → HandoverNeeds w i v z → (w.seat i).post.seat ≡ i → Requests w z → PhaseEras w.layout (w.mem Clock) (w.seat i).post (w.seat i).phase → SpanIn (w.mem Clock) (w.seat i).post.span
+pub own_protect : (w : World) (i : ℕ) (v : View) (z : Asked) (why : Why) (aim : Aim) (index : ℕ) (root : Root) (n : ℕ) (at : ProtectAt) → publishes_rows w.layout.config.scheme ≡ false → HandoverNeeds w i v z → (w.seat i).post.seat ≡ i → Requests w z → PhaseEras w.layout (w.mem Clock) (w.seat i).post (w.seat i).phase → SpanIn (w.mem Clock) (w.seat i).post.span
     → ((tries : Tries) → at ≡ LoadClock tries → eras_shown w (Index i index) ≡ None) → (w.seat i).phase ≡ Runs why (Protect aim index root n at) → SeatRisen w i
     → protect_raises (λ (j : ℕ). eras_shown (step w i) (Index i j)) (eras_shown (step w i) (Helper i)) (counted (w.seat i).post) index at (finds w i)
-own_protect w i v z why aim index root n (LoadClock tries) needs s r c span f q h =
+own_protect w i v z why aim index root n (LoadClock tries) y needs s r c span f q h =
     let p : Phase = Runs why (Protect aim index root n (LoadClock tries)) in
     no_hand w i v z i index needs (fit_of w z i p r q) (index_stays w i i index p s q (no_store (i == i))) ∙ f tries refl
   where
     no_store : (b : Bool) → (b && false) ≡ false
     no_store true = refl
     no_store false = refl
-own_protect w i v z why aim index root n (CheckClock era tries link) needs s r c span f q h = λ e.
+own_protect w i v z why aim index root n (CheckClock era tries link) y needs s r c span f q h = λ e.
     let p : Phase = Runs why (Protect aim index root n (CheckClock era tries link)) in
     let o : (z.era i index == era) ≡ true = subst (λ (x : Role). publishes x (z.era i) ≡ true) (stands_as w z i p r q) (r.parts.published i) in
     let m = subst (λ (x : Phase). PhaseEras w.layout (w.mem Clock) (w.seat i).post x) q c in
     let k : finds w i ≡ w.mem Clock = finds_at w i p q in
-    let t = no_hand w i v z i index needs (fit_of w z i p r q) (index_stays w i i index p s q (no_store (i == i))) ∙ index_shows w i v z i index needs in
+    let t = no_hand w i v z i index needs (fit_of w z i p r q) (index_stays w i i index p s q (no_store (i == i))) ∙ index_shows w i v z i index needs y in
     subst (λ (x : Option Interval). era_under x (finds w i) ≡ true) (sym t) (later_era (z.era i index) era (finds w i) o (subst (λ (x : ℕ). era ≤ x) (sym k) m.most) e)
   where
     no_store : (b : Bool) → (b && false) ≡ false
     no_store true = refl
     no_store false = refl
-own_protect w i v z why aim index root n (CheckOwnClock first era last link) needs s r c span f q h =
+own_protect w i v z why aim index root n (CheckOwnClock first era last link) y needs s r c span f q h =
     let p : Phase = Runs why (Protect aim index root n (CheckOwnClock first era last link)) in
     let o : (z.helper i == era) ≡ true = subst (λ (x : Role). shows x (z.helper i) ≡ true) (stands_as w z i p r q) (r.parts.shown i) in
     let m = subst (λ (x : Phase). PhaseEras w.layout (w.mem Clock) (w.seat i).post x) q c in
@@ -110,7 +111,7 @@ own_protect w i v z why aim index root n (CheckOwnClock first era last link) nee
     no_store : (b : Bool) → (b && false) ≡ false
     no_store true = refl
     no_store false = refl
-own_protect w i v z why aim index root n (AnswerOwn first era link) needs s r c span f q h =
+own_protect w i v z why aim index root n (AnswerOwn first era link) y needs s r c span f q h =
     let p : Phase = Runs why (Protect aim index root n (AnswerOwn first era link)) in
     let o : (z.helper i == era) ≡ true = subst (λ (x : Role). shows x (z.helper i) ≡ true) (stands_as w z i p r q) (r.parts.shown i) in
     let m = subst (λ (x : Phase). PhaseEras w.layout (w.mem Clock) (w.seat i).post x) q c in
@@ -120,7 +121,7 @@ own_protect w i v z why aim index root n (AnswerOwn first era link) needs s r c 
     no_store : (b : Bool) → (b && false) ≡ false
     no_store true = refl
     no_store false = refl
-own_protect w i v z why aim index root n (LoadAnswer first) needs s r c span f q h =
+own_protect w i v z why aim index root n (LoadAnswer first) y needs s r c span f q h =
     let p : Phase = Runs why (Protect aim index root n (LoadAnswer first)) in
     let o : is_some (eras_shown w (Helper i)) ≡ true = subst (PhaseRisen (λ (j : ℕ). eras_shown w (Index i j)) (eras_shown w (Helper i)) (w.seat i).post) q h in
     subst (λ (x : Option Interval). is_some x ≡ true) (sym (helper_stays w i i p s q (no_store (i == i)))) o
@@ -128,9 +129,9 @@ own_protect w i v z why aim index root n (LoadAnswer first) needs s r c span f q
     no_store : (b : Bool) → (b && false) ≡ false
     no_store true = refl
     no_store false = refl
-own_protect w i v z why aim index root n (CheckUpper link) needs s r c span f q h = λ e. raised (w.seat i).post.span (w.mem Clock) (finds w i) span (finds_at w i (Runs why (Protect aim index root n (CheckUpper link))) q) e
+own_protect w i v z why aim index root n (CheckUpper link) y needs s r c span f q h = λ e. raised (w.seat i).post.span (w.mem Clock) (finds w i) span (finds_at w i (Runs why (Protect aim index root n (CheckUpper link))) q) e
   where
     raised : (x : Option Interval) (clock found : ℕ) → SpanIn clock x → found ≡ clock → (found == upper x) ≡ false → upper x < found
     raised None clock found s e n = grind (arith, nat_tests)
     raised (Some x) clock found s e n = let m = s.2 in grind (arith, nat_tests)
-own_protect w i v z why aim index root n at needs s r c span f q h = tt
+own_protect w i v z why aim index root n at y needs s r c span f q h = tt

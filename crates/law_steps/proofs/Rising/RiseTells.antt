@@ -19,9 +19,9 @@ use Rattle.law_scans.specs.inv.model.Phases.BeginAt.{LoadLower, PublishSpan}
 use Rattle.law_scans.specs.inv.model.Phases.ProtectAt.{PublishEra, PublishHelper, TakeAnswer, WithdrawHelper, RaiseUpper}
 use Rattle.law_scans.specs.inv.model.Phases.MoveAt.{ShowEra, HandOver, HideEra, HideLate}
 use Rattle.law_scans.specs.inv.model.Phases.Base.{Begin, Protect, Clear, Finish, Release, Move}
-use Rattle.law_scans.specs.inv.model.Posts.{stands, cleared, cleared_from, lower, upper, reserves_helper, reserves_index, reserves_span}
+use Rattle.law_scans.specs.inv.model.Posts.{stands, cleared, cleared_from, lower, upper, publishes_index, reserves_helper, reserves_span}
 use Rattle.law_scans.specs.inv.model.Calls.{Work, Getting, Changing, Enqueuing, Dequeuing, Keeping, Loosens, LoadHeld, StoreHeld, Looks, Misses, HideSpan, MarkLeft, TakeList, MarkTaken}
-use Rattle.law_scans.specs.inv.model.words.Schemes.{has_one_interval}
+use Rattle.law_scans.specs.inv.model.words.Schemes.{has_one_interval, publishes_rows}
 use Rattle.law_scans.specs.inv.model.words.declared.config.Config.{Config}
 use Rattle.law_scans.specs.inv.shapes.Slots.{WorkIn}
 use Rattle.law_scans.specs.inv.model.Protect as protects
@@ -192,6 +192,11 @@ move_leads i value at post found a = bare_leads i value (Move at) post found ref
 cleared_leads : (i : ℕ) (value : Guard → Option Interval) (index : ℕ) (x : Option ℕ) (guard : Guard) → is_flat (events.Reserve guard None) ≡ true → Leads i value (cleared index x ++ events.Reserve guard None ∷ [])
 cleared_leads i value index x guard h = flat_leads i value _ (of_along is_flat (cleared index x) (events.Reserve guard None ∷ []) (cleared_all is_flat index x (λ index slot. refl)) (both (is_flat (events.Reserve guard None)) true h refl))
 
+-- an index word is cleared: it publishes no era, or no row
+clear_leads : (i : ℕ) (value : Guard → Option Interval) (rows : Bool) (index : ℕ) (post : Post) → Leads i value (cleared index (stands post index) ++ publishes_index rows post index 0)
+clear_leads i value false index post = cleared_leads i value index (stands post index) (Index post.seat index) refl
+clear_leads i value true index post = flat_leads i value _ (of_along is_flat (cleared index (stands post index)) (publishes_index true post index 0) (cleared_all is_flat index (stands post index) (λ index slot. refl)) refl)
+
 -- what a machine's step needs
 abbrev pub base_stands : (helper : Option Interval) → Base → Post → Type 0
 base_stands helper (Begin at) post = post.span ≡ None
@@ -204,7 +209,7 @@ pub base_leads : (i : ℕ) (value : Guard → Option Interval) (base : Base) (po
 base_leads i value (Begin LoadLower) post found s k f = tt
 base_leads i value (Begin (PublishSpan era)) post found s k f = (begun_grows (value (Whole post.seat)) era (whole_value i value post s ∙ k), refl)
 base_leads i value (Protect aim index root made at) post found s k f = protect_leads i value aim index root made at post found s k (f aim index root made at refl)
-base_leads i value (Clear index) post found s k f = cleared_leads i value index (stands post index) (Index post.seat index) refl
+base_leads i value (Clear rows index) post found s k f = clear_leads i value rows index post
 base_leads i value Finish post found s k f = flat_leads i value (machine.after Finish post found).told refl
 base_leads i value (Release index) post found s k f = cleared_leads i value index (stands post index) (Whole post.seat) refl
 base_leads i value (Move at) post found s k f = move_leads i value at post found k
@@ -217,6 +222,10 @@ era_flat seat index era h = by (era == 0)
     by : (none : Bool) → is_flat (events.Reserve (Index seat index) (if none then None else from_to era era)) ≡ true
     by true = refl
     by false = h
+
+number_flat : (rows : Bool) (post : Post) (index number : ℕ) → nat_lt 2 index ≡ true → all_of is_flat (publishes_index rows post index number) ≡ true
+number_flat false post index number h = both (is_flat (events.Reserve (Index post.seat index) (one_era number))) true (era_flat post.seat index number h) refl
+number_flat true post index number h = refl
 
 copied_flat : (from index : ℕ) (post : Post) (reserved : List Event) (x : Option ℕ) → all_of is_flat reserved ≡ true → all_of is_flat (copied_told from index post reserved x) ≡ true
 copied_flat from index post reserved None h = refl
@@ -239,7 +248,7 @@ work_flat config (Keeping (StoreHeld from index era)) post k =
     let low : 2 ≤ from = k.kept in
     let up : from < index = k.rises in
     let high : nat_lt 2 index ≡ true = grind (arith, nat_tests) in
-    copied_flat from index post (reserves_index post index era) (stands post from) (both (is_flat (events.Reserve (Index post.seat index) (one_era era))) true (era_flat post.seat index era high) refl)
+    copied_flat from index post (publishes_index (publishes_rows (scheme_of post)) post index era) (stands post from) (number_flat (publishes_rows (scheme_of post)) post index era high)
 work_flat config (Keeping (Looks index key at)) post k = refl
 work_flat config (Keeping (Misses index)) post k = refl
 work_flat config (Keeping HideSpan) post k =

@@ -1,11 +1,11 @@
 -- An era that is about to be published is later than what the index word publishes, and an interval is raised.
 use Rattle.std.proofs.Common.{ℕ, ◌≡◌, ◌<◌, ◌+◌, Bool, true, false, List, Option, Some, None, refl}
-use Rattle.std.specs.Prelude.{◌==◌, is_some, nat_le, nat_lt, if◌then◌else◌}
+use Rattle.std.specs.Prelude.{◌||◌, ◌==◌, is_some, nat_le, nat_lt, if◌then◌else◌}
 use Rattle.law_scans.specs.inv.model.words.Packed.{read_request}
 use Rattle.law_scans.specs.inv.model.words.Place.{is_valid}
 use Rattle.law_scans.specs.inv.model.words.declared.config.Config.{Config}
 use Rattle.law_scans.specs.inv.model.words.declared.config.SchemeKind.{SchemeKind}
-use Rattle.law_scans.specs.inv.model.words.declared.config.SchemeKind.TheVariants.{He, Ibr, Wfe}
+use Rattle.law_scans.specs.inv.model.words.declared.config.SchemeKind.TheVariants.{He, Ibr, Wfe, Hp}
 use Rattle.law_scans.specs.inv.model.words.declared.layout.Layout.{Layout}
 use Rattle.law_scans.specs.inv.model.words.declared.packed.Request.{Request}
 use Rattle.law_scans.specs.inv.model.words.declared.packed.Request.TheVariants as requests
@@ -19,7 +19,8 @@ use Rattle.law_scans.specs.inv.model.Machine as machine
 use Rattle.law_scans.specs.inv.model.Memory.{bump}
 use Rattle.law_scans.specs.inv.model.Phases.{Aim, Alone, Follows, Tries, Endless, Failed, ProtectAt, Walk, Base, Turn, Outcome, Goes, Ends}
 use Rattle.law_scans.specs.inv.model.Phases.BeginAt.{LoadLower}
-use Rattle.law_scans.specs.inv.model.Phases.ProtectAt.{LoadClock, PublishEra, LoadLink, CheckClock, PublishRequest, CheckOwnClock, AnswerOwn, LoadAnswer, TakeAnswer, WithdrawHelper, CheckUpper, RaiseUpper}
+use Rattle.law_scans.specs.inv.model.Phases.HazardAt.{FirstLink, PublishLink, CheckLink}
+use Rattle.law_scans.specs.inv.model.Phases.ProtectAt.{ByHazard, LoadClock, PublishEra, LoadLink, CheckClock, PublishRequest, CheckOwnClock, AnswerOwn, LoadAnswer, TakeAnswer, WithdrawHelper, CheckUpper, RaiseUpper}
 use Rattle.law_scans.specs.inv.model.Phases.AllocateAt.{ClaimSlot}
 use Rattle.law_scans.specs.inv.model.Phases.RetireAt.{LoadLife}
 use Rattle.law_scans.specs.inv.model.Phases.Base.{Begin, Protect, Reload, Allocate, Write, Retire, Move}
@@ -121,6 +122,11 @@ protect_on values helper aim index root n (LoadAnswer first) post found h = answ
 protect_on values helper aim index root n (WithdrawHelper link era) post found h = concluded_risen values helper aim index root n link era post (reserves_helper post 0)
 protect_on values helper aim index root n (CheckUpper link) post found h =
     risen_if values helper _ _ (found == upper post.span) (concluded_risen values helper aim index root n link found (protects.held_post post index root link) (protects.told_held index root link n)) h
+protect_on values helper aim index root n (ByHazard FirstLink) post found h =
+    risen_if values helper _ _ (found == 0) (concluded_risen values helper aim index root n found 0 (protects.held_post post index root found) (protects.told_held index root found n)) (λ e. tt)
+protect_on values helper aim index root n (ByHazard (PublishLink link)) post found h = tt
+protect_on values helper aim index root n (ByHazard (CheckLink link)) post found h =
+    risen_if values helper _ _ (found == link || found == 0) (concluded_risen values helper aim index root n found 0 (protects.held_post post index root found) (protects.told_held index root found n)) (λ e. tt)
 protect_on values helper aim index root n at post found h = tt
 
 moves_risen : (values : ℕ → Option Interval) (helper : Option Interval) (post : Post) (outcome : Outcome) → out_moves outcome ≡ true → OutRisen values helper post outcome
@@ -147,6 +153,7 @@ opened_risen : (values : ℕ → Option Interval) (helper : Option Interval) (po
 opened_risen values helper post index He = tt
 opened_risen values helper post index Ibr = tt
 opened_risen values helper post index Wfe = tt
+opened_risen values helper post index Hp = tt
 
 pub risen_grows : (layout : Layout) (k : ℕ) (values : ℕ → Option Interval) (helper : Option Interval) → is_valid layout ≡ true → Grows (PostFits layout k) (PhaseRisen values helper)
 risen_grows layout k values helper v = let g = shape_grows layout k v in record {
@@ -164,7 +171,7 @@ risen_grows layout k values helper v = let g = shape_grows layout k v in record 
   finishes = λ post task next s e q. tt;
   gives_up = λ post answer slot q. tt;
   retires = λ post answer slot q. tt;
-  tidies = λ post later q. tt;
+  tidies = λ post later m q. tt;
   advances = λ post q. tt;
   clears_kept = λ post let_go n q. tt;
   releases = λ post let_go a b q. tt;

@@ -22,7 +22,7 @@ use Rattle.law_reuse.specs.laws.StateAt.{reserves_of}
 use Rattle.law_reuse.specs.laws.HistoryTurns.{turns_since, number_right, event_right, events_right, numbers_right}
 use Rattle.law_turns.specs.Records.{ProtectionsEnd}
 use Rattle.law_turns.proofs.Counting.Counting.{protections_count}
-use Rattle.law_reuse.proofs.inv.steps_left.Rest.Falling.{wfe_plain}
+use Rattle.law_reuse.proofs.inv.model.words.Schemes.{helps_eras}
 
 -- the entries of a turn
 few_told : (tries i : ℕ) (told : List Event) (p : Past) → Each (steps_ok tries) (tells_of p i told) → (all_of (few_steps tries) told ≡ true) × Each (steps_ok tries) p
@@ -61,4 +61,4 @@ pub protections_end : ProtectionsEnd
 protections_end layout items d f =
     let c : IsCounted layout items = histories_count layout items d in
     let few : Each (steps_ok layout.config.tries) (histories.record_of layout items) = each_of_entries (steps_ok layout.config.tries) (histories.record_of layout items) (records_keep_steps layout items d f) in
-    each_bounded layout.config.tries (heard_of layout items) (protections_count layout items d (wfe_plain layout.config.scheme f)) (subst (λ (p : Past). Each (steps_ok layout.config.tries) p) (sym c.tells) few)
+    each_bounded layout.config.tries (heard_of layout items) (protections_count layout items d (helps_eras layout.config.scheme f)) (subst (λ (p : Past). Each (steps_ok layout.config.tries) p) (sym c.tells) few)

@@ -1,15 +1,15 @@
--- What a seat has published where it stands, under Hazard Eras and Wait-Free Eras: nothing at the indexes that are free, and within
+-- What a seat has published where it stands, where each index word publishes by itself: nothing at the indexes that are free, and within
 -- a protection as many turns ago as the protection has made steps since. What comes after a machine keeps that.
 use Rattle.std.proofs.Common.{ℕ, ◌≡◌, ◌≢◌, ◌≤◌, ◌<◌, ◌+◌, ◌-◌, Bool, true, false, List, [], ◌∷◌, ◌++◌, drop, length, Option, Some, None, refl, sym, ◌∙◌, subst, arith}
 use Rattle.std.proofs.lemmas.Bool.Decides.{nat_tests}
 use Rattle.std.specs.Prelude.{◌==◌, ◌&&◌, ◌||◌, ◌*◌, ◌%◌, not, nat_le, nat_lt, is_none, is_some, if◌then◌else◌}
 use Rattle.law_reuse.specs.laws.words.declared.config.SchemeKind.{SchemeKind}
-use Rattle.law_reuse.specs.laws.words.declared.config.SchemeKind.TheVariants.{He, Ibr, Wfe}
+use Rattle.law_reuse.specs.laws.words.declared.config.SchemeKind.TheVariants.{He, Hp, Ibr, Wfe}
 use Rattle.law_reuse.specs.laws.defs.declared.call.Answer.{Answer}
 use Rattle.law_reuse.specs.laws.defs.declared.call.Answer.TheVariants as the_answers
 use Rattle.law_reuse.specs.laws.defs.declared.call.Call.{Call}
 use Rattle.law_reuse.specs.laws.defs.declared.call.Call.TheVariants as names
-use Rattle.law_reuse.specs.laws.defs.declared.call.ClockMove.TheVariants as moves
+use Rattle.law_reuse.specs.laws.defs.declared.call.ClockMove.TheVariants as clock_moves
 use Rattle.law_reuse.specs.laws.defs.declared.event.Event.{Event}
 use Rattle.law_reuse.specs.laws.defs.declared.event.Event.TheVariants as events
 use Rattle.law_reuse.specs.laws.defs.declared.event.Root.{Root}
@@ -25,19 +25,19 @@ use Rattle.law_reuse.specs.inv.model.Dequeue as dequeues
 use Rattle.law_reuse.specs.inv.model.Desks.{Desk, with_life}
 use Rattle.law_reuse.specs.inv.model.Enqueue as enqueues
 use Rattle.law_reuse.specs.inv.model.Get as gets
-use Rattle.law_reuse.specs.inv.model.Guards.{guards, guard_at, eras_in, one_era, published}
+use Rattle.law_reuse.specs.inv.model.Guards.{guards, guard_at, published}
 use Rattle.law_reuse.specs.inv.model.Keep as keeps
-use Rattle.law_reuse.specs.inv.model.Posts.{reserves_index, standing_from, stands, with_row}
-use Rattle.law_reuse.specs.laws.StateAt.{one_more}
-use Rattle.law_reuse.specs.inv.model.Rounds.{scheme_of, bucket_of, index_of, root_of, taken_of, begin_base, protect_base, let_index, letting, letting_by, release_base, clear_base, finish_base, opening, round_by, round, given_up, closed, finishing_by, finishing, clearing_by, clearing, clearing_next_by, clearing_next}
+use Rattle.law_reuse.specs.inv.model.Posts.{publishes_index, standing_from, stands, with_row}
+use Rattle.law_reuse.specs.inv.model.Rounds.{scheme_of, bucket_of, index_of, root_of, taken_of, begin_base, protect_base, let_index, letting, letting_by, release_base, clear_base, finish_base, opening, tidy_by, round_by, round, given_up, closed, finishing_by, finishing, clearing_by, clearing, clearing_next_by, clearing_next}
 use Rattle.law_reuse.specs.inv.model.Scan as scan
 use Rattle.law_reuse.specs.inv.model.Steps as steps
-use Rattle.law_reuse.specs.inv.model.Phases.{Tries, Endless, Failed, ProtectAt, Base, Ending, Outcome, Goes, Ends}
-use Rattle.law_reuse.specs.inv.model.Phases.ProtectAt.{LoadClock, PublishEra, LoadLink, CheckClock, PublishRequest, LoadOwnClock, PublishHelper, LoadOwnLink, CheckOwnClock, AnswerOwn, LoadAnswer, TakeAnswer, WithdrawRequest, WithdrawHelper, LoadWithin, CheckUpper, RaiseUpper}
+use Rattle.law_reuse.specs.inv.model.Phases.{Tries, Endless, Failed, HazardAt, ProtectAt, Base, Ending, Outcome, Goes, Ends}
+use Rattle.law_reuse.specs.inv.model.Phases.ProtectAt.{LoadClock, PublishEra, LoadLink, CheckClock, PublishRequest, LoadOwnClock, PublishHelper, LoadOwnLink, CheckOwnClock, AnswerOwn, LoadAnswer, TakeAnswer, WithdrawRequest, WithdrawHelper, LoadWithin, CheckUpper, RaiseUpper, ByHazard}
+use Rattle.law_reuse.specs.inv.model.Phases.HazardAt.{FirstLink, PublishLink, CheckLink}
 use Rattle.law_reuse.specs.inv.model.Phases.Base.{Protect, Reload}
 use Rattle.law_reuse.specs.inv.model.Phases.Ending.{Done, Protected, Followed, Allocated, Retired, Clocked}
 use Rattle.law_reuse.specs.inv.model.Calls.{Task, Gets, Changes, Holds, Enqueues, Dequeues, Next, Again, MakeRoom, Answering, Retiring, AfterScan, Answered, Repeated, Counted, ChangeKept, EnqueueKept, GetAt, FindVersion, FindCount, FindKey, FindValue, ChangeAt, LoadVersion, LoadCount, LoadKey, LoadValue, ExchangeRoot, EnqueueAt, LoadNumber, LoadNext, PassTail, ExchangeNext, ExchangeTail, DequeueAt, LoadTail, SwingTail, TakeNumber, TakeValue, ExchangeHead, Work, Getting, Changing, Enqueuing, Dequeuing, Keeping, KeepAt, Loosens, LoadHeld, StoreHeld, Looks, Misses, HideSpan, MarkLeft, TakeList, MarkTaken, LetGo, Released, Rehold, Dropped, Parting, ScanAt, ReadGuard, GiveBack, Why, Opens, FollowsHead, Fills, ClearsNext, Clears, Finishes, GivesUp, Retires, Tidies, Advances, Releases, Phase, Idle, Runs, Scans, Works, CallTurn}
-use Rattle.law_reuse.specs.laws.words.Schemes.{has_one_interval, is_ibr, is_he}
+use Rattle.law_reuse.specs.laws.words.Schemes.{has_one_interval, is_ibr, is_he, moves, publishes_rows}
 use Rattle.law_reuse.specs.laws.defs.declared.fold.Change.TheVariants as changes
 use Rattle.law_reuse.proofs.laws.records.defs.Facts.{false_not_true}
 use Rattle.law_reuse.proofs.inv.model.Standing.{stands-with_row_same, stands-with_row_other}
@@ -129,6 +129,12 @@ abbrev pub tried : Tries → (endless : Bool) → Bool
 tried Endless endless = endless
 tried (Failed count) endless = true
 
+-- hazard pointers: two steps a row that was published
+abbrev pub hazard_paced : HazardAt → (steps published turns : ℕ) → Bool
+hazard_paced FirstLink steps published turns = published == 0 && steps == 0
+hazard_paced (PublishLink link) steps published turns = (if published == 0 then steps == 1 else steps == turns + 1) && (steps == 2 * published + 1 && not (link == 0))
+hazard_paced (CheckLink link) steps published turns = since steps published turns && steps == 2 * published
+
 abbrev pub paced : ProtectAt → (steps published turns : ℕ) → Bool
 paced (LoadClock tries) steps published turns = published == 0 && steps == 0
 paced (PublishEra era tries) steps published turns = (if published == 0 then steps == 1 else steps == turns + 1) && tried tries (steps == 3 * published + 1)
@@ -147,6 +153,7 @@ paced (WithdrawHelper link era) steps published turns = since steps published tu
 paced LoadWithin steps published turns = true
 paced (CheckUpper link) steps published turns = true
 paced (RaiseUpper era) steps published turns = true
+paced (ByHazard at) steps published turns = hazard_paced at steps published turns
 
 -- once an answer with a link was taken at index 2, a row stands there
 abbrev pub stands_taken : (index link : ℕ) → Option ℕ → Bool
@@ -157,9 +164,13 @@ taken index (WithdrawRequest link era) stood = stands_taken index link stood
 taken index (WithdrawHelper link era) stood = stands_taken index link stood
 taken index at stood = true
 
+-- the steps of a protection whose row is followed
+abbrev pub reload_paced : SchemeKind → (steps published : ℕ) → Bool
+reload_paced scheme steps published = (not (is_he scheme) || steps == 3 * published + 1) && (not (publishes_rows scheme) || steps == 2 * published + 1)
+
 abbrev pub base_own : (x u : ℕ → ℕ) → Post → Base → Bool
 base_own x u post (Protect aim index root steps at) = paced at steps (x index) (u index) && (nat_le steps post.steps && taken index at (stands post 2))
-base_own x u post (Reload parent index slot era steps) = since steps (x index) (u index) && (nat_le steps post.steps && (not (is_he (scheme_of post)) || steps == 3 * x index + 1))
+base_own x u post (Reload parent index slot era steps) = since steps (x index) (u index) && (nat_le steps post.steps && reload_paced (scheme_of post) steps (x index))
 base_own x u post base = true
 
 abbrev pub own : (x u : ℕ → ℕ) → Post → Phase → Bool
@@ -186,6 +197,9 @@ opening_at task root post He n c =
     let z = c.free (index_of task) (bare_own task (index_of task) (grind (arith, nat_tests))) in
     record { clean = used (holds_task task) (fewer c (λ j e. beside_bare task j e)); own = rw z (grind (arith, nat_tests)) }
 opening_at task root post Ibr n c = absurd (cc)
+opening_at task root post Hp n c =
+    let z = c.free (index_of task) (bare_own task (index_of task) (grind (arith, nat_tests))) in
+    record { clean = used (holds_task task) (fewer c (λ j e. beside_bare task j e)); own = rw z (grind (arith, nat_tests)) }
 opening_at task root post Wfe n c =
     let z = c.free (index_of task) (bare_own task (index_of task) (grind (arith, nat_tests))) in
     record { clean = used (holds_task task) (fewer c (λ j e. beside_bare task j e)); own = rw z (grind (arith, nat_tests)) }
@@ -196,6 +210,7 @@ opening_fits task post c = opening_at task (root_of task post) post (scheme_of p
 round_at : {x u : ℕ → ℕ} (task : Task) (post : Post) (scheme : SchemeKind) → is_ibr scheme ≡ false → Clean x post (bare task) unused → Fits x u post (round_by task post (begin_base scheme post))
 round_at task post He n c = opening_fits task post c
 round_at task post Ibr n c = absurd (cc)
+round_at task post Hp n c = opening_fits task post c
 round_at task post Wfe n c = opening_fits task post c
 
 pub round_fits : {x u : ℕ → ℕ} (task : Task) (post : Post) → Clean x post (bare task) unused → Fits x u post (round task post)
@@ -205,15 +220,21 @@ given_up_fits : {x u : ℕ → ℕ} (answer : Answer) (post : Post) (desk : Desk
 given_up_fits answer post desk told None c = record { clean = c; own = refl }
 given_up_fits answer post desk told (Some slot) c = record { clean = c; own = refl }
 
+-- a list is tidied
+tidy_fits : {x u : ℕ → ℕ} (later : AfterScan) (post : Post) (moving : Bool) → Clean x post (vacant_later later) unused → Fits x u post (tidy_by moving later post)
+tidy_fits later post true c = record { clean = c; own = refl }
+tidy_fits later post false c = record { clean = c; own = refl }
+
 closed_fits : {x u : ℕ → ℕ} (task : Task) (next : Next) (post : Post) (desk : Desk) (told : List Event) → Clean x post (bare task) unused → Left x u (closed task next post desk told)
 closed_fits task Again post desk told c = round_fits task post c
-closed_fits task MakeRoom post desk told c = record { clean = c; own = refl }
+closed_fits task MakeRoom post desk told c = tidy_fits (Repeated task) post (moves (scheme_of post)) c
 closed_fits task (Answering answer) post desk told c = given_up_fits answer post desk told (taken_of task) (fewer c (λ j e. spare_bare task j e))
 closed_fits task (Retiring slot answer) post desk told c = record { clean = fewer c (λ j e. spare_bare task j e); own = refl }
 
 finishing_at : {x u : ℕ → ℕ} (task : Task) (next : Next) (post : Post) (desk : Desk) (told : List Event) (scheme : SchemeKind) → is_ibr scheme ≡ false → Clean x post (bare task) unused → Left x u (finishing_by task next post desk told (finish_base scheme post))
 finishing_at task next post desk told He n c = closed_fits task next post desk told c
 finishing_at task next post desk told Ibr n c = absurd (cc)
+finishing_at task next post desk told Hp n c = closed_fits task next post desk told c
 finishing_at task next post desk told Wfe n c = closed_fits task next post desk told c
 
 finishing_fits : {x u : ℕ → ℕ} (task : Task) (next : Next) (post : Post) (desk : Desk) (told : List Event) → Clean x post (bare task) unused → Left x u (finishing task next post desk told)
@@ -225,6 +246,7 @@ finishing_fits task (Retiring slot answer) post desk told c = finishing_at task 
 clearing_at : {x u : ℕ → ℕ} (task : Task) (next : Next) (post : Post) (desk : Desk) (told : List Event) (scheme : SchemeKind) → is_ibr scheme ≡ false → Clean x post (beside task) (holds_task task) → Left x u (clearing_by task next post desk told (clear_base scheme (index_of task)))
 clearing_at task next post desk told He n c = record { clean = c; own = refl }
 clearing_at task next post desk told Ibr n c = absurd (cc)
+clearing_at task next post desk told Hp n c = record { clean = c; own = refl }
 clearing_at task next post desk told Wfe n c = record { clean = c; own = refl }
 
 clearing_fits : {x u : ℕ → ℕ} (task : Task) (next : Next) (post : Post) (desk : Desk) (told : List Event) → Clean x post (beside task) (holds_task task) → Left x u (clearing task next post desk told)
@@ -233,6 +255,7 @@ clearing_fits task next post desk told c = clearing_at task next post desk told 
 clearing_next_at : {x u : ℕ → ℕ} (next : Next) (post : Post) (desk : Desk) (told : List Event) (scheme : SchemeKind) → is_ibr scheme ≡ false → Clean x post deep unused → Left x u (clearing_next_by next post desk told (clear_base scheme 1))
 clearing_next_at next post desk told He n c = record { clean = c; own = refl }
 clearing_next_at next post desk told Ibr n c = absurd (cc)
+clearing_next_at next post desk told Hp n c = record { clean = c; own = refl }
 clearing_next_at next post desk told Wfe n c = record { clean = c; own = refl }
 
 clearing_next_fits : {x u : ℕ → ℕ} (next : Next) (post : Post) (desk : Desk) (told : List Event) → Clean x post deep unused → Left x u (clearing_next next post desk told)
@@ -308,10 +331,11 @@ enqueue_fits kept (ExchangeTail slot) post desk found c = clearing_fits (Enqueue
 follow_at : {x u : ℕ → ℕ} (head tail : ℕ) (post : Post) (scheme : SchemeKind) → is_ibr scheme ≡ false → Clean x post within unused → Fits x u post (Runs (FollowsHead head tail) (dequeues.follow_base scheme head))
 follow_at head tail post He n c = let z = c.free 1 refl in record { clean = fewer c (λ j e. grind (arith, nat_tests)); own = rw z (grind (arith, nat_tests)) }
 follow_at head tail post Ibr n c = absurd (cc)
+follow_at head tail post Hp n c = let z = c.free 1 refl in record { clean = fewer c (λ j e. grind (arith, nat_tests)); own = rw z (grind (arith, nat_tests)) }
 follow_at head tail post Wfe n c = let z = c.free 1 refl in record { clean = fewer c (λ j e. grind (arith, nat_tests)); own = rw z (grind (arith, nat_tests)) }
 
 taken_fits : {x u : ℕ → ℕ} (head next number value : ℕ) (post : Post) (desk : Desk) (same : Bool) → Clean x post deep unused → Left x u (dequeues.taken head next number value post desk same)
-taken_fits head next number value post desk true c = clearing_next_fits (Retiring head (the_answers.Taken number value moves.Still)) post desk (events.Link roots.Head next ∷ events.Cut head ∷ events.Taken number value ∷ []) c
+taken_fits head next number value post desk true c = clearing_next_fits (Retiring head (the_answers.Taken number value clock_moves.Still)) post desk (events.Link roots.Head next ∷ events.Cut head ∷ events.Taken number value ∷ []) c
 taken_fits head next number value post desk false c = clearing_next_fits Again post desk [] c
 
 dequeue_fits : {x u : ℕ → ℕ} (at : DequeueAt) (post : Post) (desk : Desk) (found : ℕ) → Clean x post (vacant_work (Dequeuing at)) unused → Left x u (dequeues.dequeue_turn at post desk found)
@@ -321,9 +345,13 @@ dequeue_fits (TakeNumber head next) post desk found c = record { clean = c; own 
 dequeue_fits (TakeValue head next number) post desk found c = record { clean = c; own = refl }
 dequeue_fits (ExchangeHead head next number value) post desk found c = taken_fits head next number value post desk (found == head + 1) c
 
--- what a step of a call's own makes of what the seat has published at its index word j: a copy publishes an era
+-- what a copy makes of what was published: era 0, and the null link, publish nothing
+abbrev pub copied_x : (number n : ℕ) → ℕ
+copied_x number n = if number == 0 then 0 else n + 1
+
+-- what a step of a call's own makes of what the seat has published at its index word j: a copy publishes an era, or a row
 abbrev pub work_x : Work → ℕ → ℕ → ℕ
-work_x (Keeping (StoreHeld from index era)) j n = if index == j then one_more (one_era era) n else n
+work_x (Keeping (StoreHeld from index number)) j n = if index == j then copied_x number n else n
 work_x work j n = n
 
 -- a copy goes to an index from 2 on, of the eight
@@ -346,7 +374,7 @@ look_fits index key (FindKey slot version count pair) post desk found c = looked
 look_fits index key (FindValue slot version pair) post desk found c = record { clean = c; own = refl }
 
 -- what is copied stands at the other index from here on
-copied_clean : {x : ℕ → ℕ} (index slot era : ℕ) (post : Post) → 2 ≤ index → index < length post.standing → Clean x post spare unused → Clean (λ j. if index == j then one_more (one_era era) (x j) else x j) (with_row post index slot) spare unused
+copied_clean : {x : ℕ → ℕ} (index slot era : ℕ) (post : Post) → 2 ≤ index → index < length post.standing → Clean x post spare unused → Clean (λ j. if index == j then copied_x era (x j) else x j) (with_row post index slot) spare unused
 copied_clean {x} index slot era post low room c = record {
   free = λ j e. let n : (index == j) ≡ false = apart j e in rw n (c.free j e);
   kept = λ j l e m. by j (index == j) refl l m;
@@ -356,14 +384,14 @@ copied_clean {x} index slot era post low room c = record {
     apart : (j : ℕ) → spare j ≡ true → (index == j) ≡ false
     apart j e = grind (arith, nat_tests)
 
-    by : (j : ℕ) (own : Bool) → (index == j) ≡ own → nat_lt j 2 ≡ false → stands (with_row post index slot) j ≡ None → (if own then one_more (one_era era) (x j) else x j) ≡ 0
+    by : (j : ℕ) (own : Bool) → (index == j) ≡ own → nat_lt j 2 ≡ false → stands (with_row post index slot) j ≡ None → (if own then copied_x era (x j) else x j) ≡ 0
     by j true e l m =
         let q : index ≡ j = grind (arith, nat_tests) in
         let h : stands (with_row post index slot) index ≡ None = subst (λ (k : ℕ). stands (with_row post index slot) k ≡ None) (sym q) m in
         absurd (let t = stands-with_row_same post index slot room in cc)
     by j false e l m = let q : j ≢ index = grind (arith, nat_tests) in c.kept j l refl (sym (stands-with_row_other post index slot j q) ∙ m)
 
-store_fits : {x u : ℕ → ℕ} (from index era : ℕ) (post : Post) (desk : Desk) (reserved : List Event) (o : Option ℕ) → is_some o ≡ true → 2 ≤ index → index < length post.standing → Clean x post spare unused → Left (λ j. if index == j then one_more (one_era era) (x j) else x j) u (keeps.copied from index post desk reserved o)
+store_fits : {x u : ℕ → ℕ} (from index era : ℕ) (post : Post) (desk : Desk) (reserved : List Event) (o : Option ℕ) → is_some o ≡ true → 2 ≤ index → index < length post.standing → Clean x post spare unused → Left (λ j. if index == j then copied_x era (x j) else x j) u (keeps.copied from index post desk reserved o)
 store_fits from index era post desk reserved None s low room c = absurd (cc)
 store_fits from index era post desk reserved (Some slot) s low room c = record { clean = copied_clean index slot era post low room c; own = refl }
 
@@ -378,7 +406,7 @@ taking_fits place post desk false found c = record { clean = c; own = refl }
 pub keep_fits : {x u : ℕ → ℕ} (at : KeepAt) (post : Post) (desk : Desk) (found : ℕ) → KeepFits post at → WorkRight (Keeping at) → length post.standing ≡ 8 → Clean x post spare unused → Left (λ j. work_x (Keeping at) j (x j)) u (keeps.keep_turn at post desk found)
 keep_fits (Loosens let_go) post desk found f r e c = absurd (false_not_true (is_ibr (scheme_of post)) c.plain f.interval)
 keep_fits (LoadHeld from index) post desk found f r e c = load_fits from index post desk found (has_one_interval (scheme_of post)) c.plain c
-keep_fits (StoreHeld from index era) post desk found f r e c = store_fits from index era post desk (reserves_index post index era) (stands post from) f.kept r.0 (rw e r.1) c
+keep_fits (StoreHeld from index era) post desk found f r e c = store_fits from index era post desk (publishes_index (publishes_rows (scheme_of post)) post index era) (stands post from) f.kept r.0 (rw e r.1) c
 keep_fits (Looks index key at) post desk found f r e c = look_fits index key at post desk found c
 keep_fits (Misses index) post desk found f r e c = record { clean = c; own = refl }
 keep_fits HideSpan post desk found f r e c = absurd (false_not_true (is_ibr (scheme_of post)) c.plain f.interval)
@@ -414,7 +442,7 @@ reading_on_fits later number post desk told false c = giving_fits later post des
 
 pub scan_fits : {x u : ℕ → ℕ} (later : AfterScan) (at : ScanAt) (post : Post) (desk : Desk) (found : ℕ) → Clean x post (vacant_later later) unused → Left x u (scan.scan_turn later at post desk found)
 scan_fits later (ReadGuard number) post desk found c =
-    reading_on_fits later number post (scan.with_read desk number (guard_at post.layout.config number, published (guard_at post.layout.config number) found)) (events.Read (guard_at post.layout.config number) (eras_in (guard_at post.layout.config number) found) ∷ []) (nat_lt (number + 1) (guards post.layout.config)) c
+    reading_on_fits later number post (scan.with_read desk number (guard_at post.layout.config number, published (publishes_rows post.layout.config.scheme) (guard_at post.layout.config number) found)) (scan.reads_guard (publishes_rows post.layout.config.scheme) (guard_at post.layout.config number) found ∷ []) (nat_lt (number + 1) (guards post.layout.config)) c
 scan_fits later (GiveBack place slot) post desk found c = giving_fits later post (scan.with_back desk place) (events.Back slot ∷ []) (scan.unmet_from (scan.with_back desk place) place) c
 
 -- what comes after a machine
@@ -466,7 +494,7 @@ followed_fits head tail follow_ends.NoNext post desk told c = clearing_next_fits
 followed_fits head tail (follow_ends.RootMoved seen) post desk told c = clearing_next_fits Again post desk told c
 
 tidying_fits : {x u : ℕ → ℕ} (answer : Answer) (post : Post) (desk : Desk) (told : List Event) (due : Bool) → Clean x post spare unused → Left x u (steps.tidying answer post desk told due)
-tidying_fits answer post desk told true c = record { clean = c; own = refl }
+tidying_fits answer post desk told true c = tidy_fits (Answered answer) post (moves (scheme_of post)) c
 tidying_fits answer post desk told false c = record { clean = c; own = refl }
 
 retired_fits : {x u : ℕ → ℕ} (answer : Answer) (ending : Ending) (post : Post) (desk : Desk) (told : List Event) → Clean x post spare unused → Left x u (steps.retired_by answer ending post desk told)
@@ -496,9 +524,9 @@ advanced_fits (Allocated end) post desk told c = record { clean = c; own = refl 
 advanced_fits (Retired life) post desk told c = record { clean = c; own = refl }
 
 -- a seat leaves: what stands next is let go
-parting_fits : {x u : ℕ → ℕ} (post : Post) (o : Option ℕ) → Clean x post spare unused → Fits x u post (keeps.parting_index o)
-parting_fits post None c = record { clean = c; own = refl }
-parting_fits post (Some index) c = record { clean = used (holds_why (Releases (Parting index))) c; own = refl }
+parting_fits : {x u : ℕ → ℕ} (post : Post) (rows : Bool) (o : Option ℕ) → Clean x post spare unused → Fits x u post (keeps.parting_index rows o)
+parting_fits post rows None c = record { clean = c; own = refl }
+parting_fits post rows (Some index) c = record { clean = used (holds_why (Releases (Parting index))) c; own = refl }
 
 -- the indexes that are free once something was let go
 abbrev pub free_released : LetGo → ℕ → Bool
@@ -511,7 +539,7 @@ released_fits : {x u : ℕ → ℕ} (let_go : LetGo) (post : Post) (desk : Desk)
 released_fits Released post desk told c = record { clean = c; own = refl }
 released_fits (Rehold key) post desk told c = round_fits (Holds key) post c
 released_fits (Dropped index) post desk told c = record { clean = c; own = refl }
-released_fits (Parting index) post desk told c = parting_fits post (standing_from (index + 1) (drop (index + 1) post.standing)) c
+released_fits (Parting index) post desk told c = parting_fits post (publishes_rows (scheme_of post)) (standing_from (index + 1) (drop (index + 1) post.standing)) c
 
 -- what has to hold where a machine has ended
 abbrev pub Opened : (x : ℕ → ℕ) → Post → Task → Ending → Type 0
@@ -579,6 +607,7 @@ resumed_fits why desk post told (Ends ending) c = resume_fits why ending post de
 letting_at : {x u : ℕ → ℕ} (let_go : LetGo) (post : Post) (scheme : SchemeKind) → is_ibr scheme ≡ false → Clean x post spare unused → Fits x u post (letting_by let_go (release_base scheme post (let_index let_go)))
 letting_at let_go post He n c = record { clean = used (holds_why (Releases let_go)) c; own = refl }
 letting_at let_go post Ibr n c = absurd (cc)
+letting_at let_go post Hp n c = record { clean = used (holds_why (Releases let_go)) c; own = refl }
 letting_at let_go post Wfe n c = record { clean = used (holds_why (Releases let_go)) c; own = refl }
 
 letting_fits : {x u : ℕ → ℕ} (let_go : LetGo) (post : Post) → Clean x post spare unused → Fits x u post (letting let_go post)
@@ -604,7 +633,7 @@ looking_at_fits index key post (Some slot) c = record { clean = c; own = refl }
 
 leaving_at : {x u : ℕ → ℕ} (post : Post) (one : Bool) → one ≡ false → Clean x post spare unused → Fits x u post (if one then keeps.parting_span post.span else keeps.parting_from 2 post)
 leaving_at post true n c = absurd (cc)
-leaving_at post false n c = parting_fits post (standing_from 2 (drop 2 post.standing)) c
+leaving_at post false n c = parting_fits post (publishes_rows (scheme_of post)) (standing_from 2 (drop 2 post.standing)) c
 
 leaving_fits : {x u : ℕ → ℕ} (post : Post) → Clean x post spare unused → Fits x u post (keeps.parting post)
 leaving_fits post c = leaving_at post (has_one_interval (scheme_of post)) c.plain c

@@ -1,5 +1,6 @@
 -- The steps of a protection: what its seat has published, and the turns since, go on with its steps.
 use Rattle.std.proofs.Common.{ℕ, ◌≡◌, ◌-◌, ◌+◌, Bool, true, false, List, [], ◌++◌, length, Option, None, refl, subst, arith, sym, ap, ◌∙◌}
+use Rattle.std.proofs.lemmas.Bool.Decides.{nat_tests}
 use Rattle.std.specs.Prelude.{◌==◌, ◌&&◌, ◌||◌, ◌*◌, not, nat_le, nat_lt, if◌then◌else◌}
 use Rattle.law_reuse.specs.laws.words.Packed.{read_request}
 use Rattle.law_reuse.specs.laws.defs.declared.event.Event.{Event}
@@ -9,23 +10,26 @@ use Rattle.law_reuse.specs.inv.model.declared.ends.ProtectEnd.TheVariants as pro
 use Rattle.law_reuse.specs.inv.model.declared.post.Post.{Post}
 use Rattle.law_reuse.specs.inv.model.Links.{parent_of}
 use Rattle.law_reuse.specs.inv.model.Machine as machine
-use Rattle.law_reuse.specs.inv.model.Posts.{stands, with_tag, tag_of, reserves_index, reserves_helper}
+use Rattle.law_reuse.specs.inv.model.Posts.{stands, with_tag, tag_of, publishes_index, reserves_index, reserves_helper}
 use Rattle.law_reuse.specs.inv.model.Protect.{failed_once, held_post, told_held, concluded, trying}
 use Rattle.law_reuse.specs.inv.model.Rounds.{scheme_of, index_of}
 use Rattle.law_reuse.specs.inv.model.SlowPath.{own_request, answer_in, lost_turn}
 use Rattle.law_reuse.specs.inv.model.Phases.{Aim, Alone, Follows, ProtectAt, Turn, goes, ends}
-use Rattle.law_reuse.specs.inv.model.Phases.ProtectAt.{LoadClock, PublishEra, LoadLink, CheckClock, PublishRequest, LoadOwnClock, PublishHelper, LoadOwnLink, CheckOwnClock, AnswerOwn, LoadAnswer, TakeAnswer, WithdrawRequest, WithdrawHelper, LoadWithin, CheckUpper, RaiseUpper}
+use Rattle.law_reuse.specs.inv.model.Phases.ProtectAt.{LoadClock, PublishEra, LoadLink, CheckClock, PublishRequest, LoadOwnClock, PublishHelper, LoadOwnLink, CheckOwnClock, AnswerOwn, LoadAnswer, TakeAnswer, WithdrawRequest, WithdrawHelper, LoadWithin, CheckUpper, RaiseUpper, ByHazard}
+use Rattle.law_reuse.specs.inv.model.Phases.HazardAt.{FirstLink, PublishLink, CheckLink}
 use Rattle.law_reuse.specs.inv.model.Phases.Base.{Protect, Reload}
 use Rattle.law_reuse.specs.inv.model.Phases.Ending.{Protected, Followed}
 use Rattle.law_reuse.specs.inv.model.Calls.{Task, Why, Opens, FollowsHead, Fills, ClearsNext, Clears, Finishes, GivesUp, Retires, Tidies, Advances, Releases}
 use Rattle.law_reuse.proofs.laws.records.defs.Facts.{both, first_of, rest_of, number_is, false_not_true, implies_or, three_more, le_one_more}
-use Rattle.law_reuse.specs.laws.words.Schemes.{is_ibr, is_he}
+use Rattle.law_reuse.specs.laws.words.Schemes.{is_ibr, is_he, publishes_rows}
+use Rattle.law_reuse.specs.laws.words.declared.config.SchemeKind.{SchemeKind}
+use Rattle.law_reuse.specs.laws.words.declared.config.SchemeKind.TheVariants.{He, Hp, Ibr, Wfe}
 use Rattle.law_reuse.specs.inv.shapes.Seats.{protect_fits, aim_by, index_by, root_by, kind_of, protects}
-use Rattle.law_reuse.specs.laws.HistoryTurns.{events_right}
-use Rattle.law_turns.proofs.Counting.Fits.{tried, free_why, holds_why, holds_task, is_hold, Clean, since, paced, stands_taken, taken, Passes, Opened}
+use Rattle.law_turns.proofs.Counting.Fits.{tried, base_own, free_why, holds_why, holds_task, is_hold, reload_paced, Clean, since, paced, stands_taken, taken, Passes, Opened}
 use Rattle.law_reuse.proofs.history.MayTell.{concluded_told}
-use Rattle.law_turns.proofs.Counting.Told.{held_right}
-use Rattle.law_turns.proofs.Counting.Passing.{tried_of, tried_with, tried_again, he_tried, he_first, he_publish, protect_x, turned, since_next, since_publish, publish_next, since_again, first_next, few_next, number_of, own_x, paced_trying, taken_trying, paced_lost, taken_lost, paced_answer, taken_answer, held_other, held_taken, protect_clean}
+use Rattle.law_turns.proofs.Counting.Told.{events_numbered, held_right, null_right}
+use Rattle.law_reuse.proofs.inv.steps_left.Rest.Falling.{fit_rows}
+use Rattle.law_turns.proofs.Counting.Passing.{tried_of, tried_with, tried_again, he_tried, he_first, he_publish, protect_x, turned, since_next, since_publish, publish_next, since_again, first_next, few_next, hazard_first, hazard_publish, hazard_again, number_of, own_x, paced_trying, taken_trying, paced_lost, taken_lost, paced_answer, taken_answer, held_other, held_taken, protect_clean}
 use Rattle.law_reuse.proofs.Turns.Steady.{held_same}
 use Rattle.law_reuse.proofs.inv.requests.Paced.{wfe_not_he}
 
@@ -58,7 +62,15 @@ pass_if : (x u : ℕ → ℕ) (index : ℕ) (at : ProtectAt) (why : Why) (c : Bo
 pass_if x u index at why true t v a b = a
 pass_if x u index at why false t v a b = b
 
+pass_by : (x u : ℕ → ℕ) (index : ℕ) (at : ProtectAt) (why : Why) (c : Bool) (t v : Turn) → (c ≡ true → Goal x u index at why t) → (c ≡ false → Goal x u index at why v) → Goal x u index at why (if c then t else v)
+pass_by x u index at why true t v a b = a refl
+pass_by x u index at why false t v a b = b refl
+
 -- the protection goes on
+neither_last : (a b : Bool) → (a || b) ≡ false → b ≡ false
+neither_last true b h = absurd (cc)
+neither_last false b h = h
+
 on_fits : (x u : ℕ → ℕ) (index : ℕ) (at : ProtectAt) (why : Why) (aim : Aim) (root : Root) (n : ℕ) (later : ProtectAt) (next : Post) (told : List Event)
     → Clean (x_next x index at) next (free_why why) (holds_why why)
     → paced later n (x_next x index at index) (u_next x u index) ≡ true
@@ -96,32 +108,48 @@ conclude : (x u : ℕ → ℕ) (buckets : ℕ) (why : Why) (aim : Aim) (index : 
     → aim ≡ aim_by why
     → index ≡ index_by why
     → Clean (x_next x index at) next (free_why why) (holds_why why)
-    → since n (x_next x index at index) (u_next x u index) ≡ true
-    → nat_le n next.steps ≡ true
     → stands_taken index link (stands next 2) ≡ true
-    → (is_he (scheme_of next) ≡ true → (n == 3 * x_next x index at index + 1) ≡ true)
+    → ((link == 0) ≡ false → base_own (x_next x index at) (u_next x u) next (Reload (parent_of root) index (link - 1) era n) ≡ true)
     → Goal x u index at why (concluded aim index root n link era next told)
-conclude x u buckets (Opens task) Alone index root n at link era next told p a i c s f t h = link_ends x u index at task link era next told (link == 0) refl i c t
-conclude x u buckets (FollowsHead head tail) Follows index root n at link era next told p a i c s f t h =
-    pass_if x u index at (FollowsHead head tail) (link == 0) (ends next told (Followed follow_ends.NoNext)) (goes next told (Reload (parent_of root) index (link - 1) era n)) c
-    (record { clean = c; own = both (since n (x_next x index at index) (u_next x u index)) (nat_le n next.steps && (not (is_he (scheme_of next)) || n == 3 * x_next x index at index + 1)) s (both (nat_le n next.steps) (not (is_he (scheme_of next)) || n == 3 * x_next x index at index + 1) f (implies_or (is_he (scheme_of next)) (n == 3 * x_next x index at index + 1) h)) })
-conclude x u buckets (Opens task) Follows index root n at link era next told p a i c s f t h = absurd (cc)
-conclude x u buckets (FollowsHead head tail) Alone index root n at link era next told p a i c s f t h = absurd (cc)
-conclude x u buckets (Fills task) aim index root n at link era next told p a i c s f t h = absurd (cc)
-conclude x u buckets (ClearsNext later) aim index root n at link era next told p a i c s f t h = absurd (cc)
-conclude x u buckets (Clears task later) aim index root n at link era next told p a i c s f t h = absurd (cc)
-conclude x u buckets (Finishes task later) aim index root n at link era next told p a i c s f t h = absurd (cc)
-conclude x u buckets (GivesUp answer) aim index root n at link era next told p a i c s f t h = absurd (cc)
-conclude x u buckets (Retires answer) aim index root n at link era next told p a i c s f t h = absurd (cc)
-conclude x u buckets (Tidies later) aim index root n at link era next told p a i c s f t h = absurd (cc)
-conclude x u buckets Advances aim index root n at link era next told p a i c s f t h = absurd (cc)
-conclude x u buckets (Releases let_go) aim index root n at link era next told p a i c s f t h = absurd (cc)
+conclude x u buckets (Opens task) Alone index root n at link era next told p a i c t h = link_ends x u index at task link era next told (link == 0) refl i c t
+conclude x u buckets (FollowsHead head tail) Follows index root n at link era next told p a i c t h =
+    pass_by x u index at (FollowsHead head tail) (link == 0) (ends next told (Followed follow_ends.NoNext)) (goes next told (Reload (parent_of root) index (link - 1) era n)) (λ e. c) (λ e. record { clean = c; own = h e })
+conclude x u buckets (Opens task) Follows index root n at link era next told p a i c t h = absurd (cc)
+conclude x u buckets (FollowsHead head tail) Alone index root n at link era next told p a i c t h = absurd (cc)
+conclude x u buckets (Fills task) aim index root n at link era next told p a i c t h = absurd (cc)
+conclude x u buckets (ClearsNext later) aim index root n at link era next told p a i c t h = absurd (cc)
+conclude x u buckets (Clears task later) aim index root n at link era next told p a i c t h = absurd (cc)
+conclude x u buckets (Finishes task later) aim index root n at link era next told p a i c t h = absurd (cc)
+conclude x u buckets (GivesUp answer) aim index root n at link era next told p a i c t h = absurd (cc)
+conclude x u buckets (Retires answer) aim index root n at link era next told p a i c t h = absurd (cc)
+conclude x u buckets (Tidies later) aim index root n at link era next told p a i c t h = absurd (cc)
+conclude x u buckets Advances aim index root n at link era next told p a i c t h = absurd (cc)
+conclude x u buckets (Releases let_go) aim index root n at link era next told p a i c t h = absurd (cc)
 
 held_scheme : (post : Post) (index : ℕ) (root : Root) (link : ℕ) → scheme_of (held_post post index root link) ≡ scheme_of post
 held_scheme post index root link = grind arith
 
 held_plain : (post : Post) (index : ℕ) (root : Root) (link : ℕ) → is_ibr (scheme_of post) ≡ false → is_ibr (scheme_of (held_post post index root link)) ≡ false
 held_plain post index root link h = grind arith
+
+-- the steps of a protection whose row is to be followed
+pub rows_not_he : (scheme : SchemeKind) → publishes_rows scheme ≡ true → is_he scheme ≡ false
+rows_not_he He h = absurd (cc)
+rows_not_he Ibr h = refl
+rows_not_he Wfe h = refl
+rows_not_he Hp h = refl
+
+eras_reload : (scheme : SchemeKind) (n x : ℕ) → publishes_rows scheme ≡ false → (is_he scheme ≡ true → (n == 3 * x + 1) ≡ true) → reload_paced scheme n x ≡ true
+eras_reload scheme n x r h = both (not (is_he scheme) || n == 3 * x + 1) (not (publishes_rows scheme) || n == 2 * x + 1) (implies_or (is_he scheme) (n == 3 * x + 1) h) (rw r refl)
+
+rows_reload : (scheme : SchemeKind) (n x : ℕ) → publishes_rows scheme ≡ true → (n == 2 * x + 1) ≡ true → reload_paced scheme n x ≡ true
+rows_reload scheme n x r h = let e = rows_not_he scheme r in both (not (is_he scheme) || n == 3 * x + 1) (not (publishes_rows scheme) || n == 2 * x + 1) (rw e refl) (rw r h)
+
+two_more : (steps x : ℕ) → (steps == 2 * x) ≡ true → (steps + 1 == 2 * x + 1) ≡ true
+two_more steps x h = grind (arith, nat_tests)
+
+own_reload : (x u : ℕ → ℕ) (index : ℕ) (root : Root) (n link era : ℕ) (next : Post) → since n (x index) (u index) ≡ true → nat_le n next.steps ≡ true → reload_paced (scheme_of next) n (x index) ≡ true → base_own x u next (Reload (parent_of root) index (link - 1) era n) ≡ true
+own_reload x u index root n link era next s f h = both (since n (x index) (u index)) (nat_le n next.steps && reload_paced (scheme_of next) n (x index)) s (both (nat_le n next.steps) (reload_paced (scheme_of next) n (x index)) f h)
 
 pub protect_passes : (x u : ℕ → ℕ) (buckets : ℕ) (why : Why) (aim : Aim) (index : ℕ) (root : Root) (steps n count : ℕ) (at : ProtectAt) (post : Post) (found : ℕ) → Site x u buckets why aim index root steps n count at post → Goal x u index at why (machine.protect_turn aim index root n at post found)
 protect_passes x u buckets why aim index root steps n count (LoadClock tries) post found s =
@@ -147,8 +175,10 @@ protect_passes x u buckets why aim index root steps n count (CheckClock era trie
     let h : Clean (x_next x index (CheckClock era tries link)) (held_post post index root link) (free_why why) (holds_why why) = protect_clean why index (CheckClock era tries link) post (held_post post index root link) s.protects s.place (held_plain post index root link s.scheme) (λ j e. held_other post index root link j e) s.clean in
     let g : nat_le n (held_post post index root link).steps ≡ true = rw (held_same post index root link) f in
     pass_if x u index (CheckClock era tries link) why (found == era) (concluded aim index root n link era (held_post post index root link) (told_held index root link n)) _
-    (conclude x u buckets why aim index root n (CheckClock era tries link) link era (held_post post index root link) (told_held index root link n) s.protects s.aimed s.place h p g (held_taken buckets why index root link post s.protects s.place s.of s.eight)
-    (λ e. rw (s.next) (three_more steps (x index) (he_tried (scheme_of post) post.layout.config.tries tries (steps == 3 * x index) s.fits (sym (ap is_he (held_scheme post index root link)) ∙ e) z))))
+    (conclude x u buckets why aim index root n (CheckClock era tries link) link era (held_post post index root link) (told_held index root link n) s.protects s.aimed s.place h (held_taken buckets why index root link post s.protects s.place s.of s.eight)
+    (λ d. own_reload (x_next x index (CheckClock era tries link)) (u_next x u) index root n link era (held_post post index root link) p g
+    (eras_reload (scheme_of (held_post post index root link)) n (x index) (ap publishes_rows (held_scheme post index root link) ∙ fit_rows (scheme_of post) post.layout.config.tries (CheckClock era tries link) s.fits)
+    (λ e. rw (s.next) (three_more steps (x index) (he_tried (scheme_of post) post.layout.config.tries tries (steps == 3 * x index) s.fits (sym (ap is_he (held_scheme post index root link)) ∙ e) z))))))
     (on_fits x u index (CheckClock era tries link) why aim root n (PublishEra found (failed_once tries)) post [] c (both (if x index == 0 then n == 1 else n == turned (x index) (u index) + 1) (tried (failed_once tries) (n == 3 * x index + 1)) (since_again n (x index) (turned (x index) (u index)) p) (rw (s.next) (tried_again tries (steps == 3 * x index) (steps + 1 == 3 * x index + 1) (λ w. three_more steps (x index) w) z))) f refl)
 protect_passes x u buckets why aim index root steps n count PublishRequest post found s =
     let c : Clean (x_next x index PublishRequest) post (free_why why) (holds_why why) = protect_clean why index PublishRequest post post s.protects s.place s.scheme (λ j e. refl) s.clean in
@@ -206,34 +236,75 @@ protect_passes x u buckets why aim index root steps n count (WithdrawHelper link
     let c : Clean (x_next x index (WithdrawHelper link era)) post (free_why why) (holds_why why) = protect_clean why index (WithdrawHelper link era) post post s.protects s.place s.scheme (λ j e. refl) s.clean in
     let f : nat_le n post.steps ≡ true = le_one_more n steps count post.steps s.next s.call s.few in
     let p : since n (x index) (turned (x index) (u index)) ≡ true = rw (s.next) (since_next steps (x index) (u index) s.paced) in
-    conclude x u buckets why aim index root n (WithdrawHelper link era) link era post (reserves_helper post 0) s.protects s.aimed s.place c p f s.stood (λ e. absurd (wfe_not_he (scheme_of post) s.fits e))
+    conclude x u buckets why aim index root n (WithdrawHelper link era) link era post (reserves_helper post 0) s.protects s.aimed s.place c s.stood
+    (λ d. own_reload (x_next x index (WithdrawHelper link era)) (u_next x u) index root n link era post p f
+    (eras_reload (scheme_of post) n (x index) (fit_rows (scheme_of post) post.layout.config.tries (WithdrawHelper link era) s.fits) (λ e. absurd (wfe_not_he (scheme_of post) s.fits e))))
 protect_passes x u buckets why aim index root steps n count LoadWithin post found s = absurd (false_not_true (is_ibr (scheme_of post)) s.scheme s.fits)
 protect_passes x u buckets why aim index root steps n count (CheckUpper link) post found s = absurd (false_not_true (is_ibr (scheme_of post)) s.scheme s.fits)
 protect_passes x u buckets why aim index root steps n count (RaiseUpper era) post found s = absurd (false_not_true (is_ibr (scheme_of post)) s.scheme s.fits)
+protect_passes x u buckets why aim index root steps n count (ByHazard FirstLink) post found s =
+    let c : Clean (x_next x index (ByHazard FirstLink)) post (free_why why) (holds_why why) = protect_clean why index (ByHazard FirstLink) post post s.protects s.place s.scheme (λ j e. refl) s.clean in
+    let f : nat_le n post.steps ≡ true = le_one_more n steps count post.steps s.next s.call s.few in
+    let h : Clean (x_next x index (ByHazard FirstLink)) (held_post post index root found) (free_why why) (holds_why why) = protect_clean why index (ByHazard FirstLink) post (held_post post index root found) s.protects s.place (held_plain post index root found s.scheme) (λ j e. held_other post index root found j e) s.clean in
+    pass_by x u index (ByHazard FirstLink) why (found == 0) (concluded aim index root n found 0 (held_post post index root found) (told_held index root found n)) _
+    (λ e. conclude x u buckets why aim index root n (ByHazard FirstLink) found 0 (held_post post index root found) (told_held index root found n) s.protects s.aimed s.place h (held_taken buckets why index root found post s.protects s.place s.of s.eight) (λ d. absurd (false_not_true (found == 0) d e)))
+    (λ e. on_fits x u index (ByHazard FirstLink) why aim root n (ByHazard (PublishLink found)) post [] c (rw (s.next) (hazard_first steps found e (x index) (u index) s.paced)) f refl)
+protect_passes x u buckets why aim index root steps n count (ByHazard (PublishLink link)) post found s =
+    let c : Clean (x_next x index (ByHazard (PublishLink link))) post (free_why why) (holds_why why) = protect_clean why index (ByHazard (PublishLink link)) post post s.protects s.place s.scheme (λ j e. refl) s.clean in
+    let f : nat_le n post.steps ≡ true = le_one_more n steps count post.steps s.next s.call s.few in
+    let q : x_next x index (ByHazard (PublishLink link)) index ≡ x index + 1 = own_x index (x index) in
+    on_fits x u index (ByHazard (PublishLink link)) why aim root n (ByHazard (CheckLink link)) post (publishes_index true post index link) c (rw q (rw (s.next) (hazard_publish steps link (x index) (u index) s.paced))) f refl
+protect_passes x u buckets why aim index root steps n count (ByHazard (CheckLink link)) post found s =
+    let c : Clean (x_next x index (ByHazard (CheckLink link))) post (free_why why) (holds_why why) = protect_clean why index (ByHazard (CheckLink link)) post post s.protects s.place s.scheme (λ j e. refl) s.clean in
+    let f : nat_le n post.steps ≡ true = le_one_more n steps count post.steps s.next s.call s.few in
+    let p : since n (x index) (turned (x index) (u index)) ≡ true = rw (s.next) (since_next steps (x index) (u index) (first_of (since steps (x index) (u index)) (steps == 2 * x index) s.paced)) in
+    let h : Clean (x_next x index (ByHazard (CheckLink link))) (held_post post index root found) (free_why why) (holds_why why) = protect_clean why index (ByHazard (CheckLink link)) post (held_post post index root found) s.protects s.place (held_plain post index root found s.scheme) (λ j e. held_other post index root found j e) s.clean in
+    let g : nat_le n (held_post post index root found).steps ≡ true = rw (held_same post index root found) f in
+    let z : (n == 2 * x index + 1) ≡ true = rw (s.next) (two_more steps (x index) (rest_of (since steps (x index) (u index)) (steps == 2 * x index) s.paced)) in
+    pass_by x u index (ByHazard (CheckLink link)) why (found == link || found == 0) (concluded aim index root n found 0 (held_post post index root found) (told_held index root found n)) _
+    (λ e. conclude x u buckets why aim index root n (ByHazard (CheckLink link)) found 0 (held_post post index root found) (told_held index root found n) s.protects s.aimed s.place h (held_taken buckets why index root found post s.protects s.place s.of s.eight)
+    (λ d. own_reload (x_next x index (ByHazard (CheckLink link))) (u_next x u) index root n found 0 (held_post post index root found) p g (rows_reload (scheme_of (held_post post index root found)) n (x index) (ap publishes_rows (held_scheme post index root found) ∙ s.fits) z)))
+    (λ e. on_fits x u index (ByHazard (CheckLink link)) why aim root n (ByHazard (PublishLink found)) post [] c (rw (s.next) (hazard_again steps found (neither_last (found == link) (found == 0) e) (x index) (u index) s.paced)) f refl)
 
-pub rights_if : (x u : ℕ → ℕ) (call : ℕ) (c : Bool) (t v : Turn) → events_right x u call t.told ≡ true → events_right x u call v.told ≡ true → events_right x u call (if c then t else v).told ≡ true
-rights_if x u call true t v a b = a
-rights_if x u call false t v a b = b
+pub rights_by : (rows : Bool) (x u : ℕ → ℕ) (call : ℕ) (c : Bool) (t v : Turn) → (c ≡ true → events_numbered rows x u call t.told ≡ true) → (c ≡ false → events_numbered rows x u call v.told ≡ true) → events_numbered rows x u call (if c then t else v).told ≡ true
+rights_by rows x u call true t v a b = a refl
+rights_by rows x u call false t v a b = b refl
 
-concluded_rights : (x u : ℕ → ℕ) (call : ℕ) (aim : Aim) (index : ℕ) (root : Root) (n link era : ℕ) (post : Post) (told : List Event) → events_right x u call told ≡ true → events_right x u call (concluded aim index root n link era post told).told ≡ true
-concluded_rights x u call aim index root n link era post told h = rw (concluded_told aim index root n link era post told) h
+pub rights_if : (rows : Bool) (x u : ℕ → ℕ) (call : ℕ) (c : Bool) (t v : Turn) → events_numbered rows x u call t.told ≡ true → events_numbered rows x u call v.told ≡ true → events_numbered rows x u call (if c then t else v).told ≡ true
+rights_if rows x u call true t v a b = a
+rights_if rows x u call false t v a b = b
+
+concluded_rights : (rows : Bool) (x u : ℕ → ℕ) (call : ℕ) (aim : Aim) (index : ℕ) (root : Root) (n link era : ℕ) (post : Post) (told : List Event) → events_numbered rows x u call told ≡ true → events_numbered rows x u call (concluded aim index root n link era post told).told ≡ true
+concluded_rights rows x u call aim index root n link era post told h = rw (concluded_told aim index root n link era post told) h
 
 -- the number that it tells
-pub protect_rights : (x u : ℕ → ℕ) (buckets : ℕ) (why : Why) (aim : Aim) (index : ℕ) (root : Root) (steps n count : ℕ) (at : ProtectAt) (post : Post) (found : ℕ) → Site x u buckets why aim index root steps n count at post → events_right (x_next x index at) (u_next x u) (count + 1) (machine.protect_turn aim index root n at post found).told ≡ true
-protect_rights x u buckets why aim index root steps n count (CheckClock era tries link) post found s =
+pub protect_rights : (rows : Bool) (x u : ℕ → ℕ) (buckets : ℕ) (why : Why) (aim : Aim) (index : ℕ) (root : Root) (steps n count : ℕ) (at : ProtectAt) (post : Post) (found : ℕ) → publishes_rows (scheme_of post) ≡ rows → Site x u buckets why aim index root steps n count at post → events_numbered rows (x_next x index at) (u_next x u) (count + 1) (machine.protect_turn aim index root n at post found).told ≡ true
+protect_rights rows x u buckets why aim index root steps n count (CheckClock era tries link) post found q s =
     let p : since n (x index) (turned (x index) (u index)) ≡ true = rw (s.next) (since_next steps (x index) (u index) (first_of (since steps (x index) (u index)) (tried tries (steps == 3 * x index)) s.paced)) in
     let f : nat_le n (count + 1) ≡ true = rw (s.next) (few_next steps count s.few) in
-    rights_if (x_next x index (CheckClock era tries link)) (u_next x u) (count + 1) (found == era) (concluded aim index root n link era (held_post post index root link) (told_held index root link n)) _
-    (concluded_rights (x_next x index (CheckClock era tries link)) (u_next x u) (count + 1) aim index root n link era (held_post post index root link) (told_held index root link n) (held_right (x_next x index (CheckClock era tries link)) (u_next x u) (count + 1) index root link n (number_of n (x index) (turned (x index) (u index)) (count + 1) p f))) refl
-protect_rights x u buckets why aim index root steps n count (CheckOwnClock first era last link) post found s = rights_if (x_next x index (CheckOwnClock first era last link)) (u_next x u) (count + 1) (found == era) _ _ refl refl
-protect_rights x u buckets why aim index root steps n count (AnswerOwn first era link) post found s = rights_if (x_next x index (AnswerOwn first era link)) (u_next x u) (count + 1) (found == own_request post index root) _ _ refl refl
-protect_rights x u buckets why aim index root steps n count (TakeAnswer link era) post found s =
-    let q : x_next x index (TakeAnswer link era) index ≡ x index + 1 = own_x index (x index) in
-    let p : since n (x_next x index (TakeAnswer link era) index) (turned (x index) (u index)) ≡ true = rw q (rw (s.next) (since_publish steps (x index) (u index) s.paced)) in
+    rights_if rows (x_next x index (CheckClock era tries link)) (u_next x u) (count + 1) (found == era) (concluded aim index root n link era (held_post post index root link) (told_held index root link n)) _
+    (concluded_rights rows (x_next x index (CheckClock era tries link)) (u_next x u) (count + 1) aim index root n link era (held_post post index root link) (told_held index root link n) (held_right rows (x_next x index (CheckClock era tries link)) (u_next x u) (count + 1) index root link n (number_of n (x index) (turned (x index) (u index)) (count + 1) p f))) refl
+protect_rights rows x u buckets why aim index root steps n count (CheckOwnClock first era last link) post found q s = rights_if rows (x_next x index (CheckOwnClock first era last link)) (u_next x u) (count + 1) (found == era) _ _ refl refl
+protect_rights rows x u buckets why aim index root steps n count (AnswerOwn first era link) post found q s = rights_if rows (x_next x index (AnswerOwn first era link)) (u_next x u) (count + 1) (found == own_request post index root) _ _ refl refl
+protect_rights rows x u buckets why aim index root steps n count (TakeAnswer link era) post found q s =
+    let y : x_next x index (TakeAnswer link era) index ≡ x index + 1 = own_x index (x index) in
+    let p : since n (x_next x index (TakeAnswer link era) index) (turned (x index) (u index)) ≡ true = rw y (rw (s.next) (since_publish steps (x index) (u index) s.paced)) in
     let f : nat_le n (count + 1) ≡ true = rw (s.next) (few_next steps count s.few) in
-    held_right (x_next x index (TakeAnswer link era)) (u_next x u) (count + 1) index root link n (number_of n (x_next x index (TakeAnswer link era) index) (turned (x index) (u index)) (count + 1) p f)
-protect_rights x u buckets why aim index root steps n count (WithdrawHelper link era) post found s = concluded_rights (x_next x index (WithdrawHelper link era)) (u_next x u) (count + 1) aim index root n link era post (reserves_helper post 0) refl
-protect_rights x u buckets why aim index root steps n count LoadWithin post found s = absurd (false_not_true (is_ibr (scheme_of post)) s.scheme s.fits)
-protect_rights x u buckets why aim index root steps n count (CheckUpper link) post found s = absurd (false_not_true (is_ibr (scheme_of post)) s.scheme s.fits)
-protect_rights x u buckets why aim index root steps n count (RaiseUpper era) post found s = absurd (false_not_true (is_ibr (scheme_of post)) s.scheme s.fits)
-protect_rights x u buckets why aim index root steps n count at post found s = refl
+    held_right rows (x_next x index (TakeAnswer link era)) (u_next x u) (count + 1) index root link n (number_of n (x_next x index (TakeAnswer link era) index) (turned (x index) (u index)) (count + 1) p f)
+protect_rights rows x u buckets why aim index root steps n count (WithdrawHelper link era) post found q s = concluded_rights rows (x_next x index (WithdrawHelper link era)) (u_next x u) (count + 1) aim index root n link era post (reserves_helper post 0) refl
+protect_rights rows x u buckets why aim index root steps n count LoadWithin post found q s = absurd (false_not_true (is_ibr (scheme_of post)) s.scheme s.fits)
+protect_rights rows x u buckets why aim index root steps n count (CheckUpper link) post found q s = absurd (false_not_true (is_ibr (scheme_of post)) s.scheme s.fits)
+protect_rights rows x u buckets why aim index root steps n count (RaiseUpper era) post found q s = absurd (false_not_true (is_ibr (scheme_of post)) s.scheme s.fits)
+protect_rights rows x u buckets why aim index root steps n count (ByHazard FirstLink) post found q s =
+    let r : rows ≡ true = sym q ∙ s.fits in
+    let z : x index ≡ 0 = number_is (x index) 0 (first_of (x index == 0) (steps == 0) s.paced) in
+    let y : n ≡ 1 = s.next ∙ ap (λ (k : ℕ). k + 1) (number_is steps 0 (rest_of (x index == 0) (steps == 0) s.paced)) in
+    rights_by rows (x_next x index (ByHazard FirstLink)) (u_next x u) (count + 1) (found == 0) (concluded aim index root n found 0 (held_post post index root found) (told_held index root found n)) _
+    (λ e. concluded_rights rows (x_next x index (ByHazard FirstLink)) (u_next x u) (count + 1) aim index root n found 0 (held_post post index root found) (told_held index root found n)
+    (rw (r, y) (null_right (x_next x index (ByHazard FirstLink)) (u_next x u) (count + 1) index root found z (number_is found 0 e)))) (λ e. refl)
+protect_rights rows x u buckets why aim index root steps n count (ByHazard (CheckLink link)) post found q s =
+    let p : since n (x index) (turned (x index) (u index)) ≡ true = rw (s.next) (since_next steps (x index) (u index) (first_of (since steps (x index) (u index)) (steps == 2 * x index) s.paced)) in
+    let f : nat_le n (count + 1) ≡ true = rw (s.next) (few_next steps count s.few) in
+    rights_if rows (x_next x index (ByHazard (CheckLink link))) (u_next x u) (count + 1) (found == link || found == 0) (concluded aim index root n found 0 (held_post post index root found) (told_held index root found n)) _
+    (concluded_rights rows (x_next x index (ByHazard (CheckLink link))) (u_next x u) (count + 1) aim index root n found 0 (held_post post index root found) (told_held index root found n) (held_right rows (x_next x index (ByHazard (CheckLink link))) (u_next x u) (count + 1) index root found n (number_of n (x index) (turned (x index) (u index)) (count + 1) p f))) refl
+protect_rights rows x u buckets why aim index root steps n count at post found q s = refl

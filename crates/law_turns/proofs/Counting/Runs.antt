@@ -1,7 +1,7 @@
 -- A step of any phase keeps what its seat has published where it stands, and the numbers that it tells are right.
 use Rattle.std.proofs.Common.{ℕ, ◌≡◌, ◌≢◌, ◌≤◌, ◌<◌, ◌+◌, ◌^◌, Bool, true, false, [], ◌∷◌, length, Option, Some, None, refl, sym, ap, ◌∙◌, subst, arith}
 use Rattle.std.proofs.lemmas.Bool.Decides.{nat_tests}
-use Rattle.std.specs.Prelude.{◌==◌, ◌&&◌, ◌||◌, ◌*◌, nat_le, nat_lt, if◌then◌else◌, not}
+use Rattle.std.specs.Prelude.{◌==◌, ◌&&◌, nat_le, nat_lt, if◌then◌else◌}
 use Rattle.law_reuse.specs.laws.words.Place.{is_valid}
 use Rattle.law_reuse.specs.laws.words.Packed.{read_reservation, reservation_word}
 use Rattle.law_reuse.specs.laws.words.declared.layout.Layout.{Layout}
@@ -28,16 +28,17 @@ use Rattle.law_reuse.specs.inv.model.Phases.Ending.{Followed}
 use Rattle.law_reuse.specs.inv.model.Calls.{Task, Gets, Changes, Holds, Enqueues, Dequeues, Why, Opens, FollowsHead, Fills, ClearsNext, Clears, Finishes, GivesUp, Retires, Tidies, Advances, Releases, LetGo, Released, Rehold, Dropped, Parting, Keeping, Next, ReadGuard, GiveBack, Phase, Idle, Runs, Scans, Works}
 use Rattle.law_reuse.proofs.laws.records.defs.Facts.{first_of, rest_of, false_not_true, and_true, le_of_test, no_truth}
 use Rattle.law_reuse.specs.inv.rows.Hands.{runs_right, task_fills}
-use Rattle.law_reuse.specs.laws.words.Schemes.{is_ibr, is_he}
+use Rattle.law_reuse.specs.laws.words.Schemes.{is_ibr, publishes_rows}
 use Rattle.law_reuse.specs.inv.shapes.Frame.{Moves, Passed}
 use Rattle.law_reuse.specs.inv.shapes.Seats.{Kind, protect_fits, kind_of, suits, PostFits, PhaseFits, Run}
 use Rattle.law_reuse.proofs.shapes.Inside.{shape_moves}
 use Rattle.law_reuse.proofs.shapes.Kept.{counted_fits, run_counted, work_counted}
 use Rattle.law_reuse.specs.inv.covers.Rests.{spare, bare, beside, within, deep}
 use Rattle.law_reuse.proofs.history.Passes.{First}
-use Rattle.law_reuse.specs.laws.HistoryTurns.{event_right, events_right}
-use Rattle.law_turns.proofs.Counting.Fits.{free_released, free_why, holds_why, holds_task, unused, work_x, WorkRight, keep_fits, fills_task, Clean, since, paced, taken, base_own, Fits, Passes, Resumes, Left, work_fits, scan_fits, resumed_fits}
-use Rattle.law_turns.proofs.Counting.Told.{base_rights, work_rights}
+use Rattle.law_reuse.proofs.ReadGuards.{reads_are}
+use Rattle.law_reuse.specs.inv.model.Guards.{guard_at}
+use Rattle.law_turns.proofs.Counting.Fits.{free_released, free_why, holds_why, holds_task, unused, work_x, WorkRight, keep_fits, fills_task, reload_paced, Clean, since, paced, taken, base_own, Fits, Passes, Resumes, Left, work_fits, scan_fits, resumed_fits}
+use Rattle.law_turns.proofs.Counting.Told.{event_numbered, events_numbered, base_rights, work_rights}
 use Rattle.law_turns.proofs.Counting.Passing.{after_x, turned, since_next, few_next, number_of}
 use Rattle.law_turns.proofs.Counting.Protects.{Site, protect_passes, protect_rights, u_next, rights_if}
 use Rattle.law_reuse.proofs.inv.model.Standing.{stands-withdrawn_other, stands-with_row_other}
@@ -55,7 +56,7 @@ calm_x : (base : Base) (j n : ℕ) → is_calm base ≡ true → after_x base j 
 calm_x (Begin at) j n h = absurd (cc)
 calm_x (Protect aim index root count at) j n h = absurd (cc)
 calm_x (Reload parent index slot era count) j n h = refl
-calm_x (Clear index) j n h = absurd (cc)
+calm_x (Clear rows index) j n h = absurd (cc)
 calm_x base j n h = refl
 
 calm_own : (x u : ℕ → ℕ) (post : Post) (base : Base) → is_calm base ≡ true → base_own x u post base ≡ true
@@ -80,14 +81,14 @@ calm_of (Begin at) Kind.ToOpen k h = absurd (cc)
 calm_of (Protect aim index root count at) Kind.ToOpen k h = absurd (cc)
 calm_of (Protect aim index root count at) Kind.ToFollow k h = absurd (cc)
 calm_of (Reload parent index slot era count) Kind.ToFollow k h = absurd (cc)
-calm_of (Clear index) Kind.ToClear k h = absurd (cc)
-calm_of (Clear index) Kind.ToRelease k h = absurd (cc)
+calm_of (Clear rows index) Kind.ToClear k h = absurd (cc)
+calm_of (Clear rows index) Kind.ToRelease k h = absurd (cc)
 calm_of Finish Kind.ToFinish k h = absurd (cc)
 calm_of (Release index) Kind.ToRelease k h = absurd (cc)
 calm_of (Begin at) kind k h = absurd (cc)
 calm_of (Protect aim index root count at) kind k h = absurd (cc)
 calm_of (Reload parent index slot era count) kind k h = absurd (cc)
-calm_of (Clear index) kind k h = absurd (cc)
+calm_of (Clear rows index) kind k h = absurd (cc)
 calm_of Finish kind k h = absurd (cc)
 calm_of (Release index) kind k h = absurd (cc)
 
@@ -226,15 +227,15 @@ reload_reached x u layout head tail parent index slot era made post found count 
     end_if x (u_next x u) (FollowsHead head tail) (found == parent + 1) (ends (with_row post index slot) (events.Held index slot (bump made) ∷ []) (Followed (follow_ends.Followed slot))) (ends post [] (Followed (follow_ends.RootMoved found)))
     (record { free = c.free; kept = λ j low e m. c.kept j low refl (sym (row_above index slot j post a.at low) ∙ m); plain = c.plain }) c
 
-clears_next_reached : (x u : ℕ → ℕ) (next : Next) (index : ℕ) (post : Post) (found : ℕ) → index ≡ 1 → Clean x post deep unused → Reached x u (ClearsNext next) (Clear index) post found
-clears_next_reached x u next index post found e c =
+clears_next_reached : (rows : Bool) (x u : ℕ → ℕ) (next : Next) (index : ℕ) (post : Post) (found : ℕ) → index ≡ 1 → Clean x post deep unused → Reached x u (ClearsNext next) (Clear rows index) post found
+clears_next_reached rows x u next index post found e c =
     clear_clean x index post deep within unused (λ j n w. by_one index j e n w) (λ j h. absurd (cc)) c
   where
     by_one : (index j : ℕ) → index ≡ 1 → (index == j) ≡ false → within j ≡ true → deep j ≡ true
     by_one index j e n w = grind (arith, nat_tests)
 
-clears_reached : (x u : ℕ → ℕ) (task : Task) (next : Next) (index : ℕ) (post : Post) (found : ℕ) → index ≡ index_of task → Clean x post (beside task) (holds_task task) → Reached x u (Clears task next) (Clear index) post found
-clears_reached x u task next index post found e c =
+clears_reached : (rows : Bool) (x u : ℕ → ℕ) (task : Task) (next : Next) (index : ℕ) (post : Post) (found : ℕ) → index ≡ index_of task → Clean x post (beside task) (holds_task task) → Reached x u (Clears task next) (Clear rows index) post found
+clears_reached rows x u task next index post found e c =
     clear_clean x index post (beside task) (bare task) (holds_task task) (λ j n w. by_own index j e n w) (λ j h. rw e (hold_two task j h)) c
   where
     by_own : (index j : ℕ) → index ≡ index_of task → (index == j) ≡ false → bare task j ≡ true → beside task j ≡ true
@@ -247,8 +248,8 @@ clears_reached x u task next index post found e c =
     hold_two (Enqueues kept) j h = absurd (cc)
     hold_two Dequeues j h = absurd (cc)
 
-releases_reached : (x u : ℕ → ℕ) (let_go : LetGo) (index : ℕ) (post : Post) (found : ℕ) → index ≡ let_index let_go → Clean x post spare (holds_why (Releases let_go)) → Reached x u (Releases let_go) (Clear index) post found
-releases_reached x u let_go index post found e c =
+releases_reached : (rows : Bool) (x u : ℕ → ℕ) (let_go : LetGo) (index : ℕ) (post : Post) (found : ℕ) → index ≡ let_index let_go → Clean x post spare (holds_why (Releases let_go)) → Reached x u (Releases let_go) (Clear rows index) post found
+releases_reached rows x u let_go index post found e c =
     clear_clean x index post spare (free_released let_go) (holds_why (Releases let_go)) (λ j n w. by_index let_go index j e n w) (λ j h. own j h) c
   where
     by_index : (let_go : LetGo) (index j : ℕ) → index ≡ let_index let_go → (index == j) ≡ false → free_released let_go j ≡ true → spare j ≡ true
@@ -280,9 +281,9 @@ run_reached x u layout (FollowsHead head tail) (Protect aim index root made at) 
 run_reached x u layout (FollowsHead head tail) (Reload parent index slot era made) post found count s = reload_reached x u layout head tail parent index slot era made post found count s
 run_reached x u layout (Opens task) (Begin at) post found count s = absurd (false_not_true (is_ibr layout.config.scheme) s.scheme s.run.fits)
 run_reached x u layout (Fills task) base post found count s = calm_case x u layout (Fills task) base post found count refl s (λ next c ending. (task_right task base s.right, c))
-run_reached x u layout (ClearsNext next) (Clear index) post found count s = clears_next_reached x u next index post found s.run.shape s.clean
-run_reached x u layout (Clears task next) (Clear index) post found count s = clears_reached x u task next index post found s.run.shape s.clean
-run_reached x u layout (Releases let_go) (Clear index) post found count s = releases_reached x u let_go index post found s.run.shape s.clean
+run_reached x u layout (ClearsNext next) (Clear rows index) post found count s = clears_next_reached rows x u next index post found s.run.shape s.clean
+run_reached x u layout (Clears task next) (Clear rows index) post found count s = clears_reached rows x u task next index post found s.run.shape s.clean
+run_reached x u layout (Releases let_go) (Clear rows index) post found count s = releases_reached rows x u let_go index post found s.run.shape s.clean
 run_reached x u layout (Releases let_go) (Release index) post found count s = absurd (false_not_true (is_ibr layout.config.scheme) s.scheme s.run.fits)
 run_reached x u layout (Finishes task next) Finish post found count s = absurd (false_not_true (is_ibr layout.config.scheme) s.scheme s.run.fits)
 run_reached x u layout (GivesUp answer) base post found count s = calm_case x u layout (GivesUp answer) base post found count refl s (λ next c ending. c)
@@ -296,17 +297,17 @@ run_reached x u layout (Clears task next) base post found count s = absurd (no_t
 run_reached x u layout (Releases let_go) base post found count s = absurd (no_truth s.run.suited)
 run_reached x u layout (Finishes task next) base post found count s = absurd (no_truth s.run.suited)
 
-run_rights : (x u : ℕ → ℕ) (layout : Layout) (why : Why) (base : Base) (post : Post) (found count : ℕ) → Stage x u layout why base post found count → events_right (x_after x base) (u_next x u) (count + 1) (machine.after base post found).told ≡ true
-run_rights x u layout why (Begin at) post found count s = absurd (false_not_true (is_ibr layout.config.scheme) s.scheme s.run.fits)
-run_rights x u layout why (Protect aim index root made at) post found count s = protect_rights x u layout.config.buckets why aim index root made (bump made) count at post found (site_of layout why aim index root made at post found count s)
-run_rights x u layout why (Reload parent index slot era made) post found count s =
-    let h : since made (x index) (u index) ≡ true = first_of (since made (x index) (u index)) (nat_le made count && (not (is_he (scheme_of post)) || made == 3 * x index + 1)) s.own in
-    let f : nat_le made count ≡ true = first_of (nat_le made count) (not (is_he (scheme_of post)) || made == 3 * x index + 1) (rest_of (since made (x index) (u index)) (nat_le made count && (not (is_he (scheme_of post)) || made == 3 * x index + 1)) s.own) in
+run_rights : (rows : Bool) (x u : ℕ → ℕ) (layout : Layout) (why : Why) (base : Base) (post : Post) (found count : ℕ) → publishes_rows (scheme_of post) ≡ rows → Stage x u layout why base post found count → events_numbered rows (x_after x base) (u_next x u) (count + 1) (machine.after base post found).told ≡ true
+run_rights rows x u layout why (Begin at) post found count q s = absurd (false_not_true (is_ibr layout.config.scheme) s.scheme s.run.fits)
+run_rights rows x u layout why (Protect aim index root made at) post found count q s = protect_rights rows x u layout.config.buckets why aim index root made (bump made) count at post found q (site_of layout why aim index root made at post found count s)
+run_rights rows x u layout why (Reload parent index slot era made) post found count q s =
+    let h : since made (x index) (u index) ≡ true = first_of (since made (x index) (u index)) (nat_le made count && reload_paced (scheme_of post) made (x index)) s.own in
+    let f : nat_le made count ≡ true = first_of (nat_le made count) (reload_paced (scheme_of post) made (x index)) (rest_of (since made (x index) (u index)) (nat_le made count && reload_paced (scheme_of post) made (x index)) s.own) in
     let e : bump made ≡ made + 1 = bump_low made count (le_of_test made count f) s.low in
-    rights_if x (u_next x u) (count + 1) (found == parent + 1) (ends (with_row post index slot) (events.Held index slot (bump made) ∷ []) (Followed (follow_ends.Followed slot))) (ends post [] (Followed (follow_ends.RootMoved found)))
-    (and_true (event_right x (u_next x u) (count + 1) (events.Held index slot (bump made))) (rw e (number_of (made + 1) (x index) (turned (x index) (u index)) (count + 1) (since_next made (x index) (u index) h) (few_next made count f)))) refl
-run_rights x u layout why (Release index) post found count s = absurd (false_not_true (is_ibr layout.config.scheme) s.scheme s.run.fits)
-run_rights x u layout why base post found count s = base_rights (x_after x base) (u_next x u) (count + 1) base post found refl
+    rights_if rows x (u_next x u) (count + 1) (found == parent + 1) (ends (with_row post index slot) (events.Held index slot (bump made) ∷ []) (Followed (follow_ends.Followed slot))) (ends post [] (Followed (follow_ends.RootMoved found)))
+    (and_true (event_numbered rows x (u_next x u) (count + 1) (events.Held index slot (bump made))) (rw e (number_of (made + 1) (x index) (turned (x index) (u index)) (count + 1) (since_next made (x index) (u index) h) (few_next made count f)))) refl
+run_rights rows x u layout why (Release index) post found count q s = absurd (false_not_true (is_ibr layout.config.scheme) s.scheme s.run.fits)
+run_rights rows x u layout why base post found count q s = base_rights rows (x_after x base) (u_next x u) (count + 1) base post found refl
 
 -- of any phase
 abbrev pub phase_x : Phase → ℕ → ℕ → ℕ
@@ -362,9 +363,9 @@ turn_fits x u layout i (Scans later at) post desk found s = let f = s.fits in sc
 turn_fits x u layout i (Works (Keeping at)) post desk found s = let f = s.fits in let p = s.owned in keep_fits at (counted post) desk found (work_counted (Keeping at) post s.shaped) s.right p.standing (recount f.clean)
 turn_fits x u layout i (Works work) post desk found s = let f = s.fits in work_fits work (counted post) desk found refl (recount f.clean)
 
-pub turn_rights : (x u : ℕ → ℕ) (layout : Layout) (i : ℕ) (phase : Phase) (post : Post) (found : ℕ) → Seat x u layout i phase post → First (λ p told. events_right (λ j. phase_x phase j (x j)) (u_next x u) (post.steps + 1) told ≡ true) phase (counted post) found
-turn_rights x u layout i Idle post found s = refl
-turn_rights x u layout i (Runs why base) post found s = run_rights x u layout why base (counted post) found post.steps (stage_of x u layout i why base post found s)
-turn_rights x u layout i (Scans later (ReadGuard number)) post found s = refl
-turn_rights x u layout i (Scans later (GiveBack place slot)) post found s = refl
-turn_rights x u layout i (Works work) post found s = work_rights (λ j. work_x work j (x j)) (u_next x u) (post.steps + 1) work (counted post)
+pub turn_rights : (rows : Bool) (x u : ℕ → ℕ) (layout : Layout) (i : ℕ) (phase : Phase) (post : Post) (found : ℕ) → publishes_rows (scheme_of post) ≡ rows → Seat x u layout i phase post → First (λ p told. events_numbered rows (λ j. phase_x phase j (x j)) (u_next x u) (post.steps + 1) told ≡ true) phase (counted post) found
+turn_rights rows x u layout i Idle post found q s = refl
+turn_rights rows x u layout i (Runs why base) post found q s = run_rights rows x u layout why base (counted post) found post.steps q (stage_of x u layout i why base post found s)
+turn_rights rows x u layout i (Scans later (ReadGuard number)) post found q s = reads_are (λ event. events_numbered rows x (u_next x u) (post.steps + 1) (event ∷ []) ≡ true) (publishes_rows (scheme_of post)) (guard_at post.layout.config number) found (λ span. refl) (λ slot. refl)
+turn_rights rows x u layout i (Scans later (GiveBack place slot)) post found q s = refl
+turn_rights rows x u layout i (Works work) post found q s = work_rights rows (λ j. work_x work j (x j)) (u_next x u) (post.steps + 1) work (counted post)

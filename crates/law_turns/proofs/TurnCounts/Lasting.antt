@@ -14,14 +14,18 @@ use Rattle.law_reuse.specs.inv.model.Machine as machine
 use Rattle.law_reuse.specs.inv.model.Posts.{counted, stands}
 use Rattle.law_reuse.specs.inv.model.World.{World, finds, offered, told_in}
 use Rattle.law_reuse.specs.inv.model.Phases.{Aim, ProtectAt, Base, Ending, Outcome, Goes, Ends}
-use Rattle.law_reuse.specs.inv.model.Phases.ProtectAt.{LoadClock, PublishEra, LoadLink, CheckClock, WithdrawRequest, WithdrawHelper, LoadWithin, CheckUpper, RaiseUpper}
+use Rattle.law_reuse.specs.inv.model.Phases.ProtectAt.{LoadClock, PublishEra, LoadLink, CheckClock, WithdrawRequest, WithdrawHelper, LoadWithin, CheckUpper, RaiseUpper, ByHazard}
+use Rattle.law_reuse.specs.inv.model.Phases.HazardAt.{FirstLink}
 use Rattle.law_reuse.specs.inv.model.Phases.MoveAt.{HandOver}
 use Rattle.law_reuse.specs.inv.model.Phases.Base.{Protect, Reload, Clear, Move}
 use Rattle.law_reuse.specs.inv.model.Phases.Ending.{Done, Protected, Followed, Allocated, Retired, Clocked}
 use Rattle.law_reuse.specs.inv.model.Calls.{Again, Why, FollowsHead, ClearsNext, ReadGuard, GiveBack, Phase, Idle, Runs, Scans, Works}
 use Rattle.law_reuse.proofs.laws.records.defs.Facts.{same_number, both, first_of, rest_of, false_not_true, zero_test, or_left_true}
 use Rattle.law_reuse.specs.inv.shapes.Eras.{Eras}
-use Rattle.law_reuse.specs.laws.words.Schemes.{is_ibr, is_wfe}
+use Rattle.law_reuse.specs.laws.words.Schemes.{is_ibr, is_wfe, publishes_rows}
+use Rattle.law_reuse.proofs.inv.model.words.Schemes.{helps_not_rows}
+use Rattle.law_reuse.proofs.ReadGuards.{reads_are}
+use Rattle.law_reuse.specs.inv.model.Guards.{guard_at}
 use Rattle.law_reuse.specs.inv.shapes.Frame.{Passed}
 use Rattle.law_reuse.specs.inv.shapes.Seats.{PhaseFits, Run, protect_fits, Kind, kind_of, suits, protects, reloads}
 use Rattle.law_reuse.specs.laws.records.Record.{Past, tells_of}
@@ -50,7 +54,7 @@ own_told phase post found = []
 first_comes : (i j n last : ℕ) (phase : Phase) (post : Post) (found : ℕ) → First (λ p told. Comes i j n last (tried_along i j (own_told phase post found) n) (last_along (own_told phase post found) last) told) phase post found
 first_comes i j n last Idle post found = record { tried = refl; found = refl }
 first_comes i j n last (Runs why base) post found = record { tried = refl; found = refl }
-first_comes i j n last (Scans later (ReadGuard number)) post found = record { tried = refl; found = refl }
+first_comes i j n last (Scans later (ReadGuard number)) post found = reads_are (λ event. Comes i j n last n last (event ∷ [])) (publishes_rows post.layout.config.scheme) (guard_at post.layout.config number) found (λ span. record { tried = refl; found = refl }) (λ slot. record { tried = refl; found = refl })
 first_comes i j n last (Scans later (GiveBack place slot)) post found = record { tried = refl; found = refl }
 first_comes i j n last (Works work) post found = record { tried = refl; found = refl }
 
@@ -115,22 +119,23 @@ publish_turns tries made x u b h k = by (x == 0) refl (first_of (if x == 0 then 
 clock_turns : (tries made x u : ℕ) → (x == 0 && made == 0) ≡ true → turned x u + 1 ≤ 3 * tries + 14
 clock_turns tries made x u h = let z : (x == 0) ≡ true = first_of (x == 0) (made == 0) h in rw z (omega arith)
 
-at_turns : (tries : ℕ) (scheme : SchemeKind) (at : ProtectAt) (made x u : ℕ) → is_ibr scheme ≡ false → protect_fits scheme tries at ≡ true → paced at made x u ≡ true → made + 1 ≤ 3 * tries + 14 → turned x u + 1 ≤ 3 * tries + 14
-at_turns tries scheme (LoadClock count) made x u n f h k = clock_turns tries made x u h
-at_turns tries scheme (PublishEra era count) made x u n f h k = publish_turns tries made x u _ h k
-at_turns tries scheme (LoadLink era count) made x u n f h k = since_turns tries made x u (first_of (since made x u) _ h) k
-at_turns tries scheme (CheckClock era count link) made x u n f h k = since_turns tries made x u (first_of (since made x u) _ h) k
-at_turns tries scheme LoadWithin made x u n f h k = absurd (false_not_true (is_ibr scheme) n f)
-at_turns tries scheme (CheckUpper link) made x u n f h k = absurd (false_not_true (is_ibr scheme) n f)
-at_turns tries scheme (RaiseUpper era) made x u n f h k = absurd (false_not_true (is_ibr scheme) n f)
-at_turns tries scheme at made x u n f h k = since_turns tries made x u h k
+at_turns : (tries : ℕ) (scheme : SchemeKind) (at : ProtectAt) (made x u : ℕ) → is_ibr scheme ≡ false → publishes_rows scheme ≡ false → protect_fits scheme tries at ≡ true → paced at made x u ≡ true → made + 1 ≤ 3 * tries + 14 → turned x u + 1 ≤ 3 * tries + 14
+at_turns tries scheme (LoadClock count) made x u n q f h k = clock_turns tries made x u h
+at_turns tries scheme (PublishEra era count) made x u n q f h k = publish_turns tries made x u _ h k
+at_turns tries scheme (LoadLink era count) made x u n q f h k = since_turns tries made x u (first_of (since made x u) _ h) k
+at_turns tries scheme (CheckClock era count link) made x u n q f h k = since_turns tries made x u (first_of (since made x u) _ h) k
+at_turns tries scheme LoadWithin made x u n q f h k = absurd (false_not_true (is_ibr scheme) n f)
+at_turns tries scheme (CheckUpper link) made x u n q f h k = absurd (false_not_true (is_ibr scheme) n f)
+at_turns tries scheme (RaiseUpper era) made x u n q f h k = absurd (false_not_true (is_ibr scheme) n f)
+at_turns tries scheme (ByHazard at) made x u n q f h k = absurd (false_not_true (publishes_rows scheme) q f)
+at_turns tries scheme at made x u n q f h k = since_turns tries made x u h k
 
 pub protect_turns : (w : World) (i : ℕ) (x u : ℕ → ℕ) (why : Why) (aim : Aim) (index : ℕ) (root : Root) (made : ℕ) (at : ProtectAt) → Inv w → is_wfe w.layout.config.scheme ≡ true → is_ibr w.layout.config.scheme ≡ false → (w.seat i).phase ≡ Runs why (Protect aim index root made at) → base_own x u (w.seat i).post (Protect aim index root made at) ≡ true → turned (x index) (u index) + 1 ≤ 3 * w.layout.config.tries + 14
 protect_turns w i x u why aim index root made at a f n e o =
     let k = a.known in
     let t = in_time w i k.seats k.paces in
     let r : Run w.layout why (Protect aim index root made at) (w.seat i).post = subst (PhaseFits w.layout (w.seat i).post) e (k.seats.fits i).phase in
-    at_turns w.layout.config.tries w.layout.config.scheme at made (x index) (u index) n r.fits (first_of (paced at made (x index) (u index)) (nat_le made (w.seat i).post.steps && taken index at (stands (w.seat i).post 2)) o) (t.protects why aim index root made at f e)
+    at_turns w.layout.config.tries w.layout.config.scheme at made (x index) (u index) n (helps_not_rows w.layout.config.scheme f) r.fits (first_of (paced at made (x index) (u index)) (nat_le made (w.seat i).post.steps && taken index at (stands (w.seat i).post 2)) o) (t.protects why aim index root made at f e)
 
 pub reload_turns : (w : World) (i : ℕ) (x u : ℕ → ℕ) (why : Why) (parent index slot era made : ℕ) → Inv w → is_wfe w.layout.config.scheme ≡ true → (w.seat i).phase ≡ Runs why (Reload parent index slot era made) → base_own x u (w.seat i).post (Reload parent index slot era made) ≡ true → turned (x index) (u index) + 1 ≤ 3 * w.layout.config.tries + 15
 reload_turns w i x u why parent index slot era made a f e o =
@@ -270,6 +275,11 @@ new_protect c index root LoadWithin steps j last h = by (index == j)
     by : (own : Bool) → (if own then true else true) ≡ true
     by true = refl
     by false = refl
+new_protect c index root (ByHazard FirstLink) steps j last h = by (index == j)
+  where
+    by : (own : Bool) → (if own then true else true) ≡ true
+    by true = refl
+    by false = refl
 new_protect c index root at steps j last h = absurd (cc)
 
 new_base : (c : Config) (base : Base) (j last : ℕ) → is_first base ≡ true → base_tried c base j 0 last ≡ true
@@ -290,7 +300,8 @@ new_tried c u (Works work) j times last h z = zero_test times z
 -- the head has moved
 moved_tried : (c : Config) (u : ℕ) (why : Why) (seen : ℕ) (next : Phase) (j times last : ℕ) → (times == 0 || (is_follow why && j == 1)) ≡ true → (is_new next ≡ true) × Moved false why (Followed (follow_ends.RootMoved seen)) next → (is_follow why ≡ true → j ≡ 1 → u + 1 ≤ 3 * c.tries + 15) → phase_tried c u next j times last ≡ true
 moved_tried c u (FollowsHead head tail) seen next j times last h l b =
-    let q : next ≡ Runs (ClearsNext Again) (Clear 1) = l.1 refl in
+    let m = l.1 refl in
+    let q : next ≡ Runs (ClearsNext Again) (Clear m.0 1) = m.1 in
     subst (λ (phase : Phase). phase_tried c u phase j times last ≡ true) (sym q) (by (times == 0) h)
   where
     by : (none : Bool) → (none || j == 1) ≡ true → (none || (j == 1 && nat_le (u + 1) (3 * c.tries + 15))) ≡ true

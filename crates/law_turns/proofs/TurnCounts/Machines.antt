@@ -19,10 +19,10 @@ use Rattle.law_reuse.specs.inv.model.Protect as protects
 use Rattle.law_reuse.specs.inv.model.Rounds.{scheme_of}
 use Rattle.law_reuse.specs.inv.model.SlowPath as slow
 use Rattle.law_reuse.specs.inv.model.Phases.{Aim, Alone, Follows, Tries, Endless, Failed, ProtectAt, Base}
-use Rattle.law_reuse.specs.inv.model.Phases.ProtectAt.{LoadClock, PublishEra, LoadLink, CheckClock, PublishRequest, LoadOwnClock, PublishHelper, LoadOwnLink, CheckOwnClock, AnswerOwn, LoadAnswer, TakeAnswer, WithdrawRequest, WithdrawHelper}
+use Rattle.law_reuse.specs.inv.model.Phases.ProtectAt.{LoadClock, PublishEra, LoadLink, CheckClock, PublishRequest, LoadOwnClock, PublishHelper, LoadOwnLink, CheckOwnClock, AnswerOwn, LoadAnswer, TakeAnswer, WithdrawRequest, WithdrawHelper, ByHazard}
 use Rattle.law_reuse.specs.inv.model.Phases.Base.{Protect}
 use Rattle.law_reuse.proofs.laws.records.defs.Facts.{both, false_not_true, zero_of_test, zero_test}
-use Rattle.law_reuse.specs.laws.words.Schemes.{is_ibr}
+use Rattle.law_reuse.specs.laws.words.Schemes.{is_ibr, publishes_rows}
 use Rattle.law_reuse.specs.inv.shapes.Seats.{protect_fits}
 use Rattle.law_turns.proofs.Counting.Told.{index_more}
 use Rattle.law_reuse.specs.laws.StateAt.{tried_by}
@@ -39,6 +39,7 @@ pub record Site (c : Config) (i j x last : ℕ) (aim : Aim) (index : ℕ) (root 
   pub seat : post.seat ≡ i
   pub config : post.layout.config ≡ c
   pub plain : is_ibr (scheme_of post) ≡ false
+  pub eras : publishes_rows (scheme_of post) ≡ false
   pub fits : protect_fits (scheme_of post) post.layout.config.tries at ≡ true
   pub alone : aim ≡ Alone → (link : ℕ) → tells_link root link ≡ true
   pub follows : aim ≡ Follows → index ≡ 1
@@ -191,4 +192,5 @@ protect_made moved c i j x last aim index root made n (WithdrawHelper link era) 
     by_own : (own : Bool) → (index == j) ≡ own → tells_link root link ≡ true → x ≡ 0
     by_own true o t = no_tells (tells_link root link) x (own_of (index == j) (not (tells_link root link) || x == 0) (x == 0) o s.times) t
     by_own false o t = zero_of_test x (other_of (index == j) (not (tells_link root link) || x == 0) (x == 0) o s.times)
+protect_made moved c i j x last aim index root made n (ByHazard at) post found e s = absurd (false_not_true (publishes_rows (scheme_of post)) s.eras s.fits)
 protect_made moved c i j x last aim index root made n at post found e s = absurd (false_not_true (is_ibr (scheme_of post)) s.plain s.fits)

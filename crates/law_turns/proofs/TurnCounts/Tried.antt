@@ -1,7 +1,7 @@
 -- Each step of a seat keeps how often a protection under way has published.
 use Rattle.std.proofs.Common.{ℕ, ◌≡◌, ◌+◌, Bool, true, false, List, [], ◌∷◌, ◌++◌, refl, sym, ap, ◌∙◌, subst, arith}
 use Rattle.std.proofs.lemmas.Bool.Decides.{nat_tests}
-use Rattle.std.specs.Prelude.{◌==◌, ◌&&◌, ◌||◌, ◌*◌, nat_le, if◌then◌else◌}
+use Rattle.std.specs.Prelude.{◌==◌, ◌&&◌, ◌||◌, ◌*◌, nat_le, if◌then◌else◌, not}
 use Rattle.law_reuse.specs.laws.words.Packed.{reservation_word}
 use Rattle.law_reuse.specs.laws.words.declared.config.Config.{Config}
 use Rattle.law_reuse.specs.laws.words.declared.layout.Layout.{Layout}
@@ -21,9 +21,9 @@ use Rattle.law_reuse.specs.inv.model.Phases.Base.{Begin, Protect, Reload, Clear,
 use Rattle.law_reuse.specs.inv.model.Phases.Ending.{Done, Protected, Followed, Allocated, Retired, Clocked}
 use Rattle.law_reuse.specs.inv.model.Calls.{Gets, Changes, Holds, Enqueues, Dequeues, Why, Opens, FollowsHead, Fills, ClearsNext, Clears, Finishes, GivesUp, Retires, Tidies, Advances, Releases, Phase, Runs}
 use Rattle.law_reuse.proofs.laws.records.defs.Facts.{first_of, rest_of, false_not_true, zero_of_test, zero_test, no_truth}
-use Rattle.law_reuse.specs.laws.words.Schemes.{is_ibr}
+use Rattle.law_reuse.specs.laws.words.Schemes.{is_ibr, has_one_interval, publishes_rows}
 use Rattle.law_reuse.specs.inv.shapes.Frame.{Moves, Passed}
-use Rattle.law_reuse.specs.inv.shapes.Seats.{PostFits, PhaseFits, Run, protect_fits, Kind, kind_of, suits, protects, reloads, aim_by, index_by, root_by}
+use Rattle.law_reuse.specs.inv.shapes.Seats.{base_fits, PostFits, PhaseFits, Run, protect_fits, Kind, kind_of, suits, protects, reloads, aim_by, index_by, root_by}
 use Rattle.law_turns.proofs.Counting.Passing.{Apart}
 use Rattle.law_turns.proofs.Counting.Told.{all_dull, cleared_dull, index_none, index_other, base_dull}
 use Rattle.law_reuse.specs.laws.StateAt.{tried_by}
@@ -47,6 +47,7 @@ pub record Stage (c : Config) (i j x last turns : ℕ) (layout : Layout) (why : 
   pub table : post.layout ≡ layout
   pub config : layout.config ≡ c
   pub plain : is_ibr layout.config.scheme ≡ false
+  pub eras : publishes_rows layout.config.scheme ≡ false
   pub run : Run layout why base post
   pub next : Moves (PostFits layout post.seat) (PhaseFits layout) why (machine.after base post found)
   pub era : TriedEra base
@@ -153,7 +154,7 @@ calm_made moved c i j x last turns layout why base post found k s =
     rest_out moved c layout j (tried_along i j (machine.after base post found).told x) (last_along (machine.after base post found).told last) why (machine.after base post found).post (machine.after base post found).outcome (calm_other (kind_of why) k) n.phase y
 
 -- an index word is withdrawn
-clear_made : (moved : Bool) (c : Config) (i j x last index : ℕ) (post : Post) (found : ℕ) → post.seat ≡ i → ((index == j) ≡ false → x ≡ 0) → Made moved c i j x last (machine.after (Clear index) post found)
+clear_made : (moved : Bool) (c : Config) (i j x last index : ℕ) (post : Post) (found : ℕ) → post.seat ≡ i → ((index == j) ≡ false → x ≡ 0) → Made moved c i j x last (machine.after (Clear false index) post found)
 clear_made moved c i j x last index post found s h = along (cleared index (stands post index)) (cleared_dull index (stands post index)) ∙ index_none i j post.seat index x s ∙ by (index == j) refl
   where
     both_along : (xs ys : List Event) (n : ℕ) → tried_along i j (xs ++ ys) n ≡ tried_along i j ys (tried_along i j xs n)
@@ -166,6 +167,9 @@ clear_made moved c i j x last index post found s h = along (cleared index (stand
     by : (own : Bool) → (index == j) ≡ own → (if own then 0 else x) ≡ 0
     by true o = refl
     by false o = h o
+
+no_rows : (layout : Layout) (index : ℕ) → publishes_rows layout.config.scheme ≡ false → base_fits layout.config (Clear true index) ≡ true → ⊥
+no_rows layout index e f = false_not_true (publishes_rows layout.config.scheme) e (rest_of (not (has_one_interval layout.config.scheme)) (publishes_rows layout.config.scheme) f)
 
 reload_made : (c : Config) (i j x last : ℕ) (parent index slot era n : ℕ) (post : Post) (found made : ℕ) → index ≡ 1 → (x == 0 || j == 1) ≡ true → Made true c i j x last (machine.after (Reload parent index slot era made) post found)
 reload_made c i j x last parent index slot era n post found made e h = made_if true c i j x last (found == parent + 1) _ _ (λ q. by (index == j) refl) (λ q. h)
@@ -191,6 +195,7 @@ run_made c i j x last turns layout (Opens task) (Protect aim index root made at)
       seat = s.seat;
       config = ap (λ (table : Layout). table.config) s.table ∙ s.config;
       plain = ap (λ (table : Layout). is_ibr table.config.scheme) s.table ∙ s.plain;
+      eras = ap (λ (table : Layout). publishes_rows table.config.scheme) s.table ∙ s.eras;
       fits = subst (λ (table : Layout). protect_fits table.config.scheme table.config.tries at ≡ true) (sym s.table) r.fits;
       alone = λ e link. alone_tells layout.config.buckets (Opens task) aim root link r.suited a.aimed a.of e;
       follows = λ e. follows_one (Opens task) aim index r.suited a.aimed a.at e;
@@ -206,6 +211,7 @@ run_made c i j x last turns layout (FollowsHead head tail) (Protect aim index ro
       seat = s.seat;
       config = ap (λ (table : Layout). table.config) s.table ∙ s.config;
       plain = ap (λ (table : Layout). is_ibr table.config.scheme) s.table ∙ s.plain;
+      eras = ap (λ (table : Layout). publishes_rows table.config.scheme) s.table ∙ s.eras;
       fits = subst (λ (table : Layout). protect_fits table.config.scheme table.config.tries at ≡ true) (sym s.table) r.fits;
       alone = λ e link. alone_tells layout.config.buckets (FollowsHead head tail) aim root link r.suited a.aimed a.of e;
       follows = λ e. follows_one (FollowsHead head tail) aim index r.suited a.aimed a.at e;
@@ -215,9 +221,12 @@ run_made c i j x last turns layout (FollowsHead head tail) (Protect aim index ro
 run_made c i j x last turns layout (FollowsHead head tail) (Reload parent index slot era made) post found s = let r = s.run in let a = r.shape in reload_made c i j x last parent index slot era 0 post found made a.at s.right
 run_made c i j x last turns layout (Opens task) (Begin at) post found s = absurd (false_not_true (is_ibr layout.config.scheme) s.plain s.run.fits)
 run_made c i j x last turns layout (Fills task) base post found s = calm_made false c i j x last turns layout (Fills task) base post found refl s
-run_made c i j x last turns layout (ClearsNext next) (Clear index) post found s = clear_made false c i j x last index post found s.seat (moved_zero j x (3 * c.tries + 15) turns index s.run.shape s.right)
-run_made c i j x last turns layout (Clears task next) (Clear index) post found s = clear_made false c i j x last index post found s.seat (λ o. zero_of_test x s.right)
-run_made c i j x last turns layout (Releases let_go) (Clear index) post found s = clear_made false c i j x last index post found s.seat (λ o. zero_of_test x s.right)
+run_made c i j x last turns layout (ClearsNext next) (Clear false index) post found s = clear_made false c i j x last index post found s.seat (moved_zero j x (3 * c.tries + 15) turns index s.run.shape s.right)
+run_made c i j x last turns layout (Clears task next) (Clear false index) post found s = clear_made false c i j x last index post found s.seat (λ o. zero_of_test x s.right)
+run_made c i j x last turns layout (Releases let_go) (Clear false index) post found s = clear_made false c i j x last index post found s.seat (λ o. zero_of_test x s.right)
+run_made c i j x last turns layout (ClearsNext next) (Clear true index) post found s = absurd (no_rows layout index s.eras s.run.fits)
+run_made c i j x last turns layout (Clears task next) (Clear true index) post found s = absurd (no_rows layout index s.eras s.run.fits)
+run_made c i j x last turns layout (Releases let_go) (Clear true index) post found s = absurd (no_rows layout index s.eras s.run.fits)
 run_made c i j x last turns layout (Releases let_go) (Release index) post found s = absurd (false_not_true (is_ibr layout.config.scheme) s.plain s.run.fits)
 run_made c i j x last turns layout (Finishes task next) Finish post found s = absurd (false_not_true (is_ibr layout.config.scheme) s.plain s.run.fits)
 run_made c i j x last turns layout (GivesUp answer) base post found s = calm_made false c i j x last turns layout (GivesUp answer) base post found refl s

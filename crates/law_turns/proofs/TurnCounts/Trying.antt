@@ -13,20 +13,19 @@ use Rattle.law_reuse.specs.inv.model.declared.ends.FollowEnd.TheVariants as foll
 use Rattle.law_reuse.specs.inv.model.declared.post.Post.{Post}
 use Rattle.law_reuse.specs.inv.model.Protect as protects
 use Rattle.law_reuse.specs.inv.model.Guards.{one_era}
-use Rattle.law_reuse.specs.inv.model.Posts.{cleared, reserves_index, stands}
-use Rattle.law_reuse.specs.laws.words.Schemes.{has_one_interval}
+use Rattle.law_reuse.specs.inv.model.Posts.{cleared, publishes_index, stands}
+use Rattle.law_reuse.specs.laws.words.Schemes.{has_one_interval, publishes_rows}
 use Rattle.law_reuse.specs.inv.model.Calls.{KeepAt, Loosens, LoadHeld, StoreHeld, Looks, Misses, HideSpan, MarkLeft, TakeList, MarkTaken, Work, Keeping}
 use Rattle.law_reuse.specs.inv.model.Rounds.{scheme_of, clear_told, let_index}
 use Rattle.law_reuse.specs.inv.model.Phases.{Aim, Alone, Follows, Tries, Endless, Failed, ProtectAt, Base, Turn, Outcome, Goes, Ends}
-use Rattle.law_reuse.specs.inv.model.Phases.ProtectAt.{LoadClock, PublishEra, LoadLink, CheckClock, WithdrawRequest, WithdrawHelper, LoadWithin, CheckUpper, RaiseUpper}
+use Rattle.law_reuse.specs.inv.model.Phases.ProtectAt.{LoadClock, PublishEra, LoadLink, CheckClock, WithdrawRequest, WithdrawHelper, LoadWithin, CheckUpper, RaiseUpper, ByHazard}
 use Rattle.law_reuse.specs.inv.model.Phases.Base.{Protect, Reload}
 use Rattle.law_reuse.specs.inv.model.Phases.Ending.{Followed}
 use Rattle.law_reuse.proofs.laws.records.defs.Facts.{first_of, rest_of}
 use Rattle.law_reuse.proofs.history.Passes.{Closed, copied_told, keep_told, work_told}
-use Rattle.law_turns.proofs.Counting.Told.{is_dull, all_dull, cleared_dull, hide_dull}
+use Rattle.law_turns.proofs.Counting.Told.{is_dull, all_dull, clear_dull, cleared_dull, hide_dull, quiet_dull}
 use Rattle.law_reuse.specs.laws.StateAt.{one_more, tried_by, last_by}
-use Rattle.law_turns.proofs.Withdrawals.Withdrawing.{is_mute, all_mute, quiet_mute, clear_mute, tells_link}
-use Rattle.law_reuse.proofs.history.AllOf.{of_weaker}
+use Rattle.law_turns.proofs.Withdrawals.Withdrawing.{tells_link}
 
 -- along what a step tells
 abbrev pub tried_along : (seat index : ℕ) → List Event → ℕ → ℕ
@@ -68,16 +67,6 @@ pub dull_last : (told : List Event) (n : ℕ) → all_dull told ≡ true → las
 dull_last [] n h = refl
 dull_last (event ∷ told) n h = ap (last_along told) (dull_last_one event n (first_of (is_dull event) (all_dull told) h)) ∙ dull_last told n (rest_of (is_dull event) (all_dull told) h)
 
-mute_dull_one : (event : Event) → is_mute event ≡ true → is_dull event ≡ true
-mute_dull_one (events.Reserve guard span) h = absurd (cc)
-mute_dull_one (events.Held index slot steps) h = absurd (cc)
-mute_dull_one (events.Null index steps) h = absurd (cc)
-mute_dull_one (events.Copied from index slot) h = absurd (cc)
-mute_dull_one event h = refl
-
-mute_dull : (told : List Event) → all_mute told ≡ true → all_dull told ≡ true
-mute_dull told h = of_weaker is_mute is_dull told mute_dull_one h
-
 -- a call on what is kept is no protection
 apart_word : (i j seat index era n : ℕ) → (index == j) ≡ false → tried_by i j (events.Reserve (Index seat index) (one_era era)) n ≡ n
 apart_word i j seat index era n o = by (seat == i)
@@ -105,7 +94,11 @@ keep_zero i j (LoadHeld from index) post n z = by (has_one_interval (scheme_of p
     by : (one : Bool) → tried_along i j (if one then copied_told from index post [] (stands post from) else []) n ≡ 0
     by true = copied_zero i j from index post [] (stands post from) n (λ o. refl) z
     by false = z
-keep_zero i j (StoreHeld from index era) post n z = copied_zero i j from index post (reserves_index post index era) (stands post from) n (λ o. apart_word i j post.seat index era n o) z
+keep_zero i j (StoreHeld from index number) post n z = copied_zero i j from index post (publishes_index (publishes_rows (scheme_of post)) post index number) (stands post from) n (λ o. by (publishes_rows (scheme_of post)) o) z
+  where
+    by : (rows : Bool) → (index == j) ≡ false → tried_along i j (publishes_index rows post index number) n ≡ n
+    by false o = apart_word i j post.seat index number n o
+    by true o = refl
 keep_zero i j (Looks index key at) post n z = z
 keep_zero i j (Misses index) post n z = z
 keep_zero i j HideSpan post n z = dull_tried i j (keep_told HideSpan post) n (hide_dull post) ∙ z
@@ -122,16 +115,16 @@ pub record Comes (i j n last y m : ℕ) (told : List Event) : Type 0 where
   pub tried : tried_along i j told n ≡ y
   pub found : last_along told last ≡ m
 
-comes_along : (i j n last y m : ℕ) (told more : List Event) → all_mute more ≡ true → Comes i j n last y m told → Comes i j n last y m (told ++ more)
+comes_along : (i j n last y m : ℕ) (told more : List Event) → all_dull more ≡ true → Comes i j n last y m told → Comes i j n last y m (told ++ more)
 comes_along i j n last y m told more h c = record {
-  tried = tried_both i j told more n ∙ dull_tried i j more (tried_along i j told n) (mute_dull more h) ∙ c.tried;
-  found = last_both told more last ∙ dull_last more (last_along told last) (mute_dull more h) ∙ c.found;
+  tried = tried_both i j told more n ∙ dull_tried i j more (tried_along i j told n) h ∙ c.tried;
+  found = last_both told more last ∙ dull_last more (last_along told last) h ∙ c.found;
 }
 
 pub comes_closed : (i j n last y m : ℕ) → Closed (λ post told. Comes i j n last y m told)
 comes_closed i j n last y m = record {
-  calm = λ post told more q h. comes_along i j n last y m told more (quiet_mute more q) h;
-  clears = λ post told index h. comes_along i j n last y m told (clear_told (scheme_of post) post index) (clear_mute (scheme_of post) post index) h;
+  calm = λ post told more q h. comes_along i j n last y m told more (quiet_dull more q) h;
+  clears = λ post told index h. comes_along i j n last y m told (clear_told (scheme_of post) post index) (clear_dull (scheme_of post) post index) h;
 }
 
 -- how often a protection at an index has published
@@ -149,6 +142,7 @@ at_tried c root (WithdrawHelper link era) times = not (tells_link root link) || 
 at_tried c root LoadWithin times = true
 at_tried c root (CheckUpper link) times = true
 at_tried c root (RaiseUpper era) times = true
+at_tried c root (ByHazard at) times = true
 at_tried c root at times = nat_le (c.tries + 1) times
 
 -- where the helper word is to be withdrawn, the last that was told is of the protection's index

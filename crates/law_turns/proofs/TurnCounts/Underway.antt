@@ -15,7 +15,8 @@ use Rattle.law_reuse.specs.inv.model.Phases.{Base, Turn}
 use Rattle.law_reuse.specs.inv.model.Phases.Base.{Protect, Reload}
 use Rattle.law_reuse.specs.inv.model.Calls.{Why, Opens, FollowsHead, Fills, ClearsNext, Clears, Finishes, GivesUp, Retires, Tidies, Advances, Releases, Phase, Idle, Runs, Scans, Works}
 use Rattle.law_reuse.proofs.laws.records.defs.Facts.{zero_of_test, le_test}
-use Rattle.law_reuse.specs.laws.words.Schemes.{is_ibr, is_wfe}
+use Rattle.law_reuse.specs.laws.words.Schemes.{is_ibr, is_wfe, publishes_rows}
+use Rattle.law_reuse.proofs.inv.model.words.Schemes.{helps_not_rows}
 use Rattle.law_reuse.specs.inv.shapes.Frame.{Moves}
 use Rattle.law_reuse.specs.inv.shapes.Seats.{PostFits, PhaseFits, Run, kind_of, suits, index_by}
 use Rattle.law_reuse.proofs.shapes.Frame.{seat_stays, begin_stays, begin_begins}
@@ -45,7 +46,7 @@ use Rattle.law_reuse.proofs.inv.steps_left.Rest.Falling.{wfe_plain}
 
 -- along a history
 pub record Lasts (layout : Layout) (made : Made) (h : schedule.History) : Type 0 where
-  pub counts : counting.Keeps layout made h
+  pub counts : counting.Keeps false layout made h
   pub owes : due.Keeps made h
   pub tried : (k j : ℕ) → phase_tried made.world.layout.config (turns_since k j h) (made.world.seat k).phase j (tried_of k j (record_of h)) (last_of k (record_of h)) ≡ true
   pub law : (j : ℕ) → EachTurn (lasts_right layout.config.tries j) h
@@ -88,8 +89,8 @@ follow_turns w i j x u why (Reload parent index slot era made) a f n e o r p g o
 follow_turns w i j x u why base a f n e o r p g one = absurd (cc)
 
 -- the seat that steps
-stage_of : (w : World) (i j times last u : ℕ) (a : Inv w) (why : Why) (base : Base) → i < w.layout.config.seats → is_ibr w.layout.config.scheme ≡ false → (w.seat i).phase ≡ Runs why base → why_tried w.layout.config u why base j times last ≡ true → Stage w.layout.config i j times last u w.layout why base (counted (w.seat i).post) (finds w i)
-stage_of w i j times last u a why base b n e t =
+stage_of : (w : World) (i j times last u : ℕ) (a : Inv w) (why : Why) (base : Base) → i < w.layout.config.seats → is_ibr w.layout.config.scheme ≡ false → publishes_rows w.layout.config.scheme ≡ false → (w.seat i).phase ≡ Runs why base → why_tried w.layout.config u why base j times last ≡ true → Stage w.layout.config i j times last u w.layout why base (counted (w.seat i).post) (finds w i)
+stage_of w i j times last u a why base b n z e t =
     let k = a.known in
     let f = k.seats.fits i in
     let p = f.post in
@@ -100,6 +101,7 @@ stage_of w i j times last u a why base b n e t =
       table = p.layout;
       config = refl;
       plain = n;
+      eras = z;
       run = run;
       next = subst (λ (m : ℕ). Moves (PostFits w.layout m) (PhaseFits w.layout) why (machine.after base (counted (w.seat i).post) (finds w i))) (sym p.seat) (shape_moves w.layout i k.valid why base (counted (w.seat i).post) (finds w i) (counted_fits w.layout i (w.seat i).post p) run);
       era = base_era w i why base k.eras e;
@@ -111,7 +113,7 @@ phase_next : (w : World) (i j times last : ℕ) (x u : ℕ → ℕ) (a : Inv w) 
     → phase_tried w.layout.config (turned (x j) (u j)) next j (tried_along i j (own_told phase (counted (w.seat i).post) (finds w i)) times) (last_along (own_told phase (counted (w.seat i).post) (finds w i)) last) ≡ true
 phase_next w i j times last x u a Idle next b f n e o t l = new_tried w.layout.config (turned (x j) (u j)) next j times last l (zero_of_test times t)
 phase_next w i j times last x u a (Runs why base) next b f n e o t l =
-    let s = stage_of w i j times last (u j) a why base b n e t in
+    let s = stage_of w i j times last (u j) a why base b n (helps_not_rows w.layout.config.scheme f) e t in
     let r : Run w.layout why base (w.seat i).post = subst (PhaseFits w.layout (w.seat i).post) e (a.known.seats.fits i).phase in
     let m : Turn = machine.after base (counted (w.seat i).post) (finds w i) in
     let q = s.next in
@@ -138,10 +140,10 @@ step_own layout made h i j f a b g =
     let c = told_comes w i j t l in
     let led : Left false phase (counted (w.seat i).post) (finds w i) next = subst (λ (interval : Bool). Left interval phase (counted (w.seat i).post) (finds w i) next) n (stepped_leads w i k.valid k.seats) in
     let s = g.counts.seats i in
-    let r = phase_next w i j t l (published h i) (since_of h i) v phase next b f n refl s.own (g.tried i j) led in
+    let r = phase_next w i j t l (published false h i) (since_of false h i) v phase next b f n refl s.own (g.tried i j) led in
     let y : tried_of i j (tells_of (record_of h) i (told_in w i)) ≡ tried_along i j own_events t = tried_tells i j (told_in w i) (record_of h) ∙ c.tried in
     let z : last_of i (tells_of (record_of h) i (told_in w i)) ≡ last_along own_events l = last_tells i (told_in w i) (record_of h) ∙ c.found in
-    rw y (rw z (rw (turned_here i j h (told_in w i)) r))
+    rw y (rw z (rw (turned_here false i j h (told_in w i)) r))
 
 step_tried : (layout : Layout) (made : Made) (h : schedule.History) (i k j : ℕ) (same : Bool) → (k == i) ≡ same → is_wfe made.world.layout.config.scheme ≡ true → Around made h → i < made.world.layout.config.seats → Lasts layout made h
     → phase_tried made.world.layout.config (turns_since k j (Turns h i (told_in made.world i))) ((step made.world i).seat k).phase j (tried_of k j (tells_of (record_of h) i (told_in made.world i))) (last_of k (tells_of (record_of h) i (told_in made.world i))) ≡ true
@@ -167,8 +169,8 @@ step_law layout made h i j f a g =
     let o = g.owes.seats i in
     let c : w.layout.config.tries ≡ layout.config.tries = ap (λ (table : Layout). table.config.tries) g.counts.table in
     not_under (under_way i j h) _ (λ y.
-    let r : InBound w i j (published h i) (since_of h i) = phase_turns w i j (published h i) (since_of h i) (tried_of i j (record_of h)) (due_of i h) (last_of i (record_of h)) (w.seat i).phase v f n refl s.own (g.tried i j) o.due y in
-    let t : turns_since i j (Turns h i (told_in w i)) + 1 ≤ bound w.layout.config.tries j = subst (λ (m : ℕ). m + 1 ≤ bound w.layout.config.tries j) (sym (turned_here i j h (told_in w i))) r in
+    let r : InBound w i j (published false h i) (since_of false h i) = phase_turns w i j (published false h i) (since_of false h i) (tried_of i j (record_of h)) (due_of i h) (last_of i (record_of h)) (w.seat i).phase v f n refl s.own (g.tried i j) o.due y in
+    let t : turns_since i j (Turns h i (told_in w i)) + 1 ≤ bound w.layout.config.tries j = subst (λ (m : ℕ). m + 1 ≤ bound w.layout.config.tries j) (sym (turned_here false i j h (told_in w i))) r in
     subst (λ (tries : ℕ). nat_le (turns_since i j (Turns h i (told_in w i)) + 1) (bound tries j) ≡ true) c (le_test (turns_since i j (Turns h i (told_in w i)) + 1) (bound w.layout.config.tries j) t))
 
 wfe_of : (layout : Layout) (made : Made) (h : schedule.History) → is_wfe layout.config.scheme ≡ true → Lasts layout made h → is_wfe made.world.layout.config.scheme ≡ true
@@ -178,7 +180,7 @@ pub step_kept : (layout : Layout) (made : Made) (h : schedule.History) (i : ℕ)
 step_kept layout made h i f a b y g =
     let q = wfe_of layout made h f g in
     record {
-      counts = counting.step_kept layout made h i (wfe_plain layout.config.scheme f) a b y g.counts;
+      counts = counting.step_kept false layout made h i (wfe_plain layout.config.scheme f) a b y g.counts;
       owes = due.step_kept made h i a g.owes;
       tried = λ k j. step_tried layout made h i k j (k == i) refl q a b g;
       law = λ j. (step_law layout made h i j q a g, g.law j);
@@ -225,14 +227,14 @@ begin_tried layout made h i k j call false e a y g =
 
 pub begin_kept : (layout : Layout) (made : Made) (h : schedule.History) (i : ℕ) (call : Call) → Around made h → is_busy made.world i ≡ false → Lasts layout made h → Lasts layout (done made (Begins i call)) (Starts h i call)
 begin_kept layout made h i call a y g = record {
-  counts = counting.begin_kept layout made h i call y g.counts;
+  counts = counting.begin_kept false layout made h i call y g.counts;
   owes = due.begin_kept made h i call a y g.owes;
   tried = λ k j. begin_tried layout made h i k j call (k == i) refl a y g;
   law = g.law;
 }
 
 pub first_kept : (layout : Layout) → is_wfe layout.config.scheme ≡ true → Lasts layout (first_made layout) Blank
-first_kept layout f = record { counts = counting.first_kept layout (wfe_plain layout.config.scheme f); owes = due.first_kept layout; tried = λ k j. refl; law = λ j. tt }
+first_kept layout f = record { counts = counting.first_kept false layout (wfe_plain layout.config.scheme f) (helps_not_rows layout.config.scheme f); owes = due.first_kept layout; tried = λ k j. refl; law = λ j. tt }
 
 kept : (layout : Layout) → is_wfe layout.config.scheme ≡ true → Kept (Lasts layout)
 kept layout f = record { begins = λ made h i call a b y m g. begin_kept layout made h i call a y g; steps = λ made h i a b y g. step_kept layout made h i f a b y g }

@@ -2,7 +2,7 @@
 use Rattle.law_reuse.specs.laws.words.Schemes.{is_ibr}
 use Rattle.std.proofs.Common.{ℕ, ◌≡◌, ◌+◌, Bool, true, false, List, [], ◌∷◌, ◌++◌, refl, sym, ap, ◌∙◌, subst, arith, Option, Some, None}
 use Rattle.std.proofs.lemmas.Bool.Decides.{nat_tests}
-use Rattle.std.specs.Prelude.{◌==◌, nat_le, nat_lt, if◌then◌else◌}
+use Rattle.std.specs.Prelude.{◌==◌, nat_le, nat_lt, if◌then◌else◌, ◌||◌}
 use Rattle.law_reuse.specs.laws.words.Packed.{reservation_word, read_reservation, read_request}
 use Rattle.law_reuse.specs.laws.words.declared.packed.Request.{Request}
 use Rattle.law_reuse.specs.laws.words.declared.packed.Request.TheVariants as requests
@@ -26,7 +26,8 @@ use Rattle.law_reuse.specs.inv.model.WriteRow.{last_written}
 use Rattle.law_reuse.specs.inv.model.World.{World, begin, finds, is_busy, offered, step, told_in}
 use Rattle.law_reuse.specs.inv.model.Phases.{Aim, Alone, Follows, Tries, Endless, Failed, ProtectAt, MoveAt, Walk, Base, Turn, Outcome, Goes, Ends}
 use Rattle.law_reuse.specs.inv.model.Phases.BeginAt.{LoadLower}
-use Rattle.law_reuse.specs.inv.model.Phases.ProtectAt.{LoadClock, PublishEra, LoadLink, CheckClock, PublishRequest, PublishHelper, CheckOwnClock, AnswerOwn, LoadAnswer, WithdrawRequest, WithdrawHelper, LoadWithin, CheckUpper}
+use Rattle.law_reuse.specs.inv.model.Phases.ProtectAt.{LoadClock, PublishEra, LoadLink, CheckClock, PublishRequest, PublishHelper, CheckOwnClock, AnswerOwn, LoadAnswer, WithdrawRequest, WithdrawHelper, LoadWithin, CheckUpper, ByHazard}
+use Rattle.law_reuse.specs.inv.model.Phases.HazardAt.{FirstLink, CheckLink}
 use Rattle.law_reuse.specs.inv.model.Phases.AllocateAt.{ClaimSlot}
 use Rattle.law_reuse.specs.inv.model.Phases.RetireAt.{LoadLife}
 use Rattle.law_reuse.specs.inv.model.Phases.MoveAt.{LoadEra, LoadRequest, ShowEra, CheckEra, AnswerAsked, LoadReserved, HandOver, ExchangeClock}
@@ -121,6 +122,8 @@ protect_out aim index root made (WithdrawHelper link era) post found = subst (λ
     by true = refl
     by false = refl
 protect_out aim index root made (CheckUpper link) post found = out_if false 0 (found == upper post.span) _ _ (concluded_out aim index root (bump made) link found _ _) (refl, refl)
+protect_out aim index root made (ByHazard FirstLink) post found = out_if false 0 (found == 0) _ _ (concluded_out aim index root (bump made) found 0 _ _) (refl, refl)
+protect_out aim index root made (ByHazard (CheckLink link)) post found = out_if false 0 (found == link || found == 0) _ _ (concluded_out aim index root (bump made) found 0 _ _) (refl, refl)
 protect_out aim index root made at post found = (refl, refl)
 
 met_all : (era : ℕ) (shows : Bool) → move_shows (movers.all_met era shows) ≡ shows
@@ -180,6 +183,7 @@ base_out base post found = (refl, refl)
 new_base : (base : Base) → is_first base ≡ true → (base_shows base ≡ false) × (base_due base ≡ 0)
 new_base (Protect aim index root steps (LoadClock tries)) h = (refl, refl)
 new_base (Protect aim index root steps LoadWithin) h = (refl, refl)
+new_base (Protect aim index root steps (ByHazard FirstLink)) h = (refl, refl)
 new_base (Protect aim index root steps at) h = absurd (cc)
 new_base (Move (LoadEra helps)) h = (refl, refl)
 new_base (Move at) h = absurd (cc)

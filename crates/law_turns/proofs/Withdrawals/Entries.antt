@@ -27,7 +27,7 @@ use Rattle.law_reuse.proofs.laws.records.defs.Facts.{both, first_of, rest_of, nu
 use Rattle.law_reuse.specs.inv.Inv.{Inv}
 use Rattle.law_reuse.specs.history.Heard.{heard_of}
 use Rattle.law_reuse.specs.history.History as histories
-use Rattle.law_reuse.specs.history.History.{Begins, Item, Made, Steps, done, first_made}
+use Rattle.law_reuse.specs.history.History.{Begins, Item, Made, Steps, done}
 use Rattle.law_reuse.specs.laws.records.Record.{Past, Test, Each, tells_of}
 use Rattle.law_reuse.specs.laws.records.Record.Past.{Start, Then}
 use Rattle.law_reuse.specs.laws.records.Turns as schedule
@@ -40,6 +40,9 @@ use Rattle.law_reuse.proofs.history.Passes.{First, is_quiet}
 use Rattle.law_reuse.proofs.OneStep.Along.{Around, Kept, history_keeps}
 use Rattle.law_reuse.proofs.Turns.Counted.{histories_count}
 use Rattle.law_reuse.specs.Heard.{IsCounted}
+use Rattle.law_reuse.proofs.ReadGuards.{reads_are}
+use Rattle.law_reuse.specs.inv.model.Guards.{guard_at}
+use Rattle.law_reuse.specs.laws.words.Schemes.{publishes_rows}
 use Rattle.law_reuse.specs.laws.StateAt.{is_helper, reserved_by, shown_by, shown_of, value_of}
 use Rattle.law_reuse.specs.laws.HistorySteps.{due_of, ends_found, found_last, found_shown, one_less, tells_nothing, withdraws_by, withdraws_first}
 use Rattle.law_reuse.specs.laws.StateAt.{is_found}
@@ -48,6 +51,8 @@ use Rattle.law_turns.specs.Records.{RecordsWithdrawNext, TurnsFindLast}
 use Rattle.law_turns.proofs.Withdrawals.Due as due
 use Rattle.law_turns.proofs.Withdrawals.Due.{Keeps, after_due, begin_kept, phase_due, step_kept}
 use Rattle.law_turns.proofs.Withdrawals.Withdrawing.{Shows, phase_finds, phase_leaves, phase_shows, tells_link}
+use Rattle.law_reuse.specs.laws.words.Place.{is_valid}
+use Rattle.law_reuse.specs.laws.words.declared.layout.Layout.{Layout}
 
 -- the same by what the seat itself has told of its helper word
 abbrev due_at : ℕ → Past → Bool
@@ -183,9 +188,9 @@ helper_passes i = record { quiet = quiet_one; clears = λ index slot. refl }
 phase_helper : (i : ℕ) (phase : Phase) (post : Post) (there : ℕ) → post.seat ≡ i → First (λ p told. all_of (own_helper i) told ≡ true) phase post there
 phase_helper i Idle post there s = refl
 phase_helper i (Runs why base) post there s = base_all (own_helper i) base post there (λ event. helper_told i base post there event s)
-phase_helper i (Scans later (ReadGuard number)) post there s = refl
+phase_helper i (Scans later (ReadGuard number)) post there s = reads_are (λ event. all_of (own_helper i) (event ∷ []) ≡ true) (publishes_rows post.layout.config.scheme) (guard_at post.layout.config number) there (λ span. refl) (λ slot. refl)
 phase_helper i (Scans later (GiveBack place slot)) post there s = refl
-phase_helper i (Works work) post there s = work_all (own_helper i) (λ index slot. refl) (λ from index slot. refl) (λ seat index era. refl) (λ seat. refl) work post
+phase_helper i (Works work) post there s = work_all (own_helper i) (λ index slot. refl) (λ from index slot. refl) (λ seat index era. refl) (λ seat. refl) (λ seat index link. refl) work post
 
 step_helper : (w : World) (i : ℕ) → (w.seat i).post.seat ≡ i → all_of (own_helper i) (told_in w i) ≡ true
 step_helper w i s = step_all (own_helper i) (helper_passes i) (w.seat i).phase (counted (w.seat i).post) (offered w i).desk (finds w i) (phase_helper i (w.seat i).phase (counted (w.seat i).post) (finds w i) s)
@@ -318,3 +323,11 @@ pub turns_find_last : TurnsFindLast
 turns_find_last layout items d =
     let g = history_keeps layout Withdraws kept d items (record { keeps = due.first_kept layout; due = λ k. refl; law = tt; own = tt; last = tt }) in
     g.last
+
+-- between calls the helper word publishes nothing
+pub helper_rests : (layout : Layout) (items : List Item) (i : ℕ) → is_valid layout ≡ true → ((histories.world_of layout items).seat i).phase ≡ Idle → is_some (value_of (Helper i) (histories.record_of layout items)) ≡ false
+helper_rests layout items i d e =
+    let g : Withdraws (histories.made_of layout items) (heard_of layout items) = history_keeps layout Withdraws kept d items (record { keeps = due.first_kept layout; due = λ k. refl; law = tt; own = tt; last = tt }) in
+    let c : IsCounted layout items = histories_count layout items d in
+    let t = g.keeps.seats i in
+    subst (λ (p : Past). is_some (value_of (Helper i) p) ≡ false) c.tells (sym (shown_value i (record_of (heard_of layout items)) g.own) ∙ t.shown ∙ ap phase_shows e)

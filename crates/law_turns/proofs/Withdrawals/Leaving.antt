@@ -5,7 +5,7 @@ use Rattle.std.proofs.Common.{ℕ, ◌≡◌, Bool, true, false, List, refl, sym
 use Rattle.std.specs.Prelude.{◌==◌, ◌&&◌}
 use Rattle.law_reuse.specs.laws.words.Place.{is_valid}
 use Rattle.law_reuse.specs.laws.words.declared.config.SchemeKind.{SchemeKind}
-use Rattle.law_reuse.specs.laws.words.declared.config.SchemeKind.TheVariants.{He, Ibr, Wfe}
+use Rattle.law_reuse.specs.laws.words.declared.config.SchemeKind.TheVariants.{He, Hp, Ibr, Wfe}
 use Rattle.law_reuse.specs.laws.words.declared.layout.Layout.{Layout}
 use Rattle.law_reuse.specs.laws.defs.declared.call.Call.{Call}
 use Rattle.law_reuse.specs.laws.defs.declared.event.Event.{Event}
@@ -14,7 +14,8 @@ use Rattle.law_reuse.specs.inv.model.Desks.{Desk}
 use Rattle.law_reuse.specs.inv.model.Machine as machine
 use Rattle.law_reuse.specs.inv.model.Phases.{Tries, Endless, Failed, ProtectAt, AllocateAt, RetireAt, MoveAt, BeginAt, Base, Outcome, Goes, Ends, Ending}
 use Rattle.law_reuse.specs.inv.model.Phases.BeginAt.{LoadLower}
-use Rattle.law_reuse.specs.inv.model.Phases.ProtectAt.{LoadClock, LoadWithin}
+use Rattle.law_reuse.specs.inv.model.Phases.ProtectAt.{LoadClock, LoadWithin, ByHazard}
+use Rattle.law_reuse.specs.inv.model.Phases.HazardAt.{FirstLink}
 use Rattle.law_reuse.specs.inv.model.Phases.AllocateAt.{LoadBirth}
 use Rattle.law_reuse.specs.inv.model.Phases.RetireAt.{LoadLife}
 use Rattle.law_reuse.specs.inv.model.Phases.MoveAt.{LoadEra}
@@ -45,6 +46,7 @@ tries_none (Failed count) = count == 0
 abbrev pub protects_at : ProtectAt → Bool
 protects_at (LoadClock tries) = tries_none tries
 protects_at LoadWithin = true
+protects_at (ByHazard FirstLink) = true
 protects_at at = false
 
 abbrev pub allocates_at : AllocateAt → Bool
@@ -63,7 +65,7 @@ abbrev pub is_first : Base → Bool
 is_first (Begin at) = begins_at at
 is_first (Protect aim index root steps at) = protects_at at && steps == 0
 is_first (Reload parent index slot era steps) = false
-is_first (Clear index) = true
+is_first (Clear rows index) = true
 is_first Finish = true
 is_first (Release index) = true
 is_first (Allocate at) = allocates_at at
@@ -85,6 +87,7 @@ New post phase = is_new phase ≡ true
 protect_new : (scheme : SchemeKind) → (protects_at (protect_at scheme) && true) ≡ true
 protect_new He = refl
 protect_new Ibr = refl
+protect_new Hp = refl
 protect_new Wfe = refl
 
 new_grows : (layout : Layout) (k : ℕ) → is_valid layout ≡ true → Grows (PostFits layout k) New
@@ -105,7 +108,7 @@ new_grows layout k v =
       finishes = λ post task next a b q. refl;
       gives_up = λ post answer slot q. refl;
       retires = λ post answer slot q. refl;
-      tidies = λ post later q. refl;
+      tidies = λ post later m q. refl;
       advances = λ post q. refl;
       clears_kept = λ post let_go n q. refl;
       releases = λ post let_go i n q. refl;
@@ -120,7 +123,7 @@ stores_new work post found = tt
 
 -- where the head has moved, index 1 is cleared
 abbrev pub Moved : (interval : Bool) → Why → Ending → Phase → Type 0
-Moved interval (FollowsHead head tail) (Followed (follow_ends.RootMoved seen)) phase = interval ≡ false → phase ≡ Runs (ClearsNext Again) (Clear 1)
+Moved interval (FollowsHead head tail) (Followed (follow_ends.RootMoved seen)) phase = interval ≡ false → (rows : Bool) × (phase ≡ Runs (ClearsNext Again) (Clear rows 1))
 Moved interval why ending phase = Unit {0}
 
 -- the machine goes on to this phase, or it has ended and the phase is new
@@ -134,10 +137,11 @@ Left interval (Runs why base) post found next = Leads interval why (machine.afte
 Left interval (Scans later at) post found next = is_new next ≡ true
 Left interval (Works work) post found next = is_new next ≡ true
 
-cleared_next : (scheme : SchemeKind) (post : Post) (desk : Desk) (told : List Event) → is_ibr scheme ≡ false → phase_left (clearing_next_by Again post desk told (clear_base scheme 1)).outcome ≡ Runs (ClearsNext Again) (Clear 1)
-cleared_next He post desk told n = refl
+cleared_next : (scheme : SchemeKind) (post : Post) (desk : Desk) (told : List Event) → is_ibr scheme ≡ false → (rows : Bool) × (phase_left (clearing_next_by Again post desk told (clear_base scheme 1)).outcome ≡ Runs (ClearsNext Again) (Clear rows 1))
+cleared_next He post desk told n = (false, refl)
 cleared_next Ibr post desk told n = absurd (cc)
-cleared_next Wfe post desk told n = refl
+cleared_next Wfe post desk told n = (false, refl)
+cleared_next Hp post desk told n = (true, refl)
 
 moved_next : (layout : Layout) (why : Why) (ending : Ending) (post : Post) (desk : Desk) (told : List Event) → post.layout ≡ layout → Moved (is_ibr layout.config.scheme) why ending (phase_left (steps.resume why ending post desk told).outcome)
 moved_next layout (FollowsHead head tail) (Followed (follow_ends.RootMoved seen)) post desk told e = λ n. cleared_next (scheme_of post) post desk told (ap (λ (table : Layout). is_ibr table.config.scheme) e ∙ n)

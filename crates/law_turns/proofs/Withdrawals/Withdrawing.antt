@@ -25,6 +25,9 @@ use Rattle.law_reuse.specs.inv.model.Phases.Base.{Protect, Move}
 use Rattle.law_reuse.specs.inv.model.Calls.{ReadGuard, GiveBack, Phase, Idle, Runs, Scans, Works}
 use Rattle.law_reuse.proofs.laws.records.defs.Facts.{first_of, rest_of, and_false, or_false, false_not_true}
 use Rattle.law_reuse.proofs.history.Passes.{is_quiet, all_quiet, Closed, First, work_told}
+use Rattle.law_reuse.proofs.ReadGuards.{reads_are}
+use Rattle.law_reuse.specs.inv.model.Guards.{guard_at}
+use Rattle.law_reuse.specs.laws.words.Schemes.{publishes_rows}
 use Rattle.law_reuse.specs.laws.StateAt.{shown_by}
 use Rattle.law_reuse.specs.laws.HistorySteps.{found_shown}
 use Rattle.law_reuse.specs.laws.StateAt.{is_found}
@@ -124,7 +127,7 @@ found_both : (i : ℕ) (xs ys : List Event) (b : Bool) → found_shown i (xs ++ 
 found_both i [] ys b = refl
 found_both i (x ∷ xs) ys b = or_along (is_found x && b) _ _ _ (found_both i xs ys (shown_by i x b))
 
--- events that tell nothing of guards, and hold and copy nothing
+-- events that tell of no eras of guards, and hold and copy nothing
 abbrev pub is_mute : Event → Bool
 is_mute (events.Reserve guard span) = false
 is_mute (events.Held index slot steps) = false
@@ -334,6 +337,7 @@ PhaseEra phase = Unit {0}
 pub first_shown : (i : ℕ) (phase : Phase) (post : Post) (found : ℕ) → post.seat ≡ i → PhaseEra phase → First (λ p told. Shows i (phase_shows phase) (phase_leaves phase) (phase_finds phase) told) phase post found
 first_shown i Idle post found s e = nothing i false
 first_shown i (Runs why base) post found s e = base_shown i base post found s e
-first_shown i (Scans later (ReadGuard number)) post found s e = record { left = refl; found = refl }
+first_shown i (Scans later (ReadGuard number)) post found s e =
+    reads_are (λ event. Shows i false false false (event ∷ [])) (publishes_rows post.layout.config.scheme) (guard_at post.layout.config number) found (λ span. record { left = refl; found = refl }) (λ slot. record { left = refl; found = refl })
 first_shown i (Scans later (GiveBack place slot)) post found s e = record { left = refl; found = refl }
-first_shown i (Works work) post found s e = plain_shows i (work_told work post) (may.work_all is_plain (λ index slot. refl) (λ from index slot. refl) (λ seat index era. refl) (λ seat. refl) work post)
+first_shown i (Works work) post found s e = plain_shows i (work_told work post) (may.work_all is_plain (λ index slot. refl) (λ from index slot. refl) (λ seat index era. refl) (λ seat. refl) (λ seat index link. refl) work post)

@@ -1,0 +1,5 @@
+pub mod Crowded
+pub mod Followed
+pub mod PutThenGet
+pub mod Seen
+pub mod Wrong

@@ -1,0 +1,13 @@
+pub mod Crowded
+pub mod Followed
+pub mod PutThenGet
+pub mod RightEdits
+pub mod Seen
+pub mod Settings
+pub mod Taken
+pub mod WrongAnswers
+pub mod WrongHazards
+pub mod WrongHolds
+pub mod WrongScans
+pub mod WrongSteps
+pub mod WrongTurns
