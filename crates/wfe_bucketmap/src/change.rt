@@ -78,7 +78,7 @@ impl<S: Scheme> ChangeBucket<S> {
                 None
             }
             ChangeEnd::MakeRoom => {
-                self.at = State::Tidies(Tidy::new(S::HELPS));
+                self.at = State::Tidies(Tidy::new(S::MOVES, S::HELPS));
                 None
             }
             ChangeEnd::Answers(answer) => match self.kept.taken {
@@ -291,7 +291,7 @@ impl<S: Scheme> ChangeBucket<S> {
             }
             State::Reclaims(version, reclaim) => {
                 let version = *version;
-                let clock = reclaim.take(S::HELPS, post, desk, found, told)?;
+                let clock = reclaim.take(S::MOVES, S::HELPS, post, desk, found, told)?;
                 Some(Answer::Done { version, clock })
             }
             State::Tidies(tidy) => {

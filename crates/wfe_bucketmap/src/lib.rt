@@ -13,5 +13,5 @@ pub use put::Put;
 pub use put_if::PutIf;
 pub use remove::Remove;
 pub use wfe_bucketmap_read::{
-    Advance, CopyIndex, DropIndex, Get, He, Hold, Ibr, Look, Release, Scheme, Wfe,
+    Advance, CopyIndex, DropIndex, Get, He, Hold, Hp, Ibr, Look, Release, Scheme, Wfe,
 };

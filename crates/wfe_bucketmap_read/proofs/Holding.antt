@@ -7,7 +7,7 @@ use Rattle.wfe_call_rounds.specs.Rounds.{opening_of, CloseAt, ClearsAt, Finishes
 use Rattle.wfe_core.specs.Calls.{Answering, Holds, Opens, Rehold, Runs}
 use Rattle.wfe_core.specs.Rounds.{scheme_of, root_of, protect_base, round_by, begin_base, begin_span, release_base}
 use Rattle.wfe_core.specs.words.declared.config.SchemeKind.{SchemeKind}
-use Rattle.wfe_core.specs.words.declared.config.SchemeKind.TheVariants.{He, Ibr, Wfe}
+use Rattle.wfe_core.specs.words.declared.config.SchemeKind.TheVariants.{He, Hp, Ibr, Wfe}
 use Rattle.wfe_core.specs.Desks.{Desk}
 use Rattle.wfe_core.specs.Phases.{Base}
 use Rattle.wfe_core.specs.Posts.{stands, counted}
@@ -35,6 +35,7 @@ opening_ready : (key : ℕ) (post : Post) (desk : Desk) (steps : ℕ) (kind : Sc
 opening_ready key post desk steps He h = h
 opening_ready key post desk steps Ibr h = h
 opening_ready key post desk steps Wfe h = h
+opening_ready key post desk steps Hp h = h
 
 round_by_ready : (key : ℕ) (post : Post) (desk : Desk) (steps : ℕ) (base : Option Base) → IsCallReady (round_by (Holds key) post base) post desk → IsCallReady (round_by (Holds key) (record post { steps = steps }) base) (record post { steps = steps }) desk
 round_by_ready key post desk steps None h = opening_ready key post desk steps (scheme_of post) h
@@ -44,6 +45,7 @@ round_ready : (key : ℕ) (post : Post) (desk : Desk) (steps : ℕ) (kind : Sche
 round_ready key post desk steps He h = round_by_ready key post desk steps None h
 round_ready key post desk steps Ibr h = round_by_ready key post desk steps (begin_span post.span) h
 round_ready key post desk steps Wfe h = round_by_ready key post desk steps None h
+round_ready key post desk steps Hp h = round_by_ready key post desk steps None h
 
 holding_ready : (key : ℕ) (post : Post) (desk : Desk) (steps : ℕ) (held : Option ℕ) → IsCallReady (holding key post held) post desk → IsCallReady (holding key (record post { steps = steps }) held) (record post { steps = steps }) desk
 holding_ready key post desk steps None h = round_ready key post desk steps (scheme_of post) h
@@ -64,6 +66,7 @@ opening_plausible : (key : ℕ) (post : Post) (steps found : ℕ) (kind : Scheme
 opening_plausible key post steps found He h = h
 opening_plausible key post steps found Ibr h = h
 opening_plausible key post steps found Wfe h = h
+opening_plausible key post steps found Hp h = h
 
 round_by_plausible : (key : ℕ) (post : Post) (steps found : ℕ) (base : Option Base) → IsCallPlausible (round_by (Holds key) post base) post found → IsCallPlausible (round_by (Holds key) (record post { steps = steps }) base) (record post { steps = steps }) found
 round_by_plausible key post steps found None h = opening_plausible key post steps found (scheme_of post) h
@@ -73,6 +76,7 @@ round_plausible : (key : ℕ) (post : Post) (steps found : ℕ) (kind : SchemeKi
 round_plausible key post steps found He h = round_by_plausible key post steps found None h
 round_plausible key post steps found Ibr h = round_by_plausible key post steps found (begin_span post.span) h
 round_plausible key post steps found Wfe h = round_by_plausible key post steps found None h
+round_plausible key post steps found Hp h = round_by_plausible key post steps found None h
 
 holding_plausible : (key : ℕ) (post : Post) (steps found : ℕ) (held : Option ℕ) → IsCallPlausible (holding key post held) post found → IsCallPlausible (holding key (record post { steps = steps }) held) (record post { steps = steps }) found
 holding_plausible key post steps found None h = round_plausible key post steps found (scheme_of post) h

@@ -1,7 +1,7 @@
 -- What is let go, as phases of the model.
-use Rattle.std.proofs.Common.{ℕ, ◌≡◌, List, Option, Some, None, refl, sym, subst}
+use Rattle.std.proofs.Common.{ℕ, ◌≡◌, true, false, List, Option, Some, None, refl, sym, subst}
 use Rattle.wfe_core.specs.words.declared.config.SchemeKind.{SchemeKind}
-use Rattle.wfe_core.specs.words.declared.config.SchemeKind.TheVariants.{He, Ibr, Wfe}
+use Rattle.wfe_core.specs.words.declared.config.SchemeKind.TheVariants.{He, Hp, Ibr, Wfe}
 use Rattle.wfe_core.specs.defs.declared.event.Event.{Event}
 use Rattle.wfe_core.specs.declared.post.Post.{Post}
 use Rattle.wfe_core.specs.CallReady.{IsCallReady}
@@ -23,9 +23,10 @@ let_span index None base e = cc
 let_span index (Some slot) base e = absurd (cc)
 
 let_fits : (kind : SchemeKind) (post : Post) (index : ℕ) (base : Base) → Some base ≡ release_base kind post index → IsReady base post → IndexFits post index
-let_fits He post index base e h = let same : base ≡ Clear index = cc in subst (λ (b : Base). IsReady b post) same h
+let_fits He post index base e h = let same : base ≡ Clear false index = cc in subst (λ (b : Base). IsReady b post) same h
 let_fits Ibr post index base e h = subst (λ (b : Base). IsReady b post) (sym (let_span index (kept_row (withdrawn post index)) base e)) h
-let_fits Wfe post index base e h = let same : base ≡ Clear index = cc in subst (λ (b : Base). IsReady b post) same h
+let_fits Wfe post index base e h = let same : base ≡ Clear false index = cc in subst (λ (b : Base). IsReady b post) same h
+let_fits Hp post index base e h = let same : base ≡ Clear true index = cc in subst (λ (b : Base). IsReady b post) same h
 
 letting_by_fits : (let_go : LetGo) (post : Post) (desk : Desk) (base : Option Base) → base ≡ release_base (scheme_of post) post (let_index let_go) → IsCallReady (letting_by let_go base) post desk → IndexFits post (let_index let_go)
 letting_by_fits let_go post desk None e h = h

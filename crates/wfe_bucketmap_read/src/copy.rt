@@ -11,20 +11,18 @@ ghost use Rattle.wfe_core.specs.Steps.{first_phase, phase_turn};
 ghost use Rattle.wfe_core.specs.Valid.{IsValid};
 ghost use Rattle.wfe_core.specs.declared.post.Post.{Post as ModelPost};
 ghost use Rattle.wfe_call_rounds.specs.Steps.{SameSeat, Steps};
-ghost use Rattle.wfe_bucketmap_read.specs.Copies.{copy_phase, reserved_by};
+ghost use Rattle.wfe_bucketmap_read.specs.Copies.{copy_phase, published_by};
 
-use crate::guard::{has_interval, load_guard};
+use crate::guard::{has_interval, held_number, load_guard, publishes_rows};
 use std::marker::PhantomData;
 use wfe_call_rounds::Scheme;
-use wfe_core::{
-    Answer, CallMachine, Desk, Event, Guard, Op, Post, Told, index_word, one_era, read_reservation,
-};
+use wfe_core::{Answer, CallMachine, Desk, Event, Op, Post, Told, publish_index, shown_word};
 
 // The step to come: the load of what is published at the first index, or the store of it at the other.
 #[derive(Clone, Copy)]
 pub enum CopyAt {
     Loads,
-    Stores { era: u32 },
+    Stores { number: u32 },
 }
 
 /// Copies the protection at an index from 2 on to a higher index. What stood there is let go with it.
@@ -50,14 +48,14 @@ impl<S: Scheme> CopyIndex<S> {
         }
     }
 
-    // What stands at the first index stands at the other too. The other one publishes this era, unless
-    // the seat has one interval for all.
+    // What stands at the first index stands at the other too. The other one publishes this number, an
+    // era or a link, unless the seat has one interval for all.
     #[inline(always)]
-    fn copy(&self, era: Option<u32>, post: &mut Post, told: &mut Told) -> Answer
+    fn copy(&self, number: Option<u32>, post: &mut Post, told: &mut Told) -> Answer
         requires valid { IsValid post.old }
         requires fits { CopyFits post.old self.now.from self.now.index }
         requires empty { told.old ≡ [] }
-        ensures steps { (desk : ModelDesk) (phase : Phase) → Steps (copied self.now.from self.now.index post.old desk (reserved_by post.old self.now.index era) (stands post.old self.now.from)) post.new desk told.new (Some result) phase }
+        ensures steps { (desk : ModelDesk) (phase : Phase) → Steps (copied self.now.from self.now.index post.old desk (published_by post.old self.now.index number) (stands post.old self.now.from)) post.new desk told.new (Some result) phase }
         ensures seat { SameSeat post.old post.new told.new 4 }
     {
         let (from, index) = (self.from, self.index);
@@ -68,14 +66,8 @@ impl<S: Scheme> CopyIndex<S> {
             told.push(Event::Clear { index, slot: old });
         }
         post.standing[index as usize] = Some(slot);
-        if let Some(era) = era {
-            told.push(Event::Reserve {
-                guard: Guard::Index {
-                    seat: post.seat,
-                    index,
-                },
-                span: one_era(era),
-            });
+        if let Some(number) = number {
+            publish_index(publishes_rows(post), post, told, index, number);
         }
         told.push(Event::Copied { from, index, slot });
         Answer::Copied { slot }
@@ -100,11 +92,11 @@ impl<S: Scheme> CopyIndex<S> {
                     return Some(self.copy(None, post, told));
                 }
                 self.at = CopyAt::Stores {
-                    era: read_reservation(found).era,
+                    number: held_number(post, found),
                 };
                 None
             }
-            CopyAt::Stores { era } => Some(self.copy(Some(era), post, told)),
+            CopyAt::Stores { number } => Some(self.copy(Some(number), post, told)),
         }
     }
 }
@@ -120,9 +112,9 @@ impl<S: Scheme> CallMachine for CopyIndex<S> {
     fn next_op(&self, post: &Post, _desk: &Desk) -> Op {
         match self.at {
             CopyAt::Loads => load_guard(self.from, post),
-            CopyAt::Stores { era } => Op::Store {
+            CopyAt::Stores { number } => Op::Store {
                 word: post.layout.index(post.seat, self.index),
-                value: index_word(post, self.index, era),
+                value: shown_word(publishes_rows(post), post, self.index, number),
             },
         }
     }

@@ -23,5 +23,5 @@ pub use hold::Hold;
 pub use look::Look;
 pub use release::Release;
 pub use wfe_call_rounds::{
-    Closing, He, Ibr, Opening, Rounds, Scheme, Wfe, close, open, take_close, take_open,
+    Closing, He, Hp, Ibr, Opening, Rounds, Scheme, Wfe, close, open, take_close, take_open,
 };

@@ -7,10 +7,10 @@ mod scheme_calls;
 
 pub use keeping::{Keeping, KeepingOf};
 pub use running::{CallOf, Running, begin_call};
-pub use scheme_calls::{HeCall, IbrCall, SchemeCall, WfeCall};
+pub use scheme_calls::{HeCall, HpCall, IbrCall, WfeCall};
 pub use wfe_bucketmap::{
-    Advance, CopyIndex, DropIndex, Get, He, Hold, Ibr, Look, Put, PutIf, Release, Remove, Scheme,
-    Wfe,
+    Advance, CopyIndex, DropIndex, Get, He, Hold, Hp, Ibr, Look, Put, PutIf, Release, Remove,
+    Scheme, Wfe,
 };
 pub use wfe_msqueue::{Dequeue, Enqueue};
 pub use wfe_scan::Scan;

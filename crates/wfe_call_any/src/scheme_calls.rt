@@ -1,22 +1,24 @@
-// The calls of each scheme: a type with one parameter, so that types that hold all three stay short.
+// The calls of each scheme: one type with the scheme as its parameter, which is proved once, and a type without
+// parameters for each, so that types that hold all four stay short.
 ghost use Rattle.std.specs.Prelude.{◌≡◌, true};
 ghost use Rattle.wfe_core.specs.Locals.{stays};
 ghost use Rattle.wfe_core.specs.Steps.{first_phase};
 ghost use Rattle.wfe_core.specs.declared.post.Post.{Post};
+ghost use Rattle.wfe_scan.specs.words.declared.config.SchemeKind.TheVariants as kinds;
 
 use crate::running::{CallOf, begin_call};
-use wfe_bucketmap::{He, Ibr, Scheme, Wfe};
+use wfe_bucketmap::{He, Hp, Ibr, Scheme, Wfe};
 use wfe_core::{Answer, Call, CallMachine, Desk, Layout, Op, Post, Told};
 
-/// A call under one scheme.
+// A call under one scheme.
 #[derive(Drop)]
-pub struct SchemeCall<S: Scheme> {
+struct SchemeCall<S: Scheme> {
     call: CallOf<S>,
 }
 
 impl<S: Scheme> SchemeCall<S> {
-    /// The call of a seat that stays, on a table of this layout, at its first step.
-    pub fn begin(layout: Layout, call: Call) -> SchemeCall<S>
+    // The call of a seat that stays, on a table of this layout, at its first step.
+    fn begin(layout: Layout, call: Call) -> SchemeCall<S>
         requires { stays call ≡ true }
         ensures phase { (post : Post) → post.layout.config.scheme ≡ S.kind → ⟦<SchemeCall<S> as CallMachine>⟧.phase result post ≡ first_phase call post }
         ensures suits { ⟦<SchemeCall<S> as CallMachine>⟧.suits S.kind }
@@ -48,10 +50,157 @@ impl<S: Scheme> CallMachine for SchemeCall<S> {
 }
 
 /// A call under Hazard Eras.
-pub type HeCall = SchemeCall<He>;
+#[derive(Drop)]
+pub struct HeCall {
+    call: SchemeCall<He>,
+}
+
+impl HeCall {
+    /// The call of a seat that stays, on a table of this layout, at its first step.
+    pub fn begin(layout: Layout, call: Call) -> HeCall
+        requires { stays call ≡ true }
+        ensures phase { (post : Post) → post.layout.config.scheme ≡ kinds.He → ⟦<HeCall as CallMachine>⟧.phase result post ≡ first_phase call post }
+        ensures suits { ⟦<HeCall as CallMachine>⟧.suits kinds.He }
+    {
+        HeCall {
+            call: SchemeCall::begin(layout, call),
+        }
+    }
+}
+
+impl CallMachine for HeCall {
+    ghost suits = { ⟦<SchemeCall<He> as CallMachine>⟧.suits };
+
+    ghost phase = { λ m post. ⟦<SchemeCall<He> as CallMachine>⟧.phase m.call post };
+
+    fn next_op(&self, post: &Post, desk: &Desk) -> Op {
+        self.call.next_op(post, desk)
+    }
+
+    fn take(
+        &mut self,
+        post: &mut Post,
+        desk: &mut Desk,
+        found: u64,
+        told: &mut Told,
+    ) -> Option<Answer> {
+        self.call.take(post, desk, found, told)
+    }
+}
 
 /// A call under 2GE intervals.
-pub type IbrCall = SchemeCall<Ibr>;
+#[derive(Drop)]
+pub struct IbrCall {
+    call: SchemeCall<Ibr>,
+}
+
+impl IbrCall {
+    /// The call of a seat that stays, on a table of this layout, at its first step.
+    pub fn begin(layout: Layout, call: Call) -> IbrCall
+        requires { stays call ≡ true }
+        ensures phase { (post : Post) → post.layout.config.scheme ≡ kinds.Ibr → ⟦<IbrCall as CallMachine>⟧.phase result post ≡ first_phase call post }
+        ensures suits { ⟦<IbrCall as CallMachine>⟧.suits kinds.Ibr }
+    {
+        IbrCall {
+            call: SchemeCall::begin(layout, call),
+        }
+    }
+}
+
+impl CallMachine for IbrCall {
+    ghost suits = { ⟦<SchemeCall<Ibr> as CallMachine>⟧.suits };
+
+    ghost phase = { λ m post. ⟦<SchemeCall<Ibr> as CallMachine>⟧.phase m.call post };
+
+    fn next_op(&self, post: &Post, desk: &Desk) -> Op {
+        self.call.next_op(post, desk)
+    }
+
+    fn take(
+        &mut self,
+        post: &mut Post,
+        desk: &mut Desk,
+        found: u64,
+        told: &mut Told,
+    ) -> Option<Answer> {
+        self.call.take(post, desk, found, told)
+    }
+}
 
 /// A call under Wait-Free Eras.
-pub type WfeCall = SchemeCall<Wfe>;
+#[derive(Drop)]
+pub struct WfeCall {
+    call: SchemeCall<Wfe>,
+}
+
+impl WfeCall {
+    /// The call of a seat that stays, on a table of this layout, at its first step.
+    pub fn begin(layout: Layout, call: Call) -> WfeCall
+        requires { stays call ≡ true }
+        ensures phase { (post : Post) → post.layout.config.scheme ≡ kinds.Wfe → ⟦<WfeCall as CallMachine>⟧.phase result post ≡ first_phase call post }
+        ensures suits { ⟦<WfeCall as CallMachine>⟧.suits kinds.Wfe }
+    {
+        WfeCall {
+            call: SchemeCall::begin(layout, call),
+        }
+    }
+}
+
+impl CallMachine for WfeCall {
+    ghost suits = { ⟦<SchemeCall<Wfe> as CallMachine>⟧.suits };
+
+    ghost phase = { λ m post. ⟦<SchemeCall<Wfe> as CallMachine>⟧.phase m.call post };
+
+    fn next_op(&self, post: &Post, desk: &Desk) -> Op {
+        self.call.next_op(post, desk)
+    }
+
+    fn take(
+        &mut self,
+        post: &mut Post,
+        desk: &mut Desk,
+        found: u64,
+        told: &mut Told,
+    ) -> Option<Answer> {
+        self.call.take(post, desk, found, told)
+    }
+}
+
+/// A call under hazard pointers.
+#[derive(Drop)]
+pub struct HpCall {
+    call: SchemeCall<Hp>,
+}
+
+impl HpCall {
+    /// The call of a seat that stays, on a table of this layout, at its first step.
+    pub fn begin(layout: Layout, call: Call) -> HpCall
+        requires { stays call ≡ true }
+        ensures phase { (post : Post) → post.layout.config.scheme ≡ kinds.Hp → ⟦<HpCall as CallMachine>⟧.phase result post ≡ first_phase call post }
+        ensures suits { ⟦<HpCall as CallMachine>⟧.suits kinds.Hp }
+    {
+        HpCall {
+            call: SchemeCall::begin(layout, call),
+        }
+    }
+}
+
+impl CallMachine for HpCall {
+    ghost suits = { ⟦<SchemeCall<Hp> as CallMachine>⟧.suits };
+
+    ghost phase = { λ m post. ⟦<SchemeCall<Hp> as CallMachine>⟧.phase m.call post };
+
+    fn next_op(&self, post: &Post, desk: &Desk) -> Op {
+        self.call.next_op(post, desk)
+    }
+
+    fn take(
+        &mut self,
+        post: &mut Post,
+        desk: &mut Desk,
+        found: u64,
+        told: &mut Told,
+    ) -> Option<Answer> {
+        self.call.take(post, desk, found, told)
+    }
+}

@@ -1,7 +1,7 @@
 -- The rounds of the model's calls, by what is shared by all tasks.
 use Rattle.std.proofs.Common.{ℕ, ◌≡◌, List, ◌++◌, Option, Some, None, refl}
 use Rattle.wfe_core.specs.words.declared.config.SchemeKind.{SchemeKind}
-use Rattle.wfe_core.specs.words.declared.config.SchemeKind.TheVariants.{He, Ibr, Wfe}
+use Rattle.wfe_core.specs.words.declared.config.SchemeKind.TheVariants.{He, Hp, Ibr, Wfe}
 use Rattle.wfe_core.specs.defs.declared.event.Event.{Event}
 use Rattle.wfe_core.specs.declared.post.Post.{Post}
 use Rattle.wfe_core.specs.Phases.{Base, Outcome, Goes, Ends}
@@ -44,6 +44,7 @@ scheme_cleared : (kind : SchemeKind) (post : Post) (index : ℕ) → scheme_of (
 scheme_cleared He post index = refl
 scheme_cleared Ibr post index = refl
 scheme_cleared Wfe post index = refl
+scheme_cleared Hp post index = refl
 
 finishing_along : (task : Task) (next : Next) (kind : SchemeKind) (post : Post) (desk : Desk) (told : List Event) → scheme_of post ≡ kind → finishing task next post desk told ≡ then_close task next desk (finish_from kind (is_again next) post told)
 finishing_along task next kind post desk told e = rw (← e) (finishing_at task next post desk told)

@@ -1,20 +1,23 @@
 -- Steps of a call from the steps of the machines of its rounds.
-use Rattle.std.proofs.Common.{ℕ, ◌≡◌, List, ◌++◌, Option, Some, None, refl, sym, ap, subst, ◌∙◌}
+use Rattle.std.proofs.Common.{ℕ, ◌≡◌, Bool, true, false, List, ◌++◌, Option, Some, None, refl, sym, ap, subst, ◌∙◌}
+use Rattle.wfe_core.specs.words.Schemes.{publishes_rows}
 use Rattle.wfe_core.specs.words.declared.layout.Layout.{Layout}
 use Rattle.wfe_core.specs.words.declared.config.SchemeKind.{SchemeKind}
-use Rattle.wfe_core.specs.words.declared.config.SchemeKind.TheVariants.{He, Ibr, Wfe}
+use Rattle.wfe_core.specs.words.declared.config.SchemeKind.TheVariants.{He, Hp, Ibr, Wfe}
 use Rattle.wfe_core.specs.defs.declared.call.Answer.{Answer}
 use Rattle.wfe_core.specs.defs.declared.event.Event.{Event}
 use Rattle.wfe_core.specs.defs.declared.event.Root.{Root}
 use Rattle.wfe_core.specs.defs.declared.event.Root.TheVariants as roots
 use Rattle.wfe_core.specs.declared.desk.Desk.{Desk as HeldDesk}
 use Rattle.wfe_core.specs.declared.post.Post.{Post}
-use Rattle.wfe_core.specs.Calls.{Task, Gets, Changes, Holds, Enqueues, Dequeues, Next, Phase, Why, Runs, Opens, CallTurn, GoesOn, goes_on}
+use Rattle.wfe_core.specs.CallReady.{scan_plausible}
+use Rattle.wfe_core.specs.Calls.{Task, Gets, Changes, Holds, Enqueues, Dequeues, Next, ScanAt, ReadGuard, GiveBack, Phase, Why, Runs, Opens, CallTurn, GoesOn, goes_on}
 use Rattle.wfe_core.specs.DeskHeld.{Took, desk_of, told_answer}
 use Rattle.wfe_core.specs.Desks.{Desk, noting}
 use Rattle.wfe_core.specs.Machine.{after}
 use Rattle.wfe_core.specs.Phases.{Base, Ending, Outcome, Goes, Ends}
 use Rattle.wfe_core.specs.Posts.{counted}
+use Rattle.wfe_core.specs.Ready.{ShownFits}
 use Rattle.wfe_core.specs.Rounds.{scheme_of, key_of, bucket_of, index_of, root_of, begin_base, protect_base, round, round_by, closed}
 use Rattle.wfe_core.specs.Steps.{resume, resumed, phase_turn}
 use Rattle.wfe_core.proofs.Frames.{after_same}
@@ -123,6 +126,7 @@ begin_counted : (kind : SchemeKind) (post : Post) → begin_base kind post ≡ b
 begin_counted He post = refl
 begin_counted Ibr post = refl
 begin_counted Wfe post = refl
+begin_counted Hp post = refl
 
 round_by_counted : (task : Task) (post : Post) (base : Option Base) → round_by task post base ≡ round_by task (counted post) base
 round_by_counted task post None = ap (λ (root : Root). Runs (Opens task) (protect_base (scheme_of post) (index_of task) root)) (root_along task post (counted post) refl)
@@ -132,6 +136,16 @@ round_by_counted task post (Some base) = refl
 pub round_counted : (task : Task) (post : Post) → round task post ≡ round task (counted post)
 round_counted task post =
     ap (λ (base : Option Base). round_by task post base) (begin_counted (scheme_of post) post) ∙ round_by_counted task post (begin_base (scheme_of post) (counted post))
+
+-- nor does it change what an index word may hold
+pub shown_counted : (rows : Bool) (post : Post) (steps word : ℕ) → ShownFits rows post word → ShownFits rows (record post { steps = steps }) word
+shown_counted false post steps word h = h
+shown_counted true post steps word h = h
+
+-- and what a scan may read
+pub scan_counted : (at : ScanAt) (post : Post) (steps found : ℕ) → scan_plausible at post found → scan_plausible at (record post { steps = steps }) found
+scan_counted (ReadGuard number) post steps found h = shown_counted (publishes_rows (scheme_of post)) post steps found h
+scan_counted (GiveBack place slot) post steps found h = h
 
 -- a machine of a call goes on
 pub run_goes : (why : Why) (base next : Base) (post last : Post) (desk : Desk) (told : List Event) (found : ℕ) → last ≡ (after base post found).post → told ≡ (after base post found).told → (after base post found).outcome ≡ Goes next → Steps (phase_turn (Runs why base) post desk found) last desk told None (Runs why next)

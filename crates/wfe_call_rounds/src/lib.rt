@@ -6,4 +6,4 @@ mod opening;
 
 pub use closing::{Closing, close, take_close};
 pub use opening::{Opening, open, take_open};
-pub use wfe_iface::{Follow, He, Ibr, Rounds, Scheme, Wfe};
+pub use wfe_iface::{Follow, He, Hp, Ibr, Rounds, Scheme, Wfe};

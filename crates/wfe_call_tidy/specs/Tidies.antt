@@ -3,7 +3,7 @@ use Rattle.std.specs.Prelude.{ℕ, List, Option, Some, None}
 use Rattle.wfe_core.specs.defs.declared.call.ClockMove.{ClockMove}
 use Rattle.wfe_core.specs.defs.declared.event.Event.{Event}
 use Rattle.wfe_core.specs.declared.post.Post.{Post}
-use Rattle.wfe_core.specs.CallReady.{scan_ready}
+use Rattle.wfe_core.specs.CallReady.{scan_plausible, scan_ready}
 use Rattle.wfe_core.specs.Calls.{AfterScan, Phase, Runs, Tidies, CallTurn, goes_on}
 use Rattle.wfe_core.specs.Calls as calls
 use Rattle.wfe_core.specs.Desks.{Desk}
@@ -31,7 +31,7 @@ IsTidyReady (ats.Scans clock scanner) post desk = scan_ready (scans_at scanner) 
 -- what a step may find
 abbrev pub IsTidyPlausible : Tidy → Post → ℕ → Type 0
 IsTidyPlausible (ats.Moves machine) post found = Plausible (move_phase machine) post found
-IsTidyPlausible (ats.Scans clock scanner) post found = Unit {0}
+IsTidyPlausible (ats.Scans clock scanner) post found = scan_plausible (scans_at scanner) post found
 
 -- the turn of a call whose tidying goes on, or is over with this outcome of the move
 abbrev pub tidy_turn : AfterScan → Post → Desk → List Event → Option ClockMove → Tidy → CallTurn

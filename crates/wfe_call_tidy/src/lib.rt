@@ -1,5 +1,5 @@
 //! What a call does once its rounds are over: it retires the row that it cut, and, when that is due,
-//! moves the clock and scans.
+//! moves the clock, where the scheme has it moved, and scans.
 #![tactic(auto)]
 
 mod reclaim;

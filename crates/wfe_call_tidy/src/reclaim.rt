@@ -1,5 +1,7 @@
-// A row that was cut is retired, and then, when that is due, the clock is moved and the list scanned.
+// A row that was cut is retired, and then, when that is due, the clock is moved, where the scheme has
+// it moved, and the list scanned.
 ghost use Rattle.std.specs.Prelude.{◌≡◌, ◌≤◌, ◌==◌, ◌%◌, [], length};
+ghost use Rattle.wfe_core.specs.words.Schemes.{moves as do_move};
 ghost use Rattle.wfe_core.specs.defs.declared.call.Answer.{Answer};
 ghost use Rattle.wfe_core.specs.defs.declared.call.ClockMove.TheVariants.{Still};
 ghost use Rattle.wfe_core.specs.Calls.{Retires, Runs};
@@ -44,10 +46,11 @@ impl Reclaim {
     }
 
     /// Takes what that operation found, and tells its events. It answers where all is done, with the
-    /// outcome of the move, in eras; `Still` where no move was due. `helps` is whether movers of the
-    /// scheme answer pending requests.
+    /// outcome of the move, in eras; `Still` where no move was due. `moves` is whether the scheme has the
+    /// clock moved, and `helps` whether its movers answer pending requests.
     pub fn take(
         &mut self,
+        moves: bool,
         helps: bool,
         post: &mut Post,
         desk: &mut Desk,
@@ -55,6 +58,7 @@ impl Reclaim {
         told: &mut Told,
     ) -> Option<ClockMove>
         requires valid { IsValid post.old }
+        requires moves { moves ≡ do_move post.old.layout.config.scheme }
         requires helps { helps ≡ do_help post.old.layout.config.scheme }
         requires room { HasRoom desk.old post.old.layout }
         requires ready { IsReclaimReady self.old post.old (desk_of desk.old) }
@@ -73,7 +77,7 @@ impl Reclaim {
                 let life = machine.take(post, found, told)?;
                 desk.list.add(life);
                 if is_due(post) {
-                    *self = Reclaim::Tidies(Tidy::new(helps));
+                    *self = Reclaim::Tidies(Tidy::new(moves, helps));
                     return None;
                 }
                 Some(ClockMove::Still)

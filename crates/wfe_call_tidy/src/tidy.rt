@@ -1,19 +1,20 @@
-// The clock is moved, and then the retire list is scanned.
+// The clock is moved, where the scheme has it moved, and then the retire list is scanned.
 ghost use Rattle.std.specs.Prelude.{◌≡◌, ◌≤◌, [], length};
-ghost use Rattle.wfe_core.specs.Calls.{AfterScan, Runs, Tidies};
+ghost use Rattle.wfe_core.specs.Calls.{AfterScan};
 ghost use Rattle.wfe_core.specs.DeskHeld.{HasRoom, desk_of};
-ghost use Rattle.wfe_core.specs.Phases.Base.{Move};
-ghost use Rattle.wfe_core.specs.Phases.MoveAt.{LoadEra};
-ghost use Rattle.wfe_core.specs.Steps.{call_op, phase_turn};
+ghost use Rattle.wfe_core.specs.Rounds.{helps as do_help, scheme_of, tidy_by};
+ghost use Rattle.wfe_core.specs.Steps.{after_move, call_op, phase_turn};
 ghost use Rattle.wfe_core.specs.Valid.{IsValid};
+ghost use Rattle.wfe_core.specs.declared.post.Post.{Post as ModelPost};
+ghost use Rattle.wfe_core.specs.defs.declared.call.ClockMove.TheVariants.{Still};
 ghost use Rattle.wfe_call_tidy.specs.Tidies.{IsTidyPlausible, IsTidyReady, tidy_op_ready, tidy_phase, tidy_turn};
 
 use wfe_core::{ClockMove, Desk, Machine, Op, Post, Told};
 use wfe_help::MoveClock;
 use wfe_scan::Scanner;
 
-/// A move of the clock, and then a scan, with the outcome of the move. What comes after it is the
-/// call's matter.
+/// A move of the clock, where there is one, and then a scan, with the outcome of the move. What comes
+/// after it is the call's matter.
 #[derive(Drop)]
 pub enum Tidy {
     Moves(MoveClock),
@@ -21,11 +22,16 @@ pub enum Tidy {
 }
 
 impl Tidy {
-    /// A tidying that has made no step. The move answers pending requests first where it `helps`.
-    pub fn new(helps: bool) -> Tidy
-        ensures { (later : AfterScan) → tidy_phase later result ≡ Runs (Tidies later) (Move (LoadEra helps)) }
+    /// A tidying that has made no step. Where nothing `moves` the clock, which stands still, it begins
+    /// with the scan; the move answers pending requests first where it `helps`.
+    pub fn new(moves: bool, helps: bool) -> Tidy
+        ensures { (later : AfterScan) (post : ModelPost) → helps ≡ do_help (scheme_of post) → after_move later Still ≡ later → tidy_phase later result ≡ tidy_by moves later post }
     {
-        Tidy::Moves(MoveClock::new(helps))
+        if moves {
+            Tidy::Moves(MoveClock::new(helps))
+        } else {
+            Tidy::Scans(ClockMove::Still, Scanner::new())
+        }
     }
 
     /// The operation that it asks for.

@@ -14,7 +14,8 @@ use Rattle.wfe_core.specs.Machine.{after, op_of, protect_move, protect_turn}
 use Rattle.wfe_core.specs.Memory.{bump, numbered}
 use Rattle.wfe_core.specs.Phases.{Alone, Ends, Failed, Goes, Outcome, ProtectAt, Turn, goes}
 use Rattle.wfe_core.specs.Phases.Base.{Protect}
-use Rattle.wfe_core.specs.Phases.ProtectAt.{AnswerOwn, CheckClock, CheckOwnClock, CheckUpper, LoadAnswer, LoadClock, LoadLink, LoadOwnClock, LoadOwnLink, LoadWithin, PublishEra, PublishHelper, PublishRequest, RaiseUpper, TakeAnswer, WithdrawHelper, WithdrawRequest}
+use Rattle.wfe_core.specs.Phases.HazardAt.{CheckLink, FirstLink, PublishLink}
+use Rattle.wfe_core.specs.Phases.ProtectAt.{AnswerOwn, ByHazard, CheckClock, CheckOwnClock, CheckUpper, LoadAnswer, LoadClock, LoadLink, LoadOwnClock, LoadOwnLink, LoadWithin, PublishEra, PublishHelper, PublishRequest, RaiseUpper, TakeAnswer, WithdrawHelper, WithdrawRequest}
 use Rattle.wfe_core.specs.Posts.{tag_of, with_tag}
 use Rattle.wfe_core.specs.Protect.{protected, trying}
 use Rattle.wfe_core.specs.Ready.{EraFits, IndexFits, LinkFits, Plausible, RootFits, protect_plausible, protect_ready}
@@ -57,6 +58,9 @@ plausible_at post index root word found (WithdrawHelper link era) v n s = tt
 plausible_at post index root word found LoadWithin v n s = let h = s.1 n in link_fits post found h.1
 plausible_at post index root word found (CheckUpper link) v n s = era_fits post found v (s.0 refl)
 plausible_at post index root word found (RaiseUpper era) v n s = tt
+plausible_at post index root word found (ByHazard FirstLink) v n s = let h = s.1 n in link_fits post found h.1
+plausible_at post index root word found (ByHazard (PublishLink link)) v n s = tt
+plausible_at post index root word found (ByHazard (CheckLink link)) v n s = let h = s.1 n in link_fits post found h.1
 
 pub step_plausible : (machine : WfeProtect) (post : Post) (word found : ℕ) (op : Op) (list : List ℕ) → IsPoised (protect_phase machine) post word list → op ≡ op_of (protect_phase machine) post
     → IsSeen op word post.layout.config.slots found → Plausible (protect_phase machine) post found

@@ -1,4 +1,5 @@
 -- Where a protection of Hazard Eras stands, as a phase of the model.
+use Rattle.std.specs.Prelude.{false}
 use Rattle.wfe_core.specs.Phases.{Alone, Endless, ProtectAt, Base}
 use Rattle.wfe_core.specs.Phases.Base.{Protect, Clear}
 use Rattle.wfe_core.specs.Phases.ProtectAt.{LoadClock, PublishEra, LoadLink, CheckClock}
@@ -18,4 +19,4 @@ abbrev pub protect_phase : HeProtect → Base
 protect_phase m = Protect Alone m.index m.root m.steps (at_of m.at)
 
 abbrev pub clear_phase : HeClear → Base
-clear_phase m = Clear m.index
+clear_phase m = Clear false m.index

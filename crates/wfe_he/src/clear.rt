@@ -1,5 +1,5 @@
 // An index word is cleared, and what stood at the index stands there no more.
-ghost use Rattle.std.specs.Prelude.{◌≡◌, ◌<◌};
+ghost use Rattle.std.specs.Prelude.{◌≡◌, ◌<◌, false};
 ghost use Rattle.wfe_core.specs.Phases.Base.{Clear};
 ghost use Rattle.wfe_he.specs.Phases.{clear_phase};
 
@@ -15,7 +15,7 @@ pub struct HeClear {
 impl HeClear {
     #[inline(always)]
     pub fn new(index: u32) -> HeClear
-        ensures { clear_phase result ≡ Clear index }
+        ensures { clear_phase result ≡ Clear false index }
     {
         HeClear { index }
     }

@@ -1,14 +1,15 @@
 -- A protection that is followed stays the protection of the same link.
 use Rattle.std.proofs.Common.{ℕ, ◌+◌, ◌<◌, arith, ◌≡◌, Bool, true, false, [], refl}
 use Rattle.std.proofs.lemmas.Bool.Decides.{nat_tests}
-use Rattle.std.specs.Prelude.{min, ◌==◌, if◌then◌else◌}
+use Rattle.std.specs.Prelude.{min, ◌==◌, ◌||◌, if◌then◌else◌}
 use Rattle.wfe_core.specs.defs.declared.event.Root.{Root}
 use Rattle.wfe_core.specs.declared.post.Post.{Post}
 use Rattle.wfe_core.specs.Machine.{after, protect_turn}
 use Rattle.wfe_core.specs.Memory.{bump}
 use Rattle.wfe_core.specs.Phases.{Aim, Alone, ProtectAt, Base, Outcome, Goes, Ends, Turn, goes}
 use Rattle.wfe_core.specs.Phases.Base.{Begin, Protect, Reload, Clear, Finish, Release, Allocate, Write, GiveUp, Retire, Move}
-use Rattle.wfe_core.specs.Phases.ProtectAt.{LoadClock, PublishEra, LoadLink, CheckClock, PublishRequest, LoadOwnClock, PublishHelper, LoadOwnLink, CheckOwnClock, AnswerOwn, LoadAnswer, TakeAnswer, WithdrawRequest, WithdrawHelper, LoadWithin, CheckUpper, RaiseUpper}
+use Rattle.wfe_core.specs.Phases.ProtectAt.{LoadClock, PublishEra, LoadLink, CheckClock, PublishRequest, LoadOwnClock, PublishHelper, LoadOwnLink, CheckOwnClock, AnswerOwn, LoadAnswer, TakeAnswer, WithdrawRequest, WithdrawHelper, LoadWithin, CheckUpper, RaiseUpper, ByHazard}
+use Rattle.wfe_core.specs.Phases.HazardAt.{FirstLink, PublishLink, CheckLink}
 use Rattle.wfe_core.specs.Posts.{upper}
 use Rattle.wfe_core.specs.Protect.{concluded, held_post, told_held}
 use Rattle.wfe_core.specs.SlowPath.{own_request}
@@ -42,6 +43,11 @@ kept_turn index root n LoadWithin post found = refl
 kept_turn index root n (CheckUpper link) post found =
     kept_if (found == upper post.span) index root n (concluded Alone index root n link found (held_post post index root link) (told_held index root link n)) (goes post [] (Protect Alone index root n (RaiseUpper found))) tt refl
 kept_turn index root n (RaiseUpper era) post found = refl
+kept_turn index root n (ByHazard FirstLink) post found =
+    kept_if (found == 0) index root n (concluded Alone index root n found 0 (held_post post index root found) (told_held index root found n)) (goes post [] (Protect Alone index root n (ByHazard (PublishLink found)))) tt refl
+kept_turn index root n (ByHazard (PublishLink link)) post found = refl
+kept_turn index root n (ByHazard (CheckLink link)) post found =
+    kept_if (found == link || found == 0) index root n (concluded Alone index root n found 0 (held_post post index root found) (told_held index root found n)) (goes post [] (Protect Alone index root n (ByHazard (PublishLink found)))) tt refl
 
 kept_by : (aim : Aim) (i index : ℕ) (r root : Root) (s steps : ℕ) (at : ProtectAt) (post : Post) (found : ℕ) → aim ≡ Alone → i ≡ index → r ≡ root → s ≡ steps → Kept index root (bump steps) (protect_turn aim i r (bump s) at post found).outcome
 kept_by aim i index r root s steps at post found a b c d = rw (a, b, c, d) (kept_turn index root (bump steps) at post found)
@@ -50,7 +56,7 @@ kept_after : (index : ℕ) (root : Root) (steps : ℕ) (base : Base) (post : Pos
 kept_after index root steps (Protect aim i r s at) post found e = kept_by aim i index r root s steps at post found (cc) (cc) (cc) (cc)
 kept_after index root steps (Begin at) post found e = absurd (cc)
 kept_after index root steps (Reload parent i slot era s) post found e = absurd (cc)
-kept_after index root steps (Clear i) post found e = absurd (cc)
+kept_after index root steps (Clear rows i) post found e = absurd (cc)
 kept_after index root steps Finish post found e = absurd (cc)
 kept_after index root steps (Release i) post found e = absurd (cc)
 kept_after index root steps (Allocate at) post found e = absurd (cc)

@@ -19,7 +19,7 @@ abbrev pub alone : ℕ → Root → ℕ → Base → Base
 alone index root steps (Protect aim i r s at) = Protect Alone index root steps at
 alone index root steps (Begin at) = Protect Alone index root steps LoadWithin
 alone index root steps (Reload parent i slot era s) = Protect Alone index root steps LoadWithin
-alone index root steps (Clear i) = Protect Alone index root steps LoadWithin
+alone index root steps (Clear rows i) = Protect Alone index root steps LoadWithin
 alone index root steps Finish = Protect Alone index root steps LoadWithin
 alone index root steps (Release i) = Protect Alone index root steps LoadWithin
 alone index root steps (Allocate at) = Protect Alone index root steps LoadWithin

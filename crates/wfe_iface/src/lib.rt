@@ -1,4 +1,4 @@
-//! The three schemes behind one interface, so that a call is written once for all of them.
+//! The four schemes behind one interface, so that a call is written once for all of them.
 #![tactic(auto)]
 
 mod follow;
@@ -11,5 +11,5 @@ mod schemes;
 pub use follow::Follow;
 pub use rounds::Rounds;
 pub use scheme::Scheme;
-pub use schemes::{He, Ibr, Wfe};
+pub use schemes::{He, Hp, Ibr, Wfe};
 pub use wfe_core::FollowEnd;

@@ -1,6 +1,7 @@
 // What a scheme does for a call: its machines, and where it needs none.
 ghost use Rattle.std.specs.Prelude.{◌≡◌, ◌<◌, ◌≤◌, ◌+◌, ◌++◌, Bool, true, length};
 ghost use Rattle.wfe_core.specs.words.Place.{is_valid};
+ghost use Rattle.wfe_core.specs.words.Schemes.{moves as do_move};
 ghost use Rattle.wfe_core.specs.words.declared.config.SchemeKind.{SchemeKind as Kind};
 ghost use Rattle.wfe_core.specs.declared.ends.ProtectEnd.{ProtectEnd as End};
 ghost use Rattle.wfe_core.specs.Links.{link_number, root_at as root_of};
@@ -21,6 +22,11 @@ pub trait Scheme {
 
     /// Whether those that move the clock help the seats that ask for a protection.
     const HELPS: bool;
+
+    ghost MOVES: { Bool };
+
+    /// Whether retirements move the clock.
+    const MOVES: bool;
 
     type Begin: Machine<End = ()>;
 
@@ -75,6 +81,8 @@ pub trait Scheme {
     // Each machine ends as the model's does.
 
     ghost helps: { HELPS ≡ do_help kind };
+
+    ghost moves: { MOVES ≡ do_move kind };
 
     ghost begun: { (e : Unit {0}) → Self.Begin.ending e ≡ Done };
 

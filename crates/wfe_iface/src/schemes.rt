@@ -1,4 +1,4 @@
-// The three schemes. A machine that a scheme does not have is never made: its type is another
+// The four schemes. A machine that a scheme does not have is never made: its type is another
 // scheme's.
 ghost use Rattle.std.specs.Prelude.{true, false, refl};
 ghost use Rattle.wfe_core.specs.words.declared.config.SchemeKind.{SchemeKind as Kind};
@@ -8,6 +8,7 @@ use crate::kept::first_row;
 use wfe_core::{Event, Post, Told};
 use wfe_fast::WfeProtect;
 use wfe_he::{HeClear, HeProtect};
+use wfe_hp::{HpClear, HpProtect};
 use wfe_ibr::{IbrBegin, IbrFinish, IbrProtect, IbrRelease};
 
 /// Hazard Eras (Ramalhete and Correia 2017).
@@ -19,6 +20,9 @@ pub struct Ibr {}
 /// Wait-Free Eras (Nikolaev and Ravindran 2020).
 pub struct Wfe {}
 
+/// Hazard pointers (Michael 2004).
+pub struct Hp {}
+
 impl Scheme for He {
     ghost use Rattle.wfe_core.specs.words.declared.config.SchemeKind.TheVariants.{He as HeKind};
 
@@ -27,6 +31,10 @@ impl Scheme for He {
     ghost HELPS = { false };
 
     const HELPS: bool = false;
+
+    ghost MOVES = { true };
+
+    const MOVES: bool = true;
 
     type Begin = IbrBegin;
 
@@ -39,6 +47,8 @@ impl Scheme for He {
     type Release = HeClear;
 
     ghost helps = { refl };
+
+    ghost moves = { refl };
 
     ghost begun = { λ e. refl };
 
@@ -85,6 +95,10 @@ impl Scheme for Ibr {
 
     const HELPS: bool = false;
 
+    ghost MOVES = { true };
+
+    const MOVES: bool = true;
+
     type Begin = IbrBegin;
 
     type Protect = IbrProtect;
@@ -96,6 +110,8 @@ impl Scheme for Ibr {
     type Release = IbrRelease;
 
     ghost helps = { refl };
+
+    ghost moves = { refl };
 
     ghost begun = { λ e. refl };
 
@@ -157,6 +173,10 @@ impl Scheme for Wfe {
 
     const HELPS: bool = true;
 
+    ghost MOVES = { true };
+
+    const MOVES: bool = true;
+
     type Begin = IbrBegin;
 
     type Protect = WfeProtect;
@@ -168,6 +188,8 @@ impl Scheme for Wfe {
     type Release = HeClear;
 
     ghost helps = { refl };
+
+    ghost moves = { refl };
 
     ghost begun = { λ e. refl };
 
@@ -202,5 +224,68 @@ impl Scheme for Wfe {
     #[inline(always)]
     fn release(_post: &Post, index: u32) -> Option<HeClear> {
         Some(HeClear::new(index))
+    }
+}
+
+impl Scheme for Hp {
+    ghost use Rattle.wfe_core.specs.words.declared.config.SchemeKind.TheVariants.{Hp as HpKind};
+
+    ghost kind = { HpKind };
+
+    ghost HELPS = { false };
+
+    const HELPS: bool = false;
+
+    ghost MOVES = { false };
+
+    const MOVES: bool = false;
+
+    type Begin = IbrBegin;
+
+    type Protect = HpProtect;
+
+    type Clear = HpClear;
+
+    type Finish = IbrFinish;
+
+    type Release = HpClear;
+
+    ghost helps = { refl };
+
+    ghost moves = { refl };
+
+    ghost begun = { λ e. refl };
+
+    ghost protected = { λ e. refl };
+
+    ghost cleared = { λ e. refl };
+
+    ghost finished = { λ e. refl };
+
+    ghost released = { λ e. refl };
+
+    #[inline(always)]
+    fn begin(_post: &Post) -> Option<IbrBegin> {
+        None
+    }
+
+    #[inline(always)]
+    fn protect(post: &Post, index: u32, word: u32) -> HpProtect {
+        HpProtect::new(post, index, word)
+    }
+
+    #[inline(always)]
+    fn clear(_post: &mut Post, index: u32, _told: &mut Told) -> Option<HpClear> {
+        Some(HpClear::new(index))
+    }
+
+    #[inline(always)]
+    fn finish(_post: &Post) -> Option<IbrFinish> {
+        None
+    }
+
+    #[inline(always)]
+    fn release(_post: &Post, index: u32) -> Option<HpClear> {
+        Some(HpClear::new(index))
     }
 }

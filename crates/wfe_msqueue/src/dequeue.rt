@@ -241,7 +241,7 @@ impl<S: Scheme> Dequeue<S> {
             }
             State::Reclaims(item, reclaim) => {
                 let Item { number, value } = *item;
-                let clock = reclaim.take(S::HELPS, post, desk, found, told)?;
+                let clock = reclaim.take(S::MOVES, S::HELPS, post, desk, found, told)?;
                 Some(Answer::Taken {
                     number,
                     value,

@@ -65,7 +65,7 @@ impl<S: Scheme> Enqueue<S> {
                 None
             }
             EnqueueEnd::MakeRoom => {
-                self.at = State::Tidies(Tidy::new(S::HELPS));
+                self.at = State::Tidies(Tidy::new(S::MOVES, S::HELPS));
                 None
             }
             EnqueueEnd::Answers(answer) => match self.kept.taken {

@@ -5,7 +5,7 @@ use Rattle.std.proofs.Math.Nat.{div-lt_iff_lt-mul}
 use Rattle.std.specs.Prelude.{nat_lt}
 use Rattle.wfe_words.specs.Place.{has}
 use Rattle.wfe_words.specs.declared.config.SchemeKind.{SchemeKind}
-use Rattle.wfe_words.specs.declared.config.SchemeKind.TheVariants.{He, Ibr, Wfe}
+use Rattle.wfe_words.specs.declared.config.SchemeKind.TheVariants.{He, Hp, Ibr, Wfe}
 use Rattle.wfe_words.specs.declared.layout.Layout.{Layout}
 use Rattle.wfe_core.specs.Guards.{index_at, guard_by, guard_at, guards, guards_by, guard_place}
 use Rattle.wfe_core.specs.Valid.{Bounds}
@@ -18,6 +18,7 @@ index_there layout k b h =
 
 there_by : (scheme : SchemeKind) (layout : Layout) (k : ℕ) → Bounds layout.config → k < guards_by scheme layout.config → has layout (guard_place (guard_by scheme layout.config k)) ≡ true
 there_by He layout k b h = index_there layout k b h
+there_by Hp layout k b h = index_there layout k b h
 there_by Ibr layout k b h = grind (arith, nat_tests)
 there_by Wfe layout k b h = by_first (nat_lt k layout.config.seats) refl
   where

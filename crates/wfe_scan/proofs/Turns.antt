@@ -1,6 +1,7 @@
 -- A scan's step, as the turn of a call that has the scan in it.
 use Rattle.std.proofs.Common.{ℕ, ◌≡◌, ◌+◌, Bool, true, false, List, Option, Some, None, refl}
 use Rattle.std.specs.Prelude.{nat_lt}
+use Rattle.wfe_core.specs.words.Schemes.{publishes_rows}
 use Rattle.wfe_core.specs.defs.declared.event.Event.{Event}
 use Rattle.wfe_core.specs.declared.post.Post.{Post}
 use Rattle.wfe_core.specs.Calls.{AfterScan, ScanAt, ReadGuard, GiveBack}
@@ -25,7 +26,7 @@ turn_by_step later (ReadGuard number) post desk found =
     later
     number
     post
-    (with_read desk number (guard_at post.layout.config number, published (guard_at post.layout.config number) found))
+    (with_read desk number (guard_at post.layout.config number, published (publishes_rows post.layout.config.scheme) (guard_at post.layout.config number) found))
     _
     (nat_lt (number + 1) (guards post.layout.config))
 turn_by_step later (GiveBack place slot) post desk found = giving_then later post (with_back desk place) _ (unmet_from (with_back desk place) place)

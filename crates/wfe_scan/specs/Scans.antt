@@ -1,13 +1,14 @@
 -- A scan's steps, whatever comes after it.
 use Rattle.std.specs.Prelude.{ℕ, ◌≡◌, ◌<◌, ◌+◌, Bool, true, false, nat_lt, List, [], ◌∷◌, Option, Some, None}
+use Rattle.wfe_core.specs.words.Schemes.{publishes_rows}
 use Rattle.wfe_core.specs.defs.declared.event.Event.{Event}
 use Rattle.wfe_core.specs.defs.declared.event.Event.TheVariants as events
 use Rattle.wfe_core.specs.declared.post.Post.{Post}
 use Rattle.wfe_core.specs.Desks.{Desk}
-use Rattle.wfe_core.specs.Guards.{guards, guard_at, eras_in, published}
+use Rattle.wfe_core.specs.Guards.{guards, guard_at, published}
 use Rattle.wfe_core.specs.Ready.{SlotFits}
 use Rattle.wfe_core.specs.Calls.{AfterScan, Counted, ScanAt, ReadGuard, GiveBack, Phase, Scans, CallTurn, goes_on}
-use Rattle.wfe_core.specs.Scan.{Entry, scanned, unmet_from, with_kept, with_read, with_back}
+use Rattle.wfe_core.specs.Scan.{Entry, reads_guard, scanned, unmet_from, with_kept, with_read, with_back}
 use Rattle.wfe_scan.specs.declared.scan.At.{At}
 use Rattle.wfe_scan.specs.declared.scan.At.TheVariants as ats
 use Rattle.wfe_scan.specs.declared.scan.Scan.{Scan}
@@ -43,8 +44,8 @@ abbrev pub scan_step : ScanAt → Post → Desk → ℕ → Turn
 scan_step (ReadGuard number) post desk found =
     reading
     number
-    (with_read desk number (guard_at post.layout.config number, published (guard_at post.layout.config number) found))
-    (events.Read (guard_at post.layout.config number) (eras_in (guard_at post.layout.config number) found) ∷ [])
+    (with_read desk number (guard_at post.layout.config number, published (publishes_rows post.layout.config.scheme) (guard_at post.layout.config number) found))
+    (reads_guard (publishes_rows post.layout.config.scheme) (guard_at post.layout.config number) found ∷ [])
     (nat_lt (number + 1) (guards post.layout.config))
 scan_step (GiveBack place slot) post desk found =
     giving (with_back desk place) (events.Back slot ∷ []) (unmet_from (with_back desk place) place)

@@ -1,10 +1,14 @@
-// The words that publish reservations, in the order in which a scan reads them.
+// The words that publish reservations or rows, in the order in which a scan reads them.
 ghost use Rattle.std.specs.Prelude.{◌≡◌, ◌<◌, ◌≤◌, true};
+ghost use Rattle.wfe_words.specs.Schemes.{publishes_rows as shows_rows};
 ghost use Rattle.wfe_words.specs.Place.{has, is_valid, number as number_of};
-ghost use Rattle.wfe_core.specs.Guards.{guard_at as model_guard_at, guard_place, guards as model_guards, index_at as model_index_at, interval_in, eras_in as model_eras_in};
-ghost use Rattle.wfe_core.specs.Valid.{Bounds};
+ghost use Rattle.wfe_core.specs.defs.Shown.{shown, shown_row};
+ghost use Rattle.wfe_core.specs.Guards.{guard_at as model_guard_at, guard_place, guards as model_guards, index_at as model_index_at, interval_in, eras_in as model_eras_in, published as model_published};
+ghost use Rattle.wfe_core.specs.Ready.{ShownFits};
+ghost use Rattle.wfe_core.specs.Scan.{reads_guard};
+ghost use Rattle.wfe_core.specs.Valid.{Bounds, IsValid};
 
-use wfe_core::{Guard, Interval, one_era};
+use wfe_core::{Event, Guard, Interval, Post, Shown, linked_row, one_era};
 use wfe_words::{Config, Layout, SchemeKind, read_reservation, read_span};
 
 // How many guards there are.
@@ -13,7 +17,7 @@ pub fn guards(config: Config) -> u32
     ensures { result ≡ model_guards config }
 {
     match config.scheme {
-        SchemeKind::He => config.seats * config.indexes,
+        SchemeKind::He | SchemeKind::Hp => config.seats * config.indexes,
         SchemeKind::Ibr => config.seats,
         SchemeKind::Wfe => config.seats + config.seats * config.indexes,
     }
@@ -38,7 +42,7 @@ pub fn guard_at(config: Config, number: u32) -> Guard
     ensures { result ≡ model_guard_at config number }
 {
     match config.scheme {
-        SchemeKind::He => index_at(config, number),
+        SchemeKind::He | SchemeKind::Hp => index_at(config, number),
         SchemeKind::Ibr => Guard::Whole { seat: number },
         SchemeKind::Wfe => {
             if number < config.seats {
@@ -63,8 +67,8 @@ pub fn guard_word(layout: Layout, guard: Guard) -> u32
     }
 }
 
-// What a guard publishes with this word.
-pub fn published(guard: Guard, word: u64) -> Option<Interval>
+// The eras that a guard publishes with this word.
+fn eras_in(guard: Guard, word: u64) -> Option<Interval>
     ensures { result ≡ model_eras_in guard word }
 {
     match guard {
@@ -76,5 +80,46 @@ pub fn published(guard: Guard, word: u64) -> Option<Interval>
             _ => None,
         },
         _ => one_era(read_reservation(word).era),
+    }
+}
+
+// The index words publish rows, and no eras.
+fn publishes_rows(config: Config) -> bool
+    ensures { result ≡ shows_rows config.scheme }
+{
+    matches!(config.scheme, SchemeKind::Hp)
+}
+
+fn eras_shown(span: Option<Interval>) -> Shown
+    ensures { result ≡ shown span }
+{
+    match span {
+        None => Shown::Nothing,
+        Some(span) => Shown::Eras { span },
+    }
+}
+
+fn row_shown(slot: Option<u32>) -> Shown
+    ensures { result ≡ shown_row slot }
+{
+    match slot {
+        None => Shown::Nothing,
+        Some(slot) => Shown::Row { slot },
+    }
+}
+
+// What a guard publishes with this word, and the event that tells so.
+pub fn published(post: &Post, guard: Guard, word: u64) -> (Shown, Event)
+    requires valid { IsValid post.now }
+    requires fits { ShownFits (shows_rows post.now.layout.config.scheme) post.now word }
+    ensures shown { result.0 ≡ model_published (shows_rows post.now.layout.config.scheme) guard word }
+    ensures told { result.1 ≡ reads_guard (shows_rows post.now.layout.config.scheme) guard word }
+{
+    if publishes_rows(post.layout.config()) {
+        let slot = linked_row(word as u32);
+        (row_shown(slot), Event::Saw { guard, slot })
+    } else {
+        let span = eras_in(guard, word);
+        (eras_shown(span), Event::Read { guard, span })
     }
 }

@@ -1,5 +1,5 @@
 //! A scan: a seat reads each guard once, and then gives back the rows of its retire list whose lives
-//! meet nothing that it read.
+//! nothing keeps that it read.
 #![tactic(auto)]
 
 mod guards;

@@ -1,6 +1,6 @@
 // The steps of a scan, and the call that only scans.
 ghost use Rattle.std.specs.Prelude.{◌≡◌, ◌≤◌, [], length};
-ghost use Rattle.wfe_core.specs.CallReady.{scan_ready};
+ghost use Rattle.wfe_core.specs.CallReady.{scan_plausible, scan_ready};
 ghost use Rattle.wfe_core.specs.Calls.{Counted, ReadGuard, Scans};
 ghost use Rattle.wfe_core.specs.DeskHeld.{HasRoom, desk_of};
 ghost use Rattle.wfe_core.specs.Memory.{numbered};
@@ -20,8 +20,8 @@ pub enum At {
 }
 
 /// The steps of a scan, alone or as part of another call (Ramalhete and Correia 2017): it loads each
-/// guard once, in order, and then clears the claim bit of each row of the list whose life meets
-/// nothing that was read.
+/// guard once, in order, and then clears the claim bit of each row of the list whose life nothing keeps
+/// that was read.
 #[derive(Clone, Copy)]
 pub struct Scanner {
     at: At,
@@ -64,6 +64,7 @@ impl Scanner {
         requires valid { IsValid post.now }
         requires room { HasRoom desk.old post.now.layout }
         requires ready { scan_ready (scans_at self.old) post.now (desk_of desk.old) }
+        requires plausible { scan_plausible (scans_at self.old) post.now found }
         requires empty { told.old ≡ [] }
         ensures desk { desk_of desk.new ≡ (scan_step (scans_at self.old) post.now (desk_of desk.old) found).desk }
         ensures told { told.new ≡ (scan_step (scans_at self.old) post.now (desk_of desk.old) found).told }
@@ -75,9 +76,9 @@ impl Scanner {
             At::ReadGuard { number } => {
                 let config = post.layout.config();
                 let guard = guard_at(config, number);
-                let span = published(guard, found);
-                desk.report.note(number, guard, span);
-                told.push(Event::Read { guard, span });
+                let (shown, event) = published(post, guard, found);
+                desk.report.note(number, guard, shown);
+                told.push(event);
                 if number + 1 < guards(config) {
                     self.at = At::ReadGuard { number: number + 1 };
                     return false;

@@ -1,10 +1,10 @@
 use Rattle.std.proofs.Common.{rules, ◌≡◌, [], Some, true, ap, subst, sym, ◌∙◌}
 use Rattle.std.specs.Prelude.{is_some}
-use Rattle.wfe_core.specs.words.Schemes.{has_one_interval}
+use Rattle.wfe_core.specs.words.Schemes.{has_one_interval, publishes_rows}
 use Rattle.wfe_core.specs.Calls.{CallTurn}
 use Rattle.wfe_core.specs.DeskHeld.{desk_of}
 use Rattle.wfe_core.specs.Keep.{copied}
-use Rattle.wfe_core.specs.Posts.{reserves_index, stands}
+use Rattle.wfe_core.specs.Posts.{publishes_index, stands}
 use Rattle.wfe_core.specs.Rounds.{scheme_of}
 use Rattle.wfe_core.specs.Steps.{phase_turn}
 use Rattle.wfe_call_rounds.specs.Steps.{Steps}
@@ -35,7 +35,7 @@ returns-in-Stores-clause-steps g c =
     let post = c.args.post.now in
     let desk = desk_of c.args.desk.now in
     let last = copy_phase from index c.args.self.now.at c.copy-in-Stores.new.post in
-    let turn : phase_turn (copy_phase from index c.args.self.now.at post) post desk c.args.found ≡ copied from index post desk (reserves_index post index c.in-Stores.era) (stands post from) =
+    let turn : phase_turn (copy_phase from index c.args.self.now.at post) post desk c.args.found ≡ copied from index post desk (publishes_index (publishes_rows (scheme_of post)) post index c.in-Stores.number) (stands post from) =
     ap (λ (at : CopyAt). phase_turn (copy_phase from index at post) post desk c.args.found) c.in-Stores.is
     in
     subst (λ (t : CallTurn). Steps t c.copy-in-Stores.new.post desk c.copy-in-Stores.new.told (Some c.copy-in-Stores.result) last) (sym turn) (c.copy-in-Stores.ensures.steps desk last)

@@ -7,13 +7,17 @@ use Rattle.wfe_call_rounds.specs.Steps.{Steps}
 use Rattle.wfe_call_rounds.proofs.Taken.{took_from, steps_along}
 use Rattle.wfe_call_rounds.proofs.iface.Followed.{bumped}
 use Rattle.wfe_bucketmap_read.specs.Copies.{copy_phase}
-use Rattle.wfe_bucketmap_read.proofs.Counting.{copy_ready}
+use Rattle.wfe_bucketmap_read.proofs.Counting.{copy_plausible, copy_ready}
 use Rattle.wfe_bucketmap_read.proofs.Copying.{copy_phase_counted}
 use Rattle.wfe_bucketmap_read.proofs.copy.CopyIndexCallMachine.take.Goals as goal
 
 pub step-answer-requires-clause-ready : goal.step-answer-requires-clause-ready
 step-answer-requires-clause-ready g c =
     copy_ready c.args.self.now.from c.args.self.now.index c.args.self.now.at c.args.post.now (desk_of c.args.desk.now) c.saturating_add-post.result c.requires.ready
+
+pub step-answer-requires-clause-plausible : goal.step-answer-requires-clause-plausible
+step-answer-requires-clause-plausible g c =
+    copy_plausible c.args.self.now.from c.args.self.now.index c.args.self.now.at c.args.post.now c.saturating_add-post.result c.args.found c.requires.plausible
 
 pub returns-clause-took : goal.returns-clause-took
 returns-clause-took g c =
