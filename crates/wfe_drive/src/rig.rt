@@ -15,25 +15,26 @@ ghost use Rattle.wfe_drive_seat.specs.Seats.{Suits, engaged_phase, is_engaged};
 
 use std::alloc::Global;
 use std::marker::Model;
-use wfe_call_any::{HeCall, IbrCall, WfeCall};
+use wfe_call_any::{HeCall, HpCall, IbrCall, WfeCall};
 use wfe_core::{Answer, Call, CallMachine, Layout, NoMemory, Op, SchemeKind, Told};
 use wfe_drive_cells::Cells;
 use wfe_drive_seat::{Engaged, SeatState, move_list};
 
-type State = SeatState<HeCall, IbrCall, WfeCall>;
+type State = SeatState<HeCall, IbrCall, WfeCall, HpCall>;
 
 // A call of a seat that stays, which begins on a table of this layout, under its scheme.
-fn begin_under(layout: Layout, call: Call) -> Engaged<HeCall, IbrCall, WfeCall>
+fn begin_under(layout: Layout, call: Call) -> Engaged<HeCall, IbrCall, WfeCall, HpCall>
     requires { stays call ≡ true }
-    ensures suits { Suits ⟦<HeCall as CallMachine>⟧.suits ⟦<IbrCall as CallMachine>⟧.suits ⟦<WfeCall as CallMachine>⟧.suits result layout.config.scheme }
+    ensures suits { Suits ⟦<HeCall as CallMachine>⟧.suits ⟦<IbrCall as CallMachine>⟧.suits ⟦<WfeCall as CallMachine>⟧.suits ⟦<HpCall as CallMachine>⟧.suits result layout.config.scheme }
     ensures engaged { is_engaged result ≡ true }
     ensures phase { (post : Post) → post.layout.config.scheme ≡ layout.config.scheme
-        → engaged_phase ⟦<HeCall as CallMachine>⟧.phase ⟦<IbrCall as CallMachine>⟧.phase ⟦<WfeCall as CallMachine>⟧.phase result post ≡ first_phase call post }
+        → engaged_phase ⟦<HeCall as CallMachine>⟧.phase ⟦<IbrCall as CallMachine>⟧.phase ⟦<WfeCall as CallMachine>⟧.phase ⟦<HpCall as CallMachine>⟧.phase result post ≡ first_phase call post }
 {
     match layout.config().scheme {
         SchemeKind::He => Engaged::He(HeCall::begin(layout, call)),
         SchemeKind::Ibr => Engaged::Ibr(IbrCall::begin(layout, call)),
         SchemeKind::Wfe => Engaged::Wfe(WfeCall::begin(layout, call)),
+        SchemeKind::Hp => Engaged::Hp(HpCall::begin(layout, call)),
     }
 }
 

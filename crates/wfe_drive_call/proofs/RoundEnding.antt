@@ -1,24 +1,18 @@
 -- What comes once the round's index is cleared.
-use Rattle.std.proofs.Common.{Bool, None, Option, Some, [], ap, sym, ℕ, ◌≡◌}
+use Rattle.std.proofs.Common.{None, Option, Some, [], ap, sym, ℕ, ◌≡◌}
 use Rattle.wfe_core.specs.defs.declared.call.Answer.{Answer}
-use Rattle.wfe_core.specs.Calls.{Answering, CallTurn, ChangeKept, Changes, GivesUp, Idle, MakeRoom, Repeated, Runs, Tidies}
+use Rattle.wfe_core.specs.Calls.{Answering, ChangeKept, Changes, GivesUp, Idle, Runs}
 use Rattle.wfe_core.specs.Calls as calls
 use Rattle.wfe_core.specs.DeskHeld.{desk_of}
 use Rattle.wfe_core.specs.Desks.{Desk}
-use Rattle.wfe_core.specs.Phases.Base.{GiveUp, Move}
-use Rattle.wfe_core.specs.Phases.MoveAt.{LoadEra}
-use Rattle.wfe_core.specs.Rounds.{closed, given_up, helps, scheme_of}
+use Rattle.wfe_core.specs.Phases.Base.{GiveUp}
+use Rattle.wfe_core.specs.Rounds.{closed, given_up}
 use Rattle.wfe_core.specs.declared.desk.Desk.{Desk as HeldDesk}
 use Rattle.wfe_core.specs.declared.post.Post.{Post}
 use Rattle.wfe_drive_runs.specs.drive_words.drive_cells.Unit.{seat_after}
 use Rattle.wfe_drive_runs.specs.drive_words.Called.{at_phase}
 use Rattle.wfe_drive_runs.specs.Pieces.{seat_of}
 use Rattle.wfe_drive_runs.proofs.Turning.{with_steps}
-
--- the clock is moved, as the scheme has it
-pub ends_for_room : (kept : ChangeKept) (post : Post) (desk : Desk) (help : Bool) → help ≡ helps (scheme_of post)
-    → seat_after (closed (Changes kept) MakeRoom post desk []) ≡ seat_of (Runs (Tidies (Repeated (Changes kept))) (Move (LoadEra help))) post desk
-ends_for_room kept post desk help h = ap (λ (b : Bool). seat_of (Runs (Tidies (Repeated (Changes kept))) (Move (LoadEra b))) post desk) (sym h)
 
 -- a row that is taken is given up
 pub ends_giving : (kept : ChangeKept) (slot : ℕ) (answer : Answer) (post : Post) (desk : Desk) → kept.taken ≡ Some slot

@@ -1,6 +1,6 @@
 -- A call that begins is under way; and where under 2GE no row is kept.
 use Rattle.std.proofs.Common.{Bool, None, Option, Some, drop, false, if◌then◌else◌, refl, true, ℕ, ◌≡◌}
-use Rattle.wfe_core.specs.words.Schemes.{has_one_interval}
+use Rattle.wfe_core.specs.words.Schemes.{has_one_interval, publishes_rows}
 use Rattle.wfe_core.specs.words.declared.config.SchemeKind.TheVariants.{Ibr}
 use Rattle.wfe_core.specs.defs.declared.call.Call.{Call}
 use Rattle.wfe_core.specs.defs.declared.call.Call.TheVariants as names
@@ -45,13 +45,13 @@ span_parts : (span : Option Interval) → busy_in (parting_span span) ≡ true
 span_parts None = refl
 span_parts (Some span) = refl
 
-index_parts : (held : Option ℕ) → busy_in (parting_index held) ≡ true
-index_parts None = refl
-index_parts (Some index) = refl
+index_parts : (rows : Bool) (held : Option ℕ) → busy_in (parting_index rows held) ≡ true
+index_parts rows None = refl
+index_parts rows (Some index) = refl
 
 by_interval : (one : Bool) (post : Post) → busy_in (if one then parting_span post.span else parting_from 2 post) ≡ true
 by_interval true post = span_parts post.span
-by_interval false post = index_parts (standing_from 2 (drop 2 post.standing))
+by_interval false post = index_parts (publishes_rows (scheme_of post)) (standing_from 2 (drop 2 post.standing))
 
 pub first_busy : (call : Call) (post : Post) → busy_in (first_phase call post) ≡ true
 first_busy (names.Get key) post = round_busy (Gets key) post

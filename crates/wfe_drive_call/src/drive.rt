@@ -7,7 +7,7 @@ ghost use Rattle.wfe_core.specs.Frames.{SamePlace};
 ghost use Rattle.wfe_core.specs.Locals.{may_begin, stays};
 ghost use Rattle.wfe_core.specs.Rounds.{bucket_of, kept_row};
 ghost use Rattle.wfe_core.specs.Steps.{first_phase};
-ghost use Rattle.wfe_core.specs.words.declared.config.SchemeKind.TheVariants.{He as HeKind, Ibr as IbrKind, Wfe as WfeKind};
+ghost use Rattle.wfe_core.specs.words.declared.config.SchemeKind.TheVariants.{He as HeKind, Hp as HpKind, Ibr as IbrKind, Wfe as WfeKind};
 ghost use Rattle.wfe_core.specs.defs.declared.call.Call.TheVariants.{Get as GetCall};
 ghost use Rattle.wfe_drive_runs.specs.drive_words.Called.{Called, Here, Makes, at_phase};
 ghost use Rattle.wfe_drive_runs.specs.drive_words.Ran.{Answered};
@@ -16,11 +16,11 @@ use crate::change::change_bucket;
 use crate::dequeue::dequeue_item;
 use crate::enqueue::enqueue_item;
 use wfe_call_any::{
-    Advance, CopyIndex, Dequeue, DropIndex, Enqueue, Get, He, Hold, Ibr, Look, Put, PutIf, Release,
-    Remove, Scan, Scheme, Wfe,
+    Advance, CopyIndex, Dequeue, DropIndex, Enqueue, Get, He, Hold, Hp, Ibr, Look, Put, PutIf,
+    Release, Remove, Scan, Scheme, Wfe,
 };
 use wfe_core::{Answer, Call, CallMachine, Change, Desk, Post, SchemeKind};
-use wfe_drive_runs::{Words, drive_apart, drive_on, get_he_in, get_ibr_in, get_wfe_in};
+use wfe_drive_runs::{Words, drive_apart, drive_on, get_he_in, get_hp_in, get_ibr_in, get_wfe_in};
 
 /// Makes a whole call of the seat of this post and desk on its words, and answers as the call does.
 /// No call of the seat may be under way, and the call must be one that may begin: it names indexes in
@@ -50,6 +50,7 @@ pub fn drive_call<W: Words>(words: &mut W, post: &mut Post, desk: &mut Desk, cal
         SchemeKind::He => drive_he(words, post, desk, call),
         SchemeKind::Ibr => drive_ibr(words, post, desk, call),
         SchemeKind::Wfe => drive_wfe(words, post, desk, call),
+        SchemeKind::Hp => drive_hp(words, post, desk, call),
     }
 }
 
@@ -86,6 +87,7 @@ pub fn drive_get<W: Words>(
         SchemeKind::He => get_he_in(words, post, desk, key, bucket),
         SchemeKind::Ibr => get_free(words, post, desk, key, bucket, Call::Get { key }),
         SchemeKind::Wfe => get_wfe_in(words, post, desk, key, bucket),
+        SchemeKind::Hp => get_hp_in(words, post, desk, key, bucket),
     }
 }
 
@@ -118,6 +120,38 @@ fn drive_he<W: Words>(words: &mut W, post: &mut Post, desk: &mut Desk, call: Cal
         Call::Enqueue { value } => enqueue_item(words, post, desk, value),
         Call::Dequeue => dequeue_item(words, post, desk),
         _ => drive_under::<W, He>(words, post, desk, call),
+    }
+}
+
+/// Makes the steps of a call that has begun under hazard pointers. A put, a put that names a version, a remove,
+/// an enqueue and a dequeue make them without a machine; a get does so in `drive_get`.
+#[inline(always)]
+fn drive_hp<W: Words>(words: &mut W, post: &mut Post, desk: &mut Desk, call: Call) -> Answer
+    requires valid { W.valid words.old }
+    requires scheme { post.old.layout.config.scheme ≡ HpKind }
+    requires here { Here (W.at words.old) (at_phase (first_phase call post.old) post.old desk.old) }
+    requires stays { stays call ≡ true }
+    requires room { HasRoom desk.old post.old.layout }
+    ensures valid { W.valid words.new }
+    ensures same { W.same words.old words.new }
+    ensures room { HasRoom desk.new post.new.layout }
+    ensures made { Makes (λ ops l m. Answered l ops result m) (W.at words.old) (W.at words.new)
+        (W.stands words.old) (W.stands words.new)
+        (at_phase (first_phase call post.old) post.old desk.old) (at_phase Idle post.new desk.new) }
+{
+    match call {
+        Call::Put { key, value } => {
+            change_bucket(words, post, desk, Change::Put { key, value }, None)
+        }
+        Call::Remove { key } => change_bucket(words, post, desk, Change::Removed { key }, None),
+        Call::PutIf {
+            key,
+            value,
+            version,
+        } => change_bucket(words, post, desk, Change::Put { key, value }, Some(version)),
+        Call::Enqueue { value } => enqueue_item(words, post, desk, value),
+        Call::Dequeue => dequeue_item(words, post, desk),
+        _ => drive_under::<W, Hp>(words, post, desk, call),
     }
 }
 

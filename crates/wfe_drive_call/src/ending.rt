@@ -12,7 +12,7 @@ ghost use Rattle.wfe_drive_call.specs.Changing.{clears_at, kept_of, next_of};
 
 use crate::kept::{Kept, RoundEnd};
 use wfe_core::{Answer, Desk, Post};
-use wfe_drive_runs::{Words, close_again, close_round, give_up, helps, note_steps, retire, tidy};
+use wfe_drive_runs::{Words, close_again, close_round, give_up, note_steps, retire, tidy};
 
 // The root has moved: another round comes.
 #[inline(always)]
@@ -31,7 +31,8 @@ fn begin_again<W: Words>(words: &mut W, post: &mut Post, _desk: &Desk, _kept: &K
     close_again(words, post);
 }
 
-// No row was free: the clock is moved and the list scanned, and then another round comes.
+// No row was free: the clock is moved, where retirements move it, and the list scanned, and then another
+// round comes.
 fn make_room<W: Words>(words: &mut W, post: &mut Post, desk: &mut Desk, _kept: &Kept)
     requires valid { W.valid words.old }
     requires free { IsFree post.old }
@@ -47,8 +48,7 @@ fn make_room<W: Words>(words: &mut W, post: &mut Post, desk: &mut Desk, _kept: &
         (clears_at (kept_of _kept.now) MakeRoomNext post.old (desk_of desk.old)) (at_phase (round (Changes (kept_of _kept.now)) post.new) post.new desk.new) }
 {
     close_round(words, post);
-    let helps = helps(post.layout.config().scheme);
-    tidy(words, helps, post, desk);
+    tidy(words, post, desk);
 }
 
 // The call is answered. A row that was not linked is given up first.

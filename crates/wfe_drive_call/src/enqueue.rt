@@ -17,9 +17,7 @@ use crate::append::{append, pass_tail, read_tail};
 use crate::item::{Item, RoundEnd};
 use crate::item_row::fill;
 use wfe_core::{Answer, Desk, Post, Root};
-use wfe_drive_runs::{
-    Words, close_again, close_round, give_up, helps, note_steps, open_round, tidy,
-};
+use wfe_drive_runs::{Words, close_again, close_round, give_up, note_steps, open_round, tidy};
 
 /// Makes an enqueue from its first step to its answer. Under 2GE its seat keeps no row.
 #[inline(always)]
@@ -46,8 +44,7 @@ pub fn enqueue_item<W: Words>(words: &mut W, post: &mut Post, desk: &mut Desk, v
             RoundEnd::Again => close_again(words, post),
             RoundEnd::MakeRoom => {
                 close_round(words, post);
-                let helps = helps(post.layout.config().scheme);
-                tidy(words, helps, post, desk);
+                tidy(words, post, desk);
             }
             RoundEnd::Answers(answer) => {
                 close_round(words, post);

@@ -329,3 +329,68 @@ fn calls_on_kept_rows_answer_in_their_steps(rt: HostRuntime) -> Result<(), Fail>
     }
     Ok(())
 }
+
+#[test]
+fn calls_by_hazard_pointers_answer_in_their_steps(rt: HostRuntime) -> Result<(), Fail> {
+    let remove = Call::Remove { key: 7 };
+    let hold = Call::Hold { key: 7 };
+    let of_the_map = [
+        (remove, 2, Answer::Absent { version: 0 }),
+        (Call::Get { key: 7 }, 2, got(0, None)),
+        (hold, 2, Answer::Nothing),
+        (put(70), 10, done(1, ClockMove::Still)),
+        (Call::Get { key: 7 }, 8, got(1, Some(70))),
+        (hold, 3, Answer::Holding { slot: 0 }),
+        (Call::Release, 1, Answer::Released),
+        (put(71), 23, done(2, ClockMove::Still)),
+        (remove, 21, done(3, ClockMove::Still)),
+        (remove, 6, Answer::Absent { version: 3 }),
+        // The clock is moved by this call alone.
+        (Call::Advance, 2, Answer::Clock { outcome: moved(2) }),
+        (Call::Scan, 3, Answer::Scanned { kept: 0, back: 0 }),
+    ];
+    make(&rt, single(SchemeKind::Hp), &of_the_map)?;
+    let taken = Answer::Taken {
+        number: 1,
+        value: 5,
+        clock: ClockMove::Still,
+    };
+    let of_the_queue = [
+        (Call::Dequeue, 7, Answer::Empty),
+        (Call::Enqueue { value: 5 }, 14, Answer::Queued { number: 1 }),
+        (Call::Enqueue { value: 6 }, 14, Answer::Queued { number: 2 }),
+        (Call::Dequeue, 20, taken),
+    ];
+    make(&rt, single(SchemeKind::Hp), &of_the_queue)?;
+    Ok(())
+}
+
+#[test]
+fn rows_that_hazard_pointers_keep_are_read(rt: HostRuntime) -> Result<(), Fail> {
+    let copy = Call::Copy { from: 2, index: 3 };
+    let look = Call::Look { index: 3, key: 7 };
+    let looked = Answer::Looked {
+        slot: 0,
+        version: 1,
+        value: Some(70),
+    };
+    let calls = [
+        (copy, 1, Answer::Nothing),
+        (look, 1, Answer::Nothing),
+        (put(70), 10, done(1, ClockMove::Still)),
+        (Call::Hold { key: 7 }, 3, Answer::Holding { slot: 0 }),
+        (copy, 2, Answer::Copied { slot: 0 }),
+        (Call::Release, 1, Answer::Released),
+        (copy, 1, Answer::Nothing),
+        (look, 4, looked),
+        (put_if(71, 0), 8, Answer::Stale { version: 1 }),
+        (put_if(71, 1), 23, done(2, ClockMove::Still)),
+        (look, 4, looked),
+        (Call::DropIndex { index: 3 }, 1, Answer::Dropped),
+        (look, 1, Answer::Nothing),
+        // Both rows that were cut go back.
+        (put_if(72, 2), 25, done(3, ClockMove::Still)),
+    ];
+    make(&rt, wide(SchemeKind::Hp), &calls)?;
+    Ok(())
+}

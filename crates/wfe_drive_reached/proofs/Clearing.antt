@@ -5,7 +5,7 @@ use Rattle.std.proofs.lemmas.List.{set-get_or}
 use Rattle.std.specs.Prelude.{None, Option, Some, if◌then◌else◌, is_some, not, nat_lt, ◌&&◌, ◌==◌}
 use Rattle.wfe_core.specs.words.Place.{Place, has, is_valid, number, words}
 use Rattle.wfe_core.specs.words.Place.Place.{Index, Interval, PlaceOf}
-use Rattle.wfe_core.specs.words.Schemes.{has_one_interval}
+use Rattle.wfe_core.specs.words.Schemes.{has_one_interval, publishes_rows}
 use Rattle.wfe_core.specs.words.declared.layout.Layout.{Layout}
 use Rattle.wfe_core.specs.defs.declared.call.Call.TheVariants as names
 use Rattle.wfe_core.specs.defs.declared.event.Event.{Event}
@@ -180,10 +180,12 @@ clears_index table i next r l g one e =
       high = subst (λ (layout : Layout). next < layout.config.indexes) (g.layout ∙ sym (r.shows).layout) high;
     } in
     let apart : has_one_interval (scheme_of (w.seat i).post) ≡ false = ap (λ (x : Post). has_one_interval (scheme_of x)) g.same ∙ one in
-    let d : Drops w i next (Runs (Releases (Dropped next)) (Clear next)) (withdrawn (counted (begun_post (w.seat i).post)) next) = drop_clear w i next may (rw apart refl) in
+    let rows : Bool = publishes_rows (scheme_of p) in
+    let d : Drops w i next (Runs (Releases (Dropped next)) (Clear rows next)) (withdrawn (counted (begun_post (w.seat i).post)) next) =
+    drop_clear rows w i next may (rw apart (ap (λ (x : Post). Runs (Releases (Dropped next)) (Clear (publishes_rows (scheme_of x)) next)) g.same)) in
     let seat : p.seat < table.layout.config.seats = (let s = g.valid.seat in subst (λ (layout : Layout). p.seat < layout.config.seats) g.layout s) in
     let index : next < table.layout.config.indexes = subst (λ (layout : Layout). next < layout.config.indexes) g.layout high in
-    cleared_by table (dropped w i next) i (Runs (Releases (Parting next)) (Clear next)) (withdrawn (counted (begun_post p)) next) r l g.layout (rw one (ap parting_index e))
+    cleared_by table (dropped w i next) i (Runs (Releases (Parting next)) (Clear rows next)) (withdrawn (counted (begun_post p)) next) r l g.layout (rw one (ap (parting_index rows) e))
     (both (nat_lt p.seat table.layout.config.seats) (nat_lt next table.layout.config.indexes) (grind (arith, nat_tests, seat)) (grind (arith, nat_tests, index)))
     (λ desk found. refl) (λ desk found. refl)
     (record {
@@ -194,7 +196,7 @@ clears_index table i next r l g one e =
       idle = d.idle;
       desk = d.desk;
       post = d.post ∙ ap (λ (x : Post). withdrawn (counted (begun_post x)) next) g.same;
-      mem = d.mem ∙ ap (λ (x : Post). written w.mem (phase_move (Runs (Releases (Dropped next)) (Clear next)) (begun_post x))) g.same;
+      mem = d.mem ∙ ap (λ (x : Post). written w.mem (phase_move (Runs (Releases (Dropped next)) (Clear rows next)) (begun_post x))) g.same;
     })
 
 -- all of it, where the seat has one interval
@@ -229,7 +231,7 @@ marks v e = ap (λ (phase : Phase). not (is_marking phase)) e
 clears_apart : (table : TableView) (i : ℕ) (next : Option ℕ) (r : IsReached table) → i < table.layout.config.seats → Seated table i r.world → has_one_interval (scheme_of (seat_at table i).post) ≡ false
     → standing_from 2 (drop 2 (seat_at table i).post.standing) ≡ next → lets_go (seat_at table i) ≡ true → IsReached (after_clear true table i)
 clears_apart table i (Some next) r l g one e h = clears_index table i next r l g one e
-clears_apart table i None r l g one e h = let no : lets_go (seat_at table i) ≡ false = marks (seat_at table i) (rw one (ap parting_index e)) in absurd (cc)
+clears_apart table i None r l g one e h = let no : lets_go (seat_at table i) ≡ false = marks (seat_at table i) (rw one (ap (parting_index (publishes_rows (scheme_of (seat_at table i).post))) e)) in absurd (cc)
 
 clears_one : (table : TableView) (i : ℕ) (span : Option Span) (r : IsReached table) → i < table.layout.config.seats → Seated table i r.world → has_one_interval (scheme_of (seat_at table i).post) ≡ true
     → (seat_at table i).post.span ≡ span → lets_go (seat_at table i) ≡ true → IsReached (after_clear true table i)
@@ -252,9 +254,9 @@ record LetPlace (layout : Layout) (phase : Phase) (post : Post) : Type 0 where
 seat_there : (layout : Layout) (post : Post) → IsValid post → post.layout ≡ layout → nat_lt post.seat layout.config.seats ≡ true
 seat_there layout post v e = let s : post.seat < layout.config.seats = (let h = v.seat in subst (λ (x : Layout). post.seat < x.config.seats) e h) in grind (arith, nat_tests, s)
 
-place_apart : (layout : Layout) (post : Post) (next : Option ℕ) → IsValid post → post.layout ≡ layout → standing_from 2 (drop 2 post.standing) ≡ next → LetPlace layout (parting_index next) post
-place_apart layout post None v e s = record { there = seat_there layout post v e; off = λ h. absurd (cc) }
-place_apart layout post (Some next) v e s =
+place_apart : (layout : Layout) (post : Post) (rows : Bool) (next : Option ℕ) → IsValid post → post.layout ≡ layout → standing_from 2 (drop 2 post.standing) ≡ next → LetPlace layout (parting_index rows next) post
+place_apart layout post rows None v e s = record { there = seat_there layout post v e; off = λ h. absurd (cc) }
+place_apart layout post rows (Some next) v e s =
     let n = next_stands post 2 next s in
     let high : next < layout.config.indexes = subst (λ (x : Layout). next < x.config.indexes) e (stood_by post next (stands post next) refl v n.stood) in
     record { there = both (nat_lt post.seat layout.config.seats) (nat_lt next layout.config.indexes) (seat_there layout post v e) (grind (arith, nat_tests, high)); off = λ h. refl }
@@ -265,7 +267,7 @@ place_one layout post (Some span) v e = record { there = seat_there layout post 
 
 place_by : (layout : Layout) (post : Post) (one : Bool) → has_one_interval (scheme_of post) ≡ one → IsValid post → post.layout ≡ layout → LetPlace layout (parting post) post
 place_by layout post true h v e = rw h (place_one layout post post.span v e)
-place_by layout post false h v e = rw h (place_apart layout post (standing_from 2 (drop 2 post.standing)) v e refl)
+place_by layout post false h v e = rw h (place_apart layout post (publishes_rows (scheme_of post)) (standing_from 2 (drop 2 post.standing)) v e refl)
 
 begun_valid : (post : Post) → IsValid post → IsValid (begun_post post)
 begun_valid post v = record { layout = v.layout; bounds = v.bounds; seat = v.seat; cursor = v.cursor; tags = v.tags; standing = v.standing; span = v.span; all_tags = v.all_tags; all_standing = v.all_standing }

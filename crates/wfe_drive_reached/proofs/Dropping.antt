@@ -17,8 +17,8 @@ use Rattle.wfe_core.specs.Desks.{Desk, Notes, no_notes, noted_all, noting}
 use Rattle.wfe_core.specs.Locals.{Local, after, begun, begun_post, busy_in, rounds_told, settled, settled_by, told_by, turn}
 use Rattle.wfe_core.specs.Memory.{Move, written}
 use Rattle.wfe_core.specs.Phases.Base.{Clear, Release}
-use Rattle.wfe_core.specs.Posts.{cleared, counted, stands, with_span, withdrawn}
-use Rattle.wfe_core.specs.Rounds.{letting}
+use Rattle.wfe_core.specs.Posts.{cleared, counted, publishes_index, stands, with_span, withdrawn}
+use Rattle.wfe_core.specs.Rounds.{letting, scheme_of}
 use Rattle.wfe_core.specs.Steps.{phase_move, phase_turn}
 use Rattle.wfe_core.specs.World.{World, begin, finds, is_busy, is_here, may_start, offered, step}
 use Rattle.wfe_core.specs.declared.post.Post.{Post}
@@ -30,6 +30,7 @@ use Rattle.law_reuse.proofs.inv.Inv.Kept.{inv_kept}
 use Rattle.law_reuse.proofs.shapes.Frame.{begin_begins, begin_stays, seat_stays, seat_steps}
 use Rattle.wfe_drive_reached.specs.Reached.{StaysIn}
 use Rattle.wfe_drive_reached.proofs.Staying.{begin_right, first_busy, step_right}
+use Rattle.wfe_core.specs.words.Schemes.{publishes_rows}
 
 -- the notes of a call of one step that gave no row back
 abbrev pub one_step : Notes
@@ -41,19 +42,27 @@ record DropTurn (t : CallTurn) (desk : Desk) (left : Post) : Type 0 where
   post : t.post ≡ left
   noted : noting t.desk (told_by t) ≡ record desk { notes = one_step }
 
-cleared_notes : (index steps : ℕ) (row : Option ℕ) (guard : Guard) (span : Option Interval) → noted_all no_notes ((cleared index row ++ events.Reserve guard span ∷ []) ++ events.End steps answers.Dropped ∷ []) ≡ record no_notes { steps = steps }
-cleared_notes index steps None guard span = refl
-cleared_notes index steps (Some slot) guard span = refl
+-- an index word publishes nothing any more
+cleared_notes : (rows : Bool) (index : ℕ) (post : Post) (steps : ℕ) (row : Option ℕ) → noted_all no_notes ((cleared index row ++ publishes_index rows post index 0) ++ events.End steps answers.Dropped ∷ []) ≡ record no_notes { steps = steps }
+cleared_notes false index post steps None = refl
+cleared_notes false index post steps (Some slot) = refl
+cleared_notes true index post steps None = refl
+cleared_notes true index post steps (Some slot) = refl
+
+-- nor does the interval's
+released_notes : (index steps : ℕ) (row : Option ℕ) (guard : Guard) (span : Option Interval) → noted_all no_notes ((cleared index row ++ events.Reserve guard span ∷ []) ++ events.End steps answers.Dropped ∷ []) ≡ record no_notes { steps = steps }
+released_notes index steps None guard span = refl
+released_notes index steps (Some slot) guard span = refl
 
 loosened_notes : (index steps : ℕ) (row : Option ℕ) → noted_all no_notes (cleared index row ++ events.End steps answers.Dropped ∷ []) ≡ record no_notes { steps = steps }
 loosened_notes index steps None = refl
 loosened_notes index steps (Some slot) = refl
 
-clear_turn : (index : ℕ) (post : Post) (desk : Desk) (found : ℕ) → DropTurn (phase_turn (Runs (Releases (Dropped index)) (Clear index)) (counted (begun_post post)) (record desk { notes = no_notes }) found) desk (withdrawn (counted (begun_post post)) index)
-clear_turn index post desk found = record { outcome = refl; post = refl; noted = ap (λ (notes : Notes). let d : Desk = record desk { notes = notes } in d) (cleared_notes index 1 (stands post index) _ _) }
+clear_turn : (rows : Bool) (index : ℕ) (post : Post) (desk : Desk) (found : ℕ) → DropTurn (phase_turn (Runs (Releases (Dropped index)) (Clear rows index)) (counted (begun_post post)) (record desk { notes = no_notes }) found) desk (withdrawn (counted (begun_post post)) index)
+clear_turn rows index post desk found = record { outcome = refl; post = refl; noted = ap (λ (notes : Notes). let d : Desk = record desk { notes = notes } in d) (cleared_notes rows index (counted (begun_post post)) 1 (stands post index)) }
 
 release_turn : (index : ℕ) (post : Post) (desk : Desk) (found : ℕ) → DropTurn (phase_turn (Runs (Releases (Dropped index)) (Release index)) (counted (begun_post post)) (record desk { notes = no_notes }) found) desk (with_span (withdrawn (counted (begun_post post)) index) None)
-release_turn index post desk found = record { outcome = refl; post = refl; noted = ap (λ (notes : Notes). let d : Desk = record desk { notes = notes } in d) (cleared_notes index 1 (stands post index) _ _) }
+release_turn index post desk found = record { outcome = refl; post = refl; noted = ap (λ (notes : Notes). let d : Desk = record desk { notes = notes } in d) (released_notes index 1 (stands post index) _ _) }
 
 loosen_turn : (index : ℕ) (post : Post) (desk : Desk) (found : ℕ) → DropTurn (phase_turn (Works (Keeping (Loosens (Dropped index)))) (counted (begun_post post)) (record desk { notes = no_notes }) found) desk (withdrawn (counted (begun_post post)) index)
 loosen_turn index post desk found = record { outcome = refl; post = refl; noted = ap (λ (notes : Notes). let d : Desk = record desk { notes = notes } in d) (loosened_notes index 1 (stands post index)) }
@@ -66,7 +75,7 @@ record Ended (l : Local) (old : Desk) (left : Post) : Type 0 where
 
 ended : (l : Local) (t : CallTurn) (desk : Desk) (post : Post) → DropTurn t desk post → Ended (settled l t) desk post
 ended l t desk post d =
-    let rounds : ℕ = rounds_told l.rounds (told_by t) in
+    let rounds : ℕ = rounds_told (publishes_rows (scheme_of t.post)) l.rounds (told_by t) in
     let is : settled l t ≡ settled_by l t.post (noting t.desk (told_by t)) rounds (Answers answers.Dropped) = ap (settled_by l t.post (noting t.desk (told_by t)) rounds) d.outcome in
     record {
       idle = ap (λ (x : Local). x.phase) is;
@@ -126,9 +135,9 @@ drop_by w i index phase post m e made =
       desk = ap (λ (x : Local). kept_desk x.desk) now ∙ ap kept_desk end.desk;
     }
 
-pub drop_clear : (w : World) (i index : ℕ) → MayDrop w i index → letting (Dropped index) (begun_post (w.seat i).post) ≡ Runs (Releases (Dropped index)) (Clear index)
-    → Drops w i index (Runs (Releases (Dropped index)) (Clear index)) (withdrawn (counted (begun_post (w.seat i).post)) index)
-drop_clear w i index m e = drop_by w i index (Runs (Releases (Dropped index)) (Clear index)) (withdrawn (counted (begun_post (w.seat i).post)) index) m e (clear_turn index (w.seat i).post)
+pub drop_clear : (rows : Bool) (w : World) (i index : ℕ) → MayDrop w i index → letting (Dropped index) (begun_post (w.seat i).post) ≡ Runs (Releases (Dropped index)) (Clear rows index)
+    → Drops w i index (Runs (Releases (Dropped index)) (Clear rows index)) (withdrawn (counted (begun_post (w.seat i).post)) index)
+drop_clear rows w i index m e = drop_by w i index (Runs (Releases (Dropped index)) (Clear rows index)) (withdrawn (counted (begun_post (w.seat i).post)) index) m e (clear_turn rows index (w.seat i).post)
 
 pub drop_release : (w : World) (i index : ℕ) → MayDrop w i index → letting (Dropped index) (begun_post (w.seat i).post) ≡ Runs (Releases (Dropped index)) (Release index)
     → Drops w i index (Runs (Releases (Dropped index)) (Release index)) (with_span (withdrawn (counted (begun_post (w.seat i).post)) index) None)

@@ -1,5 +1,6 @@
 pub use Rattle.law_reuse.proofs.inv as inv
 pub use Rattle.law_reuse.proofs.history as history
+pub use Rattle.law_reuse.proofs.Turns
 pub use Rattle.wfe_drive_cells.proofs as drive_cells
 pub mod Bare
 pub mod Clearing

@@ -1,10 +1,6 @@
 -- A step of a call of a seat that stays is on no place word.
 use Rattle.std.proofs.Common.{Bool, ap, false, refl, true, ℕ, ◌≡◌}
 use Rattle.wfe_core.specs.words.Place.{Place}
-use Rattle.wfe_core.specs.words.Schemes.{has_one_interval}
-use Rattle.wfe_core.specs.words.declared.config.Config.{Config}
-use Rattle.wfe_core.specs.words.declared.config.SchemeKind.{SchemeKind}
-use Rattle.wfe_core.specs.words.declared.config.SchemeKind.TheVariants.{He, Ibr, Wfe}
 use Rattle.wfe_core.specs.defs.declared.call.Call.{Call}
 use Rattle.wfe_core.specs.defs.declared.event.Guard.{Guard}
 use Rattle.wfe_core.specs.defs.declared.event.Guard.TheVariants as guards
@@ -27,14 +23,15 @@ use Rattle.wfe_core.specs.Get.{get_move}
 use Rattle.wfe_core.specs.Guards.{guard_at, guard_by, guard_place, own_guard}
 use Rattle.wfe_core.specs.Keep.{keep_move, own_place}
 use Rattle.wfe_core.specs.Links.{link_place}
-use Rattle.wfe_core.specs.Machine.{allocate_move, base_move, begin_move, move_move, protect_move, retire_move}
+use Rattle.wfe_core.specs.Machine.{allocate_move, base_move, begin_move, hazard_move, move_move, protect_move, retire_move}
 use Rattle.wfe_core.specs.Memory.{Move, place_in}
-use Rattle.wfe_core.specs.Phases.{AllocateAt, Base, BeginAt, MoveAt, ProtectAt, RetireAt}
+use Rattle.wfe_core.specs.Phases.{AllocateAt, Base, BeginAt, HazardAt, MoveAt, ProtectAt, RetireAt}
 use Rattle.wfe_core.specs.Phases.AllocateAt.{LoadBirth}
 use Rattle.wfe_core.specs.Phases.Base.{Allocate, Begin, Move as Moves, Protect, Retire}
 use Rattle.wfe_core.specs.Phases.BeginAt.{LoadLower}
+use Rattle.wfe_core.specs.Phases.HazardAt.{CheckLink, FirstLink, PublishLink}
 use Rattle.wfe_core.specs.Phases.MoveAt.{LoadAsked, LoadEra}
-use Rattle.wfe_core.specs.Phases.ProtectAt.{LoadClock, LoadLink, LoadOwnLink, LoadWithin}
+use Rattle.wfe_core.specs.Phases.ProtectAt.{ByHazard, LoadLink, LoadOwnLink, LoadWithin}
 use Rattle.wfe_core.specs.Phases.RetireAt.{LoadLife}
 use Rattle.wfe_core.specs.Rounds.{scheme_of}
 use Rattle.wfe_core.specs.Scan.{scan_move}
@@ -57,10 +54,16 @@ guard_off (guards.Helper seat) = refl
 guard_off (guards.Index seat index) = refl
 guard_off (guards.Whole seat) = refl
 
+hazard_off : (index : ℕ) (root : Root) (at : HazardAt) (post : Post) → is_of_seat (place_in (hazard_move index root at post)) ≡ false
+hazard_off index root FirstLink post = root_off root
+hazard_off index root (PublishLink link) post = refl
+hazard_off index root (CheckLink link) post = root_off root
+
 protect_off : (index : ℕ) (root : Root) (at : ProtectAt) (post : Post) → is_of_seat (place_in (protect_move index root at post)) ≡ false
 protect_off index root (LoadLink era tries) post = root_off root
 protect_off index root (LoadOwnLink first era last) post = root_off root
 protect_off index root LoadWithin post = root_off root
+protect_off index root (ByHazard at) post = hazard_off index root at post
 protect_off index root at post = refl
 
 begin_off : (at : BeginAt) (post : Post) → is_of_seat (place_in (begin_move at post)) ≡ false

@@ -30,6 +30,8 @@ use Rattle.law_reuse.proofs.AnswersTold.Owed.{OutServes, Owes, Serves, owed}
 use Rattle.law_reuse.proofs.AnswersTold.Owing.{first_serves}
 use Rattle.law_reuse.proofs.Turns.Steady.{turn_steps}
 use Rattle.wfe_drive_reached.specs.Reached.{ComesTo, First, Next, StaysIn}
+use Rattle.wfe_core.specs.words.Schemes.{publishes_rows}
+use Rattle.wfe_core.specs.Rounds.{scheme_of}
 
 -- a step of a call of a seat that stays changes no place word, and takes over no list
 placed_none : (i : ℕ) (call : Call) (phase : Phase) (k word : ℕ) → stays call ≡ true → Serves call phase → placed i phase k word ≡ word
@@ -93,7 +95,7 @@ settled_steps l post desk rounds (Answers answer) = refl
 pub step_count : (w : World) (i : ℕ) → is_busy w i ≡ true → StaysIn w i → ((step w i).seat i).post.steps ≡ (w.seat i).post.steps + 1
 step_count w i b g =
     let t : CallTurn = turn (offered w i) (finds w i) in
-    ap (λ (x : Local). x.post.steps) (seat_steps w i) ∙ settled_steps (w.seat i) t.post (noting t.desk (told_by t)) (rounds_told (w.seat i).rounds (told_by t)) t.outcome
+    ap (λ (x : Local). x.post.steps) (seat_steps w i) ∙ settled_steps (w.seat i) t.post (noting t.desk (told_by t)) (rounds_told (publishes_rows (scheme_of t.post)) (w.seat i).rounds (told_by t)) t.outcome
     ∙ turn_steps (w.seat i).phase (counted (w.seat i).post) (offered w i).desk (finds w i) ∙ bump_next (w.seat i).post.steps (rest w i) (g.few b)
 
 -- a step keeps its seat's call, and where it goes on serves it
@@ -124,7 +126,7 @@ step_right w i k true e l b a g =
     let t : CallTurn = turn (offered w i) (finds w i) in
     let ends : CallsEnd w i = inv_ends w i l a in
     let desk : Desk = noting t.desk (told_by t) in
-    let rounds : ℕ = rounds_told (w.seat i).rounds (told_by t) in
+    let rounds : ℕ = rounds_told (publishes_rows (scheme_of t.post)) (w.seat i).rounds (told_by t) in
     let here : StaysIn (step w i) i = record {
       here = stepped_here w i i b a h h;
       call = ap (λ (x : Local). stays x.call) (seat_steps w i) ∙ ap stays (settled_call (offered w i) t.post desk rounds t.outcome) ∙ h.call;

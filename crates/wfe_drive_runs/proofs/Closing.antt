@@ -1,17 +1,15 @@
 -- A round ends: what was told before is noted, and the indexes are cleared.
-use Rattle.std.proofs.Common.{Bool, List, None, Option, Some, [], ap, append-nil, false, refl, sym, ℕ, ◌++◌, ◌∙◌, ◌∷◌, ◌≡◌, if◌then◌else◌}
-use Rattle.wfe_core.specs.words.Schemes.{has_one_interval}
+use Rattle.std.proofs.Common.{Bool, List, None, Option, Some, [], ap, append-nil, false, refl, true, sym, ℕ, ◌++◌, ◌∙◌, ◌∷◌, ◌≡◌, if◌then◌else◌}
+use Rattle.wfe_core.specs.words.Schemes.{has_one_interval, publishes_rows}
 use Rattle.wfe_core.specs.defs.declared.call.Answer.{Answer}
 use Rattle.wfe_core.specs.defs.declared.event.Event.{Event}
 use Rattle.wfe_core.specs.defs.declared.event.Event.TheVariants as events
-use Rattle.wfe_core.specs.defs.declared.event.Guard.{Guard}
-use Rattle.wfe_core.specs.defs.declared.lifetime.Interval.{Interval}
-use Rattle.wfe_core.specs.Calls.{Again, Answering, CallOutcome, CallTurn, Clears, ClearsNext, Dequeues, MakeRoom, Next, Retiring, Runs, Task, goes_on}
+use Rattle.wfe_core.specs.Calls.{Again, Answering, CallTurn, Clears, ClearsNext, Dequeues, MakeRoom, Next, Retiring, Runs, Task, goes_on}
 use Rattle.wfe_core.specs.Calls as calls
 use Rattle.wfe_core.specs.Desks.{Desk, Notes, noting}
 use Rattle.wfe_core.specs.Phases.{Base}
 use Rattle.wfe_core.specs.Phases.Base.{Clear}
-use Rattle.wfe_core.specs.Posts.{cleared}
+use Rattle.wfe_core.specs.Posts.{cleared, publishes_index}
 use Rattle.wfe_core.specs.Rounds.{clear_base, clear_post, clear_told, clearing, clearing_by, clearing_next, clearing_next_by, closed, finish_base, finish_span, finishing, finishing_by, given_up, index_of, kept_row, scheme_of, taken_of}
 use Rattle.wfe_core.specs.declared.post.Post.{Post}
 use Rattle.wfe_drive_words.specs.drive_cells.Unit.{kept_desk, seat_after}
@@ -19,9 +17,11 @@ use Rattle.wfe_drive_runs.specs.Pieces.{clearing_at, clearing_next_at, seat_of}
 use Rattle.wfe_drive_runs.proofs.Turning.{noted_append}
 
 -- what was cleared is not noted
-pub clear_quiet : (desk : Desk) (index : ℕ) (stood : Option ℕ) (guard : Guard) (span : Option Interval) → noting desk (cleared index stood ++ events.Reserve guard span ∷ []) ≡ desk
-clear_quiet desk index None guard span = refl
-clear_quiet desk index (Some slot) guard span = refl
+pub clear_quiet : (desk : Desk) (index : ℕ) (stood : Option ℕ) (rows : Bool) (post : Post) → noting desk (cleared index stood ++ publishes_index rows post index 0) ≡ desk
+clear_quiet desk index None false post = refl
+clear_quiet desk index None true post = refl
+clear_quiet desk index (Some slot) false post = refl
+clear_quiet desk index (Some slot) true post = refl
 
 -- a turn that goes on
 pub goes_noted : (post : Post) (desk : Desk) (told : List Event) (phase : calls.Phase) → seat_after (goes_on post desk told phase) ≡ seat_after (goes_on post (noting desk told) [] phase)
@@ -92,19 +92,25 @@ clearing_next_noted next post desk told = next-by next post desk told (clear_bas
 
 -- the step comes
 abbrev clearing_has : Task → Next → Post → Desk → List Event → (one : Bool) → CallTurn
-clearing_has task next post desk told one = clearing_by task next post desk told (if one then None else Some (Clear (index_of task)))
+clearing_has task next post desk told one = clearing_by task next post desk told (if one then None else Some (Clear (publishes_rows (scheme_of post)) (index_of task)))
 
-pub clearing_clears : (task : Task) (next : Next) (post : Post) (desk : Desk) (told : List Event) → has_one_interval (scheme_of post) ≡ false → clearing task next post desk told ≡ goes_on post desk told (Runs (Clears task next) (Clear (index_of task)))
+pub clearing_clears : (task : Task) (next : Next) (post : Post) (desk : Desk) (told : List Event) → has_one_interval (scheme_of post) ≡ false → clearing task next post desk told ≡ goes_on post desk told (Runs (Clears task next) (Clear (publishes_rows (scheme_of post)) (index_of task)))
 clearing_clears task next post desk told one = ap (clearing_has task next post desk told) one
 
-pub clearing_next_clears : (next : Next) (post : Post) (desk : Desk) (told : List Event) → has_one_interval (scheme_of post) ≡ false → clearing_next next post desk told ≡ goes_on post desk told (Runs (ClearsNext next) (Clear 1))
-clearing_next_clears next post desk told one = ap (λ (b : Bool). clearing_next_by next post desk told (if b then None else Some (Clear 1))) one
+pub clearing_next_clears : (next : Next) (post : Post) (desk : Desk) (told : List Event) → has_one_interval (scheme_of post) ≡ false → clearing_next next post desk told ≡ goes_on post desk told (Runs (ClearsNext next) (Clear (publishes_rows (scheme_of post)) 1))
+clearing_next_clears next post desk told one = ap (λ (b : Bool). clearing_next_by next post desk told (if b then None else Some (Clear (publishes_rows (scheme_of post)) 1))) one
 
-pub clears_is : (task : Task) (next : Next) (post : Post) (desk : Desk) → index_of task ≡ 0 → has_one_interval (scheme_of post) ≡ false → clearing_at task next post desk ≡ seat_of (Runs (Clears task next) (Clear 0)) post desk
-clears_is task next post desk i one = ap seat_after (clearing_clears task next post (kept_desk desk) [] one) ∙ ap (λ (index : ℕ). seat_of (Runs (Clears task next) (Clear index)) post desk) i
+pub clears_is : (task : Task) (next : Next) (post : Post) (desk : Desk) (rows : Bool) → index_of task ≡ 0 → has_one_interval (scheme_of post) ≡ false → rows ≡ publishes_rows (scheme_of post)
+    → clearing_at task next post desk ≡ seat_of (Runs (Clears task next) (Clear rows 0)) post desk
+clears_is task next post desk rows i one r =
+    ap seat_after (clearing_clears task next post (kept_desk desk) [] one)
+    ∙ ap (λ (index : ℕ). seat_of (Runs (Clears task next) (Clear (publishes_rows (scheme_of post)) index)) post desk) i
+    ∙ ap (λ (b : Bool). seat_of (Runs (Clears task next) (Clear b 0)) post desk) (sym r)
 
-pub clears_next_is : (next : Next) (post : Post) (desk : Desk) → has_one_interval (scheme_of post) ≡ false → clearing_next_at next post desk ≡ seat_of (Runs (ClearsNext next) (Clear 1)) post desk
-clears_next_is next post desk one = ap seat_after (clearing_next_clears next post (kept_desk desk) [] one)
+pub clears_next_is : (next : Next) (post : Post) (desk : Desk) (rows : Bool) → has_one_interval (scheme_of post) ≡ false → rows ≡ publishes_rows (scheme_of post) → clearing_next_at next post desk ≡ seat_of (Runs (ClearsNext next) (Clear rows 1)) post desk
+clears_next_is next post desk rows one r =
+    ap seat_after (clearing_next_clears next post (kept_desk desk) [] one)
+    ∙ ap (λ (b : Bool). seat_of (Runs (ClearsNext next) (Clear b 1)) post desk) (sym r)
 
 -- and the round is over after it
 abbrev finishing_has : Task → Next → Post → Desk → List Event → (one : Bool) → CallTurn

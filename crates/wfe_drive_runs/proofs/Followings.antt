@@ -1,5 +1,5 @@
 -- A step of a protection that is followed is a step of the protection by itself, and what follows.
-use Rattle.std.proofs.Common.{Bool, List, [], ap, false, refl, subst, sym, true, ℕ, ◌==◌, ◌≡◌, ◌∙◌, if◌then◌else◌}
+use Rattle.std.proofs.Common.{Bool, List, [], ap, false, refl, subst, sym, true, ℕ, ◌==◌, ◌||◌, ◌≡◌, ◌∙◌, if◌then◌else◌}
 use Rattle.wfe_core.specs.words.declared.layout.Layout.{Layout}
 use Rattle.wfe_core.specs.defs.declared.event.Event.{Event}
 use Rattle.wfe_core.specs.defs.declared.event.Root.TheVariants.{Next}
@@ -19,7 +19,8 @@ use Rattle.wfe_core.specs.Memory.{bump}
 use Rattle.wfe_core.specs.Phases.{Alone, Base, Ending, Ends, Goes, Outcome, ProtectAt, Turn, ends, goes}
 use Rattle.wfe_core.specs.Phases.Base.{Protect, Reload}
 use Rattle.wfe_core.specs.Phases.Ending.{Followed, Protected}
-use Rattle.wfe_core.specs.Phases.ProtectAt.{AnswerOwn, CheckClock, CheckOwnClock, CheckUpper, LoadAnswer, LoadClock, LoadLink, LoadOwnClock, LoadOwnLink, LoadWithin, PublishEra, PublishHelper, PublishRequest, RaiseUpper, TakeAnswer, WithdrawHelper, WithdrawRequest}
+use Rattle.wfe_core.specs.Phases.HazardAt.{CheckLink, FirstLink, PublishLink}
+use Rattle.wfe_core.specs.Phases.ProtectAt.{AnswerOwn, ByHazard, CheckClock, CheckOwnClock, CheckUpper, LoadAnswer, LoadClock, LoadLink, LoadOwnClock, LoadOwnLink, LoadWithin, PublishEra, PublishHelper, PublishRequest, RaiseUpper, TakeAnswer, WithdrawHelper, WithdrawRequest}
 use Rattle.wfe_core.specs.Posts.{upper}
 use Rattle.wfe_core.specs.Protect.{concluded, told_held}
 use Rattle.wfe_core.specs.SlowPath.{own_request}
@@ -85,6 +86,11 @@ stays-turn parent n LoadWithin post found = (n, _, refl)
 stays-turn parent n (CheckUpper link) post found =
     stays-if (found == upper post.span) parent (concluded Alone 1 (Next parent) n link found post (told_held 1 (Next parent) link n)) (goes post [] (Protect Alone 1 (Next parent) n (RaiseUpper found))) tt (n, _, refl)
 stays-turn parent n (RaiseUpper era) post found = (n, _, refl)
+stays-turn parent n (ByHazard FirstLink) post found =
+    stays-if (found == 0) parent (concluded Alone 1 (Next parent) n found 0 post (told_held 1 (Next parent) found n)) (goes post [] (Protect Alone 1 (Next parent) n (ByHazard (PublishLink found)))) tt (n, _, refl)
+stays-turn parent n (ByHazard (PublishLink link)) post found = (n, _, refl)
+stays-turn parent n (ByHazard (CheckLink link)) post found =
+    stays-if (found == link || found == 0) parent (concluded Alone 1 (Next parent) n found 0 post (told_held 1 (Next parent) found n)) (goes post [] (Protect Alone 1 (Next parent) n (ByHazard (PublishLink found)))) tt (n, _, refl)
 
 stays-goes : (parent : ℕ) (outcome : Outcome) (next : Base) → outcome ≡ Goes next → StaysNext parent outcome → IsNextAlone parent next
 stays-goes parent outcome next e h = subst (StaysNext parent) e h

@@ -3,14 +3,15 @@ use Rattle.wfe_core.specs.words.declared.packed.Request.TheVariants as requests
 use Rattle.wfe_core.specs.words.declared.packed.Request.{Request}
 use Rattle.wfe_core.specs.words.Packed.{read_request}
 use Rattle.wfe_core.specs.Phases.RetireAt.{LoadLife, LoadRetire, StoreRetired}
-use Rattle.wfe_core.specs.Phases.ProtectAt.{LoadClock, PublishEra, LoadLink, CheckClock, PublishRequest, LoadOwnClock, PublishHelper, LoadOwnLink, CheckOwnClock, AnswerOwn, LoadAnswer, TakeAnswer, WithdrawRequest, WithdrawHelper, LoadWithin, CheckUpper, RaiseUpper}
+use Rattle.wfe_core.specs.Phases.ProtectAt.{LoadClock, PublishEra, LoadLink, CheckClock, PublishRequest, LoadOwnClock, PublishHelper, LoadOwnLink, CheckOwnClock, AnswerOwn, LoadAnswer, TakeAnswer, WithdrawRequest, WithdrawHelper, LoadWithin, CheckUpper, RaiseUpper, ByHazard}
+use Rattle.wfe_core.specs.Phases.HazardAt.{CheckLink, FirstLink, PublishLink}
 use Rattle.wfe_core.specs.Phases.BeginAt.{LoadLower, PublishSpan}
 use Rattle.std.proofs.Common.{ℕ, None, Option, Some}
-use Rattle.wfe_core.specs.Phases.{AllocateAt, Base, MoveAt, MapRow, ProtectAt, QueueRow, RetireAt, RowOf}
+use Rattle.wfe_core.specs.Phases.{AllocateAt, Base, HazardAt, MoveAt, MapRow, ProtectAt, QueueRow, RetireAt, RowOf}
 use Rattle.wfe_core.specs.Phases.AllocateAt.{ClaimSlot, LoadBirth, StoreLife}
 use Rattle.wfe_core.specs.Phases.Base.{Allocate, Begin, Clear, Finish, GiveUp, Move, Protect, Release, Reload, Retire, Write}
 use Rattle.wfe_core.specs.Phases.MoveAt.{AnswerAsked, CheckEra, ExchangeClock, HandOver, HideEra, HideLate, LoadAsked, LoadEra, LoadRequest, LoadReserved, ShowEra}
-use Rattle.wfe_core.specs.Ready.{AskFits, IsReady, Plausible, allocate_ready, move_ready, AskedFits, RowFits, move_plausible, protect_plausible, protect_ready, retire_ready}
+use Rattle.wfe_core.specs.Ready.{AskFits, IsReady, Plausible, allocate_ready, hazard_plausible, hazard_ready, move_ready, AskedFits, RowFits, move_plausible, protect_plausible, protect_ready, retire_ready}
 use Rattle.wfe_core.specs.Valid.{IsValid}
 use Rattle.wfe_core.specs.declared.post.Post.{Post}
 use Rattle.wfe_drive_words.specs.Path.{stepped}
@@ -39,6 +40,11 @@ allocate-stepped LoadBirth post h = h
 allocate-stepped (ClaimSlot birth walk) post h = record { slot = h.slot; left = h.left }
 allocate-stepped (StoreLife birth slot) post h = h
 
+hazard-stepped : (at : HazardAt) (post : Post) → hazard_ready at post → hazard_ready at (stepped post)
+hazard-stepped FirstLink post h = h
+hazard-stepped (PublishLink link) post h = h
+hazard-stepped (CheckLink link) post h = h
+
 protect-stepped : (at : ProtectAt) (index : ℕ) (post : Post) → protect_ready at index post → protect_ready at index (stepped post)
 protect-stepped (LoadClock tries) index post h = h
 protect-stepped (PublishEra era tries) index post h = h
@@ -57,6 +63,7 @@ protect-stepped (WithdrawHelper link era) index post h = h
 protect-stepped LoadWithin index post h = h
 protect-stepped (CheckUpper link) index post h = h
 protect-stepped (RaiseUpper era) index post h = h
+protect-stepped (ByHazard at) index post h = hazard-stepped at post h
 
 retire-stepped : (at : RetireAt) (post : Post) → retire_ready at post → retire_ready at (stepped post)
 retire-stepped (LoadLife slot) post h = h
@@ -72,7 +79,7 @@ ready_stepped (Begin LoadLower) post h = h
 ready_stepped (Begin (PublishSpan era)) post h = h
 ready_stepped (Protect aim index root steps at) post h = (h.0, h.1, protect-stepped at index post h.2)
 ready_stepped (Reload parent index slot era steps) post h = h
-ready_stepped (Clear index) post h = h
+ready_stepped (Clear rows index) post h = h
 ready_stepped Finish post h = h
 ready_stepped (Release index) post h = h
 ready_stepped (Allocate at) post h = allocate-stepped at post h
@@ -82,6 +89,11 @@ ready_stepped (Retire at) post h = retire-stepped at post h
 ready_stepped (Move at) post h = move-stepped at post h
 
 -- and so what its step may find
+hazard-found : (at : HazardAt) (post : Post) (found : ℕ) → hazard_plausible at post found → hazard_plausible at (stepped post) found
+hazard-found FirstLink post found h = h
+hazard-found (PublishLink link) post found h = h
+hazard-found (CheckLink link) post found h = h
+
 protect-found : (at : ProtectAt) (post : Post) (found : ℕ) → protect_plausible at post found → protect_plausible at (stepped post) found
 protect-found (LoadClock tries) post found h = h
 protect-found (PublishEra era tries) post found h = h
@@ -100,6 +112,7 @@ protect-found (WithdrawHelper link era) post found h = h
 protect-found LoadWithin post found h = h
 protect-found (CheckUpper link) post found h = h
 protect-found (RaiseUpper era) post found h = h
+protect-found (ByHazard at) post found h = hazard-found at post found h
 
 asked-found : (request : Option Request) (post : Post) → AskedFits post request → AskedFits (stepped post) request
 asked-found (Some (requests.Pending tag index word)) post h = h
@@ -124,7 +137,7 @@ pub plausible_stepped : (base : Base) (post : Post) (found : ℕ) → Plausible 
 plausible_stepped (Begin at) post found h = h
 plausible_stepped (Protect aim index root steps at) post found h = protect-found at post found h
 plausible_stepped (Reload parent index slot era steps) post found h = h
-plausible_stepped (Clear index) post found h = h
+plausible_stepped (Clear rows index) post found h = h
 plausible_stepped Finish post found h = h
 plausible_stepped (Release index) post found h = h
 plausible_stepped (Allocate at) post found h = h

@@ -1,5 +1,5 @@
 -- What comes before and after a round, whatever its task.
-use Rattle.std.proofs.Common.{Bool, List, None, Option, Some, [], ap, false, refl, sym, ℕ, ◌%◌, ◌∙◌, ◌≡◌}
+use Rattle.std.proofs.Common.{Bool, List, None, Option, Some, [], ap, false, refl, ℕ, ◌%◌, ◌∙◌, ◌≡◌}
 use Rattle.wfe_core.specs.words.Schemes.{has_one_interval}
 use Rattle.wfe_core.specs.words.declared.config.SchemeKind.{SchemeKind}
 use Rattle.wfe_core.specs.words.declared.layout.Layout.{Layout}
@@ -7,12 +7,11 @@ use Rattle.wfe_core.specs.defs.declared.call.Answer.{Answer}
 use Rattle.wfe_core.specs.defs.declared.call.ClockMove.{ClockMove}
 use Rattle.wfe_core.specs.defs.declared.event.Root.{Root}
 use Rattle.wfe_core.specs.defs.declared.event.Root.TheVariants as roots
-use Rattle.wfe_core.specs.Calls.{Answering, Changes, Dequeues, Enqueues, Gets, GivesUp, Holds, Idle, MakeRoom, Opens, Repeated, Runs, Task, Tidies}
+use Rattle.wfe_core.specs.Calls.{Answering, Changes, Dequeues, Enqueues, Gets, GivesUp, Holds, Idle, MakeRoom, Opens, Repeated, Runs, Task}
 use Rattle.wfe_core.specs.DeskHeld.{desk_of}
 use Rattle.wfe_core.specs.Locals.{Local}
-use Rattle.wfe_core.specs.Phases.Base.{GiveUp, Move}
-use Rattle.wfe_core.specs.Phases.MoveAt.{LoadEra}
-use Rattle.wfe_core.specs.Rounds.{begin_where, closed, given_up, helps, index_of, key_of, opening, protect_base, root_of, round, round_by, scheme_of, taken_of}
+use Rattle.wfe_core.specs.Phases.Base.{GiveUp}
+use Rattle.wfe_core.specs.Rounds.{begin_where, closed, given_up, index_of, key_of, opening, protect_base, root_of, round, round_by, scheme_of, taken_of}
 use Rattle.wfe_core.specs.declared.desk.Desk.{Desk as HeldDesk}
 use Rattle.wfe_core.specs.declared.op.Op.{Op}
 use Rattle.wfe_core.specs.declared.post.Post.{Post}
@@ -48,11 +47,7 @@ round_as kind task root post held one is p =
     ap opens (ap has_one_interval is ∙ one) ∙ opens_as kind task root post held is p
 
 module _ {at0 at1 : Local → Type 0} {stands0 stands1 : List (Op × ℕ) → Type 0} {first : SeatView} where
-  -- room is made before another round
-  pub room_tidies : (task : Task) (post : Post) (held : HeldDesk) (does : Bool) → does ≡ helps (scheme_of post) → TurnsTo at0 at1 stands0 stands1 first (closed task MakeRoom post (desk_of held) [])
-      → Leads at0 at1 stands0 stands1 first (at_phase (Runs (Tidies (Repeated task)) (Move (LoadEra does))) post held)
-  room_tidies task post held does h x = leads_as _ _ (ap (λ (b : Bool). at_phase (Runs (Tidies (Repeated task)) (Move (LoadEra b))) post held) (sym h)) x.leads
-
+  -- another round begins once room was made
   pub room_made : (task : Task) (clock : ClockMove) (post : Post) (held : HeldDesk) → ScansSo at0 at1 stands0 stands1 first (Repeated task) clock post held
       → Leads at0 at1 stands0 stands1 first (at_phase (round task post) post held)
   room_made task clock post held x = leads_as _ _ (went_on (round task post) post x.before x.told held x.noted) x.turns.leads

@@ -3,7 +3,7 @@ use Rattle.std.proofs.Common.{Bool, List, None, Option, Some, [], ap, arith, ref
 use Rattle.std.proofs.lemmas.Bool.{false≢true}
 use Rattle.std.proofs.lemmas.Bool.Decides.{eqb_tells}
 use Rattle.std.proofs.lemmas.List.{drop-set-lt}
-use Rattle.wfe_core.specs.words.Schemes.{has_one_interval}
+use Rattle.wfe_core.specs.words.Schemes.{has_one_interval, publishes_rows}
 use Rattle.wfe_core.specs.words.declared.config.SchemeKind.TheVariants.{Ibr}
 use Rattle.wfe_core.specs.words.declared.layout.Layout.{Layout}
 use Rattle.wfe_core.specs.defs.declared.event.Event.{Event}
@@ -82,14 +82,14 @@ next_clears next post desk kind =
     let one : has_one_interval (scheme_of post) ≡ true = ap has_one_interval kind in
     let left : Post = withdrawn post 1 in
     let told : List Event = cleared 1 (stands post 1) in
-    let first : Bool → SeatView = λ b. seat_after (clearing_next_by next post (kept_desk desk) [] (if b then None else Some (Clear 1))) in
+    let first : Bool → SeatView = λ b. seat_after (clearing_next_by next post (kept_desk desk) [] (if b then None else Some (Clear (publishes_rows (scheme_of post)) 1))) in
     let second : Bool → SeatView = λ b. seat_after (clearing Dequeues next (if b then left else post) (kept_desk desk) ([] ++ (if b then told else []))) in
     ap first one ∙ ap second one ∙ clearing_noted Dequeues next left desk told ∙ ap (clearing_at Dequeues next left) (cleared-quiet desk 1 (stands post 1))
 
 clears-once : (task : Task) (next : Next) (post : Post) (desk : Desk) → index_of task ≡ 0 → scheme_of post ≡ Ibr → clearing_at task next post desk ≡ seat_after (finishing task next (withdrawn post 0) (kept_desk desk) (cleared 0 (stands post 0)))
 clears-once task next post desk i kind =
     let one : has_one_interval (scheme_of post) ≡ true = ap has_one_interval kind in
-    let first : Bool → SeatView = λ b. seat_after (clearing_by task next post (kept_desk desk) [] (if b then None else Some (Clear (index_of task)))) in
+    let first : Bool → SeatView = λ b. seat_after (clearing_by task next post (kept_desk desk) [] (if b then None else Some (Clear (publishes_rows (scheme_of post)) (index_of task)))) in
     let second : Bool → SeatView = λ b. seat_after (finishing task next (if b then withdrawn post (index_of task) else post) (kept_desk desk) ([] ++ (if b then cleared (index_of task) (stands post (index_of task)) else []))) in
     let third : ℕ → SeatView = λ index. seat_after (finishing task next (withdrawn post index) (kept_desk desk) (cleared index (stands post index))) in
     ap first one ∙ ap second one ∙ ap third i

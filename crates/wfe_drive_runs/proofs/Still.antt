@@ -1,5 +1,4 @@
 -- A walk over the rows, a move of the clock and a scan change nothing of what stands.
-use Rattle.wfe_core.specs.defs.Shown.{shown}
 use Rattle.std.proofs.Common.{Bool, List, None, Option, Some, ap, false, refl, subst, sym, true, ℕ, ◌+◌, ◌∙◌, ◌∷◌, ◌≡◌, [], ◌==◌, if◌then◌else◌, nat_lt}
 use Rattle.wfe_call_tidy.specs.declared.tidy.Tidy.{Tidy}
 use Rattle.wfe_call_tidy.specs.declared.tidy.Tidy.TheVariants as ats
@@ -7,11 +6,13 @@ use Rattle.wfe_call_tidy.specs.Tidies.{tidy_phase, tidy_turn}
 use Rattle.wfe_core.specs.defs.declared.call.ClockMove.{ClockMove}
 use Rattle.wfe_core.specs.defs.declared.event.Event.{Event}
 use Rattle.wfe_core.specs.defs.declared.event.Event.TheVariants as events
+use Rattle.wfe_core.specs.defs.declared.event.Guard.{Guard}
 use Rattle.wfe_core.specs.words.Packed.{read_reservation, reservation_word}
+use Rattle.wfe_core.specs.words.Schemes.{publishes_rows}
 use Rattle.wfe_core.specs.Allocate.{is_claimed, next_slot, walk_past, walking}
 use Rattle.wfe_core.specs.Calls.{AfterScan, Answered, CallTurn, Counted, GiveBack, ReadGuard, Repeated, ScanAt, Tidies}
 use Rattle.wfe_core.specs.Desks.{Desk}
-use Rattle.wfe_core.specs.Guards.{eras_in, guard_at, guards}
+use Rattle.wfe_core.specs.Guards.{guard_at, guards, published}
 use Rattle.wfe_core.specs.Machine.{after, allocate_turn, move_turn}
 use Rattle.wfe_core.specs.MoveClock.{after_hand_over}
 use Rattle.wfe_core.specs.Phases.{AllocateAt, Base, Ending, Ends, Goes, MoveAt, Outcome, Turn, Walk, goes}
@@ -19,7 +20,7 @@ use Rattle.wfe_core.specs.Phases.AllocateAt.{ClaimSlot, LoadBirth, StoreLife}
 use Rattle.wfe_core.specs.Phases.Base.{Allocate, Begin, Clear, Finish, GiveUp, Move, Protect, Release, Reload, Retire, Write}
 use Rattle.wfe_core.specs.Phases.Ending.{Allocated, Clocked, Done, Followed, Protected, Retired}
 use Rattle.wfe_core.specs.Phases.MoveAt.{AnswerAsked, CheckEra, ExchangeClock, HandOver, HideEra, HideLate, LoadAsked, LoadEra, LoadRequest, LoadReserved, ShowEra}
-use Rattle.wfe_core.specs.Scan.{Entry, giving_back, reading, scan_turn, scanned, unmet_from, with_back, with_kept, with_read}
+use Rattle.wfe_core.specs.Scan.{Entry, giving_back, reading, reads_guard, scan_turn, scanned, unmet_from, with_back, with_kept, with_read}
 use Rattle.wfe_core.specs.SlowPath.{asking}
 use Rattle.wfe_core.specs.Steps.{after_move, phase_turn, resumed, tidied}
 use Rattle.wfe_core.specs.declared.post.Post.{Post}
@@ -55,7 +56,7 @@ walk_still (Allocate at) post found w = allocate-still at post found
 walk_still (Begin at) post found w = absurd w
 walk_still (Protect aim index root steps at) post found w = absurd w
 walk_still (Reload parent index slot era steps) post found w = absurd w
-walk_still (Clear index) post found w = absurd w
+walk_still (Clear rows index) post found w = absurd w
 walk_still Finish post found w = absurd w
 walk_still (Release index) post found w = absurd w
 walk_still (Write slot row place) post found w = absurd w
@@ -115,7 +116,10 @@ reading-post later number post desk told true = refl
 reading-post later number post desk told false = giving-post later post desk told (unmet_from desk 0)
 
 scan-post : (later : AfterScan) (at : ScanAt) (post : Post) (desk : Desk) (found : ℕ) → (scan_turn later at post desk found).post ≡ post
-scan-post later (ReadGuard number) post desk found = reading-post later number post (with_read desk number (guard_at post.layout.config number, shown (eras_in (guard_at post.layout.config number) found))) (events.Read (guard_at post.layout.config number) (eras_in (guard_at post.layout.config number) found) ∷ []) (nat_lt (number + 1) (guards post.layout.config))
+scan-post later (ReadGuard number) post desk found =
+    let rows : Bool = publishes_rows post.layout.config.scheme in
+    let guard : Guard = guard_at post.layout.config number in
+    reading-post later number post (with_read desk number (guard, published rows guard found)) (reads_guard rows guard found ∷ []) (nat_lt (number + 1) (guards post.layout.config))
 scan-post later (GiveBack place slot) post desk found = giving-post later post (with_back desk place) (events.Back slot ∷ []) (unmet_from (with_back desk place) place)
 
 -- so both

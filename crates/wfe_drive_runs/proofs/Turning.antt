@@ -1,17 +1,15 @@
 -- Steps that end in a turn of the model, and what follows them.
 use Rattle.wfe_core.specs.Memory.{bump}
 use Rattle.std.proofs.lemmas.Bool.Decides.{nat_tests}
-use Rattle.wfe_core.specs.Rounds.{first_tidy, helps, scheme_of, with_clock}
-use Rattle.wfe_core.specs.Phases.MoveAt.{LoadEra}
-use Rattle.wfe_core.specs.Phases.Base.{Move}
+use Rattle.wfe_core.specs.Rounds.{first_tidy, with_clock}
 use Rattle.wfe_core.specs.defs.declared.lifetime.Lifetime.{Lifetime}
 use Rattle.wfe_core.specs.defs.declared.call.ClockMove.{ClockMove}
 use Rattle.std.proofs.lemmas.Bool.{eq-eqb, ne_eqb}
-use Rattle.std.proofs.Common.{List, [], ap, append-nil, refl, sym, true, ℕ, ◌++◌, ◌∙◌, ◌∷◌, ◌≡◌, Bool, ◌%◌, ◌==◌, subst, arith, min, ◌+◌, ◌<◌}
+use Rattle.std.proofs.Common.{List, [], ap, append-nil, refl, sym, true, ℕ, ◌++◌, ◌∙◌, ◌∷◌, ◌≡◌, ◌%◌, ◌==◌, subst, arith, min, ◌+◌, ◌<◌}
 use Rattle.wfe_core.specs.defs.declared.call.Answer.{Answer}
 use Rattle.wfe_core.specs.defs.declared.event.Event.{Event}
 use Rattle.wfe_core.specs.defs.declared.event.Event.TheVariants as events
-use Rattle.wfe_core.specs.Calls.{Answers, CallTurn, Idle, Phase, Runs, Why, goes_on, Answered, Tidies}
+use Rattle.wfe_core.specs.Calls.{CallTurn, Idle, Phase, Runs, Why, goes_on, Answered}
 use Rattle.wfe_core.specs.Calls as calls
 use Rattle.wfe_core.specs.DeskHeld.{desk_of}
 use Rattle.wfe_core.specs.Desks.{Desk, Notes, noted_all, noting, with_life}
@@ -116,12 +114,11 @@ tidies_not answer post held0 held new life d e due x =
     closes_as _ _ (answered_so answer post (with_life (desk_of held0) life) (retire_told life) held new d e) (y.closes answer refl)
 
 -- or it is
-pub tidies_now : {at0 at1 : Local → Type 0} {stands0 stands1 : List (Op × ℕ) → Type 0} {a : SeatView} (answer : Answer) (post : Post) (held0 held : HeldDesk) (life : Lifetime) (does : Bool) → desk_of held ≡ noting (with_life (desk_of held0) life) (retire_told life) → does ≡ helps (scheme_of post)
-    → post.retired % post.layout.config.every ≡ 0 → TurnsTo at0 at1 stands0 stands1 a (tidying answer post (with_life (desk_of held0) life) (retire_told life) (post.retired % post.layout.config.every == 0)) → Leads at0 at1 stands0 stands1 a (at_phase (Runs (Tidies (Answered answer)) (Move (LoadEra does))) post held)
-tidies_now answer post held0 held life does d h due x =
+pub tidies_now : {at0 at1 : Local → Type 0} {stands0 stands1 : List (Op × ℕ) → Type 0} {a : SeatView} (answer : Answer) (post : Post) (held0 held : HeldDesk) (life : Lifetime) → desk_of held ≡ noting (with_life (desk_of held0) life) (retire_told life)
+    → post.retired % post.layout.config.every ≡ 0 → TurnsTo at0 at1 stands0 stands1 a (tidying answer post (with_life (desk_of held0) life) (retire_told life) (post.retired % post.layout.config.every == 0)) → Leads at0 at1 stands0 stands1 a (at_phase (first_tidy (Answered answer) post) post held)
+tidies_now answer post held0 held life d due x =
     let y = turns_as _ _ (ap (tidying answer post (with_life (desk_of held0) life) (retire_told life)) (eq-eqb (post.retired % post.layout.config.every) 0 due)) x in
-    leads_as _ _ (went_on (first_tidy (Answered answer) post) post (with_life (desk_of held0) life) (retire_told life) held d
-    ∙ ap (λ (b : Bool). at_phase (Runs (Tidies (Answered answer)) (Move (LoadEra b))) post held) (sym h)) y.leads
+    leads_as _ _ (went_on (first_tidy (Answered answer) post) post (with_life (desk_of held0) life) (retire_told life) held d) y.leads
 
 -- and is over
 pub tidied_so : {at0 at1 : Local → Type 0} {stands0 stands1 : List (Op × ℕ) → Type 0} {a : SeatView} (answer : Answer) (clock : ClockMove) (post : Post) (held new : HeldDesk) → ScansSo at0 at1 stands0 stands1 a (Answered answer) clock post held → desk_of new ≡ with_steps (desk_of held) post.steps

@@ -12,7 +12,7 @@ ghost use Rattle.wfe_core.specs.Rounds.{kept_row};
 ghost use Rattle.wfe_core.specs.Valid.{IsValid};
 ghost use Rattle.wfe_core.specs.defs.declared.event.Root.TheVariants.{Next as NextOf};
 ghost use Rattle.wfe_core.specs.words.Place.Place.{Head};
-ghost use Rattle.wfe_core.specs.words.declared.config.SchemeKind.TheVariants.{He as HeKind, Ibr as IbrKind, Wfe as WfeKind};
+ghost use Rattle.wfe_core.specs.words.declared.config.SchemeKind.TheVariants.{He as HeKind, Hp as HpKind, Ibr as IbrKind, Wfe as WfeKind};
 ghost use Rattle.wfe_drive_words.specs.Called.{Here, at_phase};
 ghost use Rattle.wfe_drive_runs.specs.Following.{followed_trial};
 ghost use Rattle.wfe_drive_words.specs.Path.{held_at, protecting};
@@ -21,7 +21,7 @@ ghost use Rattle.wfe_drive_runs.specs.Pieces.{IsFree, IsSpanned, LeadsSo};
 use crate::followed_run::run_followed;
 use wfe_core::{Desk, FollowEnd, Interval, Op, Post, ProtectEnd, Root, SchemeKind};
 use wfe_drive_words::{
-    Bounded, Guarded, WfeProtect, Words, protect_he, protect_wfe, protect_within, step,
+    Bounded, Guarded, WfeProtect, Words, protect_he, protect_hp, protect_wfe, protect_within, step,
 };
 
 /// Protects the next link of the head's row at index 1, under any scheme, and holds the row to which it
@@ -51,6 +51,7 @@ pub fn follow_next<W: Words>(
     match post.layout.config().scheme {
         SchemeKind::Wfe => follow_wfe(words, post, desk, parent),
         SchemeKind::He => follow_he(words, post, desk, parent),
+        SchemeKind::Hp => follow_hp(words, post, desk, parent),
         SchemeKind::Ibr => follow_ibr(words, post, desk, parent),
     }
 }
@@ -70,6 +71,24 @@ fn follow_he<W: Words>(words: &mut W, post: &mut Post, _desk: &Desk, parent: u32
         → LeadsSo (W.at words.old) (W.at words.new) (W.stands words.old) (W.stands words.new) (at_phase (Runs why (follow_base HeKind parent)) post.old _desk.now) why (FollowedEnd result) post.new _desk.now }
 {
     let guarded = protect_he(words, post, 1, Root::Next(parent));
+    follow_link(words, post, _desk, parent, guarded)
+}
+
+// Under hazard pointers.
+#[inline(always)]
+fn follow_hp<W: Words>(words: &mut W, post: &mut Post, _desk: &Desk, parent: u32) -> FollowEnd
+    requires valid { W.valid words.old }
+    requires scheme { post.old.layout.config.scheme ≡ HpKind }
+    requires here { (why : Why) × Here (W.at words.old) (at_phase (Runs why (follow_base HpKind parent)) post.old _desk.now) }
+    ensures valid { W.valid words.new }
+    ensures same { W.same words.old words.new }
+    ensures rest { W.rest words.new < W.rest words.old }
+    ensures layout { post.new.layout ≡ post.old.layout }
+    ensures within { follow_within result post.new }
+    ensures leads { (why : Why) → Here (W.at words.old) (at_phase (Runs why (follow_base HpKind parent)) post.old _desk.now)
+        → LeadsSo (W.at words.old) (W.at words.new) (W.stands words.old) (W.stands words.new) (at_phase (Runs why (follow_base HpKind parent)) post.old _desk.now) why (FollowedEnd result) post.new _desk.now }
+{
+    let guarded = protect_hp(words, post, 1, Root::Next(parent));
     follow_link(words, post, _desk, parent, guarded)
 }
 

@@ -8,14 +8,14 @@ ghost use Rattle.wfe_core.specs.Phases.ProtectAt.{PublishRequest};
 ghost use Rattle.wfe_core.specs.Ready.{IndexFits, LinkFits, SlotFits};
 ghost use Rattle.wfe_core.specs.Rounds.{protect_base};
 ghost use Rattle.wfe_core.specs.Valid.{IsValid};
-ghost use Rattle.wfe_core.specs.words.declared.config.SchemeKind.TheVariants.{He as HeKind, Wfe as WfeKind};
+ghost use Rattle.wfe_core.specs.words.declared.config.SchemeKind.TheVariants.{He as HeKind, Hp as HpKind, Wfe as WfeKind};
 ghost use Rattle.wfe_drive_words.specs.Called.{Here, at_phase};
 ghost use Rattle.wfe_drive_runs.specs.Pieces.{IsStood, LeadsSo, Outer, asked_trial, end_of};
 ghost use Rattle.wfe_drive_words.specs.Path.{protecting};
 
 use crate::base_run::run;
 use wfe_core::{Desk, Post, ProtectEnd, Root};
-use wfe_drive_words::{Bounded, Guarded, WfeProtect, Words, protect_he, protect_wfe};
+use wfe_drive_words::{Bounded, Guarded, WfeProtect, Words, protect_he, protect_hp, protect_wfe};
 
 /// Protects a root under Hazard Eras, and answers the row that it holds from then on.
 #[inline(always)]
@@ -39,6 +39,31 @@ pub fn hold_he<W: Words>(
         × LeadsSo (W.at words.old) (W.at words.new) (W.stands words.old) (W.stands words.new) (at_phase (Runs why (protect_base HeKind index root)) post.old _desk.now) why (ProtectedEnd (end_of result era)) post.new _desk.now }
 {
     let guarded = protect_he(words, post, index, root);
+    stand(post, index, guarded)
+}
+
+/// Protects a root under hazard pointers, and answers the row that it holds from then on.
+#[inline(always)]
+pub fn hold_hp<W: Words>(
+    words: &mut W,
+    post: &mut Post,
+    _desk: &Desk,
+    index: u32,
+    root: Root,
+) -> Option<u32>
+    requires valid { W.valid words.old }
+    requires scheme { post.old.layout.config.scheme ≡ HpKind }
+    requires outer { Outer root }
+    requires here { (why : Why) × Here (W.at words.old) (at_phase (Runs why (protect_base HpKind index root)) post.old _desk.now) }
+    ensures valid { W.valid words.new }
+    ensures same { W.same words.old words.new }
+    ensures rest { W.rest words.new < W.rest words.old }
+    ensures layout { post.new.layout ≡ post.old.layout }
+    ensures fits { IfSome result (λ slot. SlotFits post.new slot) }
+    ensures leads { (why : Why) → Here (W.at words.old) (at_phase (Runs why (protect_base HpKind index root)) post.old _desk.now) → (era : ℕ)
+        × LeadsSo (W.at words.old) (W.at words.new) (W.stands words.old) (W.stands words.new) (at_phase (Runs why (protect_base HpKind index root)) post.old _desk.now) why (ProtectedEnd (end_of result era)) post.new _desk.now }
+{
+    let guarded = protect_hp(words, post, index, root);
     stand(post, index, guarded)
 }
 

@@ -10,7 +10,7 @@ ghost use Rattle.wfe_core.specs.Phases.Base.{Retire as Retiring};
 ghost use Rattle.wfe_core.specs.Phases.RetireAt.{LoadLife};
 ghost use Rattle.wfe_core.specs.Ready.{SlotFits};
 ghost use Rattle.wfe_core.specs.Retire.{birth_in};
-ghost use Rattle.wfe_core.specs.Rounds.{helps as do_help, with_clock};
+ghost use Rattle.wfe_core.specs.Rounds.{with_clock};
 ghost use Rattle.wfe_core.specs.Steps.{tidying};
 ghost use Rattle.wfe_core.specs.Valid.{IsValid};
 ghost use Rattle.wfe_core.specs.words.Packed.{life_word as word_of, read_life as life_in};
@@ -20,13 +20,14 @@ ghost use Rattle.wfe_drive_words.specs.Path.{Closes};
 ghost use Rattle.wfe_drive_runs.specs.Pieces.{TurnsTo, retire_told};
 
 use crate::tidy_run::tidy;
-use wfe_core::{ClockMove, Desk, Life, Lifetime, Op, Post, SchemeKind, life_word, read_life};
+use wfe_core::{ClockMove, Desk, Life, Lifetime, Op, Post, life_word, read_life};
 use wfe_drive_words::{Words, load_clock, note_steps, step};
 
-/// Retires the row, and then tidies where that is due. It answers the outcome of the move.
+/// Retires the row, and then tidies where that is due. It answers the outcome of the move; `Still` where
+/// there is none, as the call's answer says before it.
 pub fn retire<W: Words>(words: &mut W, post: &mut Post, desk: &mut Desk, slot: u32) -> ClockMove
     requires valid { W.valid words.old }
-    requires here { (answer : ModelAnswer) × Here (W.at words.old) (at_phase (Runs (Retires answer) (Retiring (LoadLife slot))) post.old desk.old) }
+    requires here { (answer : ModelAnswer) × (with_clock answer StillMove ≡ answer) × Here (W.at words.old) (at_phase (Runs (Retires answer) (Retiring (LoadLife slot))) post.old desk.old) }
     requires room { HasRoom desk.old post.old.layout }
     ensures valid { W.valid words.new }
     ensures same { W.same words.old words.new }
@@ -41,20 +42,9 @@ pub fn retire<W: Words>(words: &mut W, post: &mut Post, desk: &mut Desk, slot: u
         note_steps(desk, post.steps);
         return ClockMove::Still;
     }
-    let clock = tidy(words, helps(config.scheme), post, desk);
+    let clock = tidy(words, post, desk);
     note_steps(desk, post.steps);
     clock
-}
-
-/// Whether those that move the clock answer pending requests first.
-#[inline(always)]
-pub fn helps(kind: SchemeKind) -> bool
-    ensures { result ≡ do_help kind }
-{
-    match kind {
-        SchemeKind::Wfe => true,
-        SchemeKind::He | SchemeKind::Ibr => false,
-    }
 }
 
 // Stores the row's retire era, a clock value loaded now, and puts its life on the list.

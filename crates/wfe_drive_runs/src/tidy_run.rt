@@ -1,21 +1,23 @@
-// The clock is moved, and the retire list scanned, whatever the call does after it.
+// The clock is moved, where retirements move it, and the retire list scanned, whatever the call does after it.
 ghost use Rattle.std.specs.Prelude.{◌≡◌, ◌<◌};
-ghost use Rattle.wfe_core.specs.Calls.{AfterScan, Runs, Tidies};
+ghost use Rattle.wfe_core.specs.defs.declared.call.ClockMove.TheVariants.{Still as StillMove};
+ghost use Rattle.wfe_core.specs.Calls.{AfterScan};
 ghost use Rattle.wfe_core.specs.DeskHeld.{HasRoom};
-ghost use Rattle.wfe_core.specs.Phases.Base.{Move};
-ghost use Rattle.wfe_core.specs.Phases.MoveAt.{LoadEra};
+ghost use Rattle.wfe_core.specs.Rounds.{first_tidy, helps as do_help};
+ghost use Rattle.wfe_core.specs.Steps.{after_move};
+ghost use Rattle.wfe_core.specs.words.Schemes.{moves as do_move};
 ghost use Rattle.wfe_drive_words.specs.Called.{Here, at_phase};
 ghost use Rattle.wfe_drive_runs.specs.Pieces.{ScansSo};
 
 use wfe_call_tidy::Tidy;
-use wfe_core::{ClockMove, Desk, Post, Told};
+use wfe_core::{ClockMove, Desk, Post, SchemeKind, Told};
 use wfe_drive_words::{Words, step};
 
-/// Moves the clock, and then scans. It answers the outcome of the move. The move answers pending
-/// requests first where it `helps`.
-pub fn tidy<W: Words>(words: &mut W, helps: bool, post: &mut Post, desk: &mut Desk) -> ClockMove
+/// Moves the clock, where the scheme has retirements move it, and then scans. It answers the outcome of the
+/// move, in eras; `Still` where there is none.
+pub fn tidy<W: Words>(words: &mut W, post: &mut Post, desk: &mut Desk) -> ClockMove
     requires valid { W.valid words.old }
-    requires here { (later : AfterScan) × Here (W.at words.old) (at_phase (Runs (Tidies later) (Move (LoadEra helps))) post.old desk.old) }
+    requires here { (later : AfterScan) × (after_move later StillMove ≡ later) × Here (W.at words.old) (at_phase (first_tidy later post.old) post.old desk.old) }
     requires room { HasRoom desk.old post.old.layout }
     ensures valid { W.valid words.new }
     ensures same { W.same words.old words.new }
@@ -23,11 +25,12 @@ pub fn tidy<W: Words>(words: &mut W, helps: bool, post: &mut Post, desk: &mut De
     ensures room { HasRoom desk.new post.new.layout }
     ensures layout { post.new.layout ≡ post.old.layout }
     ensures standing { post.new.standing ≡ post.old.standing }
-    ensures ends { (later : AfterScan) → Here (W.at words.old) (at_phase (Runs (Tidies later) (Move (LoadEra helps))) post.old desk.old)
+    ensures ends { (later : AfterScan) → after_move later StillMove ≡ later → Here (W.at words.old) (at_phase (first_tidy later post.old) post.old desk.old)
         → ScansSo (W.at words.old) (W.at words.new) (W.stands words.old) (W.stands words.new)
-        (at_phase (Runs (Tidies later) (Move (LoadEra helps))) post.old desk.old) later result post.new desk.new }
+        (at_phase (first_tidy later post.old) post.old desk.old) later result post.new desk.new }
 {
-    let mut machine = Tidy::new(helps);
+    let scheme = post.layout.config().scheme;
+    let mut machine = Tidy::new(moves(scheme), helps(scheme));
     let mut told = Told::new();
     loop {
         let op = machine.next_op(post);
@@ -39,5 +42,27 @@ pub fn tidy<W: Words>(words: &mut W, helps: bool, post: &mut Post, desk: &mut De
         if let Some(clock) = ended {
             return clock;
         }
+    }
+}
+
+// Whether retirements move the clock.
+#[inline(always)]
+fn moves(kind: SchemeKind) -> bool
+    ensures { result ≡ do_move kind }
+{
+    match kind {
+        SchemeKind::He | SchemeKind::Ibr | SchemeKind::Wfe => true,
+        SchemeKind::Hp => false,
+    }
+}
+
+// Whether those that move it answer pending requests first.
+#[inline(always)]
+fn helps(kind: SchemeKind) -> bool
+    ensures { result ≡ do_help kind }
+{
+    match kind {
+        SchemeKind::Wfe => true,
+        SchemeKind::He | SchemeKind::Ibr | SchemeKind::Hp => false,
     }
 }

@@ -10,6 +10,13 @@ use wfe_drive_bench::{Bench, on_bench};
 /// How many turns a schedule has.
 const TURNS: u32 = 3_000;
 
+const SCHEMES: [SchemeKind; 4] = [
+    SchemeKind::He,
+    SchemeKind::Ibr,
+    SchemeKind::Wfe,
+    SchemeKind::Hp,
+];
+
 fn table(scheme: SchemeKind, seats: u32, slots: u32, every: u32) -> Config {
     Config {
         scheme,
@@ -39,7 +46,7 @@ fn guards(config: Config) -> usize {
     let seats = config.seats.min(64) as usize;
     let indexes = config.indexes.min(8) as usize;
     match config.scheme {
-        SchemeKind::He => indexes * seats,
+        SchemeKind::He | SchemeKind::Hp => indexes * seats,
         SchemeKind::Ibr => seats,
         SchemeKind::Wfe => (indexes + 1) * seats,
     }
@@ -137,7 +144,7 @@ fn play<R: Abort + AllocGlobal>(rt: &R, config: Config, seed: u64) -> Result<Wat
 
 #[test]
 fn no_schedule_lets_a_row_be_used_too_early(rt: HostRuntime) -> Result<(), Fail> {
-    for scheme in [SchemeKind::He, SchemeKind::Ibr, SchemeKind::Wfe] {
+    for scheme in SCHEMES {
         let mut asked = 0u32;
         for (seats, slots, every) in [(2, 2, 1), (2, 6, 2), (3, 4, 1), (4, 3, 1), (4, 6, 3)] {
             let config = table(scheme, seats, slots, every);
@@ -157,7 +164,7 @@ fn no_schedule_lets_a_row_be_used_too_early(rt: HostRuntime) -> Result<(), Fail>
 
 #[test]
 fn no_schedule_with_copies_lets_a_row_be_used_too_early(rt: HostRuntime) -> Result<(), Fail> {
-    for scheme in [SchemeKind::He, SchemeKind::Ibr, SchemeKind::Wfe] {
+    for scheme in SCHEMES {
         for (seats, slots, every) in [(2, 12, 1), (4, 24, 2)] {
             let config = wide_table(scheme, seats, slots, every);
             for seed in 0..3 {
@@ -229,6 +236,12 @@ fn read(seat: u32, span: Option<(u32, u32)>) -> (u32, Event) {
     (0, Event::Read { guard, span })
 }
 
+// Seat 0 reads the row that an index word of a seat publishes.
+fn saw(seat: u32, slot: Option<u32>) -> (u32, Event) {
+    let guard = Guard::Index { seat, index: 0 };
+    (0, Event::Saw { guard, slot })
+}
+
 #[test]
 fn a_row_that_is_given_again_too_early_is_noticed(rt: HostRuntime) -> Result<(), Fail> {
     let queues = (0, Event::Give { slot: 2, birth: 2 });
@@ -268,6 +281,22 @@ fn a_scan_that_keeps_what_it_need_not_is_noticed(rt: HostRuntime) -> Result<(), 
     expect_breach(&rt, &[GIVEN, RETIRED, none], MOVED, Breach::ScanCutShort)?;
     let sound = [GIVEN, RETIRED, none, within, MOVED, none, before];
     expect_breach(&rt, &sound, MOVED, Breach::KeptThoughUnmet)
+}
+
+#[test]
+fn a_row_goes_back_once_it_was_not_seen(rt: HostRuntime) -> Result<(), Fail> {
+    let (none, own, other) = (saw(0, None), saw(1, Some(0)), saw(1, Some(1)));
+    expect_breach(
+        &rt,
+        &[GIVEN, RETIRED, none, own],
+        BACK,
+        Breach::BackThoughMet,
+    )?;
+    expect_breach(&rt, &[GIVEN, RETIRED, other], BACK, Breach::ScanCutShort)?;
+    let sound = [GIVEN, RETIRED, none, own, MOVED, none, other];
+    expect_breach(&rt, &sound, MOVED, Breach::KeptThoughUnmet)?;
+    let sound = [GIVEN, RETIRED, none, other, BACK];
+    expect_breach(&rt, &sound, BACK, Breach::BackUnretired)
 }
 
 #[test]

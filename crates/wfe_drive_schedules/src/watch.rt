@@ -2,7 +2,7 @@
 // taken, which stand at which index of which seat, and which each seat has retired.
 use std::alloc::Global;
 use std::test::Fail;
-use wfe_core::{Event, Guard, Interval, Lifetime, meets};
+use wfe_core::{Event, Guard, Interval, Lifetime, Shown, meets};
 
 /// What is wrong with an event.
 #[derive(Clone, Copy, Debug, PartialEq, Eq)]
@@ -14,9 +14,9 @@ pub enum Breach {
     /// The seat has not retired the row, or gave it back before.
     BackUnretired,
     BackWhileStanding,
-    /// The scan has read an interval that meets the row's life.
+    /// The scan has read something that keeps the row.
     BackThoughMet,
-    /// A scan ends without giving back a row whose life meets nothing that it read.
+    /// A scan ends without giving back a row that nothing keeps which it read.
     KeptThoughUnmet,
     /// A scan ends, or gives a row back, before it has read each guard.
     ScanCutShort,
@@ -25,6 +25,31 @@ pub enum Breach {
     /// What is copied does not stand where the copy is from.
     CopiedUnheld,
     ClearedUnheld,
+}
+
+// The eras that a guard published.
+fn eras_of(span: Option<Interval>) -> Shown {
+    match span {
+        None => Shown::Nothing,
+        Some(span) => Shown::Eras { span },
+    }
+}
+
+// The row that a guard published.
+fn row_of(slot: Option<u32>) -> Shown {
+    match slot {
+        None => Shown::Nothing,
+        Some(slot) => Shown::Row { slot },
+    }
+}
+
+// Whether what a guard published keeps a row from going back.
+fn keeps(life: Lifetime, shown: Shown) -> bool {
+    match shown {
+        Shown::Nothing => false,
+        Shown::Eras { span } => meets(life, span),
+        Shown::Row { slot } => life.slot == slot,
+    }
 }
 
 /// What the events so far tell of the rows of a table.
@@ -37,7 +62,7 @@ pub struct Watch {
     // Seat and life, in order.
     retired: Vec<(u32, Lifetime)>,
     // Seat and what it has read in its scan.
-    read: Vec<(u32, Option<Interval>)>,
+    read: Vec<(u32, Shown)>,
     guards: usize,
     /// How many rows were held.
     pub held: u32,
@@ -78,7 +103,7 @@ impl Watch {
     pub fn see(&mut self, seat: u32, event: &Event) -> Result<Option<Breach>, Fail> {
         let scanning = self.read_by(seat);
         let goes_on = match *event {
-            Event::Read { .. } => scanning < self.guards,
+            Event::Read { .. } | Event::Saw { .. } => scanning < self.guards,
             Event::Back { .. } => true,
             _ => scanning == 0,
         };
@@ -111,7 +136,11 @@ impl Watch {
             }
             Event::Back { slot } => Ok(self.give_back(seat, slot)),
             Event::Read { span, .. } => {
-                self.read.push((seat, span))?;
+                self.read.push((seat, eras_of(span)))?;
+                Ok(None)
+            }
+            Event::Saw { slot, .. } => {
+                self.read.push((seat, row_of(slot)))?;
                 Ok(None)
             }
             Event::Held { index, slot, .. } => {
@@ -169,12 +198,11 @@ impl Watch {
         count
     }
 
-    // Whether the seat's scan has read an interval that the life meets.
+    // Whether the seat's scan has read something that keeps the row.
     fn is_met(&self, seat: u32, life: Lifetime) -> bool {
-        self.read.iter().any(|entry| match *entry {
-            (reader, Some(span)) => reader == seat && meets(life, span),
-            _ => false,
-        })
+        self.read
+            .iter()
+            .any(|entry| entry.0 == seat && keeps(life, entry.1))
     }
 
     fn end_scan(&mut self, seat: u32, scanning: usize) -> Option<Breach> {

@@ -17,10 +17,10 @@ use Rattle.wfe_drive_seat.specs.declared.letting.Letting.{Letting}
 use Rattle.wfe_drive_seat.specs.declared.letting.Letting.TheVariants as lettings
 
 -- no such step changes the desk
-letting_desk : (letting : Letting) (post : Post) (desk : Desk) (found : ℕ) → (phase_turn (letting_phase letting) post desk found).desk ≡ desk
-letting_desk lettings.Nothing post desk found = refl
-letting_desk (lettings.At index) post desk found = refl
-letting_desk lettings.Span post desk found = refl
+letting_desk : (rows : Bool) (letting : Letting) (post : Post) (desk : Desk) (found : ℕ) → (phase_turn (letting_phase rows letting) post desk found).desk ≡ desk
+letting_desk rows lettings.Nothing post desk found = refl
+letting_desk rows (lettings.At index) post desk found = refl
+letting_desk rows lettings.Span post desk found = refl
 
-pub parting_desk : (letting : Letting) (phase : Phase) (post : Post) (desk : Desk) (found : ℕ) → letting_phase letting ≡ phase → (phase_turn phase post desk found).desk ≡ desk
-parting_desk letting phase post desk found e = subst (λ (p : Phase). (phase_turn p post desk found).desk ≡ desk) e (letting_desk letting post desk found)
+pub parting_desk : (rows : Bool) (letting : Letting) (phase : Phase) (post : Post) (desk : Desk) (found : ℕ) → letting_phase rows letting ≡ phase → (phase_turn phase post desk found).desk ≡ desk
+parting_desk rows letting phase post desk found e = subst (λ (p : Phase). (phase_turn p post desk found).desk ≡ desk) e (letting_desk rows letting post desk found)

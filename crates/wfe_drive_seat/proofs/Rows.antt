@@ -7,7 +7,7 @@ use Rattle.wfe_core.specs.defs.declared.event.Event.{Event}
 use Rattle.wfe_core.specs.Keep.{parting, parting_index, parting_span}
 use Rattle.wfe_core.specs.Posts.{cleared, cleared_from, standing_from}
 use Rattle.wfe_core.specs.Rounds.{scheme_of}
-use Rattle.wfe_core.specs.words.Schemes.{has_one_interval}
+use Rattle.wfe_core.specs.words.Schemes.{has_one_interval, publishes_rows}
 use Rattle.wfe_core.specs.declared.post.Post.{Post}
 use Rattle.wfe_core.specs.Valid.{StandsValid}
 
@@ -39,11 +39,11 @@ cleared_past rows index told l = ap (λ (list : List (Option ℕ)). told ++ clea
 
 -- what a seat that leaves lets go next, where indexes publish by themselves
 pub stood_parting : (post : Post) (index : ℕ) → has_one_interval (scheme_of post) ≡ false → standing_from index (drop index post.standing) ≡ standing_from 2 (drop 2 post.standing) → index < length post.standing
-    → is_some (get_or post.standing index None) ≡ true → parting_index (Some index) ≡ parting post
-stood_parting post index apart same below stood = rw apart (ap parting_index (sym (stood_here post.standing index below stood) ∙ same))
+    → is_some (get_or post.standing index None) ≡ true → parting_index (publishes_rows (scheme_of post)) (Some index) ≡ parting post
+stood_parting post index apart same below stood = rw apart (ap (parting_index (publishes_rows (scheme_of post))) (sym (stood_here post.standing index below stood) ∙ same))
 
-pub none_parting : (post : Post) (index : ℕ) → has_one_interval (scheme_of post) ≡ false → standing_from index (drop index post.standing) ≡ standing_from 2 (drop 2 post.standing) → length post.standing ≤ index → parting_index None ≡ parting post
-none_parting post index apart same past = rw apart (ap parting_index (sym (none_past post.standing index past) ∙ same))
+pub none_parting : (post : Post) (index : ℕ) → has_one_interval (scheme_of post) ≡ false → standing_from index (drop index post.standing) ≡ standing_from 2 (drop 2 post.standing) → length post.standing ≤ index → parting_index (publishes_rows (scheme_of post)) None ≡ parting post
+none_parting post index apart same past = rw apart (ap (parting_index (publishes_rows (scheme_of post))) (sym (none_past post.standing index past) ∙ same))
 
 pub stood_below : (post : Post) (index : ℕ) (row : Option ℕ) → is_some row ≡ true → StandsValid post index row → index < post.layout.config.indexes
 stood_below post index (Some slot) h v = v.1

@@ -9,9 +9,9 @@ use Rattle.wfe_core.specs.declared.post.Post.{Post}
 use Rattle.wfe_drive_seat.specs.Seats.{Suits, engaged_phase, is_engaged}
 use Rattle.wfe_drive_seat.specs.declared.seat.Engaged.{Engaged}
 
-pub record IsSound {H I W : Type 0} (he ibr wfe : SchemeKind → Type 0) (he_phase : H → Post → Phase) (ibr_phase : I → Post → Phase) (wfe_phase : W → Post → Phase) (engaged : Engaged H I W) (post : Post) (desk : HeldDesk) : Type 0 where
+pub record IsSound {H I W P : Type 0} (he ibr wfe hp : SchemeKind → Type 0) (he_phase : H → Post → Phase) (ibr_phase : I → Post → Phase) (wfe_phase : W → Post → Phase) (hp_phase : P → Post → Phase) (engaged : Engaged H I W P) (post : Post) (desk : HeldDesk) : Type 0 where
   -- the call is one of the table's scheme, and under way
-  pub suits : Suits he ibr wfe engaged post.layout.config.scheme
-  pub busy : is_engaged engaged ≡ busy_in (engaged_phase he_phase ibr_phase wfe_phase engaged post)
+  pub suits : Suits he ibr wfe hp engaged post.layout.config.scheme
+  pub busy : is_engaged engaged ≡ busy_in (engaged_phase he_phase ibr_phase wfe_phase hp_phase engaged post)
   -- the desk has room for what the call notes
   pub room : HasRoom desk post.layout

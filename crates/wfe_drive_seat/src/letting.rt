@@ -5,14 +5,14 @@ ghost use Rattle.wfe_core.specs.Keep.{parting};
 ghost use Rattle.wfe_core.specs.Posts.{cleared_from, counted};
 ghost use Rattle.wfe_core.specs.Steps.{call_op, phase_turn};
 ghost use Rattle.wfe_core.specs.Valid.{IsValid};
-ghost use Rattle.wfe_core.specs.words.Schemes.{has_one_interval};
+ghost use Rattle.wfe_core.specs.words.Schemes.{has_one_interval, publishes_rows};
 ghost use Rattle.wfe_core.specs.Rounds.{scheme_of};
 ghost use Rattle.wfe_drive_cells.specs.Operations.{performed, word_in};
 ghost use Rattle.wfe_drive_seat.specs.Leaving.{is_marking};
 ghost use Rattle.wfe_drive_seat.specs.Letting.{LettingFits, letting_phase};
 ghost use Rattle.wfe_drive_seat.specs.declared.letting.Letting.TheVariants.{At, Span};
 
-use wfe_core::{Event, Guard, Op, Post, SchemeKind, Told, index_word};
+use wfe_core::{Event, Guard, Op, Post, SchemeKind, Told, publish_index, shown_word};
 use wfe_drive_cells::Cells;
 
 // What is to be let go next.
@@ -30,7 +30,7 @@ enum Letting {
 fn first_standing(post: &Post) -> Letting
     requires valid { IsValid post.now }
     requires apart { has_one_interval (scheme_of post.now) ≡ false }
-    ensures phase { letting_phase result ≡ parting post.now }
+    ensures phase { letting_phase (publishes_rows (scheme_of post.now)) result ≡ parting post.now }
     ensures fits { LettingFits result post.now }
 {
     for index in 2u32..8 {
@@ -44,7 +44,7 @@ fn first_standing(post: &Post) -> Letting
 // What is to be let go next, by the table's scheme.
 fn next_letting(post: &Post) -> Letting
     requires valid { IsValid post.now }
-    ensures phase { letting_phase result ≡ parting post.now }
+    ensures phase { letting_phase (publishes_rows (scheme_of post.now)) result ≡ parting post.now }
     ensures fits { LettingFits result post.now }
 {
     match post.layout.config().scheme {
@@ -56,20 +56,27 @@ fn next_letting(post: &Post) -> Letting
     }
 }
 
+// Whether index words publish rows.
+fn has_rows(post: &Post) -> bool
+    ensures { result ≡ publishes_rows (scheme_of post.now) }
+{
+    matches!(post.layout.config().scheme, SchemeKind::Hp)
+}
+
 // Lets go of what stands at an index: one store.
-fn let_at<C: Cells>(cells: &mut C, post: &mut Post, index: u32, told: &mut Told)
+fn let_at<C: Cells>(cells: &mut C, post: &mut Post, index: u32, rows: bool, told: &mut Told)
     requires valid { IsValid post.old }
     requires index { index < post.old.layout.config.indexes }
-    requires there { word_in (call_op (letting_phase (At index)) post.old) < length (C.words cells.old) }
+    requires there { word_in (call_op (letting_phase rows (At index)) post.old) < length (C.words cells.old) }
     requires zero { post.old.steps ≡ 0 }
     requires empty { told.old ≡ [] }
-    ensures words { C.words cells.new ≡ performed (C.words cells.old) (call_op (letting_phase (At index)) post.old) }
-    ensures post { (desk : ModelDesk) (found : ℕ) → post.new ≡ (phase_turn (letting_phase (At index)) (counted post.old) desk found).post }
-    ensures told { (desk : ModelDesk) (found : ℕ) → told.new ≡ (phase_turn (letting_phase (At index)) (counted post.old) desk found).told }
+    ensures words { C.words cells.new ≡ performed (C.words cells.old) (call_op (letting_phase rows (At index)) post.old) }
+    ensures post { (desk : ModelDesk) (found : ℕ) → post.new ≡ (phase_turn (letting_phase rows (At index)) (counted post.old) desk found).post }
+    ensures told { (desk : ModelDesk) (found : ℕ) → told.new ≡ (phase_turn (letting_phase rows (At index)) (counted post.old) desk found).told }
 {
     let op = Op::Store {
         word: post.layout.index(post.seat, index),
-        value: index_word(post, index, 0),
+        value: shown_word(rows, post, index, 0),
     };
     cells.perform(post.seat, op);
     if let Some(slot) = post.standing[index as usize] {
@@ -77,13 +84,7 @@ fn let_at<C: Cells>(cells: &mut C, post: &mut Post, index: u32, told: &mut Told)
     }
     post.standing[index as usize] = None;
     post.steps = 1;
-    told.push(Event::Reserve {
-        guard: Guard::Index {
-            seat: post.seat,
-            index,
-        },
-        span: None,
-    });
+    publish_index(rows, post, told, index, 0);
 }
 
 // Tells Clear for each index from 2 on at which something stands.
@@ -104,12 +105,12 @@ fn tell_cleared(post: &Post, told: &mut Told)
 // Lets go of all that stands, and withdraws the interval: one store.
 fn let_span<C: Cells>(cells: &mut C, post: &mut Post, told: &mut Told)
     requires valid { IsValid post.old }
-    requires there { word_in (call_op (letting_phase Span) post.old) < length (C.words cells.old) }
+    requires there { word_in (call_op (letting_phase (publishes_rows (scheme_of post.old)) Span) post.old) < length (C.words cells.old) }
     requires zero { post.old.steps ≡ 0 }
     requires empty { told.old ≡ [] }
-    ensures words { C.words cells.new ≡ performed (C.words cells.old) (call_op (letting_phase Span) post.old) }
-    ensures post { (desk : ModelDesk) (found : ℕ) → post.new ≡ (phase_turn (letting_phase Span) (counted post.old) desk found).post }
-    ensures told { (desk : ModelDesk) (found : ℕ) → told.new ≡ (phase_turn (letting_phase Span) (counted post.old) desk found).told }
+    ensures words { C.words cells.new ≡ performed (C.words cells.old) (call_op (letting_phase (publishes_rows (scheme_of post.old)) Span) post.old) }
+    ensures post { (desk : ModelDesk) (found : ℕ) → post.new ≡ (phase_turn (letting_phase (publishes_rows (scheme_of post.old)) Span) (counted post.old) desk found).post }
+    ensures told { (desk : ModelDesk) (found : ℕ) → told.new ≡ (phase_turn (letting_phase (publishes_rows (scheme_of post.old)) Span) (counted post.old) desk found).told }
 {
     let op = Op::Store {
         word: post.layout.interval(post.seat),
@@ -144,7 +145,8 @@ pub fn let_next<C: Cells>(cells: &mut C, post: &mut Post, told: &mut Told) -> bo
     match next_letting(post) {
         Letting::Nothing => false,
         Letting::At { index } => {
-            let_at(cells, post, index, told);
+            let rows = has_rows(post);
+            let_at(cells, post, index, rows, told);
             true
         }
         Letting::Span => {

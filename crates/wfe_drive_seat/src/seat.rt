@@ -24,7 +24,7 @@ use wfe_drive_cells::Cells;
 
 /// A seat's call, by the table's scheme; none between calls.
 #[derive(Drop)]
-pub enum Engaged<H: CallMachine, I: CallMachine, W: CallMachine> {
+pub enum Engaged<H: CallMachine, I: CallMachine, W: CallMachine, P: CallMachine> {
     Free,
     /// Under Hazard Eras.
     He(H),
@@ -32,18 +32,21 @@ pub enum Engaged<H: CallMachine, I: CallMachine, W: CallMachine> {
     Ibr(I),
     /// Under Wait-Free Eras.
     Wfe(W),
+    /// Under hazard pointers.
+    Hp(P),
 }
 
 /// A seat of a table. It is seen as what the model knows of a seat: where its call stands, its post
 /// and its desk.
 #[derive(Drop)]
-pub struct SeatState<H: CallMachine, I: CallMachine, W: CallMachine> {
+pub struct SeatState<H: CallMachine, I: CallMachine, W: CallMachine, P: CallMachine> {
     post: Post,
     desk: Desk,
-    engaged: Engaged<H, I, W>,
+    engaged: Engaged<H, I, W, P>,
 }
 
-impl<H: CallMachine, I: CallMachine, W: CallMachine> Model for SeatState<H, I, W> {
+impl<H: CallMachine, I: CallMachine, W: CallMachine, P: CallMachine> Model
+    for SeatState<H, I, W, P> {
     ghost use Rattle.wfe_drive_cells.specs.Unit.{SeatView};
     ghost use Rattle.wfe_core.specs.DeskHeld.{desk_of};
     ghost use Rattle.wfe_drive_seat.specs.Seats.{engaged_phase};
@@ -51,14 +54,14 @@ impl<H: CallMachine, I: CallMachine, W: CallMachine> Model for SeatState<H, I, W
 
     ghost Value = { SeatView };
 
-    ghost view = { λ s. record { phase = engaged_phase H.phase I.phase W.phase s.engaged s.post; post = s.post; desk = desk_of s.desk } };
+    ghost view = { λ s. record { phase = engaged_phase H.phase I.phase W.phase P.phase s.engaged s.post; post = s.post; desk = desk_of s.desk } };
 
-    ghost invariant = { λ s. IsSound H.suits I.suits W.suits H.phase I.phase W.phase s.engaged s.post s.desk };
+    ghost invariant = { λ s. IsSound H.suits I.suits W.suits P.suits H.phase I.phase W.phase P.phase s.engaged s.post s.desk };
 }
 
-impl<H: CallMachine, I: CallMachine, W: CallMachine> SeatState<H, I, W> {
+impl<H: CallMachine, I: CallMachine, W: CallMachine, P: CallMachine> SeatState<H, I, W, P> {
     /// A seat that has made no call.
-    pub fn new(alloc: Global, seat: u32, layout: Layout) -> Result<SeatState<H, I, W>, NoMemory>
+    pub fn new(alloc: Global, seat: u32, layout: Layout) -> Result<SeatState<H, I, W, P>, NoMemory>
         requires layout { is_valid layout ≡ true }
         requires seat { seat < layout.config.seats }
         ensures { IfOk result (λ state. state ≡ fresh_seat layout seat) }
@@ -81,11 +84,11 @@ impl<H: CallMachine, I: CallMachine, W: CallMachine> SeatState<H, I, W> {
     }
 
     /// A call begins.
-    pub fn engage(&mut self, engaged: Engaged<H, I, W>)
-        requires suits { Suits H.suits I.suits W.suits engaged self.old.post.layout.config.scheme }
-        requires busy { busy_in (engaged_phase H.phase I.phase W.phase engaged (begun_post self.old.post)) ≡ true }
+    pub fn engage(&mut self, engaged: Engaged<H, I, W, P>)
+        requires suits { Suits H.suits I.suits W.suits P.suits engaged self.old.post.layout.config.scheme }
+        requires busy { busy_in (engaged_phase H.phase I.phase W.phase P.phase engaged (begun_post self.old.post)) ≡ true }
         requires engaged { is_engaged engaged ≡ true }
-        ensures phase { self.new.phase ≡ engaged_phase H.phase I.phase W.phase engaged (begun_post self.old.post) }
+        ensures phase { self.new.phase ≡ engaged_phase H.phase I.phase W.phase P.phase engaged (begun_post self.old.post) }
         ensures post { self.new.post ≡ begun_post self.old.post }
         ensures desk { self.new.desk ≡ record self.old.desk { notes = no_notes } }
     {
@@ -208,7 +211,7 @@ fn empty(list: &mut RetireList)
     }
 }
 
-impl<H: CallMachine, I: CallMachine, W: CallMachine> Engaged<H, I, W> {
+impl<H: CallMachine, I: CallMachine, W: CallMachine, P: CallMachine> Engaged<H, I, W, P> {
     /// Makes one step of the call, under whichever scheme it is.
     fn unit<C: Cells>(
         &mut self,
@@ -218,26 +221,27 @@ impl<H: CallMachine, I: CallMachine, W: CallMachine> Engaged<H, I, W> {
         told: &mut Told,
     ) -> Option<Answer>
         requires engaged { is_engaged self.old ≡ true }
-        requires there { word_in (call_op (engaged_phase H.phase I.phase W.phase self.old post.old) post.old) < length (C.words cells.old) }
+        requires there { word_in (call_op (engaged_phase H.phase I.phase W.phase P.phase self.old post.old) post.old) < length (C.words cells.old) }
         requires valid { IsValid post.old }
-        requires suits { Suits H.suits I.suits W.suits self.old post.old.layout.config.scheme }
+        requires suits { Suits H.suits I.suits W.suits P.suits self.old post.old.layout.config.scheme }
         requires room { HasRoom desk.old post.old.layout }
-        requires ready { IsCallReady (engaged_phase H.phase I.phase W.phase self.old post.old) post.old (desk_of desk.old) }
+        requires ready { IsCallReady (engaged_phase H.phase I.phase W.phase P.phase self.old post.old) post.old (desk_of desk.old) }
         requires noted { NotesFit post.old (desk_of desk.old) }
-        requires plausible { IsCallPlausible (engaged_phase H.phase I.phase W.phase self.old post.old) post.old (answered (C.words cells.old) (call_op (engaged_phase H.phase I.phase W.phase self.old post.old) post.old)) }
+        requires plausible { IsCallPlausible (engaged_phase H.phase I.phase W.phase P.phase self.old post.old) post.old (answered (C.words cells.old) (call_op (engaged_phase H.phase I.phase W.phase P.phase self.old post.old) post.old)) }
         requires empty { told.old ≡ [] }
         ensures engaged { is_engaged self.new ≡ true }
-        ensures suits { Suits H.suits I.suits W.suits self.new post.new.layout.config.scheme }
+        ensures suits { Suits H.suits I.suits W.suits P.suits self.new post.new.layout.config.scheme }
         ensures layout { post.new.layout ≡ post.old.layout }
         ensures room { HasRoom desk.new post.new.layout }
-        ensures words { C.words cells.new ≡ performed (C.words cells.old) (call_op (engaged_phase H.phase I.phase W.phase self.old post.old) post.old) }
-        ensures leaves { Leaves (phase_turn (engaged_phase H.phase I.phase W.phase self.old post.old) (counted post.old) (desk_of desk.old) (answered (C.words cells.old) (call_op (engaged_phase H.phase I.phase W.phase self.old post.old) post.old))) post.new desk.new told.new result (engaged_phase H.phase I.phase W.phase self.new post.new) }
+        ensures words { C.words cells.new ≡ performed (C.words cells.old) (call_op (engaged_phase H.phase I.phase W.phase P.phase self.old post.old) post.old) }
+        ensures leaves { Leaves (phase_turn (engaged_phase H.phase I.phase W.phase P.phase self.old post.old) (counted post.old) (desk_of desk.old) (answered (C.words cells.old) (call_op (engaged_phase H.phase I.phase W.phase P.phase self.old post.old) post.old))) post.new desk.new told.new result (engaged_phase H.phase I.phase W.phase P.phase self.new post.new) }
     {
         match self {
             Engaged::Free => unreachable!(),
             Engaged::He(machine) => make_unit(cells, machine, post, desk, told),
             Engaged::Ibr(machine) => make_unit(cells, machine, post, desk, told),
             Engaged::Wfe(machine) => make_unit(cells, machine, post, desk, told),
+            Engaged::Hp(machine) => make_unit(cells, machine, post, desk, told),
         }
     }
 }
@@ -273,9 +277,9 @@ fn make_unit<C: Cells, M: CallMachine>(
 
 /// The list of one seat goes to the end of another's, and the notes of the latter are cleared. It takes no
 /// memory, and answers how many rows went.
-pub fn move_list<H: CallMachine, I: CallMachine, W: CallMachine>(
+pub fn move_list<H: CallMachine, I: CallMachine, W: CallMachine, P: CallMachine>(
     layout: Layout,
-    seats: &mut Vec<SeatState<H, I, W>>,
+    seats: &mut Vec<SeatState<H, I, W, P>>,
     from: usize,
     to: usize,
 ) -> usize

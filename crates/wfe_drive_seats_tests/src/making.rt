@@ -62,7 +62,12 @@ fn the_first_number_out_of_range_is_named(rt: HostRuntime) -> Result<(), Fail> {
 
 #[test]
 fn seats_come_in_number_order(rt: HostRuntime) -> Result<(), Fail> {
-    for scheme in [SchemeKind::He, SchemeKind::Ibr, SchemeKind::Wfe] {
+    for scheme in [
+        SchemeKind::He,
+        SchemeKind::Ibr,
+        SchemeKind::Wfe,
+        SchemeKind::Hp,
+    ] {
         for seats in [1, 2, 64] {
             let config = Config {
                 seats,

@@ -1,30 +1,31 @@
 // What a seat shows of its scans: the report of the last one, and its retire list.
-use crate::two::{Answered, Two, done, double};
+use crate::two::{Answered, Two, done, double, moved};
 use std::process::Abort;
 use std::test::Fail;
-use wfe_core::{Guard, Interval};
+use wfe_core::{Guard, Interval, Shown};
 use wfe_drive_shared::{ClockMove, Lifetime, Scanned, SchemeKind};
 
-fn index(seat: u32, index: u32, span: Option<Interval>) -> (Guard, Option<Interval>) {
-    (Guard::Index { seat, index }, span)
+const SCHEMES: [SchemeKind; 4] = [
+    SchemeKind::He,
+    SchemeKind::Ibr,
+    SchemeKind::Wfe,
+    SchemeKind::Hp,
+];
+
+fn index(seat: u32, index: u32, shown: Shown) -> (Guard, Shown) {
+    (Guard::Index { seat, index }, shown)
 }
 
-fn helper(seat: u32) -> (Guard, Option<Interval>) {
-    (Guard::Helper { seat }, None)
+fn helper(seat: u32) -> (Guard, Shown) {
+    (Guard::Helper { seat }, Shown::Nothing)
 }
 
-fn whole(seat: u32, span: Option<Interval>) -> (Guard, Option<Interval>) {
-    (Guard::Whole { seat }, span)
+fn whole(seat: u32, shown: Shown) -> (Guard, Shown) {
+    (Guard::Whole { seat }, shown)
 }
 
 // Wants seat 0's last report to show these guards in this order, and so many rows kept and back.
-fn expect_report<R: Abort>(
-    rt: &R,
-    two: &Two,
-    read: &[(Guard, Option<Interval>)],
-    kept: u32,
-    back: u32,
-) {
+fn expect_report<R: Abort>(rt: &R, two: &Two, read: &[(Guard, Shown)], kept: u32, back: u32) {
     let scheme = two.scheme();
     let Some(seat) = two.seat(0) else {
         panic!(rt; "no seat")
@@ -34,20 +35,34 @@ fn expect_report<R: Abort>(
     assert_eq!(rt; shown, (read, kept, back), "under {scheme:?}");
 }
 
+// What seat 1 publishes while it holds row 0, whose life began in era 1.
+fn shown_while_held(scheme: SchemeKind) -> Shown {
+    match scheme {
+        SchemeKind::Hp => Shown::Row { slot: 0 },
+        _ => Shown::Eras {
+            span: Interval { lo: 1, hi: 1 },
+        },
+    }
+}
+
 // The same, where seat 1's last guard is as said, and no other guard publishes anything.
-fn expect_guard<R: Abort>(rt: &R, two: &Two, span: Option<Interval>, kept: u32, back: u32) {
+fn expect_guard<R: Abort>(rt: &R, two: &Two, shown: Shown, kept: u32, back: u32) {
+    let none = Shown::Nothing;
     let indexes = [
-        index(0, 0, None),
-        index(0, 1, None),
-        index(0, 2, None),
-        index(1, 0, None),
-        index(1, 1, None),
-        index(1, 2, span),
+        index(0, 0, none),
+        index(0, 1, none),
+        index(0, 2, none),
+        index(1, 0, none),
+        index(1, 1, none),
+        index(1, 2, shown),
     ];
     let [a, b, c, d, e, f] = indexes;
     match two.scheme() {
-        SchemeKind::He => expect_report(rt, two, &indexes, kept, back),
-        SchemeKind::Ibr => expect_report(rt, two, &[whole(0, None), whole(1, span)], kept, back),
+        SchemeKind::He | SchemeKind::Hp => expect_report(rt, two, &indexes, kept, back),
+        SchemeKind::Ibr => {
+            let all = [whole(0, none), whole(1, shown)];
+            expect_report(rt, two, &all, kept, back)
+        }
         SchemeKind::Wfe => {
             let all = [helper(0), helper(1), a, b, c, d, e, f];
             expect_report(rt, two, &all, kept, back)
@@ -79,11 +94,8 @@ fn hold_one<R: Abort + AllocGlobal>(rt: &R, scheme: SchemeKind) -> Result<Two, F
 
 // Seat 0 puts the key again, and so retires the row.
 fn retire_it<R: Abort>(rt: &R, two: &mut Two) {
-    two.call(
-        rt,
-        0,
-        Answered::Put(7, done(2, ClockMove::Moved { era: 2 })),
-    );
+    let clock = moved(two.scheme(), 2);
+    two.call(rt, 0, Answered::Put(7, done(2, clock)));
 }
 
 // Seat 1 lets go of the row, and seat 0 takes it back.
@@ -94,13 +106,13 @@ fn take_it_back<R: Abort>(rt: &R, two: &mut Two) {
 
 #[test]
 fn a_report_shows_the_guards_in_order(rt: HostRuntime) -> Result<(), Fail> {
-    for scheme in [SchemeKind::He, SchemeKind::Ibr, SchemeKind::Wfe] {
+    for scheme in SCHEMES {
         let mut two = hold_one(&rt, scheme)?;
         expect_report(&rt, &two, &[], 0, 0);
         retire_it(&rt, &mut two);
-        expect_guard(&rt, &two, Some(Interval { lo: 1, hi: 1 }), 1, 0);
+        expect_guard(&rt, &two, shown_while_held(scheme), 1, 0);
         take_it_back(&rt, &mut two);
-        expect_guard(&rt, &two, None, 0, 1);
+        expect_guard(&rt, &two, Shown::Nothing, 0, 1);
     }
     Ok(())
 }
@@ -112,7 +124,7 @@ fn a_list_has_the_rows_that_are_retired_and_not_back(rt: HostRuntime) -> Result<
         birth: 1,
         retire: 1,
     };
-    for scheme in [SchemeKind::He, SchemeKind::Ibr, SchemeKind::Wfe] {
+    for scheme in SCHEMES {
         let mut two = hold_one(&rt, scheme)?;
         expect_retired(&rt, &two, 0, None);
         retire_it(&rt, &mut two);

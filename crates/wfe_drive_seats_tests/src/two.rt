@@ -49,6 +49,15 @@ pub fn double(scheme: SchemeKind) -> Config {
     }
 }
 
+/// What a change that retires a row says of the clock, once it stood one era before this one: it moved, but
+/// for hazard pointers, under which changes leave it.
+pub fn moved(scheme: SchemeKind, era: u32) -> ClockMove {
+    match scheme {
+        SchemeKind::Hp => ClockMove::Still,
+        _ => ClockMove::Moved { era },
+    }
+}
+
 /// A change is the bucket's at this version.
 pub fn done<E>(version: u64, clock: ClockMove) -> Result<Done, E> {
     Ok(Done { version, clock })

@@ -53,7 +53,7 @@ release_bounded layout old new answer m = number_is (steps_of new) 1 (bounded la
 pub drop_bounded : (layout : Layout) (old new : SeatNow) (index : ℕ) (answer : Answer) → IsMade layout old new (calls.DropIndex index) answer → steps_of new ≡ 1
 drop_bounded layout old new index answer m = number_is (steps_of new) 1 (bounded layout old new (calls.DropIndex index) answer m)
 
--- a copy that is made takes a step more where an index publishes an era of its own
+-- a copy that is made takes a step more where an index publishes by itself
 one_or_two : (one : Bool) (steps : ℕ) → (steps == (if not one && true then 2 else 1)) ≡ true → steps ≡ (if one then 1 else 2)
 one_or_two true steps h = number_is steps 1 h
 one_or_two false steps h = number_is steps 2 h

@@ -7,7 +7,7 @@ use Rattle.wfe_core.specs.Calls.{Answers, CallOutcome, CallTurn, FindCount, Find
 use Rattle.wfe_core.specs.Desks.{Desk, noting}
 use Rattle.wfe_core.specs.Keep.{copied, load_held, look_turn, looked_key, looking}
 use Rattle.wfe_core.specs.Locals.{Local, after, begun, begun_post, busy_in, may_begin, rounds_told, settled_by, told_by, turn}
-use Rattle.wfe_core.specs.Posts.{counted, reserves_index, stands}
+use Rattle.wfe_core.specs.Posts.{counted, publishes_index, stands}
 use Rattle.wfe_core.specs.Rounds.{scheme_of}
 use Rattle.wfe_core.specs.Steps.{copying, looking_at, phase_turn}
 use Rattle.wfe_core.specs.declared.op.Op.{Op}
@@ -17,7 +17,7 @@ use Rattle.wfe_core.specs.defs.declared.call.Answer.{Answer}
 use Rattle.wfe_core.specs.defs.declared.call.Call.TheVariants as calls
 use Rattle.wfe_core.specs.defs.declared.call.Call.{Call}
 use Rattle.wfe_core.specs.defs.declared.event.Event.{Event}
-use Rattle.wfe_core.specs.words.Schemes.{has_one_interval}
+use Rattle.wfe_core.specs.words.Schemes.{has_one_interval, publishes_rows}
 use Rattle.wfe_core.specs.words.declared.config.Config.{Config}
 use Rattle.wfe_core.specs.words.declared.layout.Layout.{Layout}
 use Rattle.wfe_drive_call.specs.drive_words.Comes.{Given, lent}
@@ -94,7 +94,7 @@ look_keeps stood index key (FindValue slot version pair) post desk found e = e
 
 turn_keeps : (stood : Option ℕ) (phase : Phase) (post : Post) (desk : Desk) (found : ℕ) → IsFor stood post phase → TurnKeeps stood (phase_turn phase (counted post) desk found)
 turn_keeps stood (Works (Keeping (LoadHeld from index))) post desk found h = load_keeps stood from index (counted post) desk found (has_one_interval (scheme_of (counted post))) h
-turn_keeps stood (Works (Keeping (StoreHeld from index era))) post desk found h = copied_keeps stood from index (counted post) desk (reserves_index (counted post) index era) (stands (counted post) from) h
+turn_keeps stood (Works (Keeping (StoreHeld from index era))) post desk found h = copied_keeps stood from index (counted post) desk (publishes_index (publishes_rows (scheme_of (counted post))) (counted post) index era) (stands (counted post) from) h
 turn_keeps stood (Works (Keeping (Looks index key at))) post desk found h = look_keeps stood index key at (counted post) desk found h
 turn_keeps stood (Works (Keeping (Misses index))) post desk found h = h
 turn_keeps stood phase post desk found h = absurd h
@@ -106,7 +106,7 @@ settled_for stood l post desk rounds (Answers answer) k b = absurd (cc)
 after_for : (stood : Option ℕ) (l : Local) (found : ℕ) → IsFor stood l.post l.phase → busy_in (after l found).phase ≡ true → IsFor stood (after l found).post (after l found).phase
 after_for stood l found h b =
     let t : CallTurn = turn l found in
-    settled_for stood l t.post (noting t.desk (told_by t)) (rounds_told l.rounds (told_by t)) t.outcome (turn_keeps stood l.phase l.post l.desk found h) b
+    settled_for stood l t.post (noting t.desk (told_by t)) (rounds_told (publishes_rows (scheme_of t.post)) l.rounds (told_by t)) t.outcome (turn_keeps stood l.phase l.post l.desk found h) b
 
 -- a seat that has an operation to make is in its call
 busy_at : (l last : Local) (xs : List (Op × ℕ)) (operation : Op × ℕ) → Ran l xs last → Performs last operation → busy_in l.phase ≡ true

@@ -16,7 +16,7 @@ use Rattle.wfe_core.specs.Frames.{SamePlace}
 use Rattle.wfe_core.specs.Keep.{parting_from, parting_index}
 use Rattle.wfe_core.specs.Locals.{Local, after, asks, busy_in}
 use Rattle.wfe_core.specs.Phases.Base.{Clear}
-use Rattle.wfe_core.specs.Posts.{standing_from}
+use Rattle.wfe_core.specs.Posts.{shown_word, standing_from}
 use Rattle.wfe_core.proofs.CallFrames.{stays_in_place}
 use Rattle.wfe_core.specs.CallReady.{IsCallReady}
 use Rattle.wfe_drive_rule.specs.drive_cells.Unit.{shown}
@@ -29,10 +29,12 @@ use Rattle.wfe_drive_rule.specs.Views.{Handle, call_in, leave_if, own, standing}
 use Rattle.wfe_drive_shared.specs.Parting.{Parted}
 use Rattle.wfe_drive_shared.proofs.TableWords.{StepMade}
 use Rattle.wfe_drive_shared.proofs.Walked.{ran_more}
+use Rattle.wfe_core.specs.Rounds.{scheme_of}
+use Rattle.wfe_core.specs.words.Schemes.{publishes_rows}
 
 -- something is let go
 abbrev pub is_parting : Phase → Bool
-is_parting (Runs (Releases (Parting at)) (Clear index)) = true
+is_parting (Runs (Releases (Parting at)) (Clear rows index)) = true
 is_parting (Works (Keeping HideSpan)) = true
 is_parting phase = false
 
@@ -43,18 +45,18 @@ record Parts (l m : Local) : Type 0 where
   call : m.call ≡ l.call
 
 parts_by : (o : Local) (found : ℕ) (phase : Phase) → o.phase ≡ phase → is_parting phase ≡ true → Parts o (after o found)
-parts_by o found (Runs (Releases (Parting at)) (Clear index)) e h = record { tags = rw e refl; list = rw e refl; call = rw e refl }
+parts_by o found (Runs (Releases (Parting at)) (Clear rows index)) e h = record { tags = rw e refl; list = rw e refl; call = rw e refl }
 parts_by o found (Works (Keeping HideSpan)) e h = record { tags = rw e refl; list = rw e refl; call = rw e refl }
 parts_by o found phase e h = absurd (cc)
 
 -- and is one that the table makes as any other
 pub parting_busy : (phase : Phase) → is_parting phase ≡ true → busy_in phase ≡ true
-parting_busy (Runs (Releases (Parting at)) (Clear index)) h = refl
+parting_busy (Runs (Releases (Parting at)) (Clear rows index)) h = refl
 parting_busy (Works (Keeping HideSpan)) h = refl
 parting_busy phase h = absurd (cc)
 
 parting_stays : (phase : Phase) → is_parting phase ≡ true → is_leaving phase ≡ false
-parting_stays (Runs (Releases (Parting at)) (Clear index)) h = refl
+parting_stays (Runs (Releases (Parting at)) (Clear rows index)) h = refl
 parting_stays (Works (Keeping HideSpan)) h = refl
 parting_stays phase h = absurd (cc)
 
@@ -98,19 +100,19 @@ pub record Cleared (index : ℕ) (now later : Handle) : Type 0 where
   pub phase : (standing later).phase ≡ parting_from (index + 1) (standing later).post
   pub rows : (standing later).post.standing ≡ slice_set (standing now).post.standing index None
 
-clears_on : (o : Local) (index found : ℕ) → o.phase ≡ Runs (Releases (Parting index)) (Clear index) → (after o found).phase ≡ parting_from (index + 1) (after o found).post
-clears_on o index found e = rw e refl
+clears_on : (o : Local) (rows : Bool) (index found : ℕ) → o.phase ≡ Runs (Releases (Parting index)) (Clear rows index) → (after o found).phase ≡ parting_from (index + 1) (after o found).post
+clears_on o rows index found e = rw e refl
 
-clears_row : (o : Local) (index found : ℕ) → o.phase ≡ Runs (Releases (Parting index)) (Clear index) → (after o found).post.standing ≡ slice_set o.post.standing index None
-clears_row o index found e = rw e refl
+clears_row : (o : Local) (rows : Bool) (index found : ℕ) → o.phase ≡ Runs (Releases (Parting index)) (Clear rows index) → (after o found).post.standing ≡ slice_set o.post.standing index None
+clears_row o rows index found e = rw e refl
 
-pub cleared_next : (index found : ℕ) (now later : Handle) → (standing now).phase ≡ Runs (Releases (Parting index)) (Clear index) → StepMade now later found → Cleared index now later
-cleared_next index found now later at s =
+pub cleared_next : (rows : Bool) (index found : ℕ) (now later : Handle) → (standing now).phase ≡ Runs (Releases (Parting index)) (Clear rows index) → StepMade now later found → Cleared index now later
+cleared_next rows index found now later at s =
     let o : Local = lent s.given in
-    let e : o.phase ≡ Runs (Releases (Parting index)) (Clear index) = ap (λ (k : Local). k.phase) s.given.comes.stands ∙ at in
+    let e : o.phase ≡ Runs (Releases (Parting index)) (Clear rows index) = ap (λ (k : Local). k.phase) s.given.comes.stands ∙ at in
     record {
-      phase = subst (λ (k : Local). k.phase ≡ parting_from (index + 1) k.post) (sym s.next) (clears_on o index found e);
-      rows = ap (λ (k : Local). k.post.standing) s.next ∙ clears_row o index found e ∙ ap (λ (k : Local). slice_set k.post.standing index None) s.given.comes.stands;
+      phase = subst (λ (k : Local). k.phase ≡ parting_from (index + 1) k.post) (sym s.next) (clears_on o rows index found e);
+      rows = ap (λ (k : Local). k.post.standing) s.next ∙ clears_row o rows index found e ∙ ap (λ (k : Local). slice_set k.post.standing index None) s.given.comes.stands;
     }
 
 hides_on : (o : Local) (found : ℕ) → o.phase ≡ Works (Keeping HideSpan) → (after o found).phase ≡ Works (Keeping MarkLeft)
@@ -120,18 +122,28 @@ pub hidden_next : (found : ℕ) (now later : Handle) → (standing now).phase �
 hidden_next found now later at s = ap (λ (k : Local). k.phase) s.next ∙ hides_on (lent s.given) found (ap (λ (k : Local). k.phase) s.given.comes.stands ∙ at)
 
 -- the operations
-abbrev clear_op : (index : ℕ) → Layout → (seat : ℕ) → (tags : List ℕ) → Op
-clear_op index layout seat tags = Store (number layout (Index seat index)) (reservation_word (record { era = 0; tag = slice_index tags index }))
+abbrev clear_op : (index : ℕ) → Layout → (seat word : ℕ) → Op
+clear_op index layout seat word = Store (number layout (Index seat index)) word
 
-asks_clear_of : (index : ℕ) (l : Local) → l.phase ≡ Runs (Releases (Parting index)) (Clear index) → asks l ≡ clear_op index l.post.layout l.post.seat l.post.tags
-asks_clear_of index l e = rw e refl
+same_word : (rows : Bool) (index : ℕ) (p q : Post) → p.tags ≡ q.tags → shown_word rows p index 0 ≡ shown_word rows q index 0
+same_word false index p q e = ap (λ (tags : List ℕ). reservation_word (record { era = 0; tag = slice_index tags index })) e
+same_word true index p q e = refl
 
-pub asks_clear : (index : ℕ) (l : Local) (post : Post) → l.phase ≡ Runs (Releases (Parting index)) (Clear index) → SamePlace post l.post → l.post.tags ≡ post.tags → clear_op index post.layout post.seat post.tags ≡ asks l
-asks_clear index l post e place tags =
-    sym (asks_clear_of index l e ∙ ap (λ (d : Layout). clear_op index d l.post.seat l.post.tags) place.layout ∙ ap (λ (i : ℕ). clear_op index post.layout i l.post.tags) place.seat ∙ ap (clear_op index post.layout post.seat) tags)
+asks_clear_of : (rows : Bool) (index : ℕ) (l : Local) → l.phase ≡ Runs (Releases (Parting index)) (Clear rows index) → asks l ≡ clear_op index l.post.layout l.post.seat (shown_word rows l.post index 0)
+asks_clear_of rows index l e = rw e refl
+
+pub asks_clear : (rows : Bool) (index : ℕ) (l : Local) (post : Post) → l.phase ≡ Runs (Releases (Parting index)) (Clear rows index) → SamePlace post l.post → l.post.tags ≡ post.tags → clear_op index post.layout post.seat (shown_word rows post index 0) ≡ asks l
+asks_clear rows index l post e place tags =
+    let word : ℕ = shown_word rows l.post index 0 in
+    sym (asks_clear_of rows index l e ∙ ap (λ (d : Layout). clear_op index d l.post.seat word) place.layout ∙ ap (λ (i : ℕ). clear_op index post.layout i word) place.seat
+    ∙ ap (clear_op index post.layout post.seat) (same_word rows index l.post post tags))
 
 asks_hide_of : (l : Local) → l.phase ≡ Works (Keeping HideSpan) → asks l ≡ Store (number l.post.layout (Interval l.post.seat)) 0
 asks_hide_of l e = rw e refl
+
+-- the layout of the seat's post is that of the table
+pub shows_rows : (l : Local) (post : Post) (rows : Bool) → SamePlace post l.post → rows ≡ publishes_rows (scheme_of post) → publishes_rows (scheme_of l.post) ≡ rows
+shows_rows l post rows place e = ap (λ (d : Layout). publishes_rows d.config.scheme) place.layout ∙ sym e
 
 pub asks_hide : (l : Local) (post : Post) → l.phase ≡ Works (Keeping HideSpan) → SamePlace post l.post → Store (number post.layout (Interval post.seat)) 0 ≡ asks l
 asks_hide l post e place =
@@ -146,35 +158,40 @@ none_by : (index : ℕ) (row : Option ℕ) (rows : List (Option ℕ)) → is_som
 none_by index (Some slot) rows h = absurd (cc)
 none_by index None rows h = refl
 
-pub row_there : (index : ℕ) (rows had : List (Option ℕ)) → drop index rows ≡ drop index had → index < length had → is_some (get_or had index None) ≡ true → parting_index (standing_from index (drop index rows)) ≡ Runs (Releases (Parting index)) (Clear index)
-row_there index rows had same below stood =
-    ap (λ (r : List (Option ℕ)). parting_index (standing_from index r)) (same ∙ drop_more had index None below)
-    ∙ ap parting_index (stood_by index (get_or had index None) (drop (index + 1) had) stood)
+row_there : (rows : Bool) (index : ℕ) (stood had : List (Option ℕ)) → drop index stood ≡ drop index had → index < length had → is_some (get_or had index None) ≡ true
+    → parting_index rows (standing_from index (drop index stood)) ≡ Runs (Releases (Parting index)) (Clear rows index)
+row_there rows index stood had same below is =
+    ap (λ (r : List (Option ℕ)). parting_index rows (standing_from index r)) (same ∙ drop_more had index None below)
+    ∙ ap (parting_index rows) (stood_by index (get_or had index None) (drop (index + 1) had) is)
+
+pub row_by : (shown rows : Bool) (index : ℕ) (stood had : List (Option ℕ)) → shown ≡ rows → drop index stood ≡ drop index had → index < length had → is_some (get_or had index None) ≡ true
+    → parting_index shown (standing_from index (drop index stood)) ≡ Runs (Releases (Parting index)) (Clear rows index)
+row_by shown rows index stood had e same below is = ap (λ (b : Bool). parting_index b (standing_from index (drop index stood))) e ∙ row_there rows index stood had same below is
 
 pub next_same : (index : ℕ) (rows had : List (Option ℕ)) → drop index rows ≡ drop index had → drop (index + 1) rows ≡ drop (index + 1) had
 next_same index rows had same = sym (drop-drop 1 index rows) ∙ ap (drop 1) same ∙ drop-drop 1 index had
 
-pub no_row : (index : ℕ) (rows had : List (Option ℕ)) → drop index rows ≡ drop index had → index < length had → is_some (get_or had index None) ≡ false
-    → parting_index (standing_from index (drop index rows)) ≡ parting_index (standing_from (index + 1) (drop (index + 1) rows))
-no_row index rows had same below none =
-    ap (λ (r : List (Option ℕ)). parting_index (standing_from index r)) (same ∙ drop_more had index None below)
-    ∙ ap parting_index (none_by index (get_or had index None) (drop (index + 1) had) none)
-    ∙ ap (λ (r : List (Option ℕ)). parting_index (standing_from (index + 1) r)) (sym (next_same index rows had same))
+pub no_row : (rows : Bool) (index : ℕ) (stood had : List (Option ℕ)) → drop index stood ≡ drop index had → index < length had → is_some (get_or had index None) ≡ false
+    → parting_index rows (standing_from index (drop index stood)) ≡ parting_index rows (standing_from (index + 1) (drop (index + 1) stood))
+no_row rows index stood had same below none =
+    ap (λ (r : List (Option ℕ)). parting_index rows (standing_from index r)) (same ∙ drop_more had index None below)
+    ∙ ap (parting_index rows) (none_by index (get_or had index None) (drop (index + 1) had) none)
+    ∙ ap (λ (r : List (Option ℕ)). parting_index rows (standing_from (index + 1) r)) (sym (next_same index stood had same))
 
 pub row_gone : (index : ℕ) (rows had later : List (Option ℕ)) → drop index rows ≡ drop index had → later ≡ slice_set rows index None → drop (index + 1) later ≡ drop (index + 1) had
 row_gone index rows had later same gone = ap (drop (index + 1)) gone ∙ drop-set-lt (index + 1) rows index None (omega arith) ∙ next_same index rows had same
 
-pub no_more : (index : ℕ) (rows had : List (Option ℕ)) → drop index rows ≡ drop index had → length had ≤ index → parting_index (standing_from index (drop index rows)) ≡ Works (Keeping MarkLeft)
-no_more index rows had same past = ap (λ (r : List (Option ℕ)). parting_index (standing_from index r)) (same ∙ drop_of_length-le had past)
+pub no_more : (rows : Bool) (index : ℕ) (stood had : List (Option ℕ)) → drop index stood ≡ drop index had → length had ≤ index → parting_index rows (standing_from index (drop index stood)) ≡ Works (Keeping MarkLeft)
+no_more rows index stood had same past = ap (λ (r : List (Option ℕ)). parting_index rows (standing_from index r)) (same ∙ drop_of_length-le had past)
 
 -- an index at which a row stands is one of the table's
-pub index_fits : (l : Local) → Comes l → (index : ℕ) → l.phase ≡ Runs (Releases (Parting index)) (Clear index) → index < l.post.layout.config.indexes
-index_fits l c index e =
-    let ready : IsCallReady (Runs (Releases (Parting index)) (Clear index)) l.post (shown l).desk = subst (λ (p : Phase). IsCallReady p l.post (shown l).desk) e (may_ask l c).ready in
+pub index_fits : (l : Local) → Comes l → (rows : Bool) (index : ℕ) → l.phase ≡ Runs (Releases (Parting index)) (Clear rows index) → index < l.post.layout.config.indexes
+index_fits l c rows index e =
+    let ready : IsCallReady (Runs (Releases (Parting index)) (Clear rows index)) l.post (shown l).desk = subst (λ (p : Phase). IsCallReady p l.post (shown l).desk) e (may_ask l c).ready in
     ready.0
 
-pub fits_post : (l : Local) → Comes l → (index : ℕ) (post : Post) → l.phase ≡ Runs (Releases (Parting index)) (Clear index) → SamePlace post l.post → index < post.layout.config.indexes
-fits_post l c index post e place = subst (λ (d : Layout). index < d.config.indexes) place.layout (index_fits l c index e)
+pub fits_post : (l : Local) → Comes l → (rows : Bool) (index : ℕ) (post : Post) → l.phase ≡ Runs (Releases (Parting index)) (Clear rows index) → SamePlace post l.post → index < post.layout.config.indexes
+fits_post l c rows index post e place = subst (λ (d : Layout). index < d.config.indexes) place.layout (index_fits l c rows index e)
 
 pub has_index : (layout : Layout) (seat index : ℕ) → seat < layout.config.seats → index < layout.config.indexes → has layout (Index seat index) ≡ true
 has_index layout seat index s i = grind (arith, nat_tests)

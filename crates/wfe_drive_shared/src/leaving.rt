@@ -44,8 +44,8 @@ impl Seat {
 impl Shared {
     /// Lets a seat of this table leave: nothing stands at it any more, and the list of the rows that it has
     /// retired is at its place, from which another seat may take it over. The seat is used up, and makes no
-    /// further call. It takes no memory. Under Hazard Eras and Wait-Free Eras it takes a step for each index
-    /// from 2 on at which a row stands, at most 6, and one more; under 2GE one step, and another where an
+    /// further call. It takes no memory. It takes a step for each index from 2 on at which a row stands, at
+    /// most 6, and one more; under 2GE, where no index publishes by itself, one step, and another where an
     /// interval stands. Keep what is given back, and hand it in when the table is closed: without it
     /// `close_left` says that a seat is missing.
     pub fn set_place(&self, seat: Seat) -> LeftSeat

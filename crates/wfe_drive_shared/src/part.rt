@@ -4,15 +4,17 @@ ghost use Rattle.wfe_core.specs.Calls.{HideSpan, Keeping, MarkLeft, Parting, Rel
 ghost use Rattle.wfe_core.specs.Phases.Base.{Clear};
 ghost use Rattle.wfe_core.specs.Keep.{parting, parting_from};
 ghost use Rattle.wfe_core.specs.Locals.{begun_post};
+ghost use Rattle.wfe_core.specs.Rounds.{scheme_of};
 ghost use Rattle.wfe_core.specs.Valid.{IsValid};
 ghost use Rattle.wfe_core.specs.defs.declared.call.Call.TheVariants as calls;
 ghost use Rattle.wfe_core.specs.words.Place.Place.{PlaceOf};
 ghost use Rattle.wfe_core.specs.words.Place.{number};
+ghost use Rattle.wfe_core.specs.words.Schemes.{publishes_rows};
 ghost use Rattle.wfe_drive_rule.specs.Handles.{IsBare, IsIdle, IsResting, IsSeated, IsSized};
 ghost use Rattle.wfe_drive_rule.specs.Views.{Handle as ViewHandle, own, standing};
 ghost use Rattle.wfe_drive_shared.specs.Parting.{Departed, Parted};
 
-use wfe_core::{Call, Op, Post, RetireList, SchemeKind, index_word};
+use wfe_core::{Call, Op, Post, RetireList, SchemeKind, shown_word};
 use wfe_drive_rule::{Handle, Ledger, begin, hand_list, step};
 
 // Lets go of what stands at the seat's indexes from 2 on, one after the other, each in one step. It answers
@@ -26,14 +28,22 @@ fn clear_rows(ledger: &Ledger, handle: &mut Handle, slot: usize, post: &Post) ->
     ensures ids { handle.new.table_id ≡ handle.old.table_id }
     ensures parted { Parted ledger.now.key slot post.now handle.old.me (Works (Keeping MarkLeft)) result handle.new.me }
 {
+    let rows = has_rows(post);
     let mut first = true;
     for index in 2..8u32 {
         if post.standing[index as usize].is_some() {
-            clear_row(ledger, handle, slot, post, index, first);
+            clear_row(ledger, handle, slot, post, index, rows, first);
             first = false;
         }
     }
     first
+}
+
+// Whether index words publish rows.
+fn has_rows(post: &Post) -> bool
+    ensures { result ≡ publishes_rows (scheme_of post.now) }
+{
+    matches!(post.layout.config().scheme, SchemeKind::Hp)
 }
 
 // One such step.
@@ -43,20 +53,21 @@ fn clear_row(
     slot: usize,
     post: &Post,
     index: u32,
+    rows: bool,
     first: bool,
 )
     requires ids { handle.old.table_id ≡ ledger.now.table_id }
     requires sized { IsSized ledger.now.table_id ledger.now.key }
     requires valid { IsValid post.now }
-    requires parted { (old : ViewHandle) × Parted ledger.now.key slot post.now old (Runs (Releases (Parting index)) (Clear index)) first handle.old.me }
+    requires parted { (old : ViewHandle) × Parted ledger.now.key slot post.now old (Runs (Releases (Parting index)) (Clear rows index)) first handle.old.me }
     ensures ids { handle.new.table_id ≡ handle.old.table_id }
-    ensures parted { (old : ViewHandle) → Parted ledger.now.key slot post.now old (Runs (Releases (Parting index)) (Clear index)) first handle.old.me
+    ensures parted { (old : ViewHandle) → Parted ledger.now.key slot post.now old (Runs (Releases (Parting index)) (Clear rows index)) first handle.old.me
         → Parted ledger.now.key slot post.now old (parting_from (index + 1) (standing handle.new.me).post) false handle.new.me }
-    ensures rows { (standing handle.new.me).post.standing ≡ slice_set (standing handle.old.me).post.standing index None }
+    ensures stands { (standing handle.new.me).post.standing ≡ slice_set (standing handle.old.me).post.standing index None }
 {
     let op = Op::Store {
         word: post.layout.index(post.seat, index),
-        value: index_word(post, index, 0),
+        value: shown_word(rows, post, index, 0),
     };
     step(ledger, handle, slot, op, first);
 }

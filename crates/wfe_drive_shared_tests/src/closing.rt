@@ -9,7 +9,12 @@ use std::process::Abort;
 use std::test::Fail;
 use wfe_drive_shared::{Call, CloseError, Closed, Config, SchemeKind, Seat, Shared};
 
-const SCHEMES: [SchemeKind; 3] = [SchemeKind::He, SchemeKind::Ibr, SchemeKind::Wfe];
+// The schemes that publish eras.
+const ERAS: [SchemeKind; 3] = [SchemeKind::He, SchemeKind::Ibr, SchemeKind::Wfe];
+
+const HP: SchemeKind = SchemeKind::Hp;
+
+const SCHEMES: [SchemeKind; 4] = [SchemeKind::He, SchemeKind::Ibr, SchemeKind::Wfe, HP];
 
 // What a close hands back where a seat is missing, with the place of that seat.
 fn handed_back(
@@ -164,8 +169,10 @@ fn a_closed_table_shows_pairs_queue_and_rows_in_use(rt: HostRuntime) -> Result<(
         };
         let closed = closed_after(&rt, config, &calls)?;
         // The row that the second put replaced and the queue's first dummy went back. In use stay
-        // a row for each bucket, the dummy that the dequeue left, and two items.
-        expect_closed(&rt, &closed, 2, 3, &[(2, 6), (3, 7)], &[1, 2, 3, 4, 5]);
+        // a row for each bucket, the dummy that the dequeue left, and two items. Each of the two
+        // retirements has moved the clock, but under hazard pointers.
+        let clock = if scheme == HP { 1 } else { 3 };
+        expect_closed(&rt, &closed, 2, clock, &[(2, 6), (3, 7)], &[1, 2, 3, 4, 5]);
         expect_bucket(&rt, &closed, 0, 1, &[(4, 40)]);
         expect_bucket(&rt, &closed, 1, 2, &[(7, 70), (3, 30)]);
     }
@@ -180,11 +187,15 @@ fn a_retired_row_that_is_held_is_still_in_use(rt: HostRuntime) -> Result<(), Fai
         (0, Call::Put { key: 7, value: 71 }),
         (0, Call::Remove { key: 7 }),
     ];
-    for scheme in SCHEMES {
+    for scheme in ERAS {
         let closed = closed_after(&rt, double(scheme), &calls)?;
         // The row that is held, the one whose life meets the same era, the empty one, and the queue's.
         expect_closed(&rt, &closed, 1, 3, &[], &[0, 1, 2, 8]);
         expect_bucket(&rt, &closed, 0, 3, &[]);
     }
+    let closed = closed_after(&rt, double(HP), &calls)?;
+    // A row that no one holds went back, whatever its life.
+    expect_closed(&rt, &closed, 1, 1, &[], &[0, 2, 8]);
+    expect_bucket(&rt, &closed, 0, 3, &[]);
     Ok(())
 }

@@ -1,66 +1,22 @@
 // What calls on the rows that a seat keeps at its indexes from 2 on answer, in how many steps, and which
 // rows go back meanwhile, where one thread makes the calls of both seats.
 use crate::bench::Bench;
-use crate::parts::{Part, double, keeping, makes, play};
+use crate::calls::{STILL, copy, done, drop_index, hold, holding, look, looked, moved, put};
+use crate::parts::{HE, IBR, Part, WFE, double, keeping, makes, play};
 use std::process::Abort;
 use std::test::Fail;
-use wfe_drive_shared::{Answer, Call, ClockMove, Config, SchemeKind};
-
-const HE: SchemeKind = SchemeKind::He;
-
-const IBR: SchemeKind = SchemeKind::Ibr;
-
-const WFE: SchemeKind = SchemeKind::Wfe;
-
-fn put(value: u64) -> Call {
-    Call::Put { key: 7, value }
-}
-
-fn hold() -> Call {
-    Call::Hold { key: 7 }
-}
-
-fn copy(from: u32, index: u32) -> Call {
-    Call::Copy { from, index }
-}
-
-fn drop_index(index: u32) -> Call {
-    Call::DropIndex { index }
-}
-
-fn look(index: u32, key: u64) -> Call {
-    Call::Look { index, key }
-}
-
-fn moved(version: u64, era: u32) -> Answer {
-    Answer::Done {
-        version,
-        clock: ClockMove::Moved { era },
-    }
-}
-
-fn looked(slot: u32, version: u64, value: Option<u64>) -> Answer {
-    Answer::Looked {
-        slot,
-        version,
-        value,
-    }
-}
+use wfe_drive_shared::{Answer, Call, Config};
 
 // Seat 0 puts the key, and seat 1 holds its row.
 fn held<'a>() -> [Part<'a>; 2] {
-    let done = Answer::Done {
-        version: 1,
-        clock: ClockMove::Still,
-    };
     [
-        makes(0, put(70), 13, done).gives(0, 1),
-        makes(1, hold(), 4, Answer::Holding { slot: 0 }),
+        makes(0, put(7, 70), 13, done(1, STILL)).gives(0, 1),
+        makes(1, hold(7), 4, holding(0)),
     ]
 }
 
 // Plays the parts on a new table of this setting, once seat 1 holds the row of version 1.
-fn play_on<R: Abort + AllocGlobal>(rt: &R, config: Config, parts: &[Part]) -> Result<(), Fail> {
+fn play_held<R: Abort + AllocGlobal>(rt: &R, config: Config, parts: &[Part]) -> Result<(), Fail> {
     let mut bench = Bench::new(rt.alloc(), config)?;
     play(rt, &mut bench, &held());
     play(rt, &mut bench, parts);
@@ -74,7 +30,7 @@ fn each_scheme_shows_a_version_that_is_kept_and_was_replaced(rt: HostRuntime) ->
         let parts = [
             makes(1, copy(2, 3), copies, Answer::Copied { slot: 0 }),
             makes(1, Call::Release, 1, Answer::Released),
-            makes(0, put(71), second, moved(2, 2))
+            makes(0, put(7, 71), second, done(2, moved(2)))
                 .gives(1, 1)
                 .retires(0, 1, 1),
             makes(1, look(3, 7), 4, looked(0, 1, Some(70))),
@@ -82,7 +38,7 @@ fn each_scheme_shows_a_version_that_is_kept_and_was_replaced(rt: HostRuntime) ->
             makes(1, drop_index(3), 1, Answer::Dropped),
             makes(0, Call::Scan, scans, scanned).takes_back(&[0]),
         ];
-        play_on(&rt, keeping(scheme), &parts)?;
+        play_held(&rt, keeping(scheme), &parts)?;
     }
     Ok(())
 }
@@ -98,7 +54,7 @@ fn each_scheme_finds_nothing_where_no_row_is_kept(rt: HostRuntime) -> Result<(),
             makes(1, drop_index(3), 1, Answer::Dropped),
             makes(1, drop_index(2), 1, Answer::Dropped),
         ];
-        play_on(&rt, keeping(scheme), &parts)?;
+        play_held(&rt, keeping(scheme), &parts)?;
     }
     Ok(())
 }
@@ -107,10 +63,10 @@ fn each_scheme_finds_nothing_where_no_row_is_kept(rt: HostRuntime) -> Result<(),
 fn two_versions_of_a_bucket_are_kept_at_two_indexes(rt: HostRuntime) -> Result<(), Fail> {
     let parts = [
         makes(1, copy(2, 3), 2, Answer::Copied { slot: 0 }),
-        makes(0, put(71), 30, moved(2, 2))
+        makes(0, put(7, 71), 30, done(2, moved(2)))
             .gives(1, 1)
             .retires(0, 1, 1),
-        makes(1, hold(), 5, Answer::Holding { slot: 1 }),
+        makes(1, hold(7), 5, Answer::Holding { slot: 1 }),
         makes(1, look(3, 7), 4, looked(0, 1, Some(70))),
         makes(1, look(2, 7), 4, looked(1, 2, Some(71))),
         // What stood at index 3 is let go, so the first row goes back.
@@ -118,7 +74,7 @@ fn two_versions_of_a_bucket_are_kept_at_two_indexes(rt: HostRuntime) -> Result<(
         makes(1, look(3, 7), 4, looked(1, 2, Some(71))),
         makes(0, Call::Scan, 9, Answer::Scanned { kept: 0, back: 1 }).takes_back(&[0]),
     ];
-    play_on(&rt, keeping(HE), &parts)
+    play_held(&rt, keeping(HE), &parts)
 }
 
 #[test]
@@ -132,14 +88,14 @@ fn an_index_is_kept_that_was_copied_from_one_above_two(rt: HostRuntime) -> Resul
         makes(1, copy(3, 4), 2, Answer::Copied { slot: 0 }),
         makes(1, Call::Release, 1, Answer::Released),
         makes(1, drop_index(3), 1, Answer::Dropped),
-        makes(0, put(71), 32, moved(2, 2))
+        makes(0, put(7, 71), 32, done(2, moved(2)))
             .gives(1, 1)
             .retires(0, 1, 1),
         makes(1, look(4, 7), 4, looked(0, 1, Some(70))),
         makes(1, drop_index(4), 1, Answer::Dropped),
         makes(0, Call::Scan, 11, Answer::Scanned { kept: 0, back: 1 }).takes_back(&[0]),
     ];
-    play_on(&rt, config, &parts)
+    play_held(&rt, config, &parts)
 }
 
 #[test]

@@ -5,7 +5,11 @@
 #[cfg(test)]
 mod bench;
 #[cfg(test)]
+mod calls;
+#[cfg(test)]
 mod closing;
+#[cfg(test)]
+mod hazards;
 #[cfg(test)]
 mod kept;
 #[cfg(test)]

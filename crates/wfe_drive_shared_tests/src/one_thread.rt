@@ -3,73 +3,13 @@
 ghost use Rattle.std.specs.Prelude.{◌<◌};
 
 use crate::bench::Bench;
-use crate::parts::{Part, double, makes, play, single};
+use crate::calls::{
+    STILL, clock, done, enqueue, get, got, hold, holding, moved, put, queued, remove, scanned,
+};
+use crate::parts::{HE, IBR, Part, WFE, double, makes, play, play_on, single};
 use std::process::Abort;
 use std::test::Fail;
 use wfe_drive_shared::{Answer, Call, ClockMove, Config, SchemeKind};
-
-const HE: SchemeKind = SchemeKind::He;
-
-const IBR: SchemeKind = SchemeKind::Ibr;
-
-const WFE: SchemeKind = SchemeKind::Wfe;
-
-const STILL: ClockMove = ClockMove::Still;
-
-fn get(key: u64) -> Call {
-    Call::Get { key }
-}
-
-fn put(key: u64, value: u64) -> Call {
-    Call::Put { key, value }
-}
-
-fn remove(key: u64) -> Call {
-    Call::Remove { key }
-}
-
-fn enqueue(value: u64) -> Call {
-    Call::Enqueue { value }
-}
-
-fn hold(key: u64) -> Call {
-    Call::Hold { key }
-}
-
-fn moved(era: u32) -> ClockMove {
-    ClockMove::Moved { era }
-}
-
-fn clock(outcome: ClockMove) -> Answer {
-    Answer::Clock { outcome }
-}
-
-fn done(version: u64, clock: ClockMove) -> Answer {
-    Answer::Done { version, clock }
-}
-
-fn got(version: u64, value: Option<u64>) -> Answer {
-    Answer::Got { version, value }
-}
-
-fn queued(number: u64) -> Answer {
-    Answer::Queued { number }
-}
-
-fn holding(slot: u32) -> Answer {
-    Answer::Holding { slot }
-}
-
-fn scanned(kept: u32, back: u32) -> Answer {
-    Answer::Scanned { kept, back }
-}
-
-// Plays the parts on a new table of this setting.
-fn play_on<R: Abort + AllocGlobal>(rt: &R, config: Config, parts: &[Part]) -> Result<(), Fail> {
-    let mut bench = Bench::new(rt.alloc(), config)?;
-    play(rt, &mut bench, parts);
-    Ok(())
-}
 
 #[test]
 fn a_put_is_done_and_a_get_finds_its_value(rt: HostRuntime) -> Result<(), Fail> {

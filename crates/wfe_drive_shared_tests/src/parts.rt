@@ -1,7 +1,16 @@
 // Whole calls of the seats of a table, and what each has to come to.
 use crate::bench::Bench;
 use std::process::Abort;
+use std::test::Fail;
 use wfe_drive_shared::{Answer, Call, Config, Lifetime, SchemeKind};
+
+pub const HE: SchemeKind = SchemeKind::He;
+
+pub const IBR: SchemeKind = SchemeKind::Ibr;
+
+pub const WFE: SchemeKind = SchemeKind::Wfe;
+
+pub const HP: SchemeKind = SchemeKind::Hp;
 
 /// A whole call of a seat, and what it has to come to.
 #[derive(Clone, Copy)]
@@ -80,6 +89,13 @@ pub fn play<R: Abort>(rt: &R, bench: &mut Bench, parts: &[Part]) {
             "call {place} under {scheme:?}"
         );
     }
+}
+
+/// Plays the parts on a new table of this setting.
+pub fn play_on<R: Abort + AllocGlobal>(rt: &R, config: Config, parts: &[Part]) -> Result<(), Fail> {
+    let mut bench = Bench::new(rt.alloc(), config)?;
+    play(rt, &mut bench, parts);
+    Ok(())
 }
 
 /// A table of one seat, eight rows besides the queue's and one bucket, where each retirement moves the

@@ -2,49 +2,11 @@
 ghost use Rattle.std.specs.Prelude.{◌<◌, ◌≤◌};
 
 use crate::bench::Bench;
-use crate::parts::{Part, double, makes, play, single};
+use crate::calls::{STILL, done, moved, put, put_if, stale};
+use crate::parts::{HE, IBR, Part, WFE, double, makes, play, play_on, single};
 use std::process::Abort;
 use std::test::Fail;
-use wfe_drive_shared::{Answer, Call, ClockMove, Config, SchemeKind};
-
-const HE: SchemeKind = SchemeKind::He;
-
-const IBR: SchemeKind = SchemeKind::Ibr;
-
-const WFE: SchemeKind = SchemeKind::Wfe;
-
-const STILL: ClockMove = ClockMove::Still;
-
-fn put(key: u64, value: u64) -> Call {
-    Call::Put { key, value }
-}
-
-fn put_if(key: u64, value: u64, version: u64) -> Call {
-    Call::PutIf {
-        key,
-        value,
-        version,
-    }
-}
-
-fn moved(era: u32) -> ClockMove {
-    ClockMove::Moved { era }
-}
-
-fn done(version: u64, clock: ClockMove) -> Answer {
-    Answer::Done { version, clock }
-}
-
-fn stale(version: u64) -> Answer {
-    Answer::Stale { version }
-}
-
-// Plays the parts on a new table of this setting.
-fn play_on<R: Abort + AllocGlobal>(rt: &R, config: Config, parts: &[Part]) -> Result<(), Fail> {
-    let mut bench = Bench::new(rt.alloc(), config)?;
-    play(rt, &mut bench, parts);
-    Ok(())
-}
+use wfe_drive_shared::{Answer, Call, Config};
 
 #[test]
 fn each_scheme_puts_at_the_version_that_is_named_alone(rt: HostRuntime) -> Result<(), Fail> {

@@ -1,98 +1,18 @@
 // What each call answers and in how many steps, once at each of its ends, with no other call under way.
 // Each count is that of the steps as the calls are described: the loads and stores of the protection,
 // of the row, of the claim, of the clearing, and of retirement, move and scan where they are due.
+use crate::calls::{STILL, clock, done, got, moved, put, queued, scanned, taken};
 use crate::parts::Part::{Begins, Ends, Goes, Makes};
-use crate::parts::{Part, play_parts};
-use std::process::Abort;
+use crate::parts::{HE, IBR, WFE, narrow, play, single};
 use std::test::Fail;
-use wfe_core::{Answer, Call, ClockMove, Config, SchemeKind};
-use wfe_drive_bench::on_bench;
-
-const HE: SchemeKind = SchemeKind::He;
-
-const IBR: SchemeKind = SchemeKind::Ibr;
-
-const WFE: SchemeKind = SchemeKind::Wfe;
-
-const STILL: ClockMove = ClockMove::Still;
-
-// The setting of most tests, of one seat.
-fn single(scheme: SchemeKind) -> Config {
-    Config {
-        scheme,
-        seats: 1,
-        indexes: 3,
-        slots: 8,
-        buckets: 1,
-        tries: 2,
-        every: 1,
-        last_era: 100,
-        last_version: 100,
-        pairs: 6,
-    }
-}
-
-// Two seats and three rows, of which the queue has one from the start.
-fn narrow(scheme: SchemeKind) -> Config {
-    Config {
-        seats: 2,
-        slots: 2,
-        ..single(scheme)
-    }
-}
-
-fn put(value: u64) -> Call {
-    Call::Put { key: 7, value }
-}
-
-fn put_key(key: u64) -> Call {
-    Call::Put { key, value: 10 }
-}
-
-fn moved(era: u32) -> ClockMove {
-    ClockMove::Moved { era }
-}
-
-fn done(version: u64, clock: ClockMove) -> Answer {
-    Answer::Done { version, clock }
-}
-
-fn got(version: u64, value: Option<u64>) -> Answer {
-    Answer::Got { version, value }
-}
-
-fn queued(number: u64) -> Answer {
-    Answer::Queued { number }
-}
-
-// The value that a dequeue takes, where its move of the clock is to this era.
-fn taken(number: u64, value: u64, era: u32) -> Answer {
-    Answer::Taken {
-        number,
-        value,
-        clock: moved(era),
-    }
-}
-
-fn clock(outcome: ClockMove) -> Answer {
-    Answer::Clock { outcome }
-}
-
-fn scanned(kept: u32, back: u32) -> Answer {
-    Answer::Scanned { kept, back }
-}
-
-// Plays the parts on a table of this setting.
-fn play<R: Abort + AllocGlobal>(rt: &R, config: Config, parts: &[(u32, Part)]) -> Result<(), Fail> {
-    on_bench(rt.alloc(), config, |bench| play_parts(rt, bench, parts))
-}
+use wfe_core::{Answer, Call, ClockMove, Config};
 
 #[test]
 fn a_get_answers_the_keys_value_or_none(rt: HostRuntime) -> Result<(), Fail> {
     for scheme in [HE, IBR, WFE] {
         let parts = [
             (0, Makes(Call::Get { key: 5 }, 5, got(0, None))),
-            (0, Makes(put(70), 13, done(1, STILL))),
+            (0, Makes(put(7, 70), 13, done(1, STILL))),
             (0, Makes(Call::Get { key: 7 }, 9, got(1, Some(70)))),
             (0, Makes(Call::Get { key: 5 }, 8, got(1, None))),
         ];
@@ -107,8 +27,8 @@ fn a_change_is_done_and_retires_the_row_before(rt: HostRuntime) -> Result<(), Fa
         let remove = Call::Remove { key: 7 };
         let parts = [
             (0, Makes(remove, 5, Answer::Absent { version: 0 })),
-            (0, Makes(put(70), 13, done(1, STILL))),
-            (0, Makes(put(71), second, done(2, moved(2)))),
+            (0, Makes(put(7, 70), 13, done(1, STILL))),
+            (0, Makes(put(7, 71), second, done(2, moved(2)))),
             (0, Makes(remove, removed, done(3, moved(3)))),
             (0, Makes(remove, 7, Answer::Absent { version: 3 })),
             (0, Makes(Call::Get { key: 7 }, 7, got(3, None))),
@@ -126,14 +46,14 @@ fn a_row_has_room_for_six_keys(rt: HostRuntime) -> Result<(), Fail> {
         (WFE, [30, 34, 38, 42, 46], 48),
     ] {
         let parts = [
-            (0, Makes(put_key(1), 13, done(1, STILL))),
-            (0, Makes(put_key(2), ends[0], done(2, moved(2)))),
-            (0, Makes(put_key(3), ends[1], done(3, moved(3)))),
-            (0, Makes(put_key(4), ends[2], done(4, moved(4)))),
-            (0, Makes(put_key(5), ends[3], done(5, moved(5)))),
-            (0, Makes(put_key(6), ends[4], done(6, moved(6)))),
-            (0, Makes(put(70), 19, Answer::BucketFull { version: 6 })),
-            (0, Makes(put_key(3), last, done(7, moved(7)))),
+            (0, Makes(put(1, 10), 13, done(1, STILL))),
+            (0, Makes(put(2, 10), ends[0], done(2, moved(2)))),
+            (0, Makes(put(3, 10), ends[1], done(3, moved(3)))),
+            (0, Makes(put(4, 10), ends[2], done(4, moved(4)))),
+            (0, Makes(put(5, 10), ends[3], done(5, moved(5)))),
+            (0, Makes(put(6, 10), ends[4], done(6, moved(6)))),
+            (0, Makes(put(7, 70), 19, Answer::BucketFull { version: 6 })),
+            (0, Makes(put(3, 10), last, done(7, moved(7)))),
         ];
         play(&rt, single(scheme), &parts)?;
     }
@@ -149,8 +69,8 @@ fn the_last_version_takes_no_change(rt: HostRuntime) -> Result<(), Fail> {
             ..single(scheme)
         };
         let parts = [
-            (0, Makes(put(70), 13, done(1, STILL))),
-            (0, Makes(put(71), 9, spent)),
+            (0, Makes(put(7, 70), 13, done(1, STILL))),
+            (0, Makes(put(7, 71), 9, spent)),
             (0, Makes(Call::Remove { key: 7 }, 9, spent)),
             (0, Makes(Call::Enqueue { value: 5 }, 15, queued(1))),
             (0, Makes(Call::Enqueue { value: 6 }, 7, spent)),
@@ -169,18 +89,18 @@ fn without_a_free_row_a_change_is_refused(rt: HostRuntime) -> Result<(), Fail> {
         (WFE, 32, 34, 30),
     ] {
         let calls = [
-            (put(72), refused),
+            (put(7, 72), refused),
             (Call::Remove { key: 7 }, refused),
             (Call::Enqueue { value: 5 }, queued),
         ];
         for (call, steps) in calls {
             let parts = [
-                (0, Makes(put(70), 13, done(1, STILL))),
+                (0, Makes(put(7, 70), 13, done(1, STILL))),
                 (
                     1,
                     Makes(Call::Hold { key: 7 }, 4, Answer::Holding { slot: 0 }),
                 ),
-                (0, Makes(put(71), second, done(2, moved(2)))),
+                (0, Makes(put(7, 71), second, done(2, moved(2)))),
                 (0, Makes(call, steps, Answer::Full)),
                 (1, Makes(Call::Release, 1, Answer::Released)),
             ];
@@ -193,15 +113,15 @@ fn without_a_free_row_a_change_is_refused(rt: HostRuntime) -> Result<(), Fail> {
 #[test]
 fn a_full_table_recovers_once_the_row_is_released(rt: HostRuntime) -> Result<(), Fail> {
     let parts = [
-        (0, Makes(put(70), 13, done(1, STILL))),
+        (0, Makes(put(7, 70), 13, done(1, STILL))),
         (
             1,
             Makes(Call::Hold { key: 7 }, 4, Answer::Holding { slot: 0 }),
         ),
-        (0, Makes(put(71), 28, done(2, moved(2)))),
-        (0, Makes(put(72), 30, Answer::Full)),
+        (0, Makes(put(7, 71), 28, done(2, moved(2)))),
+        (0, Makes(put(7, 72), 30, Answer::Full)),
         (1, Makes(Call::Release, 1, Answer::Released)),
-        (0, Makes(put(72), 50, done(3, moved(5)))),
+        (0, Makes(put(7, 72), 50, done(3, moved(5)))),
     ];
     play(&rt, narrow(HE), &parts)
 }
@@ -213,7 +133,7 @@ fn a_hold_protects_the_keys_row_until_its_release(rt: HostRuntime) -> Result<(),
         let parts = [
             (0, Makes(hold, 5, Answer::Nothing)),
             (0, Makes(Call::Release, 1, Answer::Released)),
-            (0, Makes(put(70), 13, done(1, STILL))),
+            (0, Makes(put(7, 70), 13, done(1, STILL))),
             (0, Makes(hold, 4, Answer::Holding { slot: 0 })),
             (0, Makes(hold, 5, Answer::Holding { slot: 0 })),
             (0, Makes(Call::Release, 1, Answer::Released)),
@@ -237,7 +157,7 @@ fn an_advance_moves_the_clock_up_to_its_last_era(rt: HostRuntime) -> Result<(), 
                 0,
                 Makes(Call::Advance, 1, clock(ClockMove::EraSpent { era: 3 })),
             ),
-            (0, Makes(put(70), 13, done(1, STILL))),
+            (0, Makes(put(7, 70), 13, done(1, STILL))),
         ];
         play(&rt, config, &parts)?;
     }
@@ -268,11 +188,11 @@ fn a_scan_keeps_a_held_row_and_gives_back_others(rt: HostRuntime) -> Result<(), 
             ..narrow(scheme)
         };
         let parts = [
-            (0, Makes(put(70), 13, done(1, STILL))),
+            (0, Makes(put(7, 70), 13, done(1, STILL))),
             (0, Makes(Call::Scan, reads, scanned(0, 0))),
             (1, Begins(Call::Hold { key: 7 })),
             (1, Goes(3)),
-            (0, Makes(put(71), 20, done(2, STILL))),
+            (0, Makes(put(7, 71), 20, done(2, STILL))),
             (1, Ends(4, Answer::Holding { slot: 0 })),
             (0, Makes(Call::Scan, reads, scanned(1, 0))),
             (1, Makes(Call::Release, 1, Answer::Released)),
@@ -290,7 +210,7 @@ fn a_dequeue_takes_the_first_value_or_finds_none(rt: HostRuntime) -> Result<(), 
             (0, Makes(Call::Dequeue, empty, Answer::Empty)),
             (0, Makes(Call::Enqueue { value: 5 }, 15, queued(1))),
             (0, Makes(Call::Enqueue { value: 6 }, 15, queued(2))),
-            (0, Makes(Call::Dequeue, steps, taken(1, 5, 2))),
+            (0, Makes(Call::Dequeue, steps, taken(1, 5, moved(2)))),
         ];
         play(&rt, single(scheme), &parts)?;
     }
@@ -309,8 +229,8 @@ fn a_dequeue_that_is_overtaken_takes_the_next_value(rt: HostRuntime) -> Result<(
         (0, Makes(Call::Enqueue { value: 6 }, 15, queued(2))),
         (1, Begins(Call::Dequeue)),
         (1, Goes(8)),
-        (0, Makes(Call::Dequeue, 26, taken(1, 5, 2))),
-        (1, Ends(42, taken(2, 6, 3))),
+        (0, Makes(Call::Dequeue, 26, taken(1, 5, moved(2)))),
+        (1, Ends(42, taken(2, 6, moved(3)))),
     ];
     play(&rt, config, &parts)
 }

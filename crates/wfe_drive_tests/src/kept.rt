@@ -1,94 +1,15 @@
 // What calls on rows that stay protected between calls answer and in how many steps, once at each of their
 // ends; conditional puts, and rows with room for fourteen keys. Counts are as in the tests of other calls.
+use crate::calls::{
+    COPY, HOLD, SCAN, STILL, copied, done, drops, holding, look, looked, moved, put, put_if,
+    scanned,
+};
 use crate::parts::Part::{Begins, Ends, Goes, Makes};
-use crate::parts::{Part, play_parts};
+use crate::parts::{HE, IBR, WFE, pair, play, play_parts};
 use std::process::Abort;
 use std::test::Fail;
-use wfe_core::{Answer, Call, ClockMove, Config, SchemeKind};
+use wfe_core::{Answer, Call, Config};
 use wfe_drive_bench::{Bench, on_bench};
-
-const HE: SchemeKind = SchemeKind::He;
-
-const IBR: SchemeKind = SchemeKind::Ibr;
-
-const WFE: SchemeKind = SchemeKind::Wfe;
-
-const STILL: ClockMove = ClockMove::Still;
-
-// Two seats, each with two indexes for rows that stay protected.
-fn pair(scheme: SchemeKind) -> Config {
-    Config {
-        scheme,
-        seats: 2,
-        indexes: 4,
-        slots: 8,
-        buckets: 1,
-        tries: 2,
-        every: 1,
-        last_era: 100,
-        last_version: 100,
-        pairs: 14,
-    }
-}
-
-fn put(key: u64, value: u64) -> Call {
-    Call::Put { key, value }
-}
-
-fn put_if(value: u64, version: u64) -> Call {
-    Call::PutIf {
-        key: 7,
-        value,
-        version,
-    }
-}
-
-const HOLD: Call = Call::Hold { key: 7 };
-
-const COPY: Call = Call::Copy { from: 2, index: 3 };
-
-const SCAN: Call = Call::Scan;
-
-fn drops(index: u32) -> Call {
-    Call::DropIndex { index }
-}
-
-fn look(index: u32, key: u64) -> Call {
-    Call::Look { index, key }
-}
-
-fn done(version: u64, clock: ClockMove) -> Answer {
-    Answer::Done { version, clock }
-}
-
-fn moved(era: u32) -> ClockMove {
-    ClockMove::Moved { era }
-}
-
-fn holding(slot: u32) -> Answer {
-    Answer::Holding { slot }
-}
-
-fn copied(slot: u32) -> Answer {
-    Answer::Copied { slot }
-}
-
-fn looked(version: u64, value: Option<u64>) -> Answer {
-    Answer::Looked {
-        slot: 0,
-        version,
-        value,
-    }
-}
-
-fn scanned(kept: u32, back: u32) -> Answer {
-    Answer::Scanned { kept, back }
-}
-
-// Plays the parts on a table of this setting.
-fn play<R: Abort + AllocGlobal>(rt: &R, config: Config, parts: &[(u32, Part)]) -> Result<(), Fail> {
-    on_bench(rt.alloc(), config, |bench| play_parts(rt, bench, parts))
-}
 
 #[test]
 fn where_nothing_stands_nothing_is_copied_or_found(rt: HostRuntime) -> Result<(), Fail> {

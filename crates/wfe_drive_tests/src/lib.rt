@@ -3,7 +3,11 @@
 #![tactic(auto)]
 
 #[cfg(test)]
+mod calls;
+#[cfg(test)]
 mod each_call;
+#[cfg(test)]
+mod hazards;
 #[cfg(test)]
 mod kept;
 #[cfg(test)]

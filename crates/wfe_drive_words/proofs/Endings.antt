@@ -1,7 +1,7 @@
 -- How a get ends under 2GE, where its seat holds no row.
 use Rattle.std.proofs.Common.{Bool, List, None, Option, Some, [], ap, arith, refl, sym, true, ℕ, ◌+◌, ◌-◌, ◌++◌, ◌==◌, ◌∙◌, ◌∷◌, ◌≡◌, drop, if◌then◌else◌, slice_set}
 use Rattle.std.proofs.lemmas.Bool.{eq-eqb}
-use Rattle.wfe_core.specs.words.Schemes.{has_one_interval}
+use Rattle.wfe_core.specs.words.Schemes.{has_one_interval, publishes_rows}
 use Rattle.wfe_core.specs.words.declared.config.SchemeKind.{SchemeKind}
 use Rattle.wfe_core.specs.words.declared.config.SchemeKind.TheVariants.{Ibr}
 use Rattle.wfe_core.specs.words.Place.Place.{Clock, Interval as IntervalWord}
@@ -54,7 +54,7 @@ got_ends key version value post desk told one free quiet =
     let first : List Event = told ++ events.Got (bucket_of post key) version key value ∷ [] in
     let left : Post = withdrawn post 0 in
     let more : List Event = first ++ cleared 0 (stands post 0) in
-    let clears : Bool → SeatView = λ b. seat_after (clearing_by (Gets key) (Answering answer) post desk first (if b then None else Some (Clear 0))) in
+    let clears : Bool → SeatView = λ b. seat_after (clearing_by (Gets key) (Answering answer) post desk first (if b then None else Some (Clear (publishes_rows (scheme_of post)) 0))) in
     let closed : Bool → Post = λ b. if b then left else post in
     let closes : Bool → SeatView = λ b. seat_after (finishing_by (Gets key) (Answering answer) (closed b) desk (first ++ (if b then cleared 0 (stands post 0) else [])) (finish_base (scheme_of (closed b)) (closed b))) in
     let finishes : Bool → SeatView = λ b. seat_after (finishing_by (Gets key) (Answering answer) left desk more (if b then finish_span (kept_row left) else None)) in

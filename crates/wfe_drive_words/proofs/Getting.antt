@@ -1,30 +1,27 @@
 -- How a get ends under the schemes that clear an index by a step.
-use Rattle.std.proofs.Common.{Bool, List, None, Option, Some, [], ap, arith, false, refl, sym, true, ℕ, ◌+◌, ◌-◌, ◌++◌, ◌==◌, ◌∙◌, ◌∷◌, ◌≡◌, if◌then◌else◌, slice_set}
+use Rattle.std.proofs.Common.{Bool, List, None, Option, Some, [], ap, arith, false, refl, sym, true, ℕ, ◌+◌, ◌-◌, ◌++◌, ◌==◌, ◌∙◌, ◌∷◌, ◌≡◌, if◌then◌else◌, slice_index, slice_set}
 use Rattle.std.proofs.lemmas.Bool.{eq-eqb, ne_eqb}
 use Rattle.std.proofs.lemmas.List.{set-set}
+use Rattle.wfe_core.specs.words.Packed.{reservation_word}
 use Rattle.wfe_core.specs.words.Place.Place.{Index}
-use Rattle.wfe_core.specs.words.Schemes.{has_one_interval}
+use Rattle.wfe_core.specs.words.Schemes.{has_one_interval, publishes_rows}
 use Rattle.wfe_core.specs.words.declared.config.SchemeKind.{SchemeKind}
 use Rattle.wfe_core.specs.defs.declared.call.Answer.{Answer}
 use Rattle.wfe_core.specs.defs.declared.call.Answer.TheVariants as answers
 use Rattle.wfe_core.specs.defs.declared.call.Call.TheVariants as calls_named
 use Rattle.wfe_core.specs.defs.declared.event.Event.{Event}
 use Rattle.wfe_core.specs.defs.declared.event.Event.TheVariants as events
-use Rattle.wfe_core.specs.defs.declared.event.Guard.{Guard}
-use Rattle.wfe_core.specs.defs.declared.event.Guard.TheVariants as guards
 use Rattle.wfe_core.specs.defs.declared.event.Root.{Root}
 use Rattle.wfe_core.specs.defs.declared.event.Root.TheVariants as roots
-use Rattle.wfe_core.specs.defs.declared.lifetime.Interval.{Interval}
 use Rattle.wfe_core.specs.Calls.{Answering, CallTurn, Clears, FindVersion, Gets, Getting, Idle, Opens, Phase, Runs, Works}
 use Rattle.wfe_core.specs.Calls as calls
 use Rattle.wfe_core.specs.DeskHeld.{desk_of}
 use Rattle.wfe_core.specs.Desks.{Desk, Notes, noted_all, noting}
-use Rattle.wfe_core.specs.Guards.{one_era}
 use Rattle.wfe_core.specs.Locals.{Local}
 use Rattle.wfe_core.specs.Memory.{Store, numbered}
 use Rattle.wfe_core.specs.Phases.Base.{Clear}
 use Rattle.wfe_core.specs.Phases.Ending.{Protected}
-use Rattle.wfe_core.specs.Posts.{cleared, index_word, reserves_index, stands, with_row, withdrawn}
+use Rattle.wfe_core.specs.Posts.{cleared, publishes_index, shown_word, stands, with_row, withdrawn}
 use Rattle.wfe_core.specs.Rounds.{begin_where, bucket_of, clearing_by, finish_span, finishing_by, kept_row, protect_at, protect_base, root_of, round_by, scheme_of}
 use Rattle.wfe_core.specs.Steps.{first_phase, opened}
 use Rattle.wfe_core.specs.declared.ends.ProtectEnd.TheVariants as protect_ends
@@ -42,13 +39,25 @@ use Rattle.wfe_drive_words.proofs.Leading.{closes_as}
 abbrev pub standing_by : (null : Bool) → Post → ℕ → Post
 standing_by null post slot = if null then post else with_row post 0 slot
 
-clear-word : (null : Bool) (post : Post) (slot : ℕ) → numbered (standing_by null post slot).layout (Store (Index (standing_by null post slot).seat 0) (index_word (standing_by null post slot) 0 0)) ≡ numbered post.layout (Store (Index post.seat 0) (index_word post 0 0))
-clear-word true post slot = refl
-clear-word false post slot = refl
+shown-same : (rows : Bool) (post other : Post) → other.tags ≡ post.tags → shown_word rows other 0 0 ≡ shown_word rows post 0 0
+shown-same false post other e = ap (λ (tags : List ℕ). reservation_word (record { era = 0; tag = slice_index tags 0 })) e
+shown-same true post other e = refl
 
-pub clear_asks : {at : Local → Type 0} (key : ℕ) (post : Post) (bucket link : ℕ) (desk : Desk) (steps : ℕ) (found : Found) (op : Op) → Here at (closing_at key (held_reader post bucket link desk steps) found) → op ≡ numbered post.layout (Store (Index post.seat 0) (index_word post 0 0))
+clear-word : (null : Bool) (post : Post) (slot steps : ℕ)
+    → numbered (standing_by null post slot).layout (Store (Index (standing_by null post slot).seat 0) (shown_word (publishes_rows (scheme_of (standing_by null post slot))) (record (standing_by null post slot) { steps = steps }) 0 0))
+    ≡ numbered post.layout (Store (Index post.seat 0) (shown_word (publishes_rows (scheme_of post)) post 0 0))
+clear-word true post slot steps = ap (λ (word : ℕ). numbered post.layout (Store (Index post.seat 0) word)) (shown-same (publishes_rows (scheme_of post)) post (record post { steps = steps }) refl)
+clear-word false post slot steps = ap (λ (word : ℕ). numbered post.layout (Store (Index post.seat 0) word)) (shown-same (publishes_rows (scheme_of post)) post (record (with_row post 0 slot) { steps = steps }) refl)
+
+pub clear_stores : (place post : Post) (rows : Bool) (op : Op) → place ≡ post → rows ≡ publishes_rows (scheme_of post) → op ≡ numbered place.layout (Store (Index place.seat 0) (shown_word rows place 0 0))
+    → op ≡ numbered post.layout (Store (Index post.seat 0) (shown_word (publishes_rows (scheme_of post)) post 0 0))
+clear_stores place post rows op e r o =
+    o ∙ ap (λ (p : Post). numbered p.layout (Store (Index p.seat 0) (shown_word rows p 0 0))) e
+    ∙ ap (λ (b : Bool). numbered post.layout (Store (Index post.seat 0) (shown_word b post 0 0))) r
+
+pub clear_asks : {at : Local → Type 0} (key : ℕ) (post : Post) (bucket link : ℕ) (desk : Desk) (steps : ℕ) (found : Found) (op : Op) → Here at (closing_at key (held_reader post bucket link desk steps) found) → op ≡ numbered post.layout (Store (Index post.seat 0) (shown_word (publishes_rows (scheme_of post)) post 0 0))
     → AsksFor at (closing_at key (held_reader post bucket link desk steps) found) op
-clear_asks key post bucket link desk steps found op h o = record { here = h; busy = refl; is = o ∙ sym (clear-word (link == 0) post (link - 1)) }
+clear_asks key post bucket link desk steps found op h o = record { here = h; busy = refl; is = o ∙ sym (clear-word (link == 0) post (link - 1) (steps + found.steps)) }
 
 -- no interval ends where a seat has none
 pub scheme-stays : (null : Bool) (post : Post) (slot : ℕ) → scheme_of (standing_by null post slot) ≡ scheme_of post
@@ -56,10 +65,12 @@ scheme-stays true post slot = refl
 scheme-stays false post slot = refl
 
 -- of the events of the last step only its end is noted
-end-noted : (notes : Notes) (stood : Option ℕ) (guard : Guard) (span : Option Interval) (steps : ℕ) (answer : Answer)
-    → noted_all notes ((cleared 0 stood ++ events.Reserve guard span ∷ []) ++ events.End steps answer ∷ []) ≡ record notes { steps = steps }
-end-noted notes None guard span steps answer = refl
-end-noted notes (Some slot) guard span steps answer = refl
+end-noted : (notes : Notes) (stood : Option ℕ) (rows : Bool) (post : Post) (steps : ℕ) (answer : Answer)
+    → noted_all notes ((cleared 0 stood ++ publishes_index rows post 0 0) ++ events.End steps answer ∷ []) ≡ record notes { steps = steps }
+end-noted notes None false post steps answer = refl
+end-noted notes None true post steps answer = refl
+end-noted notes (Some slot) false post steps answer = refl
+end-noted notes (Some slot) true post steps answer = refl
 
 -- nothing stands at index 0 then
 pub post-cleared : (null : Bool) (post : Post) (slot steps : ℕ) → withdrawn (record (standing_by null post slot) { steps = steps }) 0 ≡ record post { standing = slice_set post.standing 0 None; steps = steps }
@@ -79,10 +90,11 @@ closed_by key post bucket link held new steps found n one d s =
     let null : Bool = link == 0 in
     let stood : Post = record (standing_by null post (link - 1)) { steps = total } in
     let left : Post = withdrawn stood 0 in
-    let told : List Event = cleared 0 (stands stood 0) ++ reserves_index stood 0 0 in
+    let rows : Bool = publishes_rows (scheme_of (standing_by null post (link - 1))) in
+    let told : List Event = cleared 0 (stands stood 0) ++ publishes_index rows stood 0 0 in
     let none : has_one_interval (scheme_of left) ≡ false = ap has_one_interval (scheme-stays null post (link - 1)) ∙ one in
     let turn : taken seat n ≡ calls.answers left desk told answer = ap (λ (has : Bool). finishing_by (Gets key) (Answering answer) left desk told (if has then finish_span (kept_row left) else None)) none in
-    let noted : noting desk (told ++ events.End total answer ∷ []) ≡ desk_of new = ap (λ (notes : Notes). let k : Desk = record desk { notes = notes } in k) (end-noted desk.notes (stands stood 0) (guards.Index stood.seat 0) (one_era 0) total answer) ∙ sym d in
+    let noted : noting desk (told ++ events.End total answer ∷ []) ≡ desk_of new = ap (λ (notes : Notes). let k : Desk = record desk { notes = notes } in k) (end-noted desk.notes (stands stood 0) rows stood total answer) ∙ sym d in
     let is : seat_after (taken seat n) ≡ at_phase Idle (record post { standing = slice_set post.standing 0 None; steps = total }) new =
     ap seat_after turn
     ∙ ap (λ (p : Post). let v : SeatView = record { phase = Idle; post = p; desk = noting desk (told ++ events.End total answer ∷ []) } in v) (post-cleared null post (link - 1) total)
@@ -91,7 +103,7 @@ closed_by key post bucket link held new steps found n one d s =
 
 -- a value is found, and the index is to be cleared
 abbrev got_by : ℕ → ℕ → Option ℕ → Post → Desk → List Event → (one : Bool) → SeatView
-got_by key version value post desk told one = seat_after (clearing_by (Gets key) (Answering (answers.Got version value)) post desk told (if one then None else Some (Clear 0)))
+got_by key version value post desk told one = seat_after (clearing_by (Gets key) (Answering (answers.Got version value)) post desk told (if one then None else Some (Clear (publishes_rows (scheme_of post)) 0)))
 
 pub found_closes : (key : ℕ) (post : Post) (bucket link : ℕ) (desk : Desk) (steps : ℕ) (found : Found) → has_one_interval (scheme_of post) ≡ false
     → found_at key (held_reader post bucket link desk steps) found ≡ closing_at key (held_reader post bucket link desk steps) found
@@ -112,7 +124,7 @@ held_null key post bucket link n era desk steps one e =
     let p : Post = record post { steps = steps } in
     let test : (link == 0) ≡ true = eq-eqb link 0 e in
     let told : List Event = events.Null 0 n ∷ events.Got (bucket_of p key) 0 key None ∷ [] in
-    let closing : Bool → ℕ → SeatView = λ null k. record { phase = Runs (Clears (Gets key) (Answering (answers.Got 0 None))) (Clear 0); post = record (standing_by null post (link - 1)) { steps = k }; desk = kept_desk desk } in
+    let closing : Bool → ℕ → SeatView = λ null k. record { phase = Runs (Clears (Gets key) (Answering (answers.Got 0 None))) (Clear (publishes_rows (scheme_of (standing_by null post (link - 1)))) 0); post = record (standing_by null post (link - 1)) { steps = k }; desk = kept_desk desk } in
     let zero : steps ≡ steps + 0 = omega arith in
     ap (held_by key n (link - 1) era p (kept_desk desk)) test
     ∙ ap (got_by key 0 None p (kept_desk desk) told) one

@@ -7,7 +7,9 @@ use Rattle.wfe_core.specs.defs.declared.event.Event.TheVariants as events
 use Rattle.wfe_core.specs.Calls.{Answers, CallOutcome, CallTurn, GoesOn}
 use Rattle.wfe_core.specs.Desks.{Desk, Notes, noted, noted_all, noting}
 use Rattle.wfe_core.specs.Frames.{SamePlace}
+use Rattle.wfe_core.specs.words.Schemes.{publishes_rows}
 use Rattle.wfe_core.specs.Locals.{Group, Local, after, begun, busy_in, rounds_told, settled_by, stays, told_by, told_end, turn}
+use Rattle.wfe_core.specs.Rounds.{scheme_of}
 use Rattle.wfe_core.specs.declared.op.Op.{Op}
 use Rattle.wfe_core.specs.declared.post.Post.{Post}
 use Rattle.wfe_core.proofs.CallFrames.{stays_in_place}
@@ -32,12 +34,12 @@ keeps_call l post desk rounds (Answers answer) = refl
 after_log : (l : Local) (n : ℕ) → busy_in (after l n).phase ≡ true → (after l n).log ≡ l.log
 after_log l n b =
     let t : CallTurn = turn l n in
-    goes_log l t.post (noting t.desk (told_by t)) (rounds_told l.rounds (told_by t)) t.outcome b
+    goes_log l t.post (noting t.desk (told_by t)) (rounds_told (publishes_rows (scheme_of t.post)) l.rounds (told_by t)) t.outcome b
 
 pub after_call : (l : Local) (n : ℕ) → (after l n).call ≡ l.call
 after_call l n =
     let t : CallTurn = turn l n in
-    keeps_call l t.post (noting t.desk (told_by t)) (rounds_told l.rounds (told_by t)) t.outcome
+    keeps_call l t.post (noting t.desk (told_by t)) (rounds_told (publishes_rows (scheme_of t.post)) l.rounds (told_by t)) t.outcome
 
 -- along the steps before the last
 record Along (l : Local) (count : ℕ) (m : Local) : Type 0 where
@@ -106,8 +108,8 @@ left_by l call ops answer m a =
     let from : Local = lent p.given in
     let t : CallTurn = turn from n in
     let desk : Desk = noting t.desk (told_by t) in
-    let to : Local = settled_by from t.post desk (rounds_told from.rounds (told_by t)) (Answers answer) in
-    let is : m ≡ to = a.left ∙ ap (settled_by from t.post desk (rounds_told from.rounds (told_by t))) a.answers in
+    let to : Local = settled_by from t.post desk (rounds_told (publishes_rows (scheme_of t.post)) from.rounds (told_by t)) (Answers answer) in
+    let is : m ≡ to = a.left ∙ ap (settled_by from t.post desk (rounds_told (publishes_rows (scheme_of t.post)) from.rounds (told_by t))) a.answers in
     let notes : m.desk.notes ≡ desk.notes = ap (λ (k : Local). k.desk.notes) is in
     let call_is : last.call ≡ call = before.call in
     let place : SamePlace l.post last.post = same_along l.post (begun l call).post last.post (stays_in_place.begins l call) before.place in

@@ -4,9 +4,11 @@ use Rattle.std.proofs.lemmas.Bool.Decides.{nat_tests}
 use Rattle.wfe_core.specs.defs.declared.call.Answer.{Answer}
 use Rattle.wfe_core.specs.Calls.{CallTurn}
 use Rattle.wfe_core.specs.Desks.{noting}
+use Rattle.wfe_core.specs.words.Schemes.{publishes_rows}
 use Rattle.wfe_core.specs.Locals.{Local, after, asks, busy_in, rounds_told, told_by, turn}
 use Rattle.wfe_core.specs.Memory.{bump}
 use Rattle.wfe_core.specs.Posts.{counted}
+use Rattle.wfe_core.specs.Rounds.{scheme_of}
 use Rattle.wfe_core.specs.Steps.{phase_turn}
 use Rattle.wfe_core.specs.declared.op.Op.{Op}
 use Rattle.wfe_core.specs.declared.post.Post.{Post}
@@ -31,7 +33,7 @@ counted-is post h = ap (λ (n : ℕ). let p : Post = record post { steps = n } i
 after-is : (l : Local) (n : ℕ) → shown (after l n) ≡ seat_after (turn l n)
 after-is l n =
     let t : CallTurn = turn l n in
-    shown_settled l t.post (noting t.desk (told_by t)) (rounds_told l.rounds (told_by t)) t.outcome
+    shown_settled l t.post (noting t.desk (told_by t)) (rounds_told (publishes_rows (scheme_of t.post)) l.rounds (told_by t)) t.outcome
 
 -- the state after a step, and that step
 record Stepped (at : Local → Type 0) (op : Op) (n : ℕ) (seat : SeatView) (l : Local) : Type 0 where

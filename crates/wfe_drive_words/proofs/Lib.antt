@@ -3,6 +3,7 @@ pub mod Cells
 pub mod Endings
 pub mod Getting
 pub mod Groups
+pub mod Hazards
 pub mod Histories
 pub mod Leading
 pub mod Lending

@@ -9,7 +9,9 @@ use Rattle.wfe_core.specs.Calls.{Answers, CallOutcome, CallTurn, GoesOn, Idle, P
 use Rattle.wfe_core.specs.DeskHeld.{Took, desk_of}
 use Rattle.wfe_core.specs.Desks.{Desk, no_notes, noting}
 use Rattle.wfe_core.specs.Frames.{SamePlace}
+use Rattle.wfe_core.specs.words.Schemes.{publishes_rows}
 use Rattle.wfe_core.specs.Locals.{Local, after, asks, begun, begun_post, busy_in, may_begin, rounds_told, settled_by, stays, told_by, turn}
+use Rattle.wfe_core.specs.Rounds.{scheme_of}
 use Rattle.wfe_core.specs.Steps.{first_phase}
 use Rattle.wfe_core.specs.declared.desk.Desk.{Desk as HeldDesk}
 use Rattle.wfe_core.specs.declared.op.Op.{Op}
@@ -65,7 +67,7 @@ after_shown l n g seat post held told answer phase e alone k =
     let same : turned seat n ≡ turn from n = turned_lent l n g seat e alone in
     let t : CallTurn = turn from n in
     let left : Leaves t post held told answer phase = leaves t post held told answer phase (subst (λ (x : CallTurn). Took x post held told answer phase) same k) in
-    shown_settled from t.post (noting t.desk (told_by t)) (rounds_told from.rounds (told_by t)) t.outcome ∙ sym left.seat_is
+    shown_settled from t.post (noting t.desk (told_by t)) (rounds_told (publishes_rows (scheme_of t.post)) from.rounds (told_by t)) t.outcome ∙ sym left.seat_is
 
 pub took_busy : (seat : SeatView) (n : ℕ) (post : Post) (held : HeldDesk) (told : List Event) (phase : Phase) → MayTake seat n → Took (turned seat n) post held told None phase → busy_in phase ≡ true
 took_busy seat n post held told phase m k = m.goes phase k.outcome_is

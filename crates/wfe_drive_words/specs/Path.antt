@@ -9,15 +9,18 @@ use Rattle.wfe_core.specs.Calls.{Answering, Answers, CallTurn, Clears, Finishes,
 use Rattle.wfe_core.specs.Desks.{Desk}
 use Rattle.wfe_core.specs.Get.{finding, got}
 use Rattle.wfe_core.specs.Guards.{from_to}
+use Rattle.wfe_core.specs.Hazards.{after_check_link}
 use Rattle.wfe_core.specs.Locals.{Local, busy_in}
 use Rattle.wfe_core.specs.Memory.{bump}
 use Rattle.wfe_core.specs.Phases.{Aim, Alone, BeginAt, Endless, Failed, ProtectAt, Tries}
 use Rattle.wfe_core.specs.Phases.Base.{Begin, Clear, Finish, Protect}
-use Rattle.wfe_core.specs.Phases.ProtectAt.{LoadLink, LoadWithin, PublishEra, PublishRequest}
+use Rattle.wfe_core.specs.Phases.HazardAt.{PublishLink}
+use Rattle.wfe_core.specs.Phases.ProtectAt.{ByHazard, LoadLink, LoadWithin, PublishEra, PublishRequest}
 use Rattle.wfe_core.specs.Protect.{failed_once, held_post, protected, trying}
 use Rattle.wfe_core.specs.Ready.{LinkFits}
-use Rattle.wfe_core.specs.Rounds.{opening}
+use Rattle.wfe_core.specs.Rounds.{opening, scheme_of}
 use Rattle.wfe_core.specs.Steps.{phase_turn, run_turn}
+use Rattle.wfe_core.specs.words.Schemes.{publishes_rows}
 use Rattle.wfe_core.specs.declared.op.Op.{Op}
 use Rattle.wfe_core.specs.declared.post.Post.{Post}
 use Rattle.wfe_drive_cells.specs.Unit.{SeatView, asked, kept_desk, seat_after}
@@ -118,6 +121,18 @@ endless_after t made steps = record t { made = made; tries = Endless; steps = t.
 abbrev pub guarded_at : Trial → ℕ → Root → Post → ℕ → Guarded → SeatView
 guarded_at t index root post n guarded = held_at t index root n guarded.link guarded.era (t.steps + guarded.steps) post
 
+-- a protection by a hazard pointer, where it publishes a link
+abbrev pub hazarding : Trial → ℕ → Root → ℕ → Post → SeatView
+hazarding t index root link post = protecting t index root (ByHazard (PublishLink link)) post
+
+-- this link is published, and this one found after it
+abbrev pub checked_at : Trial → ℕ → Root → (link found : ℕ) → Post → SeatView
+checked_at t index root link found post = seat_after (run_turn t.why (kept_desk t.desk) (after_check_link t.aim index root (bump (bump t.made)) link (record post { steps = t.steps + 2 }) found))
+
+-- checks that have made so many steps
+abbrev pub checked_after : Trial → (made steps : ℕ) → Trial
+checked_after t made steps = record t { made = made; steps = t.steps + steps }
+
 -- a get that reads a row: its post, of which code has the layout alone, and its desk
 pub record Reader : Type 0 where
   pub post : Post
@@ -151,7 +166,7 @@ held_reader post bucket link desk steps = record { post = record (held_post post
 
 -- the index is to be cleared, and then comes the answer
 abbrev pub closing_at : ℕ → Reader → Found → SeatView
-closing_at key r found = record { phase = Runs (Clears (Gets key) (Answering (answers.Got found.version found.value))) (Clear 0); post = read_post r found.steps; desk = kept_desk r.desk }
+closing_at key r found = record { phase = Runs (Clears (Gets key) (Answering (answers.Got found.version found.value))) (Clear (publishes_rows (scheme_of r.post)) 0); post = read_post r found.steps; desk = kept_desk r.desk }
 
 -- tries until so many have failed, of a protection that made a step before them
 abbrev pub asked_after : Trial → (failed : ℕ) → Trial

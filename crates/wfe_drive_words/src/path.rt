@@ -4,14 +4,14 @@ ghost use Rattle.wfe_core.specs.words.Place.Place.{Clock, Index, Row};
 ghost use Rattle.wfe_core.specs.words.Place.{has, number};
 ghost use Rattle.wfe_core.specs.Links.{link_place};
 ghost use Rattle.wfe_core.specs.Memory.{Load as Loads, Store as Stores, numbered};
-ghost use Rattle.wfe_core.specs.Posts.{index_word as own_index_word};
+ghost use Rattle.wfe_core.specs.Posts.{index_word as own_index_word, shown_word as own_shown_word};
 ghost use Rattle.wfe_core.specs.Ready.{IndexFits, RootFits};
 ghost use Rattle.wfe_core.specs.Valid.{IsValid};
 ghost use Rattle.wfe_drive_cells.specs.Unit.{SeatView};
 ghost use Rattle.wfe_drive_words.specs.Path.{AsksFor, StepFrom};
 
 use crate::Words;
-use wfe_core::{Op, Post, Root, index_word, link_word_number};
+use wfe_core::{Op, Post, Root, index_word, link_word_number, shown_word};
 
 // Makes the step that the seat's state asks for, whichever state that is.
 #[inline(always)]
@@ -46,6 +46,19 @@ pub fn publish(post: &Post, index: u32, era: u32) -> Op
     Op::Store {
         word: post.layout.index(post.seat, index),
         value: index_word(post, index, era),
+    }
+}
+
+// A store into it of what it publishes: an era, or where rows are published a link.
+#[inline(always)]
+pub fn publish_as(rows: bool, post: &Post, index: u32, number: u32) -> Op
+    requires valid { IsValid post.now }
+    requires index { IndexFits post.now index }
+    ensures { result ≡ numbered post.now.layout (Stores (Index post.now.seat index) (own_shown_word rows post.now index number)) }
+{
+    Op::Store {
+        word: post.layout.index(post.seat, index),
+        value: shown_word(rows, post, index, number),
     }
 }
 

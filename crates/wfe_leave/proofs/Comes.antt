@@ -20,12 +20,12 @@ use Rattle.wfe_core.proofs.Facts.{both, fits_busy, fits_free}
 use Rattle.wfe_drive_cells.specs.Bridge.{AsksWithin}
 use Rattle.wfe_drive_cells.specs.Unit.{IsStep, IsUnit, ListsStay, SeatView, Shows, TableView, after_start, begun_seat, is_gone, seat_at}
 use Rattle.wfe_drive_cells.proofs.Units.{after-length, busy-shown, start-begin, unit-step}
-use Rattle.law_reuse.specs.Heard.{IsCounted}
+use Rattle.wfe_drive.specs.Heard.{IsCounted}
 use Rattle.wfe_drive.specs.history.History.{Begins, Item, Made, Steps, did, done, done_if, first_made, fits, made_of, world_of}
 use Rattle.wfe_drive.specs.inv.Inv.{Inv}
 use Rattle.wfe_drive.specs.inv.Places.{PlaceMoves, PlaceShows, is_leaving}
 use Rattle.wfe_drive.specs.inv.rows.Facts.{SeatShows}
-use Rattle.law_reuse.proofs.Turns.Counted.{histories_count}
+use Rattle.wfe_drive.proofs.Turns.Counted.{histories_count}
 use Rattle.wfe_drive.proofs.history.Along.{made_snoc}
 use Rattle.wfe_drive.proofs.inv.Inv.Kept.{inv_ready}
 use Rattle.wfe_drive.proofs.inv.Inv.Places.{inv_place_moves, inv_places}

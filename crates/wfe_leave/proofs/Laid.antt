@@ -3,7 +3,7 @@ use Rattle.std.proofs.Common.{List, [], ap, arith, length, refl, slice_set, true
 use Rattle.wfe_core.specs.Keep.{parting, parting_from, parting_index, parting_span}
 use Rattle.wfe_core.specs.Locals.{busy_in}
 use Rattle.wfe_core.specs.declared.post.Post.{Post}
-use Rattle.wfe_core.specs.words.Schemes.{has_one_interval}
+use Rattle.wfe_core.specs.words.Schemes.{has_one_interval, publishes_rows}
 use Rattle.wfe_core.specs.defs.declared.lifetime.Interval.{Interval}
 use Rattle.wfe_core.specs.Posts.{standing_from}
 use Rattle.wfe_core.specs.Rounds.{scheme_of}
@@ -82,9 +82,9 @@ laid_bare (Marks place count) v = refl
 laid_bare (Over steps left) v = refl
 
 -- a seat that leaves has a step to make, which takes over no list
-index_busy : (x : Option ℕ) → busy_in (parting_index x) ≡ true
-index_busy None = refl
-index_busy (Some index) = refl
+index_busy : (rows : Bool) (x : Option ℕ) → busy_in (parting_index rows x) ≡ true
+index_busy rows None = refl
+index_busy rows (Some index) = refl
 
 span_busy : (x : Option Interval) → busy_in (parting_span x) ≡ true
 span_busy None = refl
@@ -95,11 +95,11 @@ parting_busy post = by_scheme (has_one_interval (scheme_of post))
   where
     by_scheme : (x : Bool) → busy_in (if x then parting_span post.span else parting_from 2 post) ≡ true
     by_scheme true = span_busy post.span
-    by_scheme false = index_busy (standing_from 2 (drop 2 post.standing))
+    by_scheme false = index_busy (publishes_rows (scheme_of post)) (standing_from 2 (drop 2 post.standing))
 
-index_adopts : (x : Option ℕ) → may_adopt (parting_index x) ≡ false
-index_adopts None = refl
-index_adopts (Some index) = refl
+index_adopts : (rows : Bool) (x : Option ℕ) → may_adopt (parting_index rows x) ≡ false
+index_adopts rows None = refl
+index_adopts rows (Some index) = refl
 
 span_adopts : (x : Option Interval) → may_adopt (parting_span x) ≡ false
 span_adopts None = refl
@@ -110,4 +110,4 @@ parting_adopts post = by_scheme (has_one_interval (scheme_of post))
   where
     by_scheme : (x : Bool) → may_adopt (if x then parting_span post.span else parting_from 2 post) ≡ false
     by_scheme true = span_adopts post.span
-    by_scheme false = index_adopts (standing_from 2 (drop 2 post.standing))
+    by_scheme false = index_adopts (publishes_rows (scheme_of post)) (standing_from 2 (drop 2 post.standing))

@@ -2,7 +2,7 @@
 use Rattle.std.proofs.Common.{Bool, List, [], ap, ap₂, arith, drop, false, refl, slice_set, subst, sym, true, ℕ, zero, suc, ◌++◌, ◌+◌, ◌∙◌, ◌≡◌, ◌∷◌}
 use Rattle.std.proofs.lemmas.List.{append-nil}
 use Rattle.std.specs.Prelude.{None, Option, Some, if◌then◌else◌, not}
-use Rattle.wfe_core.specs.words.Schemes.{has_one_interval}
+use Rattle.wfe_core.specs.words.Schemes.{has_one_interval, publishes_rows}
 use Rattle.wfe_core.specs.defs.declared.event.Event.{Event}
 use Rattle.wfe_core.specs.defs.declared.lifetime.Interval.{Interval}
 use Rattle.wfe_core.specs.defs.declared.lifetime.Lifetime.{Lifetime}
@@ -12,7 +12,7 @@ use Rattle.wfe_core.specs.Keep.{parting, parting_from, parting_index, parting_sp
 use Rattle.wfe_core.specs.Locals.{told_by}
 use Rattle.wfe_core.specs.Memory.{bump}
 use Rattle.wfe_core.specs.Phases.Base.{Clear}
-use Rattle.wfe_core.specs.Posts.{cleared, cleared_from, counted, reserves_index, reserves_span, standing_from, stands, withdrawn, withdrawn_all}
+use Rattle.wfe_core.specs.Posts.{cleared, cleared_from, counted, publishes_index, reserves_span, standing_from, stands, withdrawn, withdrawn_all}
 use Rattle.wfe_core.specs.Rounds.{scheme_of}
 use Rattle.wfe_core.specs.Steps.{call_op, phase_turn}
 use Rattle.wfe_core.specs.declared.post.Post.{Post}
@@ -26,7 +26,7 @@ use Rattle.wfe_leave.specs.Parts.{at_steps, laid_seat, quiet_desk}
 pub data Clearing (post : Post) : Type 0 where
   Bare : parting post ≡ Works (Keeping MarkLeft) → Clearing post
   Hides : has_one_interval (scheme_of post) ≡ true → parting post ≡ Works (Keeping HideSpan) → Clearing post
-  Frees : (index : ℕ) → has_one_interval (scheme_of post) ≡ false → standing_from 2 (drop 2 post.standing) ≡ Some index → parting post ≡ Runs (Releases (Parting index)) (Clear index) → Clearing post
+  Frees : (index : ℕ) → has_one_interval (scheme_of post) ≡ false → standing_from 2 (drop 2 post.standing) ≡ Some index → parting post ≡ Runs (Releases (Parting index)) (Clear (publishes_rows (scheme_of post)) index) → Clearing post
 
 scheme_is : (post : Post) (one : Bool) → has_one_interval (scheme_of post) ≡ one → parting post ≡ (if one then parting_span post.span else parting_from 2 post)
 scheme_is post one e = ap (λ (x : Bool). if x then parting_span post.span else parting_from 2 post) e
@@ -38,7 +38,7 @@ clearing post = by_scheme (has_one_interval (scheme_of post)) refl
     by_span None h e = Bare e
     by_span (Some span) h e = Hides h e
 
-    by_index : (x : Option ℕ) → has_one_interval (scheme_of post) ≡ false → standing_from 2 (drop 2 post.standing) ≡ x → parting post ≡ parting_index x → Clearing post
+    by_index : (x : Option ℕ) → has_one_interval (scheme_of post) ≡ false → standing_from 2 (drop 2 post.standing) ≡ x → parting post ≡ parting_index (publishes_rows (scheme_of post)) x → Clearing post
     by_index None h s e = Bare e
     by_index (Some index) h s e = Frees index h s e
 
@@ -91,9 +91,16 @@ hide_quiet : (notes : Notes) (index : ℕ) (rows : List (Option ℕ)) (post : Po
 hide_quiet notes index rows post =
     ap (noted_all notes) (append-nil (cleared_from index rows ++ reserves_span post None)) ∙ noted_append notes (cleared_from index rows) (reserves_span post None) ∙ all_quiet notes index rows
 
-clear_quiet : (notes : Notes) (index : ℕ) (row : Option ℕ) (post : Post) → noted_all notes ((cleared index row ++ reserves_index post index 0) ++ []) ≡ notes
-clear_quiet notes index row post =
-    ap (noted_all notes) (append-nil (cleared index row ++ reserves_index post index 0)) ∙ noted_append notes (cleared index row) (reserves_index post index 0) ∙ cleared_quiet notes index row
+publish_quiet : (rows : Bool) (notes : Notes) (index : ℕ) (post : Post) → noted_all notes (publishes_index rows post index 0) ≡ notes
+publish_quiet true notes index post = refl
+publish_quiet false notes index post = refl
+
+clear_quiet : (rows : Bool) (notes : Notes) (index : ℕ) (row : Option ℕ) (post : Post) → noted_all notes ((cleared index row ++ publishes_index rows post index 0) ++ []) ≡ notes
+clear_quiet rows notes index row post =
+    ap (noted_all notes) (append-nil (cleared index row ++ publishes_index rows post index 0))
+    ∙ noted_append notes (cleared index row) (publishes_index rows post index 0)
+    ∙ publish_quiet rows (noted_all notes (cleared index row)) index post
+    ∙ cleared_quiet notes index row
 
 -- a seat by its parts
 pub seat_is : (p q : Phase) (a b : Post) (d e : Desk) → p ≡ q → a ≡ b → d ≡ e → record { phase = p; post = a; desk = d } ≡ (let v : SeatView = record { phase = q; post = b; desk = e } in v)
@@ -121,13 +128,23 @@ hide_lets v steps found other b g h = record {
   leaves = refl;
 }
 
-clear_lets : (v : SeatView) (index steps found other : ℕ) → bump steps ≡ steps + 1 → v.desk.gift ≡ [] → has_one_interval (scheme_of v.post) ≡ false → standing_from 2 (drop 2 v.post.standing) ≡ Some index → Lets (Runs (Releases (Parting index)) (Clear index)) v steps found other
-clear_lets v index steps found other b g h s = record {
+clear_lets : (rows : Bool) (v : SeatView) (index steps found other : ℕ) → bump steps ≡ steps + 1 → v.desk.gift ≡ [] → has_one_interval (scheme_of v.post) ≡ false → standing_from 2 (drop 2 v.post.standing) ≡ Some index → Lets (Runs (Releases (Parting index)) (Clear rows index)) v steps found other
+clear_lets true v index steps found other b g h s = record {
   seat = seat_is (parting_from (index + 1) (withdrawn (counted (at_steps steps v.post)) index)) (parting (withdrawn (counted (at_steps 0 v.post)) index)) _ _ _ _
-      (sym (scheme_is (withdrawn (counted (at_steps 0 v.post)) index) false h ∙ ap parting_index (next_stands v.post.standing index s)))
+      (sym (scheme_is (withdrawn (counted (at_steps 0 v.post)) index) false h ∙ ap (parting_index (publishes_rows (scheme_of v.post))) (next_stands v.post.standing index s)))
       (ap (λ (n : ℕ). at_steps n (withdrawn v.post index)) b)
-      (ap₂ (λ (n : Notes) (l : List Lifetime). record v.desk { notes = n; gift = l }) (clear_quiet no_notes index (stands v.post index) v.post) (sym g));
-  told = append-nil (cleared index (stands v.post index) ++ reserves_index v.post index 0);
+      (ap₂ (λ (n : Notes) (l : List Lifetime). record v.desk { notes = n; gift = l }) (clear_quiet true no_notes index (stands v.post index) v.post) (sym g));
+  told = append-nil (cleared index (stands v.post index) ++ publishes_index true v.post index 0);
+  answer = refl;
+  asks = refl;
+  leaves = refl;
+}
+clear_lets false v index steps found other b g h s = record {
+  seat = seat_is (parting_from (index + 1) (withdrawn (counted (at_steps steps v.post)) index)) (parting (withdrawn (counted (at_steps 0 v.post)) index)) _ _ _ _
+      (sym (scheme_is (withdrawn (counted (at_steps 0 v.post)) index) false h ∙ ap (parting_index (publishes_rows (scheme_of v.post))) (next_stands v.post.standing index s)))
+      (ap (λ (n : ℕ). at_steps n (withdrawn v.post index)) b)
+      (ap₂ (λ (n : Notes) (l : List Lifetime). record v.desk { notes = n; gift = l }) (clear_quiet false no_notes index (stands v.post index) v.post) (sym g));
+  told = append-nil (cleared index (stands v.post index) ++ publishes_index false v.post index 0);
   answer = refl;
   asks = refl;
   leaves = refl;
@@ -139,7 +156,7 @@ parts_let v steps found other b g n = by_clearing (clearing v.post)
     by_clearing : Clearing v.post → Lets (parting v.post) v steps found other
     by_clearing (Bare e) = absurd (n e)
     by_clearing (Hides h e) = subst (λ (p : Phase). Lets p v steps found other) (sym e) (hide_lets v steps found other b g h)
-    by_clearing (Frees index h s e) = subst (λ (p : Phase). Lets p v steps found other) (sym e) (clear_lets v index steps found other b g h s)
+    by_clearing (Frees index h s e) = subst (λ (p : Phase). Lets p v steps found other) (sym e) (clear_lets (publishes_rows (scheme_of v.post)) v index steps found other b g h s)
 
 -- nothing is left to let go
 pub marking_is : (phase : Phase) → not (is_marking phase) ≡ false → phase ≡ Works (Keeping MarkLeft)

@@ -4,7 +4,12 @@ use std::process::Abort;
 use std::test::Fail;
 use wfe_leave_shared::{Closed, SchemeKind};
 
-const SCHEMES: [SchemeKind; 3] = [SchemeKind::He, SchemeKind::Ibr, SchemeKind::Wfe];
+const SCHEMES: [SchemeKind; 4] = [
+    SchemeKind::He,
+    SchemeKind::Ibr,
+    SchemeKind::Wfe,
+    SchemeKind::Hp,
+];
 
 // Wants the bucket to have version 2 and its one pair, the queue to be empty, and these rows in use.
 fn expect_used<R: Abort>(rt: &R, closed: &Closed, used: &[u32]) {

@@ -3,7 +3,12 @@ use crate::bench::{Bench, Part, adopted, put, scan, setting};
 use std::test::Fail;
 use wfe_leave_shared::{AdoptEnd, Config, SchemeKind};
 
-const SCHEMES: [SchemeKind; 3] = [SchemeKind::He, SchemeKind::Ibr, SchemeKind::Wfe];
+const SCHEMES: [SchemeKind; 4] = [
+    SchemeKind::He,
+    SchemeKind::Ibr,
+    SchemeKind::Wfe,
+    SchemeKind::Hp,
+];
 
 const NOT_LEFT: Part = Part::Adopt(0, AdoptEnd::NotLeft);
 
@@ -13,7 +18,7 @@ const ADOPTED_BEFORE: Part = Part::Adopt(0, AdoptEnd::AdoptedBefore);
 // one for the row.
 fn steps_of_scan(scheme: SchemeKind) -> Part {
     match scheme {
-        SchemeKind::He => Part::Steps(9),
+        SchemeKind::He | SchemeKind::Hp => Part::Steps(9),
         SchemeKind::Ibr => Part::Steps(3),
         SchemeKind::Wfe => Part::Steps(11),
     }

@@ -1,10 +1,15 @@
 // What seats answer that leave, and seats that take over what others have left. Steps that the scheme does
-// not change are the same under each; those of Hazard Eras are by hand.
+// not change are the same under each; those of Hazard Eras and of hazard pointers are by hand.
 use crate::bench::{Part, play};
 use std::test::Fail;
 use wfe_core::{Answer, Call, ClockMove, Config, Event, SchemeKind};
 
-const SCHEMES: [SchemeKind; 3] = [SchemeKind::He, SchemeKind::Ibr, SchemeKind::Wfe];
+const SCHEMES: [SchemeKind; 4] = [
+    SchemeKind::He,
+    SchemeKind::Ibr,
+    SchemeKind::Wfe,
+    SchemeKind::Hp,
+];
 
 // Two seats, which scan only when they are told to.
 fn pair(scheme: SchemeKind, indexes: u32) -> Config {
@@ -61,15 +66,18 @@ fn a_list_that_was_left_is_taken_over_once(rt: HostRuntime) -> Result<(), Fail> 
 }
 
 #[test]
-fn hazard_eras_take_as_many_steps_as_are_counted_by_hand(rt: HostRuntime) -> Result<(), Fail> {
-    let parts = [
-        changed(0, 70, 1),
-        changed(0, 71, 2).steps(20),
-        Part::answered(0, Call::Leave, Answer::Left { count: 1 }),
-        Part::answered(1, ADOPT, Answer::Adopted { count: 1 }),
-        scanned().steps(7),
-    ];
-    play(&rt, rt.alloc(), pair(SchemeKind::He, 3), &parts)
+fn steps_are_as_many_as_are_counted_by_hand(rt: HostRuntime) -> Result<(), Fail> {
+    for (scheme, steps) in [(SchemeKind::He, 20), (SchemeKind::Hp, 19)] {
+        let parts = [
+            changed(0, 70, 1),
+            changed(0, 71, 2).steps(steps),
+            Part::answered(0, Call::Leave, Answer::Left { count: 1 }),
+            Part::answered(1, ADOPT, Answer::Adopted { count: 1 }),
+            scanned().steps(7),
+        ];
+        play(&rt, rt.alloc(), pair(scheme, 3), &parts)?;
+    }
+    Ok(())
 }
 
 #[test]

@@ -204,7 +204,12 @@ fn run<R: Threads + Sync + Print + AllocGlobal>(
 }
 
 fn main(rt: HostRuntime) -> ExitCode {
-    for scheme in [SchemeKind::He, SchemeKind::Ibr, SchemeKind::Wfe] {
+    for scheme in [
+        SchemeKind::He,
+        SchemeKind::Ibr,
+        SchemeKind::Wfe,
+        SchemeKind::Hp,
+    ] {
         for plan in PLANS {
             if let Err(fault) = run(&rt, scheme, plan) {
                 let _ = eprintln!(rt; "{fault}");

@@ -2,7 +2,7 @@
 //!
 //!     wfe_speed SCHEME WORK THREADS CALLS
 //!
-//! SCHEME is `he`, `ibr` or `wfe`, and WORK is `reads`, `mixed`, `puts` or `pairs`. Each thread makes
+//! SCHEME is `he`, `ibr`, `wfe` or `hp`, and WORK is `reads`, `mixed`, `puts` or `pairs`. Each thread makes
 //! CALLS calls.
 #![tactic(auto)]
 
@@ -20,7 +20,7 @@ use wfe_drive_shared::{Config, MakeError, SchemeKind, Seat, Shared};
 
 const NO_MEMORY: &str = "memory ran out";
 
-const USAGE: &str = "usage: wfe_speed he|ibr|wfe reads|mixed|puts|pairs THREADS CALLS";
+const USAGE: &str = "usage: wfe_speed he|ibr|wfe|hp reads|mixed|puts|pairs THREADS CALLS";
 
 /// What is to be run.
 #[derive(Clone, Copy)]
@@ -36,6 +36,7 @@ fn scheme_named(name: &str) -> Option<SchemeKind> {
         "he" => Some(SchemeKind::He),
         "ibr" => Some(SchemeKind::Ibr),
         "wfe" => Some(SchemeKind::Wfe),
+        "hp" => Some(SchemeKind::Hp),
         _ => None,
     }
 }

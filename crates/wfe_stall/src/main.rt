@@ -3,7 +3,7 @@
 //!
 //!     wfe_stall SCHEME SECONDS
 //!
-//! SCHEME is `he`, `ibr` or `wfe`. One more thread moves the clock, and so helps readers, after a first
+//! SCHEME is `he`, `ibr`, `wfe` or `hp`. One more thread moves the clock, and so helps readers, after a first
 //! sleep by which it can be told from the others. `bench/stalled.py` stops it amid its calls.
 #![tactic(auto)]
 
@@ -21,7 +21,7 @@ use wfe_drive_shared::{Config, MakeError, SchemeKind, Seat, Shared};
 
 const NO_MEMORY: &str = "memory ran out";
 
-const USAGE: &str = "usage: wfe_stall he|ibr|wfe SECONDS";
+const USAGE: &str = "usage: wfe_stall he|ibr|wfe|hp SECONDS";
 
 // The helper, two movers, and two readers.
 const SEATS: u32 = 5;
@@ -31,6 +31,7 @@ fn scheme_named(name: &str) -> Option<SchemeKind> {
         "he" => Some(SchemeKind::He),
         "ibr" => Some(SchemeKind::Ibr),
         "wfe" => Some(SchemeKind::Wfe),
+        "hp" => Some(SchemeKind::Hp),
         _ => None,
     }
 }

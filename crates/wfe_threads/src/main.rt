@@ -149,7 +149,12 @@ fn run<R: Threads + Sync + Print + AllocGlobal>(
 }
 
 fn main(rt: HostRuntime) -> ExitCode {
-    for scheme in [SchemeKind::He, SchemeKind::Ibr, SchemeKind::Wfe] {
+    for scheme in [
+        SchemeKind::He,
+        SchemeKind::Ibr,
+        SchemeKind::Wfe,
+        SchemeKind::Hp,
+    ] {
         for count in [2, 4] {
             if let Err(fault) = run(&rt, scheme, count) {
                 let _ = eprintln!(rt; "{fault}");

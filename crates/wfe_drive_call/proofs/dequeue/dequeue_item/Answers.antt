@@ -64,7 +64,7 @@ retire-clock-requires-clause-here g c =
     let answer = answers.Taken c.in-Taken.number c.in-Taken.value Still in
     let x = then_leads c.loop-words.invariant.leads c.in-Taken.ensures.leads in
     let t = then_turns x (c.close_round-in-Taken.ensures.turns Dequeues (Retiring c.in-Taken.head answer) (desk_of c.take_item.new.desk) refl tt (here_on c.requires.here x)) in
-    (answer, here_on c.requires.here t.leads)
+    (answer, refl, here_on c.requires.here t.leads)
 
 pub retire-clock-requires-clause-room : goal.retire-clock-requires-clause-room
 retire-clock-requires-clause-room g c = room_as c.close_round-in-Taken.ensures.layout c.take_item.ensures.room

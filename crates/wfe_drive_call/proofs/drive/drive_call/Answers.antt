@@ -93,3 +93,30 @@ returns-in-Wfe g c =
       suits = over.suits;
       called = called;
     }
+
+pub drive_hp-requires-clause-here : goal.drive_hp-requires-clause-here
+drive_hp-requires-clause-here g c =
+    let desk : HeldDesk = record c.args.desk.now { notes = c.clear.new.self } in
+    let cleared : desk_of desk ≡ record (desk_of c.args.desk.now) { notes = no_notes } = ap (λ (notes : Notes). let held : Desk = record (desk_of c.args.desk.now) { notes = notes } in held) c.clear.ensures.empty in
+    here_begun (g.W.Words.at c.args.words.now) (g.W.Words.at c.start.new.self) c.args.call c.args.post.now c.args.desk.now desk _ c.requires.here c.start.ensures.at c.requires.may c.requires.stays refl cleared
+
+pub returns-in-Hp : goal.returns-in-Hp
+returns-in-Hp g c =
+    let words = g.W.Words in
+    let kind : c.args.post.now.layout.config.scheme ≡ kinds.Hp = ap (λ (config : Config). config.scheme) (sym c.config.ensures) ∙ c.in-Hp.is in
+    let desk : HeldDesk = record c.args.desk.now { notes = c.clear.new.self } in
+    let cleared : desk_of desk ≡ record (desk_of c.args.desk.now) { notes = no_notes } = ap (λ (notes : Notes). let held : Desk = record (desk_of c.args.desk.now) { notes = notes } in held) c.clear.ensures.empty in
+    let called =
+    called_by (words.at c.args.words.now) (words.at c.start.new.self) (words.at c.drive_hp.new.words) (words.stands c.args.words.now) (words.stands c.start.new.self) (words.stands c.drive_hp.new.words) c.args.call c.drive_hp.result c.args.post.now c.args.desk.now desk _
+    (at_phase Idle c.drive_hp.new.post c.drive_hp.new.desk) c.start.ensures.at c.requires.may c.start.ensures.stands refl cleared c.drive_hp.ensures.made in
+    let over : Over (words.at c.drive_hp.new.words) c.args.call c.drive_hp.result c.args.post.now c.drive_hp.new.post c.drive_hp.new.desk =
+    over_by (words.at c.args.words.now) (words.at c.drive_hp.new.words) (words.stands c.args.words.now) (words.stands c.drive_hp.new.words) c.args.call c.drive_hp.result c.args.post.now c.args.desk.now c.drive_hp.new.post c.drive_hp.new.desk c.requires.stays c.requires.here called in
+    record {
+      valid = c.drive_hp.ensures.valid;
+      same = words.same_on _ _ _ c.start.ensures.same c.drive_hp.ensures.same;
+      here = over.here;
+      room = c.drive_hp.ensures.room;
+      place = over.place;
+      suits = over.suits;
+      called = called;
+    }

@@ -94,3 +94,30 @@ returns-in-Wfe g c =
       suits = over.suits;
       called = called;
     }
+
+pub get_hp_in-requires-clause-here : goal.get_hp_in-requires-clause-here
+get_hp_in-requires-clause-here g c =
+    let desk : HeldDesk = record c.args.desk.now { notes = c.clear.new.self } in
+    let cleared : desk_of desk ≡ record (desk_of c.args.desk.now) { notes = no_notes } = ap (λ (notes : Notes). let held : Desk = record (desk_of c.args.desk.now) { notes = notes } in held) c.clear.ensures.empty in
+    here_begun (g.W.Words.at c.args.words.now) (g.W.Words.at c.start.new.self) (calls.Get c.args.key) c.args.post.now c.args.desk.now desk _ c.requires.here c.start.ensures.at refl refl refl cleared
+
+pub returns-in-Hp : goal.returns-in-Hp
+returns-in-Hp g c =
+    let words = g.W.Words in
+    let kind : c.args.post.now.layout.config.scheme ≡ kinds.Hp = ap (λ (config : Config). config.scheme) (sym c.config.ensures) ∙ c.in-Hp.is in
+    let desk : HeldDesk = record c.args.desk.now { notes = c.clear.new.self } in
+    let cleared : desk_of desk ≡ record (desk_of c.args.desk.now) { notes = no_notes } = ap (λ (notes : Notes). let held : Desk = record (desk_of c.args.desk.now) { notes = notes } in held) c.clear.ensures.empty in
+    let called =
+    called_by (words.at c.args.words.now) (words.at c.start.new.self) (words.at c.get_hp_in.new.words) (words.stands c.args.words.now) (words.stands c.start.new.self) (words.stands c.get_hp_in.new.words) (calls.Get c.args.key) c.get_hp_in.result c.args.post.now c.args.desk.now desk _
+    (at_phase Idle c.get_hp_in.new.post c.get_hp_in.new.desk) c.start.ensures.at refl c.start.ensures.stands refl cleared c.get_hp_in.ensures.made in
+    let over : Over (words.at c.get_hp_in.new.words) (calls.Get c.args.key) c.get_hp_in.result c.args.post.now c.get_hp_in.new.post c.get_hp_in.new.desk =
+    over_by (words.at c.args.words.now) (words.at c.get_hp_in.new.words) (words.stands c.args.words.now) (words.stands c.get_hp_in.new.words) (calls.Get c.args.key) c.get_hp_in.result c.args.post.now c.args.desk.now c.get_hp_in.new.post c.get_hp_in.new.desk refl c.requires.here called in
+    record {
+      valid = c.get_hp_in.ensures.valid;
+      same = words.same_on _ _ _ c.start.ensures.same c.get_hp_in.ensures.same;
+      here = over.here;
+      room = c.get_hp_in.ensures.room;
+      place = over.place;
+      suits = over.suits;
+      called = called;
+    }

@@ -18,7 +18,7 @@ retire-clock-requires-clause-here g c =
     let kept = kept_of c.args._kept.now in
     let desk = desk_of c.args.desk.now in
     let t = c.close_round.ensures.turns (Changes kept) (Retiring c.args.slot answer) desk refl tt c.requires.here in
-    (answer, here_on c.requires.here t.leads)
+    (answer, refl, here_on c.requires.here t.leads)
 
 pub retire-clock-requires-clause-room : goal.retire-clock-requires-clause-room
 retire-clock-requires-clause-room g c = room_stays c.close_round.ensures.layout c.requires.room

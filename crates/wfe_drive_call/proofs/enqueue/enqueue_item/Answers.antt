@@ -1,14 +1,12 @@
 -- A round was made and ended, and what comes after it is the answer or another round.
-use Rattle.std.proofs.Common.{ap, refl, ◌∙◌}
-use Rattle.wfe_core.specs.words.declared.config.Config.{Config}
+use Rattle.std.proofs.Common.{ap, refl}
 use Rattle.wfe_core.specs.Calls.{Answering, Enqueues, MakeRoom, Repeated, Task}
 use Rattle.wfe_core.specs.DeskHeld.{desk_of}
-use Rattle.wfe_core.specs.Rounds.{helps}
 use Rattle.wfe_core.specs.declared.desk.Desk.{Desk as HeldDesk}
 use Rattle.wfe_drive_call.specs.Items.{kept_of}
 use Rattle.wfe_drive_runs.proofs.Followings.{room_as}
 use Rattle.wfe_drive_runs.proofs.drive_words.Leading.{here_on, leads_none, then_closes, then_leads}
-use Rattle.wfe_drive_runs.proofs.Rounding.{answer_given, answer_gives_up, room_made, room_tidies}
+use Rattle.wfe_drive_runs.proofs.Rounding.{answer_given, answer_gives_up, room_made}
 use Rattle.wfe_drive_runs.proofs.Spanning.{free_stays}
 use Rattle.wfe_drive_runs.proofs.Turning.{then_turns}
 use Rattle.wfe_drive_call.proofs.enqueue.enqueue_item.Goals as goal
@@ -53,7 +51,7 @@ tidy-requires-clause-here g c =
     let task : Task = Enqueues (kept_of c.link_item.new.item) in
     let x = then_leads c.loop-words.invariant.leads c.in-MakeRoom.ensures.leads in
     let t = then_turns x (c.close_round.ensures.turns task MakeRoom (desk_of held) refl tt (here_on c.requires.here x)) in
-    (Repeated task, here_on c.requires.here (room_tidies task c.close_round.new.post held c.helps-helps.result (c.helps-helps.ensures ∙ ap (λ (config : Config). helps config.scheme) c.config.ensures) t))
+    (Repeated task, refl, here_on c.requires.here t.leads)
 
 pub tidy-requires-clause-room : goal.tidy-requires-clause-room
 tidy-requires-clause-room g c = room_as c.close_round.ensures.layout c.link_item.ensures.room
@@ -64,8 +62,8 @@ loop-words-preserved g c =
     let task : Task = Enqueues (kept_of c.link_item.new.item) in
     let x = then_leads c.loop-words.invariant.leads c.in-MakeRoom.ensures.leads in
     let t = then_turns x (c.close_round.ensures.turns task MakeRoom (desk_of held) refl tt (here_on c.requires.here x)) in
-    let y = room_tidies task c.close_round.new.post held c.helps-helps.result (c.helps-helps.ensures ∙ ap (λ (config : Config). helps config.scheme) c.config.ensures) t in
-    let z = c.tidy.ensures.ends (Repeated task) (here_on c.requires.here y) in
+    let y = t.leads in
+    let z = c.tidy.ensures.ends (Repeated task) refl (here_on c.requires.here y) in
     record {
       valid = c.tidy.ensures.valid;
       same = g.W.Words.same_on _ _ _ (g.W.Words.same_on _ _ _ (g.W.Words.same_on _ _ _ c.loop-words.invariant.same c.link_item.ensures.same) c.close_round.ensures.same) c.tidy.ensures.same;

@@ -3,7 +3,7 @@ use Rattle.std.proofs.Common.{ap, sym, ◌∙◌, ◌≡◌}
 use Rattle.wfe_core.specs.words.Schemes.{has_one_interval}
 use Rattle.wfe_core.specs.words.declared.config.Config.{Config}
 use Rattle.wfe_core.specs.words.declared.config.SchemeKind.{SchemeKind}
-use Rattle.wfe_core.specs.words.declared.config.SchemeKind.TheVariants.{He, Ibr, Wfe}
+use Rattle.wfe_core.specs.words.declared.config.SchemeKind.TheVariants.{He, Hp, Ibr, Wfe}
 use Rattle.wfe_core.specs.Calls.{Runs}
 use Rattle.wfe_core.specs.Dequeue.{follow_base}
 use Rattle.wfe_drive_words.specs.Called.{at_phase}
@@ -50,6 +50,27 @@ returns-in-He-clause-leads g c = λ why h.
     let kind : c.args.post.now.layout.config.scheme ≡ He = ap (λ (config : Config). config.scheme) (sym c.config.ensures) ∙ c.in-He.is in
     let is = ap (λ (scheme : SchemeKind). at_phase (Runs why (follow_base scheme c.args.parent)) c.args.post.now c.args.desk.now) kind in
     so_from _ _ (sym is) (c.follow_he.ensures.leads why (here_as _ _ is h))
+
+pub follow_hp-requires-clause-scheme : goal.follow_hp-requires-clause-scheme
+follow_hp-requires-clause-scheme g c = ap (λ (config : Config). config.scheme) (sym c.config.ensures) ∙ c.in-Hp.is
+
+pub follow_hp-requires-clause-here : goal.follow_hp-requires-clause-here
+follow_hp-requires-clause-here g c =
+    let kind : c.args.post.now.layout.config.scheme ≡ Hp = ap (λ (config : Config). config.scheme) (sym c.config.ensures) ∙ c.in-Hp.is in
+    let (why, h) = c.requires.here in
+    (why, here_as _ _ (ap (λ (scheme : SchemeKind). at_phase (Runs why (follow_base scheme c.args.parent)) c.args.post.now c.args.desk.now) kind) h)
+
+pub returns-in-Hp-clause-room : goal.returns-in-Hp-clause-room
+returns-in-Hp-clause-room g c = room_as c.follow_hp.ensures.layout c.requires.room
+
+pub returns-in-Hp-clause-free : goal.returns-in-Hp-clause-free
+returns-in-Hp-clause-free g c = free_without c.args.post.now c.follow_hp.new.post c.follow_hp.ensures.layout (ap has_one_interval (ap (λ (config : Config). config.scheme) (sym c.config.ensures) ∙ c.in-Hp.is))
+
+pub returns-in-Hp-clause-leads : goal.returns-in-Hp-clause-leads
+returns-in-Hp-clause-leads g c = λ why h.
+    let kind : c.args.post.now.layout.config.scheme ≡ Hp = ap (λ (config : Config). config.scheme) (sym c.config.ensures) ∙ c.in-Hp.is in
+    let is = ap (λ (scheme : SchemeKind). at_phase (Runs why (follow_base scheme c.args.parent)) c.args.post.now c.args.desk.now) kind in
+    so_from _ _ (sym is) (c.follow_hp.ensures.leads why (here_as _ _ is h))
 
 pub follow_ibr-requires-clause-scheme : goal.follow_ibr-requires-clause-scheme
 follow_ibr-requires-clause-scheme g c = ap (λ (config : Config). config.scheme) (sym c.config.ensures) ∙ c.in-Ibr.is

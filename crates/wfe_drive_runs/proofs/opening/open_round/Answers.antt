@@ -2,7 +2,7 @@
 use Rattle.std.proofs.Common.{ap, refl, sym, ◌∙◌, ◌≡◌}
 use Rattle.wfe_core.specs.words.Schemes.{has_one_interval}
 use Rattle.wfe_core.specs.words.declared.config.Config.{Config}
-use Rattle.wfe_core.specs.words.declared.config.SchemeKind.TheVariants.{He, Ibr, Wfe}
+use Rattle.wfe_core.specs.words.declared.config.SchemeKind.TheVariants.{He, Hp, Ibr, Wfe}
 use Rattle.wfe_core.specs.words.declared.layout.Layout.{Layout}
 use Rattle.wfe_core.specs.Calls.{Opens}
 use Rattle.wfe_drive_words.proofs.Leading.{here_as, here_on, leads_as}
@@ -58,6 +58,31 @@ returns-in-He-clause-leads g c = λ task p h.
 
 pub returns-in-He-clause-room : goal.returns-in-He-clause-room
 returns-in-He-clause-room g c = room_as c.hold_he.ensures.layout c.requires.room
+
+pub hold_hp-requires-clause-scheme : goal.hold_hp-requires-clause-scheme
+hold_hp-requires-clause-scheme g c = ap (λ (config : Config). config.scheme) (sym c.config.ensures) ∙ c.in-Hp.is
+
+pub hold_hp-requires-clause-here : goal.hold_hp-requires-clause-here
+hold_hp-requires-clause-here g c =
+    let kind : c.args.post.now.layout.config.scheme ≡ Hp = ap (λ (config : Config). config.scheme) (sym c.config.ensures) ∙ c.in-Hp.is in
+    let (task, p, h) = c.requires.here in
+    (Opens task, here_as _ _ (round_as Hp task c.args.root c.args.post.now c.args.desk.now refl kind p) h)
+
+pub returns-in-Hp-clause-free : goal.returns-in-Hp-clause-free
+returns-in-Hp-clause-free g c = free_without c.args.post.now c.hold_hp.new.post c.hold_hp.ensures.layout (ap has_one_interval (ap (λ (config : Config). config.scheme) (sym c.config.ensures) ∙ c.in-Hp.is))
+
+pub returns-in-Hp-clause-spanned : goal.returns-in-Hp-clause-spanned
+returns-in-Hp-clause-spanned g c = spanned_without c.args.post.now c.hold_hp.new.post c.hold_hp.ensures.layout (ap has_one_interval (ap (λ (config : Config). config.scheme) (sym c.config.ensures) ∙ c.in-Hp.is))
+
+pub returns-in-Hp-clause-leads : goal.returns-in-Hp-clause-leads
+returns-in-Hp-clause-leads g c = λ task p h.
+    let kind : c.args.post.now.layout.config.scheme ≡ Hp = ap (λ (config : Config). config.scheme) (sym c.config.ensures) ∙ c.in-Hp.is in
+    let is = round_as Hp task c.args.root c.args.post.now c.args.desk.now refl kind p in
+    let (era, x) = c.hold_hp.ensures.leads (Opens task) (here_as _ _ is h) in
+    (era, so_from _ _ (sym is) x)
+
+pub returns-in-Hp-clause-room : goal.returns-in-Hp-clause-room
+returns-in-Hp-clause-room g c = room_as c.hold_hp.ensures.layout c.requires.room
 
 pub open_span-span-requires-clause-scheme : goal.open_span-span-requires-clause-scheme
 open_span-span-requires-clause-scheme g c = ap (λ (config : Config). config.scheme) (sym c.config.ensures) ∙ c.in-Ibr.is

@@ -5,7 +5,6 @@ use Rattle.wfe_core.specs.words.declared.config.Config.{Config}
 use Rattle.std.proofs.Common.{ap, sym, ◌%◌, ◌∙◌, ◌≡◌, arith, ℕ}
 use Rattle.wfe_core.specs.Calls.{Answered}
 use Rattle.wfe_core.specs.DeskHeld.{desk_of}
-use Rattle.wfe_core.specs.Rounds.{helps}
 use Rattle.wfe_drive_words.proofs.Leading.{closes_with, here_on, then_closes}
 use Rattle.wfe_drive_runs.proofs.Turning.{may_here, tidies_not, tidies_now, tidied_so}
 use Rattle.wfe_drive_runs.proofs.retirement.retire.Goals as goal
@@ -19,34 +18,32 @@ returns-then-post-config-ne0-clause-closes g c = λ answer e h.
 
 pub store_life-requires-clause-own : goal.store_life-requires-clause-own
 store_life-requires-clause-own g c =
-    let (answer, h) = c.requires.here in
+    let (answer, e, h) = c.requires.here in
     (may_here (g.W.Words.comes c.args.words.now) c.requires.valid h).valid
 
 pub store_life-requires-clause-slot : goal.store_life-requires-clause-slot
 store_life-requires-clause-slot g c =
-    let (answer, h) = c.requires.here in
+    let (answer, e, h) = c.requires.here in
     (may_here (g.W.Words.comes c.args.words.now) c.requires.valid h).ready.0
 
 pub nonzero_rem-post : goal.nonzero_rem-post
 nonzero_rem-post g c =
-    let (answer, h) = c.requires.here in
+    let (answer, e, h) = c.requires.here in
     let most : c.config-config.result.every ≡ c.args.post.now.layout.config.every = ap (λ (config : Config). config.every) c.config-config.ensures ∙ ap (λ (layout : Layout). layout.config.every) c.store_life.ensures.layout in
     omega (arith, most, (may_here (g.W.Words.comes c.args.words.now) c.requires.valid h).valid.bounds.every)
 
 pub tidy-clock-requires-clause-here : goal.tidy-clock-requires-clause-here
 tidy-clock-requires-clause-here g c =
-    let (answer, h) = c.requires.here in
+    let (answer, e, h) = c.requires.here in
     let post : Post = c.store_life.new.post in
     let every : c.config-config.result.every ≡ post.layout.config.every = ap (λ (config : Config). config.every) c.config-config.ensures in
     let due : post.retired % post.layout.config.every ≡ 0 = ap (λ (n : ℕ). post.retired % n) (sym every) ∙ c.if-post-config-ne0.false in
-    let does : c.helps.result ≡ helps post.layout.config.scheme = c.helps.ensures ∙ ap (λ (config : Config). helps config.scheme) c.config-config.ensures in
-    (Answered answer, here_on h (tidies_now answer post c.args.desk.now c.store_life.new.desk c.store_life.result c.helps.result c.store_life.ensures.noted does due (c.store_life.ensures.turns answer h)))
+    (Answered answer, ap Answered e, here_on h (tidies_now answer post c.args.desk.now c.store_life.new.desk c.store_life.result c.store_life.ensures.noted due (c.store_life.ensures.turns answer h)))
 
 pub returns-clause-closes : goal.returns-clause-closes
 returns-clause-closes g c = λ answer e h.
     let post : Post = c.store_life.new.post in
     let every : c.config-config.result.every ≡ post.layout.config.every = ap (λ (config : Config). config.every) c.config-config.ensures in
     let due : post.retired % post.layout.config.every ≡ 0 = ap (λ (n : ℕ). post.retired % n) (sym every) ∙ c.if-post-config-ne0.false in
-    let does : c.helps.result ≡ helps post.layout.config.scheme = c.helps.ensures ∙ ap (λ (config : Config). helps config.scheme) c.config-config.ensures in
-    let y = tidies_now answer post c.args.desk.now c.store_life.new.desk c.store_life.result c.helps.result c.store_life.ensures.noted does due (c.store_life.ensures.turns answer h) in
-    then_closes y (tidied_so answer c.tidy-clock.result c.tidy-clock.new.post c.tidy-clock.new.desk c.note_steps-2.new.desk (c.tidy-clock.ensures.ends (Answered answer) (here_on h y)) (ap desk_of c.note_steps-2.ensures))
+    let y = tidies_now answer post c.args.desk.now c.store_life.new.desk c.store_life.result c.store_life.ensures.noted due (c.store_life.ensures.turns answer h) in
+    then_closes y (tidied_so answer c.tidy-clock.result c.tidy-clock.new.post c.tidy-clock.new.desk c.note_steps-2.new.desk (c.tidy-clock.ensures.ends (Answered answer) (ap Answered e) (here_on h y)) (ap desk_of c.note_steps-2.ensures))

@@ -1,31 +1,30 @@
 -- The store is the step, and what it tells is not noted.
 use Rattle.std.proofs.Common.{arith, refl, ◌<◌, ◌^◌}
 use Rattle.wfe_core.specs.Calls.{Runs}
-use Rattle.wfe_core.specs.Guards.{one_era}
 use Rattle.wfe_core.specs.Phases.Base.{Clear}
 use Rattle.wfe_core.specs.Posts.{stands}
-use Rattle.wfe_core.specs.defs.declared.event.Guard.TheVariants as guards
 use Rattle.wfe_drive_words.specs.drive_cells.Unit.{kept_desk}
+use Rattle.wfe_drive_words.specs.Path.{stepped}
 use Rattle.wfe_drive_runs.specs.Pieces.{seat_of}
 use Rattle.wfe_drive_runs.proofs.Closing.{clear_quiet}
 use Rattle.wfe_drive_words.proofs.Leading.{few_here}
 use Rattle.wfe_drive_runs.proofs.Turning.{asks_seat, may_here, turns_once}
 use Rattle.wfe_drive_runs.proofs.round_end.clear.Goals as goal
 
-pub publish-requires-clause-valid : goal.publish-requires-clause-valid
-publish-requires-clause-valid g c =
+pub publish_as-requires-clause-valid : goal.publish_as-requires-clause-valid
+publish_as-requires-clause-valid g c =
     let (why, desk, h) = c.requires.here in
     (may_here (g.W.Words.comes c.args.words.now) c.requires.valid h).valid
 
-pub publish-requires-clause-index : goal.publish-requires-clause-index
-publish-requires-clause-index g c =
+pub publish_as-requires-clause-index : goal.publish_as-requires-clause-index
+publish_as-requires-clause-index g c =
     let (why, desk, h) = c.requires.here in
     (may_here (g.W.Words.comes c.args.words.now) c.requires.valid h).ready.0
 
 pub step-requires-clause-asks : goal.step-requires-clause-asks
 step-requires-clause-asks g c =
     let (why, desk, h) = c.requires.here in
-    (_, asks_seat (seat_of (Runs why (Clear c.args.index)) c.args.post.now desk) h refl c.publish.ensures)
+    (_, asks_seat (seat_of (Runs why (Clear c.args.rows c.args.index)) c.args.post.now desk) h refl c.publish_as.ensures)
 
 pub bounds-post-index : goal.bounds-post-index
 bounds-post-index g c =
@@ -41,8 +40,8 @@ overflow_add-post g c =
 
 pub returns-clause-turns : goal.returns-clause-turns
 returns-clause-turns g c = λ why desk h.
-    let seat = seat_of (Runs why (Clear c.args.index)) c.args.post.now desk in (
+    let seat = seat_of (Runs why (Clear c.args.rows c.args.index)) c.args.post.now desk in (
       _,
-      clear_quiet (kept_desk desk) c.args.index (stands c.args.post.now c.args.index) (guards.Index c.args.post.now.seat c.args.index) (one_era 0),
-      turns_once seat (c.step.ensures.steps _ (asks_seat seat h refl c.publish.ensures)),
+      clear_quiet (kept_desk desk) c.args.index (stands c.args.post.now c.args.index) c.args.rows (stepped c.args.post.now),
+      turns_once seat (c.step.ensures.steps _ (asks_seat seat h refl c.publish_as.ensures)),
     )

@@ -2,27 +2,29 @@
 use Rattle.wfe_core.specs.declared.desk.Desk.{Desk as HeldDesk}
 use Rattle.std.proofs.Common.{ap, arith, refl, sym, ◌<◌, ◌^◌, ◌∙◌, ◌≡◌, rules}
 use Rattle.wfe_call_tidy.specs.Tidies.{tidy_phase}
-use Rattle.wfe_core.specs.Calls.{AfterScan, Phase, Runs, Tidies}
+use Rattle.wfe_core.specs.Calls.{AfterScan, Phase}
 use Rattle.wfe_core.specs.DeskHeld.{desk_of}
 use Rattle.wfe_core.specs.Desks.{Desk, Notes, noting}
-use Rattle.wfe_core.specs.Phases.Base.{Move}
-use Rattle.wfe_core.specs.Phases.MoveAt.{LoadEra}
+use Rattle.wfe_core.specs.Rounds.{first_tidy}
+use Rattle.wfe_core.specs.Steps.{after_move}
+use Rattle.wfe_core.specs.defs.declared.call.ClockMove.TheVariants.{Still}
 use Rattle.wfe_drive_words.specs.drive_cells.Unit.{SeatView, seat_after}
 use Rattle.wfe_drive_words.specs.Called.{at_phase}
 use Rattle.wfe_drive_words.proofs.Leading.{few_here, here_as, here_on, leads_as, leads_none, then_leads}
 use Rattle.wfe_drive_runs.proofs.Readying.{valid_stepped}
 use Rattle.wfe_drive_words.specs.Path.{stepped}
 use Rattle.wfe_drive_runs.proofs.Still.{tidy_still}
-use Rattle.wfe_drive_runs.proofs.Tidying.{tidy_busy, tidy_ends, tidy_goes, tidy_may_ask, tidy_plausible, tidy_ready}
+use Rattle.wfe_drive_runs.proofs.Tidying.{tidy_begins, tidy_busy, tidy_ends, tidy_goes, tidy_may_ask, tidy_plausible, tidy_ready}
 use Rattle.wfe_drive_runs.proofs.Turning.{asks_seat, may_here, then_turns, turns_as, turns_once, went_on}
 use Rattle.wfe_drive_runs.proofs.tidy_run.tidy.Goals as goal
 
 pub loop-clock-init : goal.loop-clock-init
 loop-clock-init g c =
-    let is : (later : AfterScan) → at_phase (Runs (Tidies later) (Move (LoadEra c.args.helps))) c.args.post.now c.args.desk.now ≡ at_phase (tidy_phase later c.new-machine.result) c.args.post.now c.args.desk.now = λ later.
-    ap (λ (phase : Phase). at_phase phase c.args.post.now c.args.desk.now) (sym (c.new-machine.ensures later)) in
-    let (later, first) = c.requires.here in
-    let h = here_as _ _ (is later) first in
+    let begins = tidy_begins c.new-machine.result c.moves.result c.helps.result c.config-scheme.result c.args.post.now c.config-scheme.ensures c.moves.ensures c.helps.ensures c.new-machine.ensures in
+    let is : (later : AfterScan) → after_move later Still ≡ later → at_phase (first_tidy later c.args.post.now) c.args.post.now c.args.desk.now ≡ at_phase (tidy_phase later c.new-machine.result) c.args.post.now c.args.desk.now = λ later still.
+    ap (λ (phase : Phase). at_phase phase c.args.post.now c.args.desk.now) (sym (begins later still)) in
+    let (later, still, first) = c.requires.here in
+    let h = here_as _ _ (is later still) first in
     let may = may_here (g.W.Words.comes c.args.words.now) c.requires.valid h in
     record {
       valid = c.requires.valid;
@@ -35,7 +37,7 @@ loop-clock-init g c =
       own = may.valid;
       ready = tidy_may_ask later c.new-machine.result c.args.post.now (desk_of c.args.desk.now) may.ready;
       noted = may.noted;
-      leads = λ later h. leads_as _ _ (is later) (leads_none (g.W.Words.at c.args.words.now) (g.W.Words.stands c.args.words.now) (at_phase (Runs (Tidies later) (Move (LoadEra c.args.helps))) c.args.post.now c.args.desk.now));
+      leads = λ later still h. leads_as _ _ (is later still) (leads_none (g.W.Words.at c.args.words.now) (g.W.Words.stands c.args.words.now) (at_phase (first_tidy later c.args.post.now) c.args.post.now c.args.desk.now));
     }
 
 pub step-found-requires-clause-asks : goal.step-found-requires-clause-asks
@@ -88,17 +90,17 @@ loop-clock-preserved g c =
       own = may.valid;
       ready = tidy_may_ask later c.take-ended.new.self c.take-ended.new.post (desk_of left) may.ready;
       noted = may.noted;
-      leads = λ later h.
-          let y = c.loop-clock.invariant.leads later h in
+      leads = λ later still h.
+          let y = c.loop-clock.invariant.leads later still h in
           let x = c.step-found.ensures.steps _ (asks_seat (now later) (here_on h y) (tidy_busy later c.loop-clock.machine) (c.next_op-op.ensures later)) in
           then_leads y (leads_as _ _ (is later) x.leads);
     }
 
 pub returns-in-Some-clause-ends : goal.returns-in-Some-clause-ends
-returns-in-Some-clause-ends g c = λ later h.
+returns-in-Some-clause-ends g c = λ later still h.
     let desk : Desk = desk_of c.take-ended.new.desk in
     let now : SeatView = at_phase (tidy_phase later c.loop-clock.machine) c.loop-clock.post c.loop-clock.desk in
-    let y = c.loop-clock.invariant.leads later h in
+    let y = c.loop-clock.invariant.leads later still h in
     let x = c.step-found.ensures.steps _ (asks_seat now (here_on h y) (tidy_busy later c.loop-clock.machine) (c.next_op-op.ensures later)) in
     record {
       before = desk;

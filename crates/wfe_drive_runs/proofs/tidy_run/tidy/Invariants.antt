@@ -2,10 +2,11 @@
 use Rattle.std.proofs.Common.{◌≡◌, ◌≤◌}
 use Rattle.wfe_call_tidy.specs.Tidies.{tidy_op_ready, tidy_phase}
 use Rattle.wfe_core.specs.CallReady.{NotesFit}
-use Rattle.wfe_core.specs.Calls.{AfterScan, Runs, Tidies}
+use Rattle.wfe_core.specs.Calls.{AfterScan}
 use Rattle.wfe_core.specs.DeskHeld.{HasRoom, desk_of}
-use Rattle.wfe_core.specs.Phases.Base.{Move}
-use Rattle.wfe_core.specs.Phases.MoveAt.{LoadEra}
+use Rattle.wfe_core.specs.Rounds.{first_tidy}
+use Rattle.wfe_core.specs.Steps.{after_move}
+use Rattle.wfe_core.specs.defs.declared.call.ClockMove.TheVariants.{Still}
 use Rattle.wfe_core.specs.Valid.{IsValid}
 use Rattle.wfe_drive_words.specs.Called.{Here, at_phase}
 use Rattle.wfe_drive_words.specs.Path.{Leads}
@@ -25,8 +26,8 @@ invariant-loop-clock g l =
       own : IsValid l.post;
       ready : tidy_op_ready l.machine l.post;
       noted : NotesFit l.post (desk_of l.desk);
-      leads : (later : AfterScan) → Here (words.at l.fn.words) (at_phase (Runs (Tidies later) (Move (LoadEra l.helps))) l.fn.post l.fn.desk)
-          → Leads (words.at l.fn.words) (words.at l.words) (words.stands l.fn.words) (words.stands l.words) (at_phase (Runs (Tidies later) (Move (LoadEra l.helps))) l.fn.post l.fn.desk) (at_phase (tidy_phase later l.machine) l.post l.desk);
+      leads : (later : AfterScan) → after_move later Still ≡ later → Here (words.at l.fn.words) (at_phase (first_tidy later l.fn.post) l.fn.post l.fn.desk)
+          → Leads (words.at l.fn.words) (words.at l.words) (words.stands l.fn.words) (words.stands l.words) (at_phase (first_tidy later l.fn.post) l.fn.post l.fn.desk) (at_phase (tidy_phase later l.machine) l.post l.desk);
     }
 
 abbrev pub decreases-loop-clock : goal.decreases-loop-clock

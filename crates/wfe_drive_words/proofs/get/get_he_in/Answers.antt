@@ -3,7 +3,7 @@ use Rattle.std.proofs.Common.{ap, arith, sym, ◌+◌, refl}
 use Rattle.wfe_core.specs.DeskHeld.{desk_of}
 use Rattle.wfe_core.specs.Rounds.{bucket_of}
 use Rattle.wfe_core.specs.Steps.{first_phase}
-use Rattle.wfe_core.specs.words.Schemes.{has_one_interval}
+use Rattle.wfe_core.specs.words.Schemes.{has_one_interval, publishes_rows}
 use Rattle.wfe_core.specs.words.declared.config.SchemeKind.TheVariants.{He}
 use Rattle.wfe_core.specs.defs.declared.call.Call.TheVariants.{Get}
 use Rattle.wfe_core.specs.defs.declared.event.Root.TheVariants as roots
@@ -52,6 +52,9 @@ close_get-requires-clause-own g c =
     let h = c.requires.here in
     let may : MayAsk (at_phase (first_phase (Get c.args.key) c.args.post.now) c.args.post.now c.args.desk.now) = may_ask_at h.local _ (g.W.Words.comes c.args.words.now h.local c.requires.valid h.there) h.is in
     may.valid
+
+pub close_get-requires-clause-rows : goal.close_get-requires-clause-rows
+close_get-requires-clause-rows g c = ap publishes_rows (sym c.requires.scheme)
 
 pub close_get-requires-clause-clears : goal.close_get-requires-clause-clears
 close_get-requires-clause-clears g c = ap has_one_interval c.requires.scheme

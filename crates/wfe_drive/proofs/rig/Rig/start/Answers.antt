@@ -10,7 +10,7 @@ use Rattle.wfe_drive.proofs.rig.Rig.start.Goals as goal
 pub engage-requires-clause-suits : goal.engage-requires-clause-suits
 engage-requires-clause-suits g c =
     let l = layout_from _ c.args.self.now c.args.seat c.index_mut.result.now c.self.view_is c.self.invariant c.requires.seat c.index_mut.ensures.value in
-    subst (Suits _ _ _ c.begin_under-engaged.result) (sym (ap (λ (layout : Layout). layout.config.scheme) l)) c.begin_under-engaged.ensures.suits
+    subst (Suits _ _ _ _ c.begin_under-engaged.result) (sym (ap (λ (layout : Layout). layout.config.scheme) l)) c.begin_under-engaged.ensures.suits
 
 pub engage-requires-clause-busy : goal.engage-requires-clause-busy
 engage-requires-clause-busy g c =
