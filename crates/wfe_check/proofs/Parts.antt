@@ -24,12 +24,14 @@ put_together version config p i event f covered = record {
   room = f.in_times.room;
   numbers = f.in_rows.numbers;
   moves = f.in_calls.moves;
+  advances = f.in_calls.advances;
   births = f.in_times.births;
   retires = f.in_times.retires;
   current = f.in_times.current;
   single = f.in_guards.single;
   rising = f.in_guards.rising;
   guards = f.in_guards.guards;
+  kinds = f.in_guards.kinds;
   covered = covered;
   sources = f.in_times.sources;
   finds = f.in_calls.finds;
@@ -45,6 +47,7 @@ put_together version config p i event f covered = record {
   withdrawals = f.in_steps.withdrawals;
   tries = f.in_steps.tries;
   raises = f.in_steps.raises;
+  hazards = f.in_steps.hazards;
   asks = f.in_steps.asks;
   ends = f.in_steps.calls;
 }
@@ -52,9 +55,9 @@ put_together version config p i event f covered = record {
 taken_apart : (version : ℕ) (config : Config) (p : Past) (i : ℕ) (event : Event) → Fits version config p i event → FitsParts version config p i event
 taken_apart version config p i event f = record {
   in_rows = record { free = f.free; nexts = f.nexts; order = f.order; numbers = f.numbers };
-  in_calls = record { calls = f.calls; placing = f.placing; retiring = f.retiring; due = f.due; moves = f.moves; finds = f.finds };
-  in_steps = record { numbers = f.steps; withdrawals = f.withdrawals; tries = f.tries; raises = f.raises; asks = f.asks; calls = f.ends };
-  in_guards = record { reads = f.reads; single = f.single; rising = f.rising; guards = f.guards; bare = f.bare; rests = f.rests };
+  in_calls = record { calls = f.calls; placing = f.placing; retiring = f.retiring; due = f.due; moves = f.moves; finds = f.finds; advances = f.advances };
+  in_steps = record { numbers = f.steps; withdrawals = f.withdrawals; tries = f.tries; raises = f.raises; hazards = f.hazards; asks = f.asks; calls = f.ends };
+  in_guards = record { reads = f.reads; single = f.single; rising = f.rising; guards = f.guards; kinds = f.kinds; bare = f.bare; rests = f.rests };
   in_standing = record { reuse = f.reuse; links = f.links; behind = f.behind; gots = f.gots };
   in_contents = record { map = f.map; values = f.values; empty = f.empty; blocks = f.blocks; backs = f.backs; lists = f.lists };
   in_times = record { sources = f.sources; births = f.births; retires = f.retires; current = f.current; room = f.room };

@@ -42,6 +42,7 @@ member_at (row ∷ rows) (suc k) d h = later (get_or rows k d == row) (is_one_of
 -- whether a block seeks room, where the entry reads
 pub sought_is : (event : Event) (seeks : Bool) (call : Option Call) (blocks : Blocks) → seeks ≡ seeks_by event call blocks → IsSought event seeks (seeks_room call blocks)
 sought_is (events.Read guard span) seeks call blocks e = e
+sought_is (events.Saw guard slot) seeks call blocks e = e
 sought_is event seeks call blocks e = tt
 
 -- a get that tells version 0

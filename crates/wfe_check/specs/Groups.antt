@@ -1,8 +1,8 @@
 -- What one entry has to meet, by the part of the checker that tells it.
-use Rattle.std.specs.Prelude.{ℕ, ◌≡◌, ◌≤◌, true}
+use Rattle.std.specs.Prelude.{ℕ, ◌≡◌, ◌≤◌, false, true}
 use Rattle.laws_good.specs.Good.{rests_of}
 use Rattle.laws.specs.records.Record.{Past}
-use Rattle.laws.specs.EraLaw.{birth_ok, current_ok, era_ok, guard_ok, moves_ok, retire_ok, rising_ok, single_ok}
+use Rattle.laws.specs.EraLaw.{advances_ok, birth_ok, current_ok, era_ok, guard_ok, kind_ok, moves_ok, retire_ok, rising_ok, single_ok}
 use Rattle.laws.specs.HoldLaw.{bare_ok, behind_ok, finds_ok, gots_ok, links_ok, sources_ok}
 use Rattle.laws.specs.MapLaw.{map_ok}
 use Rattle.laws.specs.NoReuse.{reuse_ok}
@@ -11,6 +11,7 @@ use Rattle.laws.specs.QueueLaw.{empty_ok, queue_ok}
 use Rattle.laws.specs.ScanLaw.{blocks_ok, read_ok, room_ok, scan_ok}
 use Rattle.laws.specs.Standing.{open_ok}
 use Rattle.wfe_check_steps.specs.Right.{IsRight}
+use Rattle.wfe_words.specs.Schemes.{moves as moves_clock}
 use Rattle.wfe_words.specs.declared.config.Config.{Config}
 use Rattle.wfe_defs.specs.declared.event.Event.{Event}
 
@@ -29,6 +30,7 @@ pub record FitsCalls (config : Config) (p : Past) (i : ℕ) (event : Event) : Ty
   pub due : blocks_ok config p i event ≡ true
   pub moves : moves_ok config p i event ≡ true
   pub finds : finds_ok p i event ≡ true
+  pub advances : moves_clock config.scheme ≡ false → advances_ok p i event ≡ true
 
 -- guards
 pub record FitsGuards (version : ℕ) (config : Config) (p : Past) (i : ℕ) (event : Event) : Type 0 where
@@ -36,6 +38,7 @@ pub record FitsGuards (version : ℕ) (config : Config) (p : Past) (i : ℕ) (ev
   pub single : single_ok config.scheme p i event ≡ true
   pub rising : rising_ok config.scheme p i event ≡ true
   pub guards : guard_ok config.scheme p i event ≡ true
+  pub kinds : kind_ok config.scheme p i event ≡ true
   pub bare : bare_ok p i event ≡ true
   pub rests : rests_of version config p i event ≡ true
 

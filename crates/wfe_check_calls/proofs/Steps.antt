@@ -8,8 +8,9 @@ use Rattle.laws.specs.defs.declared.event.Event.TheVariants as events
 use Rattle.laws.specs.defs.Events.{is_null}
 use Rattle.laws.specs.records.Record.{Past, begins, own, told_since}
 use Rattle.laws.specs.records.Record.Past.{Then}
+use Rattle.laws.specs.words.Schemes.{moves as moves_clock}
 use Rattle.laws.specs.words.declared.config.Config.{Config}
-use Rattle.laws.specs.EraLaw.{moves_ok}
+use Rattle.laws.specs.EraLaw.{advances_ok, is_era, moves_ok}
 use Rattle.laws.specs.HoldLaw.{finds_ok}
 use Rattle.laws.specs.Lists.{has_left, is_adopted, is_left}
 use Rattle.laws.specs.Once.{placing_ok, retiring_ok}
@@ -18,7 +19,7 @@ use Rattle.laws.specs.Standing.{open_ok}
 use Rattle.laws.specs.StateAt.{began_of, has_told, is_open, rooted_of, was_taken}
 use Rattle.wfe_check_calls.specs.declared.seat.Seat.{Seat}
 use Rattle.wfe_check_calls.specs.Sought.{seeks_by}
-use Rattle.wfe_check_calls.specs.Seats.{IsFresh, calls_of, finds_right, no_calls, null_told_by, opens_right, seat_by, seat_right, shown_seat}
+use Rattle.wfe_check_calls.specs.Seats.{IsFresh, advances_right, calls_of, finds_right, moved_by, no_calls, null_told_by, opens_right, seat_by, seat_right, shown_seat}
 
 -- a seat's own event
 
@@ -38,11 +39,16 @@ null_own i p (events.Null index steps) =
     rw same (null_count (index == 0) (told_since (begins i) (own i (is_null 0)) p))
 null_own i p event = refl
 
+moved_own : (i : ℕ) (p : Past) (event : Event) → has_told i is_era (Then p i event) ≡ moved_by event (has_told i is_era p)
+moved_own i p (events.Begin call) = let same : (i == i) ≡ true = grind (arith, nat_tests) in rw same refl
+moved_own i p (events.Era era) = let same : (i == i) ≡ true = grind (arith, nat_tests) in rw same (grind (arith, nat_tests))
+moved_own i p event = refl
+
 pub calls_own : (config : Config) (i : ℕ) (p : Past) (event : Event) →
     calls_of config i (Then p i event) ≡ seat_by (guards config) config.every event (calls_of config i p)
 calls_own config i p event =
     let same : (i == i) ≡ true = grind (arith, nat_tests) in
-    rw (left_own i p event, null_own i p event, same) refl
+    rw (left_own i p event, null_own i p event, moved_own i p event, same) refl
 
 -- an event of another seat
 
@@ -57,10 +63,15 @@ null_other i k p (events.Null index steps) differs =
     rw differs (elim (index == 0) as (λ b. nat_lt 0 (if (b && false) then told + 1 else told) ≡ nat_lt 0 told) [ true ↦ refl | false ↦ refl ])
 null_other i k p event differs = refl
 
+moved_other : (i k : ℕ) (p : Past) (event : Event) → (i == k) ≡ false → has_told i is_era (Then p k event) ≡ has_told i is_era p
+moved_other i k p (events.Begin call) differs = rw differs refl
+moved_other i k p (events.Era era) differs = rw differs refl
+moved_other i k p event differs = refl
+
 pub calls_other : (config : Config) (i k : ℕ) (p : Past) (event : Event) → i ≢ k → calls_of config i (Then p k event) ≡ calls_of config i p
 calls_other config i k p event apart =
     let differs : (i == k) ≡ false = grind (arith, nat_tests) in
-    rw (left_other i k p event differs, null_other i k p event differs, differs) refl
+    rw (left_other i k p event differs, null_other i k p event differs, moved_other i k p event differs, differs) refl
 
 -- the seats as they are kept, after an event of one of them
 pub seats_after : (config : Config) (seats : List Seat) (i : ℕ) (old new : Seat) (p : Past) (event : Event) → i < length seats → length seats ≡ config.seats →
@@ -96,6 +107,10 @@ adopted_set config adopted seat place p count placed within before k h =
           get_or-set_other adopted place k true true apart ∙ before k h
     ] refl
 
+pub adopted_plain : (k i : ℕ) (p : Past) (event : Event) → ((place count : ℕ) → event ≡ events.Adopted place count → ⊥) → is_adopted k (Then p i event) ≡ is_adopted k p
+adopted_plain k i p (events.Adopted place count) other = absurd (other place count refl)
+adopted_plain k i p event other = refl
+
 -- seats that have told nothing
 
 pub fresh_push : (count : ℕ) (seats : List Seat) (seat : Seat) → IsFresh count seats → shown_seat seat ≡ no_calls → IsFresh (count + 1) (seats ++ seat ∷ [])
@@ -119,12 +134,18 @@ finds_is : (i : ℕ) (p : Past) (event : Event) → finds_right event (began_of 
 finds_is i p (events.End steps answer) = refl
 finds_is i p event = refl
 
-pub right_is : (config : Config) (i : ℕ) (p : Past) (event : Event) → seat_right event (calls_of config i p) ≡
-    (open_ok p i event && (placing_ok p i event && (retiring_ok p i event && (blocks_ok config p i event && (moves_ok config p i event && finds_ok p i event)))))
-right_is config i p event = rw (opens_is i p event, finds_is i p event) refl
+advances_is : (i : ℕ) (p : Past) (event : Event) → advances_right event (began_of i p) (has_told i is_era p) ≡ advances_ok p i event
+advances_is i p (events.Era era) = refl
+advances_is i p event = refl
+
+pub right_is : (config : Config) (i : ℕ) (p : Past) (event : Event) → seat_right (moves_clock config.scheme) event (calls_of config i p) ≡
+    (open_ok p i event && (placing_ok p i event && (retiring_ok p i event && (blocks_ok config p i event && (moves_ok config p i event && (finds_ok p i event
+    && (moves_clock config.scheme || advances_ok p i event)))))))
+right_is config i p event = rw (opens_is i p event, finds_is i p event, advances_is i p event) refl
 
 -- where a block begins by which the call seeks a free row, the row was taken at a position of the call
 pub room_is : (config : Config) (s i : ℕ) (p : Past) (event : Event) →
     (not (seeks_by event (began_of i p) (blocks_of config i p)) || was_taken config.slots i s p) ≡ room_ok config s p i event
 room_is config s i p (events.Read guard span) = refl
+room_is config s i p (events.Saw guard slot) = refl
 room_is config s i p event = refl

@@ -6,7 +6,7 @@ use Rattle.laws.specs.defs.declared.event.Event.TheVariants as events
 use Rattle.laws.specs.defs.Events.{is_null}
 use Rattle.laws.specs.records.Record.{Past}
 use Rattle.laws.specs.words.declared.config.Config.{Config}
-use Rattle.laws.specs.EraLaw.{moves_right}
+use Rattle.laws.specs.EraLaw.{is_era, is_of_advance, moves_right}
 use Rattle.laws.specs.Lists.{has_left, is_left}
 use Rattle.laws.specs.Once.{Grant, grant_of, granted_by, no_grant, places_right, retires_right}
 use Rattle.laws.specs.ScanLaw.{Blocks, blocks_of, blocks_by, blocks_right, no_blocks}
@@ -25,13 +25,15 @@ shown_blocks kept =
     record { retired = kept.retired; given = kept.given; begun = kept.begun; due = kept.due; last = kept.last; left = kept.left; moves = kept.moves }
 
 -- what a record says of a seat: whether it is in a call and whether it has left, and of the call that it began last which it is, whether
--- it has found its root, whether it has told that index 0 has none, what it has done with its row, its blocks, and its cuts
+-- it has found its root, whether it has told that index 0 has none, whether it has moved the clock, what it has done with its row, its
+-- blocks, and its cuts
 pub record SeatCalls : Type 0 where
   pub in_call : Bool
   pub left : Bool
   pub began : Option Call
   pub rooted : Bool
   pub null : Bool
+  pub moved : Bool
   pub grant : Grant
   pub blocks : Blocks
   pub cuts : List ℕ
@@ -44,6 +46,7 @@ calls_of config i p = record {
   began = began_of i p;
   rooted = rooted_of i p;
   null = has_told i (is_null 0) p;
+  moved = has_told i is_era p;
   grant = grant_of i p;
   blocks = blocks_of config i p;
   cuts = cuts_of i p;
@@ -57,6 +60,7 @@ no_calls = record {
   began = None;
   rooted = false;
   null = false;
+  moved = false;
   grant = no_grant;
   blocks = no_blocks;
   cuts = [];
@@ -70,6 +74,7 @@ shown_seat seat = record {
   began = seat.began;
   rooted = seat.rooted;
   null = seat.null;
+  moved = seat.moved;
   grant = shown_grant seat.grant;
   blocks = shown_blocks seat.blocks;
   cuts = seat.cuts.items;
@@ -81,6 +86,12 @@ null_told_by (events.Begin call) before = false
 null_told_by (events.Null index steps) before = (index == 0) || before
 null_told_by event before = before
 
+-- the call has moved the clock
+abbrev pub moved_by : Event → Bool → Bool
+moved_by (events.Begin call) before = false
+moved_by (events.Era era) before = true
+moved_by event before = before
+
 -- a seat after an event of it, where there are so many guards, and every so many retirements a block is due
 abbrev pub seat_by : (all every : ℕ) → Event → SeatCalls → SeatCalls
 seat_by all every event before = record {
@@ -89,6 +100,7 @@ seat_by all every event before = record {
   began = began_by event before.began;
   rooted = rooted_by event before.rooted;
   null = null_told_by event before.null;
+  moved = moved_by event before.moved;
   grant = granted_by event before.grant;
   blocks = blocks_by all every event before.blocks;
   cuts = cuts_by event before.cuts;
@@ -104,15 +116,21 @@ abbrev pub finds_right : Event → Option Call → (rooted : Bool) → Bool
 finds_right (events.End steps answer) began rooted = not (has_root began) || rooted
 finds_right event began rooted = true
 
--- an event of a seat is one that may come, as far as the seat's calls say
-abbrev pub seat_right : Event → SeatCalls → Bool
-seat_right event before =
+-- the clock is moved by an Advance, once
+abbrev pub advances_right : Event → Option Call → (moved : Bool) → Bool
+advances_right (events.Era era) began moved = is_of_advance began && not moved
+advances_right event began moved = true
+
+-- an event of a seat is one that may come, as far as the seat's calls say, where retirements move the clock or do not
+abbrev pub seat_right : (by_retires : Bool) → Event → SeatCalls → Bool
+seat_right by_retires event before =
     opens_right event before.in_call before.left
     && (places_right event before.grant
     && (retires_right event before.cuts
     && (blocks_right before.began event before.blocks
     && (moves_right before.began event before.blocks
-    && finds_right event before.began before.rooted))))
+    && (finds_right event before.began before.rooted
+    && (by_retires || advances_right event before.began before.moved))))))
 
 -- so many seats that have told nothing
 pub record IsFresh (count : ℕ) (seats : List Seat) : Type 0 where

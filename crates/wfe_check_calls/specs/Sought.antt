@@ -8,4 +8,5 @@ use Rattle.laws.specs.ScanLaw.{Blocks, seeks_room}
 -- a guard is read, and the block that begins with it is one that the call needs to find a free row
 abbrev pub seeks_by : Event → Option Call → Blocks → Bool
 seeks_by (events.Read guard span) call blocks = seeks_room call blocks
+seeks_by (events.Saw guard slot) call blocks = seeks_room call blocks
 seeks_by event call blocks = false

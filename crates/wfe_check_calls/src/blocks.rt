@@ -118,7 +118,7 @@ impl Blocks {
                 moves: raised(self.moves)?,
                 ..self
             }),
-            Event::Read { .. } => {
+            Event::Read { .. } | Event::Saw { .. } => {
                 if self.left == 0 {
                     self.begun(all)
                 } else {
@@ -155,7 +155,7 @@ impl Blocks {
         ensures { result ≡ blocks_right call event.now (shown_blocks self) }
     {
         match event {
-            Event::Read { .. } => self.left != 0 || self.may_begin(call),
+            Event::Read { .. } | Event::Saw { .. } => self.left != 0 || self.may_begin(call),
             Event::End { .. } => self.is_scanned(call),
             _ => true,
         }
@@ -180,7 +180,9 @@ impl Blocks {
         ensures { result ≡ seeks_by event.now call (shown_blocks self) }
     {
         match event {
-            Event::Read { .. } => self.left == 0 && self.due.is_none() && is_given_one(call),
+            Event::Read { .. } | Event::Saw { .. } => {
+                self.left == 0 && self.due.is_none() && is_given_one(call)
+            }
             _ => false,
         }
     }

@@ -5,7 +5,7 @@ ghost use Rattle.wfe_words.specs.Config.{bad_field};
 
 use crate::seat::{Seat, new_seats};
 use std::alloc::Global;
-use wfe_check_counts::guard_count;
+use wfe_check_counts::{guard_count, moves_clock};
 use wfe_defs::{Call, Event, NoMemory};
 use wfe_words::Config;
 
@@ -26,11 +26,12 @@ pub struct Calls {
 }
 
 impl Calls {
-    ghost use Rattle.std.specs.Prelude.{OnOk, ◌&&◌};
+    ghost use Rattle.std.specs.Prelude.{OnOk, ◌&&◌, ◌||◌};
     ghost use Rattle.laws.specs.records.Record.{Past};
     ghost use Rattle.wfe_words.specs.declared.config.Config.{Config};
     ghost use Rattle.laws.specs.records.Record.Past.{Start, Then};
-    ghost use Rattle.laws.specs.EraLaw.{moves_ok};
+    ghost use Rattle.laws.specs.EraLaw.{advances_ok, moves_ok};
+    ghost use Rattle.laws.specs.words.Schemes.{moves as moves_clock};
     ghost use Rattle.laws.specs.HoldLaw.{finds_ok};
     ghost use Rattle.laws.specs.Lists.{has_left, is_adopted};
     ghost use Rattle.laws.specs.Once.{placing_ok, retiring_ok};
@@ -67,9 +68,10 @@ impl Calls {
         requires range { EntryIn self.now.config seat event.now }
         ensures { (config : Config) (p : Past) → IsCalls config self.now p → result ≡
             (open_ok p seat event.now && (placing_ok p seat event.now && (retiring_ok p seat event.now
-            && (blocks_ok config p seat event.now && (moves_ok config p seat event.now && finds_ok p seat event.now))))) }
+            && (blocks_ok config p seat event.now && (moves_ok config p seat event.now && (finds_ok p seat event.now
+            && (moves_clock config.scheme || advances_ok p seat event.now))))))) }
     {
-        self.seats[seat as usize].fits(event)
+        self.seats[seat as usize].fits(event, moves_clock(self.config.scheme))
     }
 
     /// Whether the event begins a block of the seat that its call needs to find a free row.

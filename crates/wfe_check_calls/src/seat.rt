@@ -3,7 +3,7 @@ ghost use Rattle.std.specs.Prelude.{◌≡◌, ◌<◌, ◌||◌, IfOk, OnOk};
 ghost use Rattle.laws.specs.Lists.{is_left as is_leaving};
 ghost use Rattle.laws.specs.Once.{retires_right};
 ghost use Rattle.laws.specs.StateAt.{began_by, cuts_by, has_root as has_root_call, is_among as is_among_rows, opened_by, rooted_by, without_one as without_row};
-ghost use Rattle.wfe_check_calls.specs.Seats.{IsFresh, finds_right, no_calls, null_told_by, opens_right, seat_by, seat_right, shown_seat};
+ghost use Rattle.wfe_check_calls.specs.Seats.{IsFresh, advances_right, finds_right, moved_by, no_calls, null_told_by, opens_right, seat_by, seat_right, shown_seat};
 
 use crate::blocks::Blocks;
 use crate::grant::Grant;
@@ -22,6 +22,8 @@ pub(crate) struct Seat {
     pub rooted: bool,
     // Whether it has told there that there is none.
     pub null: bool,
+    // Whether it has moved the clock.
+    pub moved: bool,
     pub grant: Grant,
     pub blocks: Blocks,
     // The rows that it has cut and not retired since, the last one first.
@@ -72,6 +74,16 @@ fn null_after(event: &Event, before: bool) -> bool
     match *event {
         Event::Begin { .. } => false,
         Event::Null { index, .. } => index == 0 || before,
+        _ => before,
+    }
+}
+
+fn moved_after(event: &Event, before: bool) -> bool
+    ensures { result ≡ moved_by event.now before }
+{
+    match event {
+        Event::Begin { .. } => false,
+        Event::Era { .. } => true,
         _ => before,
     }
 }
@@ -132,6 +144,7 @@ impl Seat {
             began: None,
             rooted: false,
             null: false,
+            moved: false,
             grant: Grant::none(),
             blocks: Blocks::none(),
             cuts: Vec::new(alloc),
@@ -152,6 +165,7 @@ impl Seat {
         self.began = began_after(event, self.began);
         self.rooted = rooted_after(event, self.rooted);
         self.null = null_after(event, self.null);
+        self.moved = moved_after(event, self.moved);
         Ok(())
     }
 
@@ -183,9 +197,18 @@ impl Seat {
         }
     }
 
-    /// Whether the seat may tell the event.
-    pub fn fits(&self, event: &Event) -> bool
-        ensures { result ≡ seat_right event.now (shown_seat self.now) }
+    fn advances(&self, event: &Event) -> bool
+        ensures { result ≡ advances_right event.now self.now.began self.now.moved }
+    {
+        match event {
+            Event::Era { .. } => matches!(self.began, Some(Call::Advance)) && !self.moved,
+            _ => true,
+        }
+    }
+
+    /// Whether the seat may tell the event, where retirements move the clock or do not.
+    pub fn fits(&self, event: &Event, by_retires: bool) -> bool
+        ensures { result ≡ seat_right by_retires event.now (shown_seat self.now) }
     {
         self.opens(event)
             && self.grant.fits(event)
@@ -193,6 +216,7 @@ impl Seat {
             && self.blocks.fits(self.began, event)
             && self.blocks.moves_fit(self.began, event)
             && self.finds(event)
+            && (by_retires || self.advances(event))
     }
 }
 

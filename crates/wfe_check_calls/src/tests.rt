@@ -126,3 +126,56 @@ fn scans_moves_and_roots_are_those_of_the_call(rt: HostRuntime) -> Result<(), Fa
     assert!(rt; !calls.fits(0, &END));
     Ok(())
 }
+
+const OF_ROWS: Config = Config {
+    scheme: SchemeKind::Hp,
+    seats: 1,
+    indexes: 3,
+    slots: 2,
+    buckets: 1,
+    tries: 1,
+    every: 1,
+    last_era: 9,
+    last_version: 9,
+    pairs: 14,
+};
+
+const ADVANCE: Event = Event::Begin {
+    call: Call::Advance,
+};
+
+const SAW: Event = Event::Saw {
+    guard: Guard::Index { seat: 0, index: 0 },
+    slot: None,
+};
+
+// Whether the one seat may tell the event where rows are published, which it then does.
+fn tell_of_rows(calls: &mut Calls, event: Event) -> Result<bool, NoMemory>
+    requires setting { calls.old.config ≡ OF_ROWS }
+    requires range { EntryIn OF_ROWS 0 event }
+    ensures { calls.new.config ≡ OF_ROWS }
+{
+    let fits = calls.fits(0, &event);
+    calls.note(0, &event)?;
+    Ok(fits)
+}
+
+#[test]
+fn where_rows_are_published_an_advance_alone_moves_the_clock_once(
+    rt: HostRuntime,
+) -> Result<(), Fail> {
+    let mut calls = Calls::new(rt.alloc(), OF_ROWS)?;
+    assert!(rt; tell_of_rows(&mut calls, PUT)?);
+    assert!(rt; !calls.fits(0, &Event::Era { era: 2 }));
+    assert!(rt; calls.seeks_room(0, &SAW));
+    assert!(rt; tell_of_rows(&mut calls, SAW)?);
+    assert!(rt; !calls.seeks_room(0, &SAW));
+    assert!(rt; tell_of_rows(&mut calls, NULL)?);
+    let mut calls = Calls::new(rt.alloc(), OF_ROWS)?;
+    assert!(rt; tell_of_rows(&mut calls, ADVANCE)?);
+    assert!(rt; !calls.fits(0, &SAW));
+    assert!(rt; tell_of_rows(&mut calls, Event::Era { era: 2 })?);
+    assert!(rt; !calls.fits(0, &Event::Era { era: 3 }));
+    assert!(rt; calls.fits(0, &END));
+    Ok(())
+}

@@ -11,7 +11,7 @@ pub fn guard_count(config: &Config) -> u32
     ensures { result ≡ guards config.now }
 {
     match config.scheme {
-        SchemeKind::He => config.seats * config.indexes,
+        SchemeKind::He | SchemeKind::Hp => config.seats * config.indexes,
         SchemeKind::Ibr => config.seats,
         SchemeKind::Wfe => config.seats + config.seats * config.indexes,
     }

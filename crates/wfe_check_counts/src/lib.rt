@@ -1,8 +1,12 @@
-//! What parts of the checker share: counts, and the positions of a record by number.
+//! What parts of the checker share: counts, what schemes can do, what guards publish, and the positions of a record by number.
 #![tactic(auto)]
 
 mod count;
 mod guards;
+mod scheme;
+mod shown;
 
 pub use count::raised;
 pub use guards::guard_count;
+pub use scheme::{is_of_rows, moves_clock};
+pub use shown::{keeps, of_row, of_span};

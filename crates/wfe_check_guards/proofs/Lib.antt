@@ -1,5 +1,6 @@
 pub mod Below
 pub mod Holds
+pub mod Published
 pub mod Rights
 pub mod Sets
 pub mod Steps

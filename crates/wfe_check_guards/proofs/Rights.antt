@@ -2,7 +2,7 @@
 use Rattle.std.proofs.Common.{ℕ, zero, suc, ◌≡◌, ◌<◌, ◌≤◌, Bool, true, false, Option, Some, None, refl, ap, sym, ◌∙◌, arith, subst}
 use Rattle.std.specs.Prelude.{◌&&◌, ◌||◌, ◌==◌, ◌↔◌, not, is_none, if◌then◌else◌, nat_le, nat_lt}
 use Rattle.wfe_defs.proofs.Facts.{by_cases, number_is, false_of_not, first_of, rest_of, same_number}
-use Rattle.laws.specs.words.Schemes.{has_one_interval, is_wfe}
+use Rattle.laws.specs.words.Schemes.{has_one_interval, is_wfe, publishes_rows}
 use Rattle.laws.specs.words.declared.config.Config.{Config}
 use Rattle.laws.specs.words.declared.config.SchemeKind.{SchemeKind}
 use Rattle.laws.specs.defs.declared.call.Call.{Call}
@@ -11,13 +11,15 @@ use Rattle.laws.specs.defs.declared.event.Event.TheVariants as events
 use Rattle.laws.specs.defs.declared.event.Guard.{Guard}
 use Rattle.laws.specs.defs.declared.event.Guard.TheVariants.{Helper, Index, Whole}
 use Rattle.laws.specs.defs.declared.event.Root.TheVariants as roots
+use Rattle.laws.specs.defs.Shown.{shown}
 use Rattle.laws.specs.defs.declared.lifetime.Interval.{Interval}
+use Rattle.laws.specs.defs.declared.shown.Shown.{Shown}
 use Rattle.laws.specs.records.Record.{Past}
-use Rattle.laws.specs.EraLaw.{guard_ok, is_one_era, rising_ok, same_interval, single_ok, span_rises}
-use Rattle.laws.specs.HoldLaw.{bare_ok, behind_ok, guards_rest, index_rests, indexes_rest, is_alike, keeps_none, links_ok, stands_for}
+use Rattle.laws.specs.EraLaw.{guard_ok, is_one_era, kind_ok, rising_ok, same_interval, single_ok, span_rises}
+use Rattle.laws.specs.HoldLaw.{bare_ok, behind_ok, guards_rest, index_rests, indexes_rest, is_alike, is_blank, keeps_none, links_ok, stands_for}
 use Rattle.laws.specs.Once.{is_slot}
 use Rattle.laws.specs.ScanLaw.{read_ok}
-use Rattle.laws.specs.StateAt.{began_of, head_at, is_bare, is_dequeue, is_index, next_at, same_span, seat_of, standing_of, stands, tail_at, value_of}
+use Rattle.laws.specs.StateAt.{began_of, hazard_of, head_at, is_bare, is_dequeue, is_index, next_at, published_at, same_span, same_value, seat_of, standing_of, stands, tail_at, value_of}
 use Rattle.laws_good.specs.Good.{named_indexes, rests_of}
 use Rattle.laws_good.specs.Ranges.{EntryIn, GuardIn}
 use Rattle.wfe_check_rows.specs.declared.rows.Rows.{Rows}
@@ -26,8 +28,9 @@ use Rattle.wfe_check_rows.specs.Shown.{root, row}
 use Rattle.wfe_check_guards.specs.declared.protections.Protections.{Protections}
 use Rattle.wfe_check_guards.specs.All.{all_below}
 use Rattle.wfe_check_guards.specs.Protections.{IsProtections, NoneReused}
-use Rattle.wfe_check_guards.specs.Shown.{bare_in, ends_right, held_behind, indexes_of, links_right, low_or_bare, misses_at, misses_by, reserves_right, rests, reuses_none, right, rows_in, stands_for_in, stands_in, stands_nowhere, value_in, word_rests}
+use Rattle.wfe_check_guards.specs.Shown.{bare_in, ends_right, hazard_in, held_behind, indexes_of, links_right, low_or_bare, misses_at, misses_by, published_in, reserves_right, rests, reuses_none, right, rows_in, stands_for_in, stands_in, stands_nowhere, value_in, word_rests}
 use Rattle.wfe_check_guards.proofs.Below.{at_below, below_by, below_same}
+use Rattle.wfe_check_guards.proofs.Published.{index_is}
 use Rattle.wfe_check_guards.proofs.Sets.{both_empty}
 
 pub bare_is : (config : Config) (kept : Protections) (p : Past) → IsProtections config kept p → (k j : ℕ) → k < config.seats → j < config.indexes → bare_in kept k j ≡ is_bare k j p
@@ -38,14 +41,14 @@ none_below : (k : ℕ) (p : Past) (n : ℕ) → keeps_none k p n ≡ all_below (
 none_below k p zero = refl
 none_below k p (suc n) = ap (λ (b : Bool). (nat_lt n 2 || is_bare k n p) && b) (none_below k p n)
 
-words_below : (k : ℕ) (p : Past) (n : ℕ) → indexes_rest k p n ≡ all_below (index_rests k p) n
-words_below k p zero = refl
-words_below k p (suc n) = ap (λ (b : Bool). index_rests k p n && b) (words_below k p n)
+words_below : (scheme : SchemeKind) (k : ℕ) (p : Past) (n : ℕ) → indexes_rest scheme k p n ≡ all_below (index_rests scheme k p) n
+words_below scheme k p zero = refl
+words_below scheme k p (suc n) = ap (λ (b : Bool). index_rests scheme k p n && b) (words_below scheme k p n)
 
-word_is : (config : Config) (kept : Protections) (p : Past) → IsProtections config kept p → (k j : ℕ) → k < config.seats → j < config.indexes → word_rests kept k j ≡ index_rests k p j
-word_is config kept p r k j l m = let value : value_in kept (Index k j) ≡ value_of (Index k j) p = r.values (Index k j) (l, m) in
-    ap (λ (v : Option Interval). if nat_lt j 2 then is_none v else is_alike v (bare_in kept k j)) value
-    ∙ ap (λ (b : Bool). if nat_lt j 2 then is_none (value_of (Index k j) p) else is_alike (value_of (Index k j) p) b) (bare_is config kept p r k j l m)
+word_is : (config : Config) (kept : Protections) (p : Past) → IsProtections config kept p → (k j : ℕ) → k < config.seats → j < config.indexes → word_rests kept k j ≡ index_rests config.scheme k p j
+word_is config kept p r k j l m = let value : published_in kept (Index k j) ≡ published_at config.scheme (Index k j) p = index_is config kept p r k j l m in
+    ap (λ (v : Shown). if nat_lt j 2 then is_blank v else is_alike v (bare_in kept k j)) value
+    ∙ ap (λ (b : Bool). if nat_lt j 2 then is_blank (published_at config.scheme (Index k j) p) else is_alike (published_at config.scheme (Index k j) p) b) (bare_is config kept p r k j l m)
 
 rests_below : (config : Config) (kept : Protections) (p : Past) (named : Config) (k : ℕ) → IsProtections config kept p → k < config.seats → named.scheme ≡ config.scheme → named.indexes ≤ config.indexes
     → rests kept named.indexes k ≡ guards_rest named k p
@@ -55,13 +58,13 @@ rests_below config kept p named k r l e m =
     let helper : value_in kept (Helper k) ≡ value_of (Helper k) p = r.values (Helper k) l in
     let bare : all_below (low_or_bare kept k) named.indexes ≡ keeps_none k p named.indexes =
     below_same (low_or_bare kept k) (λ (j : ℕ). nat_lt j 2 || is_bare k j p) named.indexes (λ j n. ap (λ (b : Bool). nat_lt j 2 || b) (bare_is config kept p r k j l (omega arith))) ∙ sym (none_below k p named.indexes) in
-    let words : all_below (word_rests kept k) named.indexes ≡ indexes_rest k p named.indexes =
-    below_same (word_rests kept k) (index_rests k p) named.indexes (λ j n. word_is config kept p r k j l (omega arith)) ∙ sym (words_below k p named.indexes) in
-    ap (λ (s : SchemeKind). if has_one_interval s then is_alike (value_in kept (Whole k)) (all_below (low_or_bare kept k) named.indexes) else is_none (value_in kept (Helper k)) && all_below (word_rests kept k) named.indexes) scheme
-    ∙ ap (λ (v : Option Interval). if has_one_interval named.scheme then is_alike v (all_below (low_or_bare kept k) named.indexes) else is_none (value_in kept (Helper k)) && all_below (word_rests kept k) named.indexes) whole
-    ∙ ap (λ (b : Bool). if has_one_interval named.scheme then is_alike (value_of (Whole k) p) b else is_none (value_in kept (Helper k)) && all_below (word_rests kept k) named.indexes) bare
-    ∙ ap (λ (v : Option Interval). if has_one_interval named.scheme then is_alike (value_of (Whole k) p) (keeps_none k p named.indexes) else is_none v && all_below (word_rests kept k) named.indexes) helper
-    ∙ ap (λ (b : Bool). if has_one_interval named.scheme then is_alike (value_of (Whole k) p) (keeps_none k p named.indexes) else is_none (value_of (Helper k) p) && b) words
+    let words : all_below (word_rests kept k) named.indexes ≡ indexes_rest named.scheme k p named.indexes =
+    below_same (word_rests kept k) (index_rests named.scheme k p) named.indexes (λ j n. word_is config kept p r k j l (omega arith) ∙ ap (λ (s : SchemeKind). index_rests s k p j) (sym e)) ∙ sym (words_below named.scheme k p named.indexes) in
+    ap (λ (s : SchemeKind). if has_one_interval s then is_alike (shown (value_in kept (Whole k))) (all_below (low_or_bare kept k) named.indexes) else is_none (value_in kept (Helper k)) && all_below (word_rests kept k) named.indexes) scheme
+    ∙ ap (λ (v : Option Interval). if has_one_interval named.scheme then is_alike (shown v) (all_below (low_or_bare kept k) named.indexes) else is_none (value_in kept (Helper k)) && all_below (word_rests kept k) named.indexes) whole
+    ∙ ap (λ (b : Bool). if has_one_interval named.scheme then is_alike (shown (value_of (Whole k) p)) b else is_none (value_in kept (Helper k)) && all_below (word_rests kept k) named.indexes) bare
+    ∙ ap (λ (v : Option Interval). if has_one_interval named.scheme then is_alike (shown (value_of (Whole k) p)) (keeps_none k p named.indexes) else is_none v && all_below (word_rests kept k) named.indexes) helper
+    ∙ ap (λ (b : Bool). if has_one_interval named.scheme then is_alike (shown (value_of (Whole k) p)) (keeps_none k p named.indexes) else is_none (value_of (Helper k) p) && b) words
 
 rests_named : (later : Bool) (config : Config) (kept : Protections) (p : Past) (k : ℕ) → IsProtections config kept p → k < config.seats
     → rests kept (if later then config.indexes else 3) k ≡ guards_rest (if later then config else record config { indexes = 3 }) k p
@@ -78,13 +81,41 @@ ends_is config kept p version k r l =
     ∙ ap (λ (c : Config). is_bare k 0 p && is_bare k 1 p && rests kept (indexes_of version c.indexes) k) r.setting
     ∙ ap (λ (b : Bool). is_bare k 0 p && is_bare k 1 p && b) (rests_named (nat_le 2 version) config kept p k r l)
 
-three_true : (x : Bool) → x ≡ ((x && true) && true)
-three_true true = refl
-three_true false = refl
+three_true : (kind x : Bool) → (kind && x) ≡ (((x && kind) && true) && true)
+three_true true true = refl
+three_true true false = refl
+three_true false true = refl
+three_true false false = refl
 
-six_true : (x : Bool) → x ≡ (((((x && true) && true) && true) && true) && true)
-six_true true = refl
-six_true false = refl
+six_true : (kind x : Bool) → (kind && x) ≡ ((((((x && true) && true) && true) && kind) && true) && true)
+six_true true true = refl
+six_true true false = refl
+six_true false true = refl
+six_true false false = refl
+
+of_index : (kind x : Bool) → (kind && x) ≡ ((((((x && true) && true) && true) && (kind && true)) && true) && true)
+of_index true true = refl
+of_index true false = refl
+of_index false true = refl
+of_index false false = refl
+
+of_other : (kind x : Bool) → (kind && false) ≡ ((((((x && true) && true) && true) && (kind && false)) && true) && true)
+of_other true true = refl
+of_other true false = refl
+of_other false true = refl
+of_other false false = refl
+
+-- a scan sees index words alone
+saw_is : (config : Config) (kept : Protections) (p : Past) (slot : Option ℕ) (guard : Guard) → IsProtections config kept p → GuardIn config guard
+    → (publishes_rows config.scheme && (is_index guard && same_value slot (hazard_in kept guard)))
+    ≡ ((((((same_value slot (hazard_of guard p) && true) && true) && true) && (publishes_rows config.scheme && is_index guard)) && true) && true)
+saw_is config kept p slot (Helper seat) r w = of_other (publishes_rows config.scheme) (same_value slot (hazard_of (Helper seat) p))
+saw_is config kept p slot (Index seat index) r w =
+    ap (λ (v : Option ℕ). publishes_rows config.scheme && same_value slot v) (r.hazards seat index w.0 w.1) ∙ of_index (publishes_rows config.scheme) (same_value slot (hazard_of (Index seat index) p))
+saw_is config kept p slot (Whole seat) r w = of_other (publishes_rows config.scheme) (same_value slot (hazard_of (Whole seat) p))
+
+of_kind : (config : Config) (kept : Protections) (p : Past) → IsProtections config kept p → publishes_rows kept.config.scheme ≡ publishes_rows config.scheme
+of_kind config kept p r = ap (λ (c : Config). publishes_rows c.scheme) r.setting
 
 reserves_is : (config : Config) (kept : Protections) (p : Past) (i : ℕ) (guard : Guard) (span : Option Interval) → IsProtections config kept p → i < config.seats → GuardIn config guard
     → reserves_right kept i guard span ≡ (single_ok config.scheme p i (events.Reserve guard span) && rising_ok config.scheme p i (events.Reserve guard span) && guard_ok config.scheme p i (events.Reserve guard span))
@@ -96,10 +127,19 @@ reserves_is config kept p i guard span r l q =
     ∙ ap (λ (v : Option Interval). is_one_era config.scheme span && (not (has_one_interval config.scheme) || span_rises (value_of guard p) span) && (seat_of guard == i || (is_index guard && (is_wfe config.scheme && same_interval span v)))) helper
 
 pub right_is : (config : Config) (kept : Protections) (p : Past) (version i : ℕ) (event : Event) → IsProtections config kept p → EntryIn config i event
-    → right kept version i event ≡ (read_ok p i event && single_ok config.scheme p i event && rising_ok config.scheme p i event && guard_ok config.scheme p i event && bare_ok p i event && rests_of version config p i event)
-right_is config kept p version i (events.Read guard span) r w = ap (same_span span) (r.values guard w.within) ∙ six_true (same_span span (value_of guard p))
-right_is config kept p version i (events.Reserve guard span) r w = reserves_is config kept p i guard span r w.seated w.within
-    ∙ three_true (single_ok config.scheme p i (events.Reserve guard span) && rising_ok config.scheme p i (events.Reserve guard span) && guard_ok config.scheme p i (events.Reserve guard span))
+    → right kept version i event ≡ (read_ok p i event && single_ok config.scheme p i event && rising_ok config.scheme p i event && guard_ok config.scheme p i event && kind_ok config.scheme p i event && bare_ok p i event && rests_of version config p i event)
+right_is config kept p version i (events.Read guard span) r w =
+    ap (λ (b : Bool). not b && same_span span (value_in kept guard)) (of_kind config kept p r)
+    ∙ ap (λ (v : Option Interval). not (publishes_rows config.scheme) && same_span span v) (r.values guard w.within) ∙ six_true (not (publishes_rows config.scheme)) (same_span span (value_of guard p))
+right_is config kept p version i (events.Saw guard slot) r w =
+    ap (λ (b : Bool). b && (is_index guard && same_value slot (hazard_in kept guard))) (of_kind config kept p r)
+    ∙ saw_is config kept p slot guard r w.within.0
+right_is config kept p version i (events.Hazard guard slot) r w =
+    ap (λ (b : Bool). b && (is_index guard && seat_of guard == i)) (of_kind config kept p r) ∙ three_true (publishes_rows config.scheme) (is_index guard && seat_of guard == i)
+right_is config kept p version i (events.Reserve guard span) r w =
+    ap (λ (b : Bool). not b && reserves_right kept i guard span) (of_kind config kept p r)
+    ∙ ap (λ (b : Bool). not (publishes_rows config.scheme) && b) (reserves_is config kept p i guard span r w.seated w.within)
+    ∙ three_true (not (publishes_rows config.scheme)) (single_ok config.scheme p i (events.Reserve guard span) && rising_ok config.scheme p i (events.Reserve guard span) && guard_ok config.scheme p i (events.Reserve guard span))
 right_is config kept p version i (events.End steps answer) r w = ends_is config kept p version i r w.seated
 right_is config kept p version i event r w = refl
 

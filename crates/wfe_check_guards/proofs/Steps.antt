@@ -14,15 +14,15 @@ use Rattle.laws.specs.defs.declared.event.Guard.TheVariants.{Helper, Index, Whol
 use Rattle.laws.specs.defs.declared.lifetime.Interval.{Interval}
 use Rattle.laws.specs.records.Record.{Past}
 use Rattle.laws.specs.records.Record.Past.{Start, Then}
-use Rattle.laws.specs.StateAt.{is_one_of, reserved_by, same_guard, standing_by, standing_of, stands, value_of, without_row}
+use Rattle.laws.specs.StateAt.{hazard_of, hazard_by, is_one_of, reserved_by, same_guard, standing_by, standing_of, stands, value_of, without_row}
 use Rattle.laws_good.specs.Ranges.{EntryIn, GuardIn}
 use Rattle.wfe_check_guards.specs.declared.protections.Protections.{Protections}
 use Rattle.wfe_check_guards.specs.Protections.{IsPlace, IsProtections}
-use Rattle.wfe_check_guards.specs.Shown.{helpers_after, place_of, rows_in, set_after, sets_after, sets_at, told_index, told_row, value_in, wholes_after, words_after}
+use Rattle.wfe_check_guards.specs.Shown.{hazard_in, hazards_after, helpers_after, place_of, rows_in, set_after, sets_after, sets_at, told_index, told_row, value_in, wholes_after, words_after}
 use Rattle.wfe_check_guards.proofs.Sets.{in_with, in_without}
 
 -- one value written, and another read
-written : (values : List (Option Interval)) (place other : ℕ) (span : Option Interval) → other < length values
+written : {X : Type 0} (values : List (Option X)) (place other : ℕ) (span : Option X) → other < length values
     → get_or (slice_set values place span) other None ≡ (if other == place then span else get_or values other None)
 written values place other span l = by_cases (other == place) (get_or (slice_set values place span) other None ≡ (if other == place then span else get_or values other None))
     (λ t. let same : other ≡ place = number_is other place t in
@@ -82,6 +82,25 @@ value_step : (config : Config) (hs ws vs : List (Option Interval)) (event : Even
     ≡ reserved_by guard event (value_at config.indexes hs ws vs guard)
 value_step config hs ws vs (events.Reserve other span) seat guard z w q = reserved config hs ws vs other span guard z w.within q
 value_step config hs ws vs event seat guard z w q = refl
+
+-- the rows that guards publish
+told_hazard : (config : Config) (slots : List (Option ℕ)) (p : Past) (other : Guard) (slot : Option ℕ) (i seat index : ℕ) → length slots ≡ config.indexes * config.seats → GuardIn config other → seat < config.seats → index < config.indexes
+    → get_or (hazards_after config.indexes (events.Hazard other slot) slots) (seat * config.indexes + index) None ≡ (if same_guard (Index seat index) other then slot else get_or slots (seat * config.indexes + index) None)
+told_hazard config slots p (Helper a) slot i seat index z r l m = refl
+told_hazard config slots p (Index a b) slot i seat index z r l m =
+    let within : seat * config.indexes + index < length slots = subst (λ (n : ℕ). seat * config.indexes + index < n) (sym z) (mul-add-lt seat config.indexes index config.seats l m) in
+    written slots (a * config.indexes + b) (seat * config.indexes + index) slot within
+    ∙ ap (λ (same : Bool). if same then slot else get_or slots (seat * config.indexes + index) None) (same_place seat index a b config.indexes m r.1)
+told_hazard config slots p (Whole a) slot i seat index z r l m = refl
+
+index_hazard : (config : Config) (slots : List (Option ℕ)) (p : Past) (event : Event) (i seat index : ℕ) → length slots ≡ config.indexes * config.seats → EntryIn config i event → seat < config.seats → index < config.indexes
+    → get_or (hazards_after config.indexes event slots) (seat * config.indexes + index) None ≡ hazard_by (Index seat index) event (get_or slots (seat * config.indexes + index) None)
+index_hazard config slots p (events.Hazard other slot) i seat index z w l m = told_hazard config slots p other slot i seat index z w.within.0 l m
+index_hazard config slots p event i seat index z w l m = refl
+
+hazards_length : (width : ℕ) (event : Event) (values : List (Option ℕ)) → length (hazards_after width event values) ≡ length values
+hazards_length width (events.Hazard (Index seat index) slot) values = length-set values (seat * width + index) slot
+hazards_length width event values = refl
 
 helpers_length : (event : Event) (values : List (Option Interval)) → length (helpers_after event values) ≡ length values
 helpers_length (events.Reserve (Helper seat) span) values = length-set values seat span
@@ -213,6 +232,7 @@ pub record IsChanged (seat : ℕ) (event : Event) (old new : Protections) : Type
   pub helpers : new.helpers.items ≡ helpers_after event old.helpers.items
   pub wholes : new.wholes.items ≡ wholes_after event old.wholes.items
   pub words : new.words.items ≡ words_after old.config.indexes event old.words.items
+  pub hazards : new.hazards.items ≡ hazards_after old.config.indexes event old.hazards.items
   pub standing : new.standing.items ≡ sets_after old.config.indexes seat event old.standing.items
 
 same_values : (width : ℕ) (hs hs' ws ws' vs vs' : List (Option Interval)) (guard : Guard) → hs ≡ hs' → ws ≡ ws' → vs ≡ vs' → value_at width hs ws vs guard ≡ value_at width hs' ws' vs' guard
@@ -231,6 +251,18 @@ values_step old new seat event c config p r w guard q =
     ∙ value_step config old.helpers.items old.wholes.items old.words.items event seat guard (record { helpers = r.helpers; wholes = r.wholes; words = r.words }) w q
     ∙ ap (reserved_by guard event) before
 
+hazards_step : (old new : Protections) (seat : ℕ) (event : Event) → IsChanged seat event old new → (config : Config) (p : Past) → IsProtections config old p → EntryIn config seat event
+    → (k j : ℕ) → k < config.seats → j < config.indexes → hazard_in new (Index k j) ≡ hazard_of (Index k j) (Then p seat event)
+hazards_step old new seat event c config p r w k j l m =
+    let setting : new.config ≡ config = c.config ∙ r.setting in
+    let slots : new.hazards.items ≡ hazards_after config.indexes event old.hazards.items = c.hazards ∙ ap (λ (n : Config). hazards_after n.indexes event old.hazards.items) r.setting in
+    let before : get_or old.hazards.items (k * config.indexes + j) None ≡ hazard_of (Index k j) p =
+    ap (λ (n : Config). get_or old.hazards.items (k * n.indexes + j) None) (sym r.setting) ∙ r.hazards k j l m in
+    ap (λ (n : Config). get_or new.hazards.items (k * n.indexes + j) None) setting
+    ∙ ap (λ (values : List (Option ℕ)). get_or values (k * config.indexes + j) None) slots
+    ∙ index_hazard config old.hazards.items p event seat k j r.slots w l m
+    ∙ ap (hazard_by (Index k j) event) before
+
 rows_step : (old new : Protections) (seat : ℕ) (event : Event) → IsChanged seat event old new → (config : Config) (p : Past) → IsProtections config old p → EntryIn config seat event
     → (k j s : ℕ) → k < config.seats → j < config.indexes → is_one_of s (rows_in new k j) ≡ stands k j s (Then p seat event)
 rows_step old new seat event c config p r w k j s l m =
@@ -247,9 +279,11 @@ step old new seat event c config p r w = record {
   helpers = ap length c.helpers ∙ helpers_length event old.helpers.items ∙ r.helpers;
   wholes = ap length c.wholes ∙ wholes_length event old.wholes.items ∙ r.wholes;
   words = ap length c.words ∙ words_length old.config.indexes event old.words.items ∙ r.words;
+  slots = ap length c.hazards ∙ hazards_length old.config.indexes event old.hazards.items ∙ r.slots;
   sets = ap length c.standing ∙ sets_length event (place_of old.config.indexes seat (told_index event)) old.standing.items ∙ r.sets;
   indexes = r.indexes;
   values = values_step old new seat event c config p r w;
+  hazards = hazards_step old new seat event c config p r w;
   standing = rows_step old new seat event c config p r w;
   within = within_step config p seat event w r.within;
 }
@@ -271,6 +305,7 @@ pub record IsFirst (config : Config) (kept : Protections) : Type 0 where
   pub helpers : kept.helpers.items ≡ replicate config.seats None
   pub wholes : kept.wholes.items ≡ replicate config.seats None
   pub words : kept.words.items ≡ replicate (config.indexes * config.seats) None
+  pub hazards : kept.hazards.items ≡ replicate (config.indexes * config.seats) None
   pub standing : kept.standing.items ≡ replicate (config.indexes * config.seats) []
 
 pub start : (config : Config) (kept : Protections) → is_none (bad_field config) ≡ true → IsFirst config kept → IsProtections config kept Start
@@ -279,12 +314,16 @@ start config kept h f = record {
   helpers = ap length f.helpers ∙ length-replicate config.seats None;
   wholes = ap length f.wholes ∙ length-replicate config.seats None;
   words = ap length f.words ∙ length-replicate (config.indexes * config.seats) None;
+  slots = ap length f.hazards ∙ length-replicate (config.indexes * config.seats) None;
   sets = ap length f.standing ∙ length-replicate (config.indexes * config.seats) [];
   indexes = three_indexes config h;
   values = λ guard q. value_shown kept guard
       ∙ ap (λ (n : Config). value_at n.indexes kept.helpers.items kept.wholes.items kept.words.items guard) f.setting
       ∙ same_values config.indexes kept.helpers.items (replicate config.seats None) kept.wholes.items (replicate config.seats None) kept.words.items (replicate (config.indexes * config.seats) None) guard f.helpers f.wholes f.words
       ∙ none_there config.indexes config.seats guard config refl refl q;
+  hazards = λ k j l m. ap (λ (n : Config). get_or kept.hazards.items (k * n.indexes + j) None) f.setting
+      ∙ ap (λ (values : List (Option ℕ)). get_or values (k * config.indexes + j) None) f.hazards
+      ∙ get_or-replicate (config.indexes * config.seats) (k * config.indexes + j) None None (mul-add-lt k config.indexes j config.seats l m);
   standing = λ k j s l m. ap (λ (n : Config). is_one_of s (get_or kept.standing.items (k * n.indexes + j) [])) f.setting
       ∙ ap (λ (sets : List (List ℕ)). is_one_of s (get_or sets (k * config.indexes + j) [])) f.standing
       ∙ ap (is_one_of s) (get_or-replicate (config.indexes * config.seats) (k * config.indexes + j) [] [] (mul-add-lt k config.indexes j config.seats l m));

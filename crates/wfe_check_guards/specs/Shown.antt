@@ -1,8 +1,8 @@
 -- What guards, and the rows that stand, show by themselves: the tests of an entry.
 use Rattle.std.specs.Prelude.{ℕ, Bool, true, not, ◌==◌, ◌+◌, ◌*◌, ◌&&◌, ◌||◌, Option, Some, None, is_none, if◌then◌else◌, nat_le, nat_lt, List, [], get_or, slice_set}
 use Rattle.std.specs.List.{list_all}
-use Rattle.laws.specs.words.Schemes.{has_one_interval, is_wfe}
-use Rattle.laws.specs.defs.Shown.{keeps, shown}
+use Rattle.laws.specs.words.Schemes.{has_one_interval, is_wfe, publishes_rows}
+use Rattle.laws.specs.defs.Shown.{keeps, shown, shown_row}
 use Rattle.laws.specs.defs.declared.call.Call.{Call}
 use Rattle.laws.specs.defs.declared.event.Event.{Event}
 use Rattle.laws.specs.defs.declared.event.Event.TheVariants as events
@@ -11,10 +11,11 @@ use Rattle.laws.specs.defs.declared.event.Guard.TheVariants.{Helper, Index, Whol
 use Rattle.laws.specs.defs.declared.event.Root.TheVariants as roots
 use Rattle.laws.specs.defs.declared.lifetime.Interval.{Interval}
 use Rattle.laws.specs.defs.declared.lifetime.Lifetime.{Lifetime}
+use Rattle.laws.specs.defs.declared.shown.Shown.{Shown}
 use Rattle.laws.specs.EraLaw.{is_one_era, same_interval, span_rises}
-use Rattle.laws.specs.HoldLaw.{is_alike, own_guard}
+use Rattle.laws.specs.HoldLaw.{is_alike, is_blank, own_guard}
 use Rattle.laws.specs.Once.{is_slot}
-use Rattle.laws.specs.StateAt.{is_dequeue, is_empty, is_index, is_one_of, same_guard, same_span, seat_of, without_row}
+use Rattle.laws.specs.StateAt.{is_dequeue, is_empty, is_index, is_one_of, same_guard, same_span, same_value, seat_of, without_row}
 use Rattle.wfe_check_rows.specs.declared.rows.Rows.{Rows}
 use Rattle.wfe_check_rows.specs.Shown.{life_of, root, row}
 use Rattle.wfe_check_guards.specs.declared.protections.Protections.{Protections}
@@ -30,6 +31,16 @@ abbrev pub value_in : Protections → Guard → Option Interval
 value_in kept (Helper seat) = get_or kept.helpers.items seat None
 value_in kept (Index seat index) = get_or kept.words.items (place kept seat index) None
 value_in kept (Whole seat) = get_or kept.wholes.items seat None
+
+-- the row that an index word publishes
+abbrev pub hazard_in : Protections → Guard → Option ℕ
+hazard_in kept (Helper seat) = None
+hazard_in kept (Index seat index) = get_or kept.hazards.items (place kept seat index) None
+hazard_in kept (Whole seat) = None
+
+-- the one or the other, by the scheme
+abbrev pub published_in : Protections → Guard → Shown
+published_in kept guard = if publishes_rows kept.config.scheme then shown_row (hazard_in kept guard) else shown (value_in kept guard)
 
 -- the rows that stand at an index of a seat
 abbrev pub rows_in : Protections → (seat index : ℕ) → List ℕ
@@ -55,7 +66,7 @@ indexes_of version indexes = if nat_le 2 version then indexes else 3
 -- an index word publishes where a row stands at it, from index 2 on
 abbrev pub word_rests : Protections → (seat index : ℕ) → Bool
 word_rests kept seat index =
-    if nat_lt index 2 then is_none (value_in kept (Index seat index)) else is_alike (value_in kept (Index seat index)) (bare_in kept seat index)
+    if nat_lt index 2 then is_blank (published_in kept (Index seat index)) else is_alike (published_in kept (Index seat index)) (bare_in kept seat index)
 
 -- no row stands there, or the index is below 2
 abbrev pub low_or_bare : Protections → (seat index : ℕ) → Bool
@@ -64,7 +75,7 @@ low_or_bare kept seat index = nat_lt index 2 || bare_in kept seat index
 abbrev pub rests : Protections → (below seat : ℕ) → Bool
 rests kept below seat =
     if has_one_interval kept.config.scheme
-    then is_alike (value_in kept (Whole seat)) (all_below (low_or_bare kept seat) below)
+    then is_alike (shown (value_in kept (Whole seat))) (all_below (low_or_bare kept seat) below)
     else is_none (value_in kept (Helper seat)) && all_below (word_rests kept seat) below
 
 -- where a call ends
@@ -73,8 +84,10 @@ ends_right kept version seat = bare_in kept seat 0 && bare_in kept seat 1 && res
 
 -- what an entry says of guards, and where a call ends
 abbrev pub right : Protections → (version seat : ℕ) → Event → Bool
-right kept version seat (events.Read guard span) = same_span span (value_in kept guard)
-right kept version seat (events.Reserve guard span) = reserves_right kept seat guard span
+right kept version seat (events.Read guard span) = not (publishes_rows kept.config.scheme) && same_span span (value_in kept guard)
+right kept version seat (events.Saw guard slot) = publishes_rows kept.config.scheme && (is_index guard && same_value slot (hazard_in kept guard))
+right kept version seat (events.Reserve guard span) = not (publishes_rows kept.config.scheme) && reserves_right kept seat guard span
+right kept version seat (events.Hazard guard slot) = publishes_rows kept.config.scheme && (is_index guard && seat_of guard == seat)
 right kept version seat (events.End steps answer) = ends_right kept version seat
 right kept version seat event = true
 
@@ -115,21 +128,21 @@ held_behind kept rows seat index slot =
 -- a row that is told to stand is held
 abbrev pub held_in : Protections → Rows → (seat index slot : ℕ) → Bool
 held_in kept rows seat index slot =
-    (row rows slot).taken && keeps (life_of rows slot) (shown (value_in kept (own_guard kept.config.scheme seat index)))
+    (row rows slot).taken && keeps (life_of rows slot) (published_in kept (own_guard kept.config.scheme seat index))
 
 -- the rows at the indexes of a guard are kept by what it publishes from here on
-abbrev pub index_kept : Protections → Rows → Guard → Option Interval → (index : ℕ) → Bool
-index_kept kept rows guard span index =
+abbrev pub index_kept : Protections → Rows → Guard → Shown → (index : ℕ) → Bool
+index_kept kept rows guard value index =
     not (same_guard (own_guard kept.config.scheme (seat_of guard) index) guard)
-    || list_all (λ (slot : ℕ). keeps (life_of rows slot) (shown span)) (rows_in kept (seat_of guard) index)
+    || list_all (λ (slot : ℕ). keeps (life_of rows slot) value) (rows_in kept (seat_of guard) index)
 
-abbrev pub guard_kept : Protections → Rows → Guard → Option Interval → Bool
-guard_kept kept rows guard span = all_below (index_kept kept rows guard span) kept.config.indexes
+abbrev pub guard_kept : Protections → Rows → Guard → Shown → Bool
+guard_kept kept rows guard value = all_below (index_kept kept rows guard value) kept.config.indexes
 
 -- a life is kept at an index where its row stands there
 abbrev pub life_kept_at : Protections → Lifetime → (seat index : ℕ) → Bool
 life_kept_at kept life seat index =
-    not (stands_in kept seat index life.slot) || keeps life (shown (value_in kept (own_guard kept.config.scheme seat index)))
+    not (stands_in kept seat index life.slot) || keeps life (published_in kept (own_guard kept.config.scheme seat index))
 
 abbrev pub life_kept_by : Protections → Lifetime → (seat : ℕ) → Bool
 life_kept_by kept life seat = all_below (life_kept_at kept life seat) kept.config.indexes
@@ -141,7 +154,8 @@ life_kept kept life = all_below (life_kept_by kept life) kept.config.seats
 abbrev pub holds : Protections → Rows → (seat : ℕ) → Event → Bool
 holds kept rows seat (events.Held index slot steps) = held_in kept rows seat index slot
 holds kept rows seat (events.Copied from index slot) = held_in kept rows seat index slot
-holds kept rows seat (events.Reserve guard span) = guard_kept kept rows guard span
+holds kept rows seat (events.Reserve guard span) = publishes_rows kept.config.scheme || guard_kept kept rows guard (shown span)
+holds kept rows seat (events.Hazard guard slot) = not (publishes_rows kept.config.scheme) || guard_kept kept rows guard (shown_row slot)
 holds kept rows seat (events.Retire slot birth retire) = life_kept kept (record { slot = slot; birth = (row rows slot).birth; retire = retire })
 holds kept rows seat event = true
 
@@ -159,6 +173,11 @@ wholes_after event values = values
 abbrev pub words_after : (width : ℕ) → Event → List (Option Interval) → List (Option Interval)
 words_after width (events.Reserve (Index seat index) span) values = slice_set values (seat * width + index) span
 words_after width event values = values
+
+-- of the rows that index words publish
+abbrev pub hazards_after : (width : ℕ) → Event → List (Option ℕ) → List (Option ℕ)
+hazards_after width (events.Hazard (Index seat index) slot) values = slice_set values (seat * width + index) slot
+hazards_after width event values = values
 
 -- the index at which an event says what stands
 abbrev pub told_index : Event → Option ℕ

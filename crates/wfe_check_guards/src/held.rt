@@ -2,34 +2,38 @@
 ghost use Rattle.std.specs.Prelude.{◌≡◌, ℕ, ◌↔◌, true};
 ghost use Rattle.std.specs.List.{list_all};
 ghost use Rattle.laws.specs.words.declared.config.Config.{Config as Setting};
-ghost use Rattle.laws.specs.defs.Shown.{keeps as keeps_life, shown};
+ghost use Rattle.laws.specs.defs.Shown.{keeps as keeps_life};
 ghost use Rattle.laws.specs.records.Record.{Past};
 ghost use Rattle.laws.specs.records.Record.Past.{Then};
 ghost use Rattle.laws_good.specs.Ranges.{EntryIn};
 ghost use Rattle.wfe_check_rows.specs.Rows.{IsRows};
 ghost use Rattle.wfe_check_rows.specs.Shown.{life_of};
 ghost use Rattle.wfe_check_guards.specs.Protections.{AllHeld, IsProtections, NoneReused};
-ghost use Rattle.wfe_check_guards.specs.Shown.{guard_kept as guard_kept_of, held_in, holds as holds_of, index_kept as index_kept_of, life_kept as life_kept_of, life_kept_at as life_at, life_kept_by as life_by, value_in};
+ghost use Rattle.wfe_check_guards.specs.Shown.{guard_kept as guard_kept_of, held_in, holds as holds_of, index_kept as index_kept_of, life_kept as life_kept_of, life_kept_at as life_at, life_kept_by as life_by, published_in};
 ghost use Rattle.laws.specs.HoldLaw.{HeldThroughout, own_guard as guard_of};
 
 use crate::Protections;
-use crate::spans::{keeps, own_guard, same_guard, seat_of};
+use crate::spans::{own_guard, same_guard, seat_of};
+use wfe_check_counts::{is_of_rows, keeps, of_row, of_span};
 use wfe_check_rows::Rows;
-use wfe_defs::{Event, Guard, Interval, Lifetime};
+use wfe_defs::{Event, Guard, Lifetime, Shown};
 
-// An interval, or none, keeps the lives of these rows.
-fn all_kept(slots: &[u32], rows: &Rows, span: Option<Interval>) -> bool
-    ensures { result ≡ list_all (λ (slot : ℕ). keeps_life (life_of rows.now slot) (shown span)) slots.now }
+// What is published keeps the lives of these rows.
+fn all_kept(slots: &[u32], rows: &Rows, value: Shown) -> bool
+    ensures { result ≡ list_all (λ (slot : ℕ). keeps_life (life_of rows.now slot) value) slots.now }
 {
-    slots.iter().all(|slot| keeps(rows.life(*slot), span))
+    slots.iter().all(|slot| keeps(rows.life(*slot), value))
 }
 
 impl Protections {
     // The guard of an index keeps a life.
     fn keeps_at(&self, life: Lifetime, seat: u32, index: u32) -> bool
-        ensures { result ≡ keeps_life life (shown (value_in self.now (guard_of self.now.config.scheme seat index))) }
+        ensures { result ≡ keeps_life life (published_in self.now (guard_of self.now.config.scheme seat index)) }
     {
-        keeps(life, self.value(own_guard(self.config.scheme, seat, index)))
+        keeps(
+            life,
+            self.published(own_guard(self.config.scheme, seat, index)),
+        )
     }
 
     fn is_held(&self, rows: &Rows, seat: u32, index: u32, slot: u32) -> bool
@@ -38,21 +42,21 @@ impl Protections {
         rows.is_taken(slot) && self.keeps_at(rows.life(slot), seat, index)
     }
 
-    fn index_kept(&self, rows: &Rows, guard: Guard, span: Option<Interval>, index: u32) -> bool
-        ensures { result ≡ index_kept_of self.now rows.now guard span index }
+    fn index_kept(&self, rows: &Rows, guard: Guard, value: Shown, index: u32) -> bool
+        ensures { result ≡ index_kept_of self.now rows.now guard value index }
     {
         let seat = seat_of(guard);
         !same_guard(own_guard(self.config.scheme, seat, index), guard)
-            || all_kept(self.rows(seat, index), rows, span)
+            || all_kept(self.rows(seat, index), rows, value)
     }
 
     // What a guard publishes from here on keeps all rows at its indexes.
-    fn guard_kept(&self, rows: &Rows, guard: Guard, span: Option<Interval>) -> bool
-        ensures { result ≡ guard_kept_of self.now rows.now guard span }
+    fn guard_kept(&self, rows: &Rows, guard: Guard, value: Shown) -> bool
+        ensures { result ≡ guard_kept_of self.now rows.now guard value }
     {
         let mut all = true;
         for index in 0..self.config.indexes {
-            all = self.index_kept(rows, guard, span, index) && all;
+            all = self.index_kept(rows, guard, value, index) && all;
         }
         all
     }
@@ -91,7 +95,12 @@ impl Protections {
             Event::Held { index, slot, .. } | Event::Copied { index, slot, .. } => {
                 self.is_held(rows, seat, index, slot)
             }
-            Event::Reserve { guard, span } => self.guard_kept(rows, guard, span),
+            Event::Reserve { guard, span } => {
+                is_of_rows(self.config.scheme) || self.guard_kept(rows, guard, of_span(span))
+            }
+            Event::Hazard { guard, slot } => {
+                !is_of_rows(self.config.scheme) || self.guard_kept(rows, guard, of_row(slot))
+            }
             Event::Retire { slot, retire, .. } => self.life_kept(Lifetime {
                 slot,
                 birth: rows.birth(slot),

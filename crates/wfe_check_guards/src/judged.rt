@@ -3,7 +3,7 @@ ghost use Rattle.std.specs.Prelude.{◌≡◌, ℕ, ◌&&◌, ◌↔◌, ◌<◌
 ghost use Rattle.laws.specs.words.declared.config.Config.{Config as Setting};
 ghost use Rattle.laws.specs.defs.declared.event.Event.TheVariants as events;
 ghost use Rattle.laws.specs.records.Record.{Past};
-ghost use Rattle.laws.specs.EraLaw.{guard_ok, rising_ok, single_ok};
+ghost use Rattle.laws.specs.EraLaw.{guard_ok, kind_ok, rising_ok, single_ok};
 ghost use Rattle.laws.specs.HoldLaw.{bare_ok, behind_ok, links_ok};
 ghost use Rattle.laws.specs.ScanLaw.{read_ok};
 ghost use Rattle.laws.specs.StateAt.{began_of};
@@ -16,8 +16,10 @@ ghost use Rattle.wfe_check_guards.specs.Shown.{ends_right as ends_by, held_behin
 
 use crate::Protections;
 use crate::spans::{
-    is_alike, is_index, is_one_era, is_one_interval, rises, same_interval, same_span, seat_of,
+    is_alike, is_blank, is_index, is_one_era, is_one_interval, rises, same_interval, same_row,
+    same_span, seat_of,
 };
+use wfe_check_counts::{is_of_rows, of_span};
 use wfe_check_rows::Rows;
 use wfe_defs::{Call, Event, Guard, Interval, Root};
 use wfe_words::SchemeKind;
@@ -45,9 +47,9 @@ impl Protections {
     fn word_rests(&self, seat: u32, index: u32) -> bool
         ensures { result ≡ rests_at self.now seat index }
     {
-        let value = self.value(Guard::Index { seat, index });
+        let value = self.published(Guard::Index { seat, index });
         if index < 2 {
-            value.is_none()
+            is_blank(value)
         } else {
             is_alike(value, self.is_bare(seat, index))
         }
@@ -86,7 +88,7 @@ impl Protections {
     {
         if is_one_interval(self.config.scheme) {
             is_alike(
-                self.value(Guard::Whole { seat }),
+                of_span(self.value(Guard::Whole { seat })),
                 self.all_bare(seat, below),
             )
         } else {
@@ -105,20 +107,25 @@ impl Protections {
     fn is_right(&self, version: u32, seat: u32, event: &Event) -> bool
         ensures { result ≡ right self.now version seat event.now }
     {
+        let rows = is_of_rows(self.config.scheme);
         match *event {
-            Event::Read { guard, span } => same_span(span, self.value(guard)),
-            Event::Reserve { guard, span } => self.reserves_right(seat, guard, span),
+            Event::Read { guard, span } => !rows && same_span(span, self.value(guard)),
+            Event::Saw { guard, slot } => {
+                rows && is_index(guard) && same_row(slot, self.hazard(guard))
+            }
+            Event::Reserve { guard, span } => !rows && self.reserves_right(seat, guard, span),
+            Event::Hazard { guard, .. } => rows && is_index(guard) && seat_of(guard) == seat,
             Event::End { .. } => self.ends_right(version, seat),
             _ => true,
         }
     }
 
     /// Whether an entry of a record of the version is in order, as far as guards go: what is read
-    /// of a guard is its value, what one is told to publish is by the rules of the scheme, and where
-    /// a call ends nothing stands at index 0 or 1 and guards publish only for what is held on.
+    /// of a guard is its value, what one is told to publish is by the rules of the scheme and of the
+    /// kind that the scheme publishes, and where a call ends nothing stands at index 0 or 1 and guards publish only for what is held on.
     pub fn fits(&self, version: u32, seat: u32, event: &Event) -> bool
         ensures { (config : Setting) (p : Past) → IsProtections config self.now p → EntryIn config seat event.now
-            → result ≡ (read_ok p seat event.now && single_ok config.scheme p seat event.now && rising_ok config.scheme p seat event.now && guard_ok config.scheme p seat event.now && bare_ok p seat event.now && rests_of version config p seat event.now) }
+            → result ≡ (read_ok p seat event.now && single_ok config.scheme p seat event.now && rising_ok config.scheme p seat event.now && guard_ok config.scheme p seat event.now && kind_ok config.scheme p seat event.now && bare_ok p seat event.now && rests_of version config p seat event.now) }
     {
         self.is_right(version, seat, event)
     }

@@ -8,11 +8,12 @@ ghost use Rattle.laws.specs.StateAt.{is_bare as is_bare_at, is_one_of, stands as
 ghost use Rattle.laws_good.specs.Ranges.{EntryIn, GuardIn};
 ghost use Rattle.wfe_words.specs.Config.{bad_field};
 ghost use Rattle.wfe_check_guards.specs.Protections.{IsProtections};
-ghost use Rattle.wfe_check_guards.specs.Shown.{bare_in, helpers_after, place as place_of, rows_in, set_after, sets_after, stands_in, told_index as index_of, told_row, value_in, wholes_after, words_after};
+ghost use Rattle.wfe_check_guards.specs.Shown.{bare_in, hazard_in, hazards_after, helpers_after, place as place_of, published_in, rows_in, set_after, sets_after, stands_in, told_index as index_of, told_row, value_in, wholes_after, words_after};
 
 use crate::row_set::RowSet;
 use std::alloc::Global;
-use wfe_defs::{Event, Guard, Interval, NoMemory};
+use wfe_check_counts::{is_of_rows, of_row, of_span};
+use wfe_defs::{Event, Guard, Interval, NoMemory, Shown};
 use wfe_words::Config;
 
 /// What a record says of guards and of rows that stand, up to an entry. Seats and indexes are those
@@ -24,6 +25,7 @@ pub struct Protections {
     pub(crate) wholes: Vec<Option<Interval>>,
     // By seat and then index, as what follows.
     pub(crate) words: Vec<Option<Interval>>,
+    pub(crate) hazards: Vec<Option<u32>>,
     pub(crate) standing: Vec<RowSet>,
 }
 
@@ -38,12 +40,14 @@ impl Protections {
         let helpers = no_values(alloc, seats)?;
         let wholes = no_values(alloc, seats)?;
         let words = no_values(alloc, places)?;
+        let hazards = no_hazards(alloc, places)?;
         let standing = no_rows(alloc, places)?;
         Ok(Protections {
             config,
             helpers,
             wholes,
             words,
+            hazards,
             standing,
         })
     }
@@ -54,7 +58,7 @@ impl Protections {
         seat as usize * self.config.indexes as usize + index as usize
     }
 
-    /// What a guard publishes.
+    /// The interval that a guard publishes.
     pub fn value(&self, guard: Guard) -> Option<Interval>
         ensures shown { result ≡ value_in self.now guard }
         ensures told { (config : Setting) (p : Past) → IsProtections config self.now p → GuardIn config guard → result ≡ value_of guard p }
@@ -63,6 +67,27 @@ impl Protections {
             Guard::Helper { seat } => value_at(&self.helpers, seat as usize),
             Guard::Index { seat, index } => value_at(&self.words, self.place(seat, index)),
             Guard::Whole { seat } => value_at(&self.wholes, seat as usize),
+        }
+    }
+
+    // The row that an index word publishes.
+    pub(crate) fn hazard(&self, guard: Guard) -> Option<u32>
+        ensures { result ≡ hazard_in self.now guard }
+    {
+        match guard {
+            Guard::Index { seat, index } => hazard_of(&self.hazards, self.place(seat, index)),
+            _ => None,
+        }
+    }
+
+    // What a guard publishes under the scheme.
+    pub(crate) fn published(&self, guard: Guard) -> Shown
+        ensures { result ≡ published_in self.now guard }
+    {
+        if is_of_rows(self.config.scheme) {
+            of_row(self.hazard(guard))
+        } else {
+            of_span(self.value(guard))
         }
     }
 
@@ -109,6 +134,7 @@ impl Protections {
         ensures helpers { self.new.helpers.items ≡ helpers_after event.now self.old.helpers.items }
         ensures wholes { self.new.wholes.items ≡ wholes_after event.now self.old.wholes.items }
         ensures words { self.new.words.items ≡ words_after self.old.config.indexes event.now self.old.words.items }
+        ensures hazards { self.new.hazards.items ≡ hazards_after self.old.config.indexes event.now self.old.hazards.items }
         ensures standing { self.new.standing.items ≡ self.old.standing.items }
     {
         match *event {
@@ -120,6 +146,13 @@ impl Protections {
                     set_value(&mut self.words, place, span);
                 }
             },
+            Event::Hazard {
+                guard: Guard::Index { seat, index },
+                slot,
+            } => {
+                let place = self.place(seat, index);
+                set_hazard(&mut self.hazards, place, slot);
+            }
             _ => {}
         }
     }
@@ -130,6 +163,7 @@ impl Protections {
         ensures helpers { self.new.helpers.items ≡ self.old.helpers.items }
         ensures wholes { self.new.wholes.items ≡ self.old.wholes.items }
         ensures words { self.new.words.items ≡ self.old.words.items }
+        ensures hazards { self.new.hazards.items ≡ self.old.hazards.items }
         ensures sure { told_row event.now ≡ None → IsOk result }
         ensures standing { OnOk result (self.new.standing.items ≡ sets_after self.old.config.indexes seat event.now self.old.standing.items) }
     {
@@ -154,6 +188,15 @@ impl Protections {
 }
 
 fn no_values(alloc: Global, count: usize) -> Result<Vec<Option<Interval>>, NoMemory>
+    ensures { IfOk result (λ values. values.items ≡ replicate count None) }
+{
+    match vec![in alloc; None; count] {
+        Ok(values) => Ok(values),
+        Err(_) => Err(NoMemory),
+    }
+}
+
+fn no_hazards(alloc: Global, count: usize) -> Result<Vec<Option<u32>>, NoMemory>
     ensures { IfOk result (λ values. values.items ≡ replicate count None) }
 {
     match vec![in alloc; None; count] {
@@ -187,6 +230,20 @@ fn set_value(values: &mut [Option<Interval>], place: usize, span: Option<Interva
 {
     if place < values.len() {
         values[place] = span;
+    }
+}
+
+fn hazard_of(hazards: &[Option<u32>], place: usize) -> Option<u32>
+    ensures { result ≡ get_or hazards.now place None }
+{
+    hazards.get(place).copied().unwrap_or(None)
+}
+
+fn set_hazard(hazards: &mut [Option<u32>], place: usize, slot: Option<u32>)
+    ensures { hazards.new ≡ slice_set hazards.old place slot }
+{
+    if place < hazards.len() {
+        hazards[place] = slot;
     }
 }
 

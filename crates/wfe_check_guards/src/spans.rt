@@ -1,12 +1,11 @@
-// Intervals that guards publish, and which ones may follow one another.
+// What guards publish, and which intervals may follow one another.
 ghost use Rattle.std.specs.Prelude.{◌≡◌};
-ghost use Rattle.laws.specs.defs.Shown.{keeps as keeps_life, shown};
 ghost use Rattle.laws.specs.words.Schemes.{has_one_interval};
 ghost use Rattle.laws.specs.EraLaw.{is_one_era as is_one_era_of, same_interval as same_intervals, span_rises};
-ghost use Rattle.laws.specs.HoldLaw.{is_alike as alike, own_guard as guard_of};
-ghost use Rattle.laws.specs.StateAt.{is_index as is_index_of, same_guard as same_guards, same_span as same_spans, seat_of as seat_of_guard};
+ghost use Rattle.laws.specs.HoldLaw.{is_alike as alike, is_blank as blank, own_guard as guard_of};
+ghost use Rattle.laws.specs.StateAt.{is_index as is_index_of, same_guard as same_guards, same_span as same_spans, same_value, seat_of as seat_of_guard};
 
-use wfe_defs::{Guard, Interval, Lifetime, meets};
+use wfe_defs::{Guard, Interval, Shown};
 use wfe_words::SchemeKind;
 
 /// Whether one interval of eras stands for a seat, whatever index protects.
@@ -104,22 +103,33 @@ pub fn rises(old: Option<Interval>, span: Option<Interval>) -> bool
     }
 }
 
-/// Whether what is published keeps a life.
-pub fn keeps(life: Lifetime, span: Option<Interval>) -> bool
-    ensures { result ≡ keeps_life life (shown span) }
+/// Whether both are the same row, or none.
+pub fn same_row(one: Option<u32>, other: Option<u32>) -> bool
+    ensures { result ≡ same_value one other }
 {
-    match span {
-        None => false,
-        Some(span) => meets(life, span),
+    match (one, other) {
+        (None, None) => true,
+        (Some(a), Some(b)) => a == b,
+        _ => false,
     }
 }
 
-/// Whether an interval is published exactly where something stands.
-pub fn is_alike(span: Option<Interval>, bare: bool) -> bool
-    ensures { result ≡ alike span bare }
+/// Whether nothing is published.
+pub fn is_blank(value: Shown) -> bool
+    ensures { result ≡ blank value }
 {
-    match span {
-        None => bare,
-        Some(_) => !bare,
+    match value {
+        Shown::Nothing => true,
+        _ => false,
+    }
+}
+
+/// Whether something is published exactly where something stands.
+pub fn is_alike(value: Shown, bare: bool) -> bool
+    ensures { result ≡ alike value bare }
+{
+    match value {
+        Shown::Nothing => bare,
+        _ => !bare,
     }
 }

@@ -9,11 +9,11 @@ use wfe_check_rows::Rows;
 use wfe_defs::{Answer, Call, Event, Guard, Interval, NoMemory, Root};
 use wfe_words::{Config, SchemeKind};
 
-fn setting() -> Config
+fn setting(scheme: SchemeKind) -> Config
     ensures { is_none (bad_field result) ≡ true }
 {
     Config {
-        scheme: SchemeKind::He,
+        scheme,
         seats: 2,
         indexes: 3,
         slots: 2,
@@ -96,12 +96,22 @@ fn judged(kept: &Protections, rows: &Rows, seat: u32, event: &Event) -> [bool; 4
     ]
 }
 
-// The state after so many of the good entries, and whether each was in order.
+// The state after so many of the good entries under Hazard Eras, and whether each was in order.
 fn told(alloc: Global, count: usize) -> Result<(Protections, Rows, bool), NoMemory> {
-    let mut kept = Protections::new(alloc, setting())?;
-    let mut rows = Rows::new(alloc, setting())?;
+    told_of(alloc, SchemeKind::He, &good(), count)
+}
+
+// The state after so many of these entries, and whether each was in order.
+fn told_of(
+    alloc: Global,
+    scheme: SchemeKind,
+    entries: &[(u32, Event)],
+    count: usize,
+) -> Result<(Protections, Rows, bool), NoMemory> {
+    let mut kept = Protections::new(alloc, setting(scheme))?;
+    let mut rows = Rows::new(alloc, setting(scheme))?;
     let mut right = true;
-    for (seat, event) in good().iter().take(count) {
+    for (seat, event) in entries.iter().take(count) {
         right = right && judged(&kept, &rows, *seat, event) == [true; 4];
         kept.note(*seat, event)?;
         rows.note(*seat, event)?;
@@ -162,5 +172,87 @@ fn other_entries_are_refused(rt: HostRuntime) -> Result<(), Fail> {
         let (kept, rows, _) = told(rt.alloc(), count)?;
         assert_eq!(rt; judged(&kept, &rows, seat, &event), want);
     }
+    Ok(())
+}
+
+// The index word 0 of a seat publishes a row, or none.
+fn hazard(seat: u32, slot: Option<u32>) -> Event {
+    Event::Hazard {
+        guard: Guard::Index { seat, index: 0 },
+        slot,
+    }
+}
+
+fn saw(seat: u32, slot: Option<u32>) -> Event {
+    Event::Saw {
+        guard: Guard::Index { seat, index: 0 },
+        slot,
+    }
+}
+
+// Seat 0 links a row at a bucket's root, where seat 1 protects it by its number, and lets go.
+fn with_hazards() -> [(u32, Event); 8] {
+    [
+        (0, Event::Give { slot: 0, birth: 1 }),
+        (0, link(0)),
+        (1, hazard(1, Some(0))),
+        (0, saw(1, Some(0))),
+        (1, held(0)),
+        (1, Event::Clear { index: 0, slot: 0 }),
+        (1, hazard(1, None)),
+        (1, end()),
+    ]
+}
+
+#[test]
+fn rows_that_are_published_keep_themselves(rt: HostRuntime) -> Result<(), Fail> {
+    let (_, _, right) = told_of(rt.alloc(), SchemeKind::Hp, &with_hazards(), 8)?;
+    assert!(rt; right);
+    let guards = [false, true, true, true];
+    let hold = [true, true, false, true];
+    let wrong = [
+        // a guard is seen with another row, or as it was before
+        (3, 0, saw(1, Some(1)), guards),
+        (6, 0, saw(1, None), guards),
+        (7, 0, saw(1, Some(0)), guards),
+        // an era is published, or read
+        (2, 1, reserve(1, 1, 1), guards),
+        (
+            2,
+            1,
+            Event::Read {
+                guard: Guard::Index { seat: 1, index: 1 },
+                span: None,
+            },
+            guards,
+        ),
+        // a seat publishes at another's word, and at its helper word
+        (2, 0, hazard(1, Some(0)), guards),
+        (
+            2,
+            1,
+            Event::Hazard {
+                guard: Guard::Helper { seat: 1 },
+                slot: None,
+            },
+            guards,
+        ),
+        // a call ends where its index word publishes for none
+        (6, 1, end(), guards),
+        // another row is published, or none, while the row stands
+        (5, 1, hazard(1, Some(1)), hold),
+        (5, 1, hazard(1, None), hold),
+        // a row stands where nothing is published, or another row
+        (2, 1, held(0), hold),
+        (4, 1, held(1), hold),
+    ];
+    for (count, seat, event, want) in wrong {
+        let (kept, rows, _) = told_of(rt.alloc(), SchemeKind::Hp, &with_hazards(), count)?;
+        assert_eq!(rt; judged(&kept, &rows, seat, &event), want);
+    }
+    // where eras are published no row is
+    let (kept, rows, _) = told(rt.alloc(), 3)?;
+    assert_eq!(rt; judged(&kept, &rows, 1, &hazard(1, Some(0))), guards);
+    assert_eq!(rt; judged(&kept, &rows, 0, &saw(1, None)), guards);
     Ok(())
 }

@@ -1,5 +1,5 @@
 -- The entries of a record's lines lie in its setting's ranges.
-use Rattle.std.proofs.Common.{ℕ, List}
+use Rattle.std.proofs.Common.{ℕ, List, None, Option, Some}
 use Rattle.wfe_words.specs.declared.config.Config.{Config}
 use Rattle.wfe_defs.specs.declared.call.Call.{Call}
 use Rattle.wfe_defs.specs.declared.call.Call.TheVariants as calls
@@ -9,15 +9,19 @@ use Rattle.wfe_defs.specs.declared.event.Guard.{Guard}
 use Rattle.wfe_defs.specs.declared.event.Guard.TheVariants as guards
 use Rattle.wfe_defs.specs.declared.event.Root.{Root}
 use Rattle.wfe_defs.specs.declared.event.Root.TheVariants as roots
-use Rattle.laws_good.specs.Ranges.{CallIn, EntryIn, EventIn, GuardIn, RootIn}
+use Rattle.laws_good.specs.Ranges.{CallIn, EntryIn, EventIn, GuardIn, RootIn, RowIn}
 use Rattle.wfe_record.specs.Entry.{IsEntry, IsEvent}
 use Rattle.wfe_record.specs.record_calls.Calls.{IsCall}
-use Rattle.wfe_record.specs.record_words.Within.{IsGuard, IsRoot}
+use Rattle.wfe_record.specs.record_words.Within.{IsGuard, IsRoot, IsShown}
 
 guard_in : (config : Config) (guard : Guard) → IsGuard config guard → GuardIn config guard
 guard_in config (guards.Helper seat) is = is
 guard_in config (guards.Index seat index) is = is
 guard_in config (guards.Whole seat) is = is
+
+row_in : (config : Config) (slot : Option ℕ) → IsShown config slot → RowIn config slot
+row_in config None is = tt
+row_in config (Some slot) is = is
 
 root_in : (config : Config) (root : Root) → IsRoot config root → RootIn config root
 root_in config (roots.Bucket bucket) is = is
@@ -35,6 +39,8 @@ event_in version config (events.End steps answer) is = tt
 event_in version config (events.Era era) is = tt
 event_in version config (events.Reserve guard span) is = guard_in config guard is.0
 event_in version config (events.Read guard span) is = guard_in config guard is.0
+event_in version config (events.Hazard guard slot) is = (guard_in config guard is.1, row_in config slot is.2)
+event_in version config (events.Saw guard slot) is = (guard_in config guard is.1, row_in config slot is.2)
 event_in version config (events.Give slot birth) is = is.0
 event_in version config (events.Unused slot) is = is
 event_in version config (events.Link root slot) is = (root_in config root is.0, is.1)

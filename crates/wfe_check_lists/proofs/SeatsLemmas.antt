@@ -11,28 +11,28 @@ use Rattle.laws.specs.defs.declared.event.Event.{Event}
 use Rattle.laws.specs.defs.declared.event.Event.TheVariants as events
 use Rattle.laws.specs.records.Record.{Past}
 use Rattle.laws.specs.words.declared.config.Config.{Config}
-use Rattle.wfe_defs.specs.Shown.{Seen, keeps_any, shown}
-use Rattle.wfe_defs.specs.declared.lifetime.Interval.{Interval}
+use Rattle.wfe_defs.specs.Shown.{Seen, keeps_any}
+use Rattle.wfe_defs.specs.declared.shown.Shown.{Shown}
 use Rattle.wfe_defs.specs.declared.lifetime.Lifetime.{Lifetime}
 use Rattle.wfe_check_lists.specs.Seats.{Scanning, done_in, fits_in, goes_back_in, keeps_one, may_read_in, next_due}
 use Rattle.wfe_check_lists.specs.Standing.{IsSeat, shown_in}
 
--- what was read and its spans keep the same
-read_any : (life : Lifetime) (spans : List (Option Interval)) (read : List Seen) → map shown spans ≡ map shown_in read → keeps_any life read ≡ keeps_one life spans
+-- what was read and its values keep the same
+read_any : (life : Lifetime) (values : List Shown) (read : List Seen) → values ≡ map shown_in read → keeps_any life read ≡ keeps_one life values
 read_any life [] [] h = refl
 read_any life [] (x ∷ read) h = absurd (cc)
-read_any life (span ∷ spans) [] h = absurd (cc)
-read_any life (span ∷ spans) (x ∷ read) h =
-    let here : shown span ≡ x.1 = cc in
-    let rest : map shown spans ≡ map shown_in read = cc in
-    rw (read_any life spans read rest, here) refl
+read_any life (value ∷ values) [] h = absurd (cc)
+read_any life (value ∷ values) (x ∷ read) h =
+    let here : value ≡ x.1 = cc in
+    let rest : values ≡ map shown_in read = cc in
+    rw (read_any life values read rest, here) refl
 
-pub read_length : (spans : List (Option Interval)) (read : List Seen) → map shown spans ≡ map shown_in read → length read ≡ length spans
-read_length spans read h = sym (length-map read shown_in) ∙ ap length (sym h) ∙ length-map spans shown
+pub read_length : (values : List Shown) (read : List Seen) → values ≡ map shown_in read → length read ≡ length values
+read_length values read h = sym (length-map read shown_in) ∙ ap length (sym h)
 
-read_next : (lives : List Lifetime) (spans : List (Option Interval)) (read : List Seen) → map shown spans ≡ map shown_in read → next_back read lives ≡ next_due spans lives
-read_next [] spans read h = refl
-read_next (life ∷ lives) spans read h = rw (read_any life spans read h, read_next lives spans read h) refl
+read_next : (lives : List Lifetime) (values : List Shown) (read : List Seen) → values ≡ map shown_in read → next_back read lives ≡ next_due values lives
+read_next [] values read h = refl
+read_next (life ∷ lives) values read h = rw (read_any life values read h, read_next lives values read h) refl
 
 -- the life that goes back next is known where the block is whole and the seat scans
 done_same : (scans : Bool) (all len : ℕ) (x y : Option Lifetime) → (scans ≡ true → len ≡ all → x ≡ y) → (not scans || (len == all && is_none x)) ≡ (not scans || (len == all && is_none y))
@@ -51,25 +51,25 @@ back_same true all len slot x y h =
       | inr apart ↦ rw (ne_eqb len all apart) refl
     ]
 
-due_of : (all i : ℕ) (seat : Scanning) (p : Past) → IsSeat all i seat p → seat.scans ≡ true → length seat.spans ≡ all → next_back (read_of all i p) seat.lives ≡ slice_get seat.lives seat.place
-due_of all i seat p s scans whole = read_next seat.lives seat.spans (read_of all i p) s.read ∙ (s.due scans whole).here
+due_of : (all i : ℕ) (seat : Scanning) (p : Past) → IsSeat all i seat p → seat.scans ≡ true → length seat.values ≡ all → next_back (read_of all i p) seat.lives ≡ slice_get seat.lives seat.place
+due_of all i seat p s scans whole = read_next seat.lives seat.values (read_of all i p) s.read ∙ (s.due scans whole).here
 
 done_is : (all i : ℕ) (seat : Scanning) (p : Past) → IsSeat all i seat p → done_in all seat ≡ (not (scans_of i p) || is_over all (read_of all i p) (list_of i p))
 done_is all i seat p s =
-    rw (← s.scans, ← s.lives, read_length seat.spans (read_of all i p) s.read)
-    (done_same seat.scans all (length seat.spans) (slice_get seat.lives seat.place) (next_back (read_of all i p) seat.lives) (λ a b. sym (due_of all i seat p s a b)))
+    rw (← s.scans, ← s.lives, read_length seat.values (read_of all i p) s.read)
+    (done_same seat.scans all (length seat.values) (slice_get seat.lives seat.place) (next_back (read_of all i p) seat.lives) (λ a b. sym (due_of all i seat p s a b)))
 
 back_is : (all i slot : ℕ) (seat : Scanning) (p : Past) → IsSeat all i seat p
     → goes_back_in all slot seat ≡ (scans_of i p && (length (read_of all i p) == all && is_life_of slot (next_back (read_of all i p) (list_of i p))))
 back_is all i slot seat p s =
-    rw (← s.scans, ← s.lives, read_length seat.spans (read_of all i p) s.read)
-    (back_same seat.scans all (length seat.spans) slot (slice_get seat.lives seat.place) (next_back (read_of all i p) seat.lives) (λ a b. sym (due_of all i seat p s a b)))
+    rw (← s.scans, ← s.lives, read_length seat.values (read_of all i p) s.read)
+    (back_same seat.scans all (length seat.values) slot (slice_get seat.lives seat.place) (next_back (read_of all i p) seat.lives) (λ a b. sym (due_of all i seat p s a b)))
 
 may_read_is : (all i : ℕ) (seat : Scanning) (p : Past) → IsSeat all i seat p
     → may_read_in all seat ≡ (if is_partial all (read_of all i p) then scans_of i p else (not (scans_of i p) || is_over all (read_of all i p) (list_of i p)))
 may_read_is all i seat p s =
-    ap (λ (b : Bool). if nat_lt 0 (length seat.spans) && nat_lt (length seat.spans) all then seat.scans else b) (done_is all i seat p s)
-    ∙ ap (λ (n : ℕ). if nat_lt 0 n && nat_lt n all then seat.scans else (not (scans_of i p) || is_over all (read_of all i p) (list_of i p))) (sym (read_length seat.spans (read_of all i p) s.read))
+    ap (λ (b : Bool). if nat_lt 0 (length seat.values) && nat_lt (length seat.values) all then seat.scans else b) (done_is all i seat p s)
+    ∙ ap (λ (n : ℕ). if nat_lt 0 n && nat_lt n all then seat.scans else (not (scans_of i p) || is_over all (read_of all i p) (list_of i p))) (sym (read_length seat.values (read_of all i p) s.read))
     ∙ ap (λ (b : Bool). if is_partial all (read_of all i p) then b else (not (scans_of i p) || is_over all (read_of all i p) (list_of i p))) s.scans
 
 or_true : (x : Bool) → (x || true) ≡ true
@@ -100,7 +100,11 @@ absorbed false b c d h = refl
 pub fits_is : (config : Config) (i : ℕ) (seat : Scanning) (p : Past) (event : Event) → IsSeat (guards config) i seat p
     → fits_in config (guards config) event seat ≡ (scan_ok config p i event && backs_ok p i event)
 fits_is config i seat p (events.Read guard span) s =
-    ap (λ (n : ℕ). same_guard guard (guard_at config (if n == guards config then 0 else n)) && may_read_in (guards config) seat) (sym (read_length seat.spans (read_of (guards config) i p) s.read))
+    ap (λ (n : ℕ). same_guard guard (guard_at config (if n == guards config then 0 else n)) && may_read_in (guards config) seat) (sym (read_length seat.values (read_of (guards config) i p) s.read))
+    ∙ ap (λ (b : Bool). same_guard guard (guard_at config (next_number (guards config) (read_of (guards config) i p))) && b) (may_read_is (guards config) i seat p s)
+    ∙ and_true _
+fits_is config i seat p (events.Saw guard slot) s =
+    ap (λ (n : ℕ). same_guard guard (guard_at config (if n == guards config then 0 else n)) && may_read_in (guards config) seat) (sym (read_length seat.values (read_of (guards config) i p) s.read))
     ∙ ap (λ (b : Bool). same_guard guard (guard_at config (next_number (guards config) (read_of (guards config) i p))) && b) (may_read_is (guards config) i seat p s)
     ∙ and_true _
 fits_is config i seat p (events.Back slot) s =

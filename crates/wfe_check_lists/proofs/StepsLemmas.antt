@@ -12,10 +12,10 @@ use Rattle.laws.specs.records.Record.{Past}
 use Rattle.laws.specs.records.Record.Past.{Then}
 use Rattle.laws.specs.words.declared.config.Config.{Config}
 use Rattle.wfe_defs.proofs.Facts.{same_number, first_of, rest_of, number_is}
-use Rattle.wfe_defs.specs.Shown.{Seen, Shown, shown}
-use Rattle.wfe_defs.specs.declared.lifetime.Interval.{Interval}
+use Rattle.wfe_defs.specs.Shown.{Seen, shown, shown_row}
+use Rattle.wfe_defs.specs.declared.shown.Shown.{Shown}
 use Rattle.wfe_defs.specs.declared.lifetime.Lifetime.{Lifetime}
-use Rattle.wfe_check_lists.specs.Seats.{Scanning, NotesOwn, OwnStep, WasDue, adopted, emptied, gained, handed, no_scanning, seat_in, spans_by}
+use Rattle.wfe_check_lists.specs.Seats.{Scanning, NotesOwn, OwnStep, WasDue, adopted, emptied, gained, handed, no_scanning, seat_in, values_by}
 use Rattle.wfe_check_lists.specs.Standing.{IsSeat, shown_in}
 use Rattle.wfe_check_lists.proofs.SeatsLemmas.{read_length}
 
@@ -28,20 +28,21 @@ handed_is : (i : ℕ) (event : Event) (list : List Lifetime) → is_handed event
 handed_is i (events.Adopted place count) list h = absurd (cc)
 handed_is i event list h = refl
 
-read_pushed : (whole : Bool) (guard : _) (span : Option Interval) (spans : List (Option Interval)) (read : List Seen) → map shown spans ≡ map shown_in read
-    → map shown ((if whole then [] else spans) ++ span ∷ []) ≡ map shown_in ((if whole then [] else read) ++ (guard, shown span) ∷ [])
-read_pushed true guard span spans read h = refl
-read_pushed false guard span spans read h = map-append shown spans (span ∷ []) ∙ ap (λ (xs : List Shown). xs ++ shown span ∷ []) h ∙ sym (map-append shown_in read ((guard, shown span) ∷ []))
+read_pushed : (whole : Bool) (guard : _) (value : Shown) (values : List Shown) (read : List Seen) → values ≡ map shown_in read
+    → ((if whole then [] else values) ++ value ∷ []) ≡ map shown_in ((if whole then [] else read) ++ (guard, value) ∷ [])
+read_pushed true guard value values read h = refl
+read_pushed false guard value values read h = ap (λ (xs : List Shown). xs ++ value ∷ []) h ∙ sym (map-append shown_in read ((guard, value) ∷ []))
 
-read_step : (all : ℕ) (event : Event) (spans : List (Option Interval)) (read : List Seen) → map shown spans ≡ map shown_in read → map shown (spans_by all event spans) ≡ map shown_in (read_by all event read)
-read_step all (events.Read guard span) spans read h = rw (read_length spans read h) (read_pushed (length spans == all) guard span spans read h)
-read_step all event spans read h = h
+read_step : (all : ℕ) (event : Event) (values : List Shown) (read : List Seen) → values ≡ map shown_in read → values_by all event values ≡ map shown_in (read_by all event read)
+read_step all (events.Read guard span) values read h = rw (read_length values read h) (read_pushed (length values == all) guard (shown span) values read h)
+read_step all (events.Saw guard slot) values read h = rw (read_length values read h) (read_pushed (length values == all) guard (shown_row slot) values read h)
+read_step all event values read h = h
 
 was_due : (config : Config) (i : ℕ) (event : Event) (seat : Scanning) (p : Past) → IsSeat (guards config) i seat p → scan_ok config p i event ≡ true → WasDue event seat
 was_due config i (events.Back slot) seat p s ok =
     let scans : scans_of i p ≡ true = first_of _ _ ok in
     let whole : length (read_of (guards config) i p) ≡ guards config = number_is _ _ (first_of _ _ (rest_of _ _ ok)) in
-    s.due (s.scans ∙ scans) (sym (read_length seat.spans (read_of (guards config) i p) s.read) ∙ whole)
+    s.due (s.scans ∙ scans) (sym (read_length seat.values (read_of (guards config) i p) s.read) ∙ whole)
 was_due config i event seat p s ok = tt
 
 own_chosen : {X : Type 0} (i : ℕ) (x y : X) → (if i == i then x else y) ≡ x
@@ -56,7 +57,7 @@ own_step : (config : Config) (i : ℕ) (event : Event) (old new : Scanning) (p :
 own_step config i event old new p s ok h step =
     record {
       lives = step.lives ∙ ap (list_by event) s.lives ∙ sym (own_chosen i _ _ ∙ gained_is event (λ (place : ℕ). list_of place p) (list_of i p) h);
-      read = ap (map shown) step.spans ∙ read_step (guards config) event old.spans (read_of (guards config) i p) s.read ∙ sym (ap (map shown_in) (own_chosen i _ _));
+      read = step.values ∙ read_step (guards config) event old.values (read_of (guards config) i p) s.read ∙ sym (ap (map shown_in) (own_chosen i _ _));
       scans = step.scans ∙ sym (own_chosen i _ _);
       due = λ scans whole. step.due (sym step.scans ∙ scans) whole (was_due config i event old p s ok);
     }
@@ -82,12 +83,12 @@ emptied_step all i k count seat p apart s =
     }
 
 -- the seat takes a list over
-gained_step : (all i place count : ℕ) (old new : Scanning) (p : Past) → IsSeat all i old p → new.lives ≡ old.lives ++ list_of place p → new.spans ≡ old.spans → new.scans ≡ false
+gained_step : (all i place count : ℕ) (old new : Scanning) (p : Past) → IsSeat all i old p → new.lives ≡ old.lives ++ list_of place p → new.values ≡ old.values → new.scans ≡ false
     → IsSeat all i new (Then p i (events.Adopted place count))
-gained_step all i place count old new p s lives spans scans =
+gained_step all i place count old new p s lives values scans =
     record {
       lives = lives ∙ ap (λ (xs : List Lifetime). xs ++ list_of place p) s.lives ∙ sym (own_chosen i _ _);
-      read = ap (map shown) spans ∙ s.read ∙ sym (ap (map shown_in) (own_chosen i _ _));
+      read = values ∙ s.read ∙ sym (ap (map shown_in) (own_chosen i _ _));
       scans = scans ∙ sym (own_chosen i _ _);
       due = λ a b. absurd (cc);
     }
@@ -107,7 +108,7 @@ own_steps config many i event old new p long seated s ok h step k below =
     ]
 
 adopted_own : (i place : ℕ) (seats : List Scanning) → i < length seats → place < length seats
-    → ((seat_in (adopted i place seats) i).lives ≡ (seat_in seats i).lives ++ (seat_in seats place).lives) × ((seat_in (adopted i place seats) i).spans ≡ (seat_in seats i).spans)
+    → ((seat_in (adopted i place seats) i).lives ≡ (seat_in seats i).lives ++ (seat_in seats place).lives) × ((seat_in (adopted i place seats) i).values ≡ (seat_in seats i).values)
     × ((seat_in (adopted i place seats) i).scans ≡ false)
 adopted_own i place seats h k =
     let rest = slice_set seats place (emptied (seat_in seats place)) in

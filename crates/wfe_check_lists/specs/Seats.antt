@@ -6,81 +6,83 @@ use Rattle.laws.specs.StateAt.{is_scan, same_guard}
 use Rattle.laws.specs.words.declared.config.Config.{Config}
 use Rattle.laws.specs.defs.declared.event.Event.{Event}
 use Rattle.laws.specs.defs.declared.event.Event.TheVariants as events
-use Rattle.wfe_defs.specs.Shown.{keeps, shown}
-use Rattle.wfe_defs.specs.declared.lifetime.Interval.{Interval}
+use Rattle.wfe_defs.specs.Shown.{keeps, shown, shown_row}
+use Rattle.wfe_defs.specs.declared.shown.Shown.{Shown}
 use Rattle.wfe_defs.specs.declared.lifetime.Lifetime.{Lifetime}
 pub use Rattle.wfe_check_lists.specs.Scanning.{Scanning, no_scanning}
 
--- one of the spans keeps the life
-abbrev pub keeps_one : Lifetime → List (Option Interval) → Bool
+-- one of what guards showed keeps the life
+abbrev pub keeps_one : Lifetime → List Shown → Bool
 keeps_one life [] = false
-keeps_one life (span ∷ spans) = keeps life (shown span) || keeps_one life spans
+keeps_one life (value ∷ values) = keeps life value || keeps_one life values
 
--- the first life that none of the spans keeps
-abbrev pub next_due : List (Option Interval) → List Lifetime → Option Lifetime
-next_due spans [] = None
-next_due spans (life ∷ lives) = if keeps_one life spans then next_due spans lives else Some life
+-- the first life that none of it keeps
+abbrev pub next_due : List Shown → List Lifetime → Option Lifetime
+next_due values [] = None
+next_due values (life ∷ lives) = if keeps_one life values then next_due values lives else Some life
 
 -- the lives before the place are kept, and the one there, if there is one, is the first that is not
-pub record IsDue (spans : List (Option Interval)) (lives : List Lifetime) (place : ℕ) : Type 0 where
-  pub kept : next_due spans (take place lives) ≡ None
-  pub here : next_due spans lives ≡ slice_get lives place
+pub record IsDue (values : List Shown) (lives : List Lifetime) (place : ℕ) : Type 0 where
+  pub kept : next_due values (take place lives) ≡ None
+  pub here : next_due values lives ≡ slice_get lives place
 
 -- the number of the guard that is read next
 abbrev pub number_in : (all : ℕ) → Scanning → ℕ
-number_in all seat = if length seat.spans == all then 0 else length seat.spans
+number_in all seat = if length seat.values == all then 0 else length seat.values
 
 -- no scan is left undone
 abbrev pub done_in : (all : ℕ) → Scanning → Bool
-done_in all seat = not seat.scans || (length seat.spans == all && is_none (slice_get seat.lives seat.place))
+done_in all seat = not seat.scans || (length seat.values == all && is_none (slice_get seat.lives seat.place))
 
 -- a guard may be read
 abbrev pub may_read_in : (all : ℕ) → Scanning → Bool
-may_read_in all seat = if nat_lt 0 (length seat.spans) && nat_lt (length seat.spans) all then seat.scans else done_in all seat
+may_read_in all seat = if nat_lt 0 (length seat.values) && nat_lt (length seat.values) all then seat.scans else done_in all seat
 
 -- a row of this slot may go back
 abbrev pub goes_back_in : (all slot : ℕ) → Scanning → Bool
-goes_back_in all slot seat = seat.scans && (length seat.spans == all && is_life_of slot (slice_get seat.lives seat.place))
+goes_back_in all slot seat = seat.scans && (length seat.values == all && is_life_of slot (slice_get seat.lives seat.place))
 
 -- the entry may be told
 abbrev pub fits_in : Config → (all : ℕ) → Event → Scanning → Bool
 fits_in config all (events.Read guard span) seat = same_guard guard (guard_at config (number_in all seat)) && may_read_in all seat
+fits_in config all (events.Saw guard slot) seat = same_guard guard (guard_at config (number_in all seat)) && may_read_in all seat
 fits_in config all (events.Back slot) seat = goes_back_in all slot seat
 fits_in config all event seat = done_in all seat
 
 -- what the seat has read after it reads a guard
-abbrev pub spans_with : (all : ℕ) → Option Interval → List (Option Interval) → List (Option Interval)
-spans_with all span spans = (if length spans == all then [] else spans) ++ span ∷ []
+abbrev pub values_with : (all : ℕ) → Shown → List Shown → List Shown
+values_with all value values = (if length values == all then [] else values) ++ value ∷ []
 
-abbrev pub spans_by : (all : ℕ) → Event → List (Option Interval) → List (Option Interval)
-spans_by all (events.Read guard span) spans = spans_with all span spans
-spans_by all event spans = spans
+abbrev pub values_by : (all : ℕ) → Event → List Shown → List Shown
+values_by all (events.Read guard span) values = values_with all (shown span) values
+values_by all (events.Saw guard slot) values = values_with all (shown_row slot) values
+values_by all event values = values
 
--- what a Read makes
-pub record ReadStep (all : ℕ) (span : Option Interval) (old new : Scanning) : Type 0 where
+-- what a guard makes that is read
+pub record ReadStep (all : ℕ) (value : Shown) (old new : Scanning) : Type 0 where
   pub lives : new.lives ≡ old.lives
-  pub spans : new.spans ≡ spans_with all span old.spans
+  pub values : new.values ≡ values_with all value old.values
   pub scans : new.scans ≡ true
-  pub due : length new.spans ≡ all → IsDue new.spans new.lives new.place
+  pub due : length new.values ≡ all → IsDue new.values new.lives new.place
 
 -- what a Back makes
 pub record BackStep (slot : ℕ) (old new : Scanning) : Type 0 where
   pub lives : new.lives ≡ without slot old.lives
-  pub spans : new.spans ≡ old.spans
+  pub values : new.values ≡ old.values
   pub scans : new.scans ≡ true
-  pub due : IsDue old.spans old.lives old.place → IsDue new.spans new.lives new.place
+  pub due : IsDue old.values old.lives old.place → IsDue new.values new.lives new.place
 
 -- a life that was due before goes back
 abbrev pub WasDue : Event → Scanning → Type 0
-WasDue (events.Back slot) old = IsDue old.spans old.lives old.place
+WasDue (events.Back slot) old = IsDue old.values old.lives old.place
 WasDue event old = Unit {0}
 
 -- what an event of the seat makes that takes over no list
 pub record OwnStep (all : ℕ) (event : Event) (old new : Scanning) : Type 0 where
   pub lives : new.lives ≡ list_by event old.lives
-  pub spans : new.spans ≡ spans_by all event old.spans
+  pub values : new.values ≡ values_by all event old.values
   pub scans : new.scans ≡ is_scan event
-  pub due : is_scan event ≡ true → length new.spans ≡ all → WasDue event old → IsDue new.spans new.lives new.place
+  pub due : is_scan event ≡ true → length new.values ≡ all → WasDue event old → IsDue new.values new.lives new.place
 
 -- the seat's list is taken over
 abbrev pub emptied : Scanning → Scanning

@@ -7,7 +7,8 @@ use Rattle.laws.specs.words.declared.config.Config.{Config}
 use Rattle.laws.specs.defs.declared.event.Event.{Event}
 use Rattle.laws.specs.defs.declared.event.Event.TheVariants as events
 use Rattle.laws.specs.records.Record.{Past}
-use Rattle.wfe_defs.specs.Shown.{Seen, Shown, shown}
+use Rattle.wfe_defs.specs.Shown.{Seen}
+use Rattle.wfe_defs.specs.declared.shown.Shown.{Shown}
 use Rattle.wfe_check_lists.specs.declared.lists.Lists.{Lists}
 use Rattle.wfe_check_lists.specs.Seats.{Scanning, IsDue, seat_in}
 
@@ -18,10 +19,10 @@ shown_in seen = seen.1
 pub record IsSeat (all i : ℕ) (seat : Scanning) (p : Past) : Type 0 where
   pub lives : seat.lives ≡ list_of i p
   -- of the guards that were read, what they showed
-  pub read : map shown seat.spans ≡ map shown_in (read_of all i p)
+  pub read : seat.values ≡ map shown_in (read_of all i p)
   pub scans : seat.scans ≡ scans_of i p
   -- in a scan whose block is whole it is known which life goes back next
-  pub due : seat.scans ≡ true → length seat.spans ≡ all → IsDue seat.spans seat.lives seat.place
+  pub due : seat.scans ≡ true → length seat.values ≡ all → IsDue seat.values seat.lives seat.place
 
 pub record IsLists (config : Config) (lists : Lists) (p : Past) : Type 0 where
   pub setting : lists.config ≡ config

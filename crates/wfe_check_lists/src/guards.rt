@@ -14,7 +14,7 @@ pub fn is_guard(config: Config, guard: Guard, number: u64) -> bool
 {
     let seats = config.seats as u64;
     match config.scheme {
-        SchemeKind::He => is_word(config, guard, number),
+        SchemeKind::He | SchemeKind::Hp => is_word(config, guard, number),
         SchemeKind::Ibr => is_whole(guard, number),
         SchemeKind::Wfe => {
             if number < seats {

@@ -120,8 +120,9 @@ fn fits_own(config: Config, all: u64, event: &Event, own: &Seat) -> bool
     ensures { result ≡ fits_in config all event.now own.now }
 {
     match *event {
-        Event::Read { guard, .. } => is_guard(config, guard, own.next_number(all))
-            && own.may_read(all),
+        Event::Read { guard, .. } | Event::Saw { guard, .. } => {
+            is_guard(config, guard, own.next_number(all)) && own.may_read(all)
+        }
         Event::Back { slot } => own.may_go_back(all, slot),
         _ => own.is_done(all),
     }

@@ -2,13 +2,13 @@
 ghost use Rattle.std.specs.Prelude.{◌≡◌, ◌<◌, ◌≤◌, ℕ, None, [], ◌∷◌, ◌++◌, ◌==◌, take, true, false, not, filter, count_by, length, slice_get, OnOk};
 ghost use Rattle.laws.specs.Lists.{without};
 ghost use Rattle.laws.specs.ScanLaw.{is_life_of};
-ghost use Rattle.wfe_defs.specs.Shown.{keeps as does_keep, shown};
 ghost use Rattle.wfe_check_lists.specs.Seats.{OwnStep, ReadStep, BackStep, IsDue, keeps_one, next_due, emptied, gained, no_scanning, number_in, may_read_in, goes_back_in, done_in};
 
 use std::alloc::Global;
 use std::marker::Model;
 use std::mem;
-use wfe_defs::{Event, Interval, Lifetime, NoMemory, meets};
+use wfe_check_counts::{keeps, of_row, of_span};
+use wfe_defs::{Event, Lifetime, NoMemory, Shown};
 
 /// A seat's list of lives, in order; what it has read of its block of guards; how many lives from the first
 /// on what it has read keeps, once the block is whole and while the seat tells nothing but its scan; and
@@ -16,7 +16,7 @@ use wfe_defs::{Event, Interval, Lifetime, NoMemory, meets};
 #[derive(Drop)]
 pub struct Seat {
     lives: Vec<Lifetime>,
-    spans: Vec<Option<Interval>>,
+    values: Vec<Shown>,
     place: usize,
     scans: bool,
 }
@@ -26,7 +26,7 @@ impl Model for Seat {
 
     ghost Value = { Scanning };
 
-    ghost view = { λ s. record { lives = s.lives.items; spans = s.spans.items; place = s.place; scans = s.scans } };
+    ghost view = { λ s. record { lives = s.lives.items; values = s.values.items; place = s.place; scans = s.scans } };
 }
 
 impl Seat {
@@ -36,7 +36,7 @@ impl Seat {
     {
         Seat {
             lives: Vec::new(alloc),
-            spans: Vec::new(alloc),
+            values: Vec::new(alloc),
             place: 0,
             scans: false,
         }
@@ -53,7 +53,7 @@ impl Seat {
     pub fn next_number(&self, all: u64) -> u64
         ensures { result ≡ number_in all self.now }
     {
-        let read = self.spans.len() as u64;
+        let read = self.values.len() as u64;
         if read == all { 0 } else { read }
     }
 
@@ -62,7 +62,7 @@ impl Seat {
     pub fn may_read(&self, all: u64) -> bool
         ensures { result ≡ may_read_in all self.now }
     {
-        let read = self.spans.len() as u64;
+        let read = self.values.len() as u64;
         if 0 < read && read < all {
             self.scans
         } else {
@@ -74,14 +74,14 @@ impl Seat {
     pub fn may_go_back(&self, all: u64, slot: u32) -> bool
         ensures { result ≡ goes_back_in all slot self.now }
     {
-        self.scans && (self.spans.len() as u64 == all && is_of(slot, self.next()))
+        self.scans && (self.values.len() as u64 == all && is_of(slot, self.next()))
     }
 
     /// Whether no scan is left undone.
     pub fn is_done(&self, all: u64) -> bool
         ensures { result ≡ done_in all self.now }
     {
-        !self.scans || (self.spans.len() as u64 == all && self.next().is_none())
+        !self.scans || (self.values.len() as u64 == all && self.next().is_none())
     }
 
     // The life that goes back next, if one does, where the block is whole and the seat scans.
@@ -99,7 +99,8 @@ impl Seat {
         ensures { OnOk result (OwnStep all event.now self.old self.new) }
     {
         match *event {
-            Event::Read { span, .. } => self.note_read(span, all),
+            Event::Read { span, .. } => self.note_read(of_span(span), all),
+            Event::Saw { slot, .. } => self.note_read(of_row(slot), all),
             Event::Back { slot } => {
                 self.note_back(slot);
                 Ok(())
@@ -140,18 +141,18 @@ impl Seat {
         }
     }
 
-    fn note_read(&mut self, span: Option<Interval>, all: u64) -> Result<(), NoMemory>
-        ensures { OnOk result (ReadStep all span self.old self.new) }
+    fn note_read(&mut self, value: Shown, all: u64) -> Result<(), NoMemory>
+        ensures { OnOk result (ReadStep all value self.old self.new) }
     {
-        if self.spans.len() as u64 == all {
-            self.spans.clear();
+        if self.values.len() as u64 == all {
+            self.values.clear();
         }
-        if self.spans.push(span).is_err() {
+        if self.values.push(value).is_err() {
             return Err(NoMemory);
         }
         self.scans = true;
-        if self.spans.len() as u64 == all {
-            self.place = settled(&self.lives, &self.spans, 0);
+        if self.values.len() as u64 == all {
+            self.place = settled(&self.lives, &self.values, 0);
         }
         Ok(())
     }
@@ -161,12 +162,12 @@ impl Seat {
     {
         let place = stays(&self.lives, self.place, slot);
         take_away(&mut self.lives, slot);
-        self.place = settled(&self.lives, &self.spans, place);
+        self.place = settled(&self.lives, &self.values, place);
         self.scans = true;
     }
 
     fn note_retire(&mut self, life: Lifetime) -> Result<(), NoMemory>
-        ensures { OnOk result ((self.new.lives ≡ self.old.lives ++ life ∷ []) × (self.new.spans ≡ self.old.spans) × (self.new.scans ≡ false)) }
+        ensures { OnOk result ((self.new.lives ≡ self.old.lives ++ life ∷ []) × (self.new.values ≡ self.old.values) × (self.new.scans ≡ false)) }
     {
         self.scans = false;
         match self.lives.push(life) {
@@ -187,33 +188,24 @@ fn is_of(slot: u32, life: Option<Lifetime>) -> bool
 }
 
 // Whether something that was read keeps the life.
-fn is_kept(life: Lifetime, spans: &[Option<Interval>]) -> bool
-    ensures { result ≡ keeps_one life spans.now }
+fn is_kept(life: Lifetime, values: &[Shown]) -> bool
+    ensures { result ≡ keeps_one life values.now }
 {
-    for span in spans {
-        if keeps(life, *span) {
+    for value in values {
+        if keeps(life, *value) {
             return true;
         }
     }
     false
 }
 
-fn keeps(life: Lifetime, span: Option<Interval>) -> bool
-    ensures { result ≡ does_keep life (shown span) }
-{
-    match span {
-        Some(span) => meets(life, span),
-        None => false,
-    }
-}
-
 // The first life from a place on that nothing read keeps, or the end.
-fn settled(lives: &[Lifetime], spans: &[Option<Interval>], from: usize) -> usize
-    ensures { next_due spans.now (take from lives.now) ≡ None → IsDue spans.now lives.now result }
+fn settled(lives: &[Lifetime], values: &[Shown], from: usize) -> usize
+    ensures { next_due values.now (take from lives.now) ≡ None → IsDue values.now lives.now result }
 {
     let mut place = from;
     while place < lives.len() {
-        if !is_kept(lives[place], spans) {
+        if !is_kept(lives[place], values) {
             return place;
         }
         place += 1;

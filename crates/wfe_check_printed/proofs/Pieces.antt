@@ -107,7 +107,7 @@ header_comes version config body text is few =
     let line : List ℕ = codes "record" ++ spaced (decimal version ∷ setting_words config) in
     let one : length (line ++ codes "\n") ≡ length line + 1 = length-append line (codes "\n") in
     let last = is.last in
-    let read = header_known line version config (record { text = refl; first = is.first; last = is.last; within = is.within; pairs = is.pairs }) in
+    let read = header_known line version config (record { text = refl; first = is.first; last = is.last; within = is.within; pairs = is.pairs; known = is.known }) in
     line_comes reading_start line (within_body version config Start 0) refl (header_narrow version config (omega arith) (fits-in_range config is.within)) (omega (arith, one)) (ap (with_header nothing_told) read)
 
 -- the last line

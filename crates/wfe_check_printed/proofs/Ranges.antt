@@ -14,7 +14,7 @@ use Rattle.wfe_trace.specs.Fits.{NumberFits, GuardFits, SpanFits, ValueFits, Roo
 use Rattle.wfe_check_lines.specs.records.Entry.{IsEvent}
 use Rattle.wfe_check_lines.specs.records.record_answers.Answers.{IsAnswer, IsClock}
 use Rattle.wfe_check_lines.specs.records.record_calls.Calls.{IsCall}
-use Rattle.wfe_check_lines.specs.records.record_words.Within.{IsBucket, IsGuard, IsIndex, IsRoot, IsSeat, IsShort, IsSlot, IsSpan, Small}
+use Rattle.wfe_check_lines.specs.records.record_words.Within.{IsBucket, IsGuard, IsIndex, IsRoot, IsSeat, IsShort, IsShown, IsSlot, IsSpan, Small}
 use Rattle.wfe_check_lines.specs.Texts.{IsCounted}
 
 -- a setting in its ranges has small numbers
@@ -43,6 +43,9 @@ module _ (config : Config) (small : Small config) where
   bucket_fits : (n : ℕ) → IsBucket config n → NumberFits n
   bucket_fits n is = let l = small.buckets in omega arith
 
+  row_fits : (slot : Option ℕ) → IsShown config slot → ValueFits slot
+  row_fits slot is = search (rules, slot_fits)
+
   guard_fits : (guard : Guard) → IsGuard config guard → GuardFits guard
   guard_fits guard is = search (rules, seat_fits, index_fits)
 
@@ -56,7 +59,7 @@ module _ (config : Config) (small : Small config) where
   answer_fits version answer is = search (rules, short_fits, slot_fits, clock_fits)
 
   pub event_fits : (version : ℕ) (event : Event) → IsEvent version config event → EventFits event
-  event_fits version event is = search (rules, short_fits, seat_fits, index_fits, slot_fits, bucket_fits, guard_fits, span_fits, root_fits, call_fits version, answer_fits version)
+  event_fits version event is = search (rules, short_fits, seat_fits, index_fits, slot_fits, bucket_fits, guard_fits, row_fits, span_fits, root_fits, call_fits version, answer_fits version)
 
   pub counted_fits : (seat : Option ℕ) → IsCounted config seat → ValueFits seat
   counted_fits seat is = search (rules, seat_fits)

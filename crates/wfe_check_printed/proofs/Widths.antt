@@ -62,6 +62,9 @@ span-narrow span fits = search (rules, decimal-narrow 42 (omega arith))
 value-narrow : (value : Option ℕ) → ValueFits value → AreNarrow 21 1 (value_words value)
 value-narrow value fits = search (rules, decimal-narrow 21 (omega arith))
 
+row-narrow : (slot : Option ℕ) → ValueFits slot → AreNarrow 42 2 (value_words slot)
+row-narrow slot fits = search (rules, decimal-narrow 42 (omega arith))
+
 clock-narrow : (clock : ClockMove) → ClockFits clock → AreNarrow 21 2 (clock_words clock)
 clock-narrow clock fits = search (rules, decimal-narrow 21 (omega arith))
 
@@ -75,6 +78,8 @@ answer-narrow answer fits = search (rules, decimal-narrow 21 (omega arith), valu
 event-narrow : (event : Event) → EventFits event → AreNarrow 42 4 (event_words event) ⊎ AreNarrow 21 7 (event_words event)
 event-narrow (events.Reserve guard span) fits = inl (search (rules, guard-narrow, span-narrow))
 event-narrow (events.Read guard span) fits = inl (search (rules, guard-narrow, span-narrow))
+event-narrow (events.Hazard guard slot) fits = inl (search (rules, guard-narrow, row-narrow))
+event-narrow (events.Saw guard slot) fits = inl (search (rules, guard-narrow, row-narrow))
 event-narrow (events.Got bucket number key None) fits = inr (search (rules, decimal-narrow 21 (omega arith)))
 event-narrow (events.Got bucket number key (Some value)) fits = inr (search (rules, decimal-narrow 21 (omega arith)))
 event-narrow (events.Begin call) fits = inr (search (rules, call-narrow))
@@ -89,6 +94,7 @@ seat-narrow (Some seat) fits = decimal-narrow 20 (omega arith) seat fits
 scheme-narrow : (scheme : SchemeKind) → IsNarrow 3 (scheme_word scheme)
 scheme-narrow schemes.He = search rules
 scheme-narrow schemes.Ibr = search rules
+scheme-narrow schemes.Hp = search rules
 scheme-narrow schemes.Wfe = search rules
 
 -- Words in a row.

@@ -7,7 +7,7 @@ use Rattle.laws.specs.records.Record.{Past, tells}
 use Rattle.laws.specs.records.Record.Past.{Start}
 use Rattle.laws_good.specs.Good.{Good}
 use Rattle.wfe_trace.specs.Record.{header_line}
-use Rattle.wfe_trace.specs.Setting.{pairs_in}
+use Rattle.wfe_trace.specs.Setting.{pairs_in, scheme_version}
 use Rattle.wfe_check_lines.specs.records.Entry.{IsEvent}
 use Rattle.wfe_check_lines.specs.records.record_words.Within.{IsSeat}
 use Rattle.wfe_record_header.specs.declared.TheConstants.{LAST_VERSION}
@@ -50,6 +50,7 @@ pub record IsWhole (version : ℕ) (config : Config) (body : List Piece) (text :
   pub last : version ≤ LAST_VERSION
   pub within : bad_field config ≡ None
   pub pairs : config.pairs ≡ pairs_in version
+  pub known : scheme_version config.scheme ≤ version
   pub printed : ArePrinted version config body
   pub is : text ≡ header_line version config ++ (text_of body ++ codes "done\n")
   pub short : length text ≤ 1073741824

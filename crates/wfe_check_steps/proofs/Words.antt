@@ -39,7 +39,16 @@ anew_own i j k index h = (turned k i true (first_true (k == i) (index == j) h), 
 
 pub word_named : (i j k : ℕ) (p : Past) (event : Event) → is_place i j (named_place k event) ≡ true →
     word_of i j (Then p k event) ≡ word_by (i == k) (value_of (Index i j) p) event (word_of i j p)
-word_named i j k p (events.Reserve (Index a b) span) h = rw h refl
+word_named i j k p (events.Reserve (Index a b) span) h =
+    elim (eqb i k) as (λ t. eqb i k ≡ t → word_of i j (Then p k (events.Reserve (Index a b) span)) ≡ word_by (i == k) (value_of (Index i j) p) (events.Reserve (Index a b) span) (word_of i j p)) [
+      | true ↦ λ e. rw (e, h) refl
+      | false ↦ λ e. rw (e, h) refl
+    ] refl
+word_named i j k p (events.Hazard (Index a b) slot) h =
+    elim (eqb i k) as (λ t. eqb i k ≡ t → word_of i j (Then p k (events.Hazard (Index a b) slot)) ≡ word_by (i == k) (value_of (Index i j) p) (events.Hazard (Index a b) slot) (word_of i j p)) [
+      | true ↦ λ e. rw (e, h) refl
+      | false ↦ λ e. rw e refl
+    ] refl
 word_named i j k p (events.Held index slot steps) h =
     let own = anew_own i j k index h in
     rw (own.0, own.1) refl
@@ -60,6 +69,11 @@ word_apart i j k p (events.Reserve (Index a b) span) h =
     elim (eqb i k) as (λ t. eqb i k ≡ t → word_of i j (Then p k (events.Reserve (Index a b) span)) ≡ word_of i j p) [
       | true ↦ λ e. rw (e, h) refl
       | false ↦ λ e. rw (e, h) refl
+    ] refl
+word_apart i j k p (events.Hazard (Index a b) slot) h =
+    elim (eqb i k) as (λ t. eqb i k ≡ t → word_of i j (Then p k (events.Hazard (Index a b) slot)) ≡ word_of i j p) [
+      | true ↦ λ e. rw (e, h) refl
+      | false ↦ λ e. rw e refl
     ] refl
 word_apart i j k p (events.Held index slot steps) h =
     elim (eqb i k) as (λ t. eqb i k ≡ t → word_of i j (Then p k (events.Held index slot steps)) ≡ word_of i j p) [
@@ -108,6 +122,9 @@ pub place_in : (config : Config) (k : ℕ) (event : Event) (place : Place) → E
 place_in config k (events.Reserve (Index a b) span) place range e =
     let same : place ≡ record { seat = a; index = b } = same_place place (record { seat = a; index = b }) e in
     rw same (range.within.0, range.within.1)
+place_in config k (events.Hazard (Index a b) slot) place range e =
+    let same : place ≡ record { seat = a; index = b } = same_place place (record { seat = a; index = b }) e in
+    rw same (range.within.0.0, range.within.0.1)
 place_in config k (events.Held index slot steps) place range e =
     let same : place ≡ record { seat = k; index = index } = same_place place (record { seat = k; index = index }) e in
     rw same (range.seated, range.within.0)

@@ -11,6 +11,7 @@ use Rattle.wfe_check_steps.specs.declared.word.Place.{Place}
 -- the index word that an event of a seat publishes, or at which it finds a protection ended or a copy made
 abbrev pub named_place : (seat : ℕ) → Event → Option Place
 named_place seat (events.Reserve (Index other index) span) = Some (record { seat = other; index = index })
+named_place seat (events.Hazard (Index other index) slot) = Some (record { seat = other; index = index })
 named_place seat (events.Held index slot steps) = Some (record { seat = seat; index = index })
 named_place seat (events.Null index steps) = Some (record { seat = seat; index = index })
 named_place seat (events.Copied from index slot) = Some (record { seat = seat; index = index })

@@ -8,6 +8,13 @@ pub(crate) fn is_thrice(steps: u64, count: u64, more: u32) -> bool
     u128::from(steps) == 3 * u128::from(count) + u128::from(more)
 }
 
+// Whether the steps are two for each of a count, and some more.
+pub(crate) fn is_twice(steps: u64, count: u64, more: u32) -> bool
+    ensures { result ≡ (steps == 2 * count + more) }
+{
+    u128::from(steps) == 2 * u128::from(count) + u128::from(more)
+}
+
 // Whether the steps are as many as the two numbers together.
 pub(crate) fn is_sum(steps: u64, first: u32, second: u64) -> bool
     ensures { result ≡ (steps == first + second) }

@@ -54,7 +54,7 @@ impl Steps {
     ghost use Rattle.wfe_words.specs.declared.config.Config.{Config};
     ghost use Rattle.laws.specs.records.Record.Past.{Start, Then};
     ghost use Rattle.laws.specs.StateAt.{began_of, value_of};
-    ghost use Rattle.laws.specs.StepLaw.{ask_ok, end_ok, has_tried, tries_ok};
+    ghost use Rattle.laws.specs.StepLaw.{ask_ok, end_ok, has_tried, hazards_ok, tries_ok};
     ghost use Rattle.laws.specs.defs.declared.event.Guard.TheVariants.{Helper as HelperOf};
     ghost use Rattle.laws_good.specs.Ranges.{EntryIn};
     ghost use Rattle.laws.specs.words.declared.config.SchemeKind.TheVariants.{Wfe};
@@ -103,6 +103,22 @@ impl Steps {
             Event::Held { index, .. } | Event::Null { index, .. } => {
                 self.word(seat, index).fits(event)
             }
+            _ => true,
+        }
+    }
+
+    // Whether the entry fits the rows that its index word has published.
+    fn hazards_fit(&self, seat: u32, event: &Event) -> bool
+        requires range { EntryIn self.now.config seat event.now }
+        ensures { (config : Config) (p : Past) → IsSteps config self.now p → result ≡ hazards_ok p seat event.now }
+    {
+        match *event {
+            Event::Held { index, .. } => self.word(seat, index).hazards_fit(event),
+            Event::Null { index, .. } => self.word(seat, index).hazards_fit(event),
+            Event::Hazard {
+                guard: Guard::Index { seat, index },
+                ..
+            } => self.word(seat, index).hazards_fit(event),
             _ => true,
         }
     }
@@ -204,6 +220,7 @@ impl Steps {
             SchemeKind::He => self.tries_fit(seat, event),
             SchemeKind::Ibr => self.seats[seat as usize].raises_fit(event),
             SchemeKind::Wfe => self.wfe_fits(seat, event),
+            SchemeKind::Hp => self.hazards_fit(seat, event),
         }
     }
 

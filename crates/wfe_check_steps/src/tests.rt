@@ -47,6 +47,19 @@ const WFE: Config = Config {
     pairs: 6,
 };
 
+const HP: Config = Config {
+    scheme: SchemeKind::Hp,
+    seats: 2,
+    indexes: 3,
+    slots: 2,
+    buckets: 1,
+    tries: 1,
+    every: 1,
+    last_era: 9,
+    last_version: 9,
+    pairs: 14,
+};
+
 const HELPER: Guard = Guard::Helper { seat: 0 };
 
 const WORD: Guard = Guard::Index { seat: 0, index: 0 };
@@ -213,5 +226,81 @@ fn a_scan_takes_a_step_for_each_guard_and_row(rt: HostRuntime) -> Result<(), Fai
             Some(Call::Scan)
         )
     );
+    Ok(())
+}
+
+#[test]
+fn a_protection_tells_two_steps_for_each_row(rt: HostRuntime) -> Result<(), Fail> {
+    let mut steps = Steps::new(rt.alloc(), HP)?;
+    let first = Event::Hazard {
+        guard: WORD,
+        slot: Some(0),
+    };
+    let second = Event::Hazard {
+        guard: WORD,
+        slot: Some(1),
+    };
+    let none = Event::Hazard {
+        guard: WORD,
+        slot: None,
+    };
+    assert!(rt; may(&steps, HP, Event::Null { index: 0, steps: 1 }, None));
+    assert!(rt; !may(&steps, HP, Event::Null { index: 0, steps: 3 }, None));
+    assert!(rt; tell(&mut steps, HP, first, None, false)?);
+    assert!(rt; !may(&steps, HP, first, None));
+    assert!(rt; tell(&mut steps, HP, second, None, false)?);
+    assert!(rt; may(&steps, HP, Event::Null { index: 0, steps: 5 }, None));
+    assert!(rt;
+        may(
+            &steps,
+            HP,
+            Event::Held {
+                index: 1,
+                slot: 0,
+                steps: 2
+            },
+            None
+        )
+    );
+    assert!(rt;
+        !may(
+            &steps,
+            HP,
+            Event::Held {
+                index: 0,
+                slot: 1,
+                steps: 6
+            },
+            None
+        )
+    );
+    assert!(rt;
+        !may(
+            &steps,
+            HP,
+            Event::Held {
+                index: 0,
+                slot: 1,
+                steps: 3
+            },
+            None
+        )
+    );
+    assert!(rt;
+        tell(
+            &mut steps,
+            HP,
+            Event::Held {
+                index: 0,
+                slot: 1,
+                steps: 5
+            },
+            None,
+            false
+        )?
+    );
+    assert!(rt; may(&steps, HP, second, None));
+    assert!(rt; tell(&mut steps, HP, none, None, false)?);
+    assert!(rt; may(&steps, HP, Event::Null { index: 0, steps: 1 }, None));
     Ok(())
 }

@@ -1,11 +1,12 @@
 // What a record says of an index word, with the changes that an event makes that speaks of it.
-ghost use Rattle.std.specs.Prelude.{◌≡◌, ◌+◌, ◌==◌, ◌||◌, ◌&&◌, nat_le, IfOk};
+ghost use Rattle.std.specs.Prelude.{◌≡◌, ◌+◌, ◌==◌, ◌||◌, ◌&&◌, nat_le, IfOk, ℕ};
 ghost use Rattle.laws.specs.StateAt.{era_grows as does_grow, one_more as with_one_more, rises_on as does_rise};
+ghost use Rattle.laws.specs.StepLaw.{number_loaded};
 ghost use Rattle.wfe_check_steps.specs.Places.{named_place as place_named};
-ghost use Rattle.wfe_check_steps.specs.Right.{tries_right};
-ghost use Rattle.wfe_check_steps.specs.Words.{begun_anew, new_word, published as word_published, word_by};
+ghost use Rattle.wfe_check_steps.specs.Right.{hazards_right, is_another, tries_right};
+ghost use Rattle.wfe_check_steps.specs.Words.{begun_anew, hazarded as word_hazarded, new_word, published as word_published, word_by};
 
-use crate::counts::is_thrice;
+use crate::counts::{is_thrice, is_twice};
 use wfe_check_counts::raised;
 use wfe_defs::{Event, Guard, Interval, NoMemory};
 
@@ -29,6 +30,10 @@ pub(crate) struct Word {
     pub own_last: Option<Interval>,
     // Whether these rose.
     pub own_rising: bool,
+    // The rows that its seat has told since it told none.
+    pub hazards: u64,
+    // The last row that its seat has told in the protection that is under way there.
+    pub own_hazard: Option<u32>,
 }
 
 /// The index word that an event of the seat speaks of.
@@ -37,6 +42,10 @@ pub(crate) fn named_place(seat: u32, event: &Event) -> Option<Place>
 {
     match *event {
         Event::Reserve {
+            guard: Guard::Index { seat, index },
+            ..
+        }
+        | Event::Hazard {
             guard: Guard::Index { seat, index },
             ..
         } => Some(Place { seat, index }),
@@ -79,6 +88,8 @@ impl Word {
             tried: 0,
             own_last: None,
             own_rising: true,
+            hazards: 0,
+            own_hazard: None,
         }
     }
 
@@ -89,6 +100,7 @@ impl Word {
             tried: 0,
             own_last: None,
             own_rising: true,
+            own_hazard: None,
             ..self
         }
     }
@@ -110,9 +122,29 @@ impl Word {
                 tried: one_more(span, self.tried)?,
                 own_last: span,
                 own_rising: rises_on(self.own_last, span, self.own_rising),
+                ..self
             })
         } else {
             Ok(Word { rising, ..self })
+        }
+    }
+
+    // It publishes a row, or none, which its own seat tells or another one.
+    fn hazarded(self, own: bool, slot: Option<u32>) -> Result<Word, NoMemory>
+        ensures { IfOk result (λ word. word ≡ word_hazarded own slot self) }
+    {
+        if own {
+            let hazards = match slot {
+                Some(_) => raised(self.hazards)?,
+                None => 0,
+            };
+            Ok(Word {
+                hazards,
+                own_hazard: slot,
+                ..self
+            })
+        } else {
+            Ok(self)
         }
     }
 
@@ -123,6 +155,7 @@ impl Word {
     {
         match *event {
             Event::Reserve { span, .. } => self.published(own, last, span),
+            Event::Hazard { slot, .. } => self.hazarded(own, slot),
             Event::Held { .. } | Event::Null { .. } | Event::Copied { .. } => Ok(self.anew()),
             _ => Ok(self),
         }
@@ -148,5 +181,41 @@ impl Word {
             Event::Null { steps, .. } => is_thrice(steps, self.reserves, 1) && self.rising,
             _ => true,
         }
+    }
+
+    // Whether a protection at the word may end with the event, where each try takes two steps.
+    fn loads_fit(self, event: &Event) -> bool
+        ensures { result ≡ number_loaded (λ (index : ℕ). self.hazards) event.now }
+    {
+        match *event {
+            Event::Held { index, steps, .. } => {
+                is_twice(steps, self.hazards, if index == 1 { 2 } else { 1 })
+            }
+            Event::Null { steps, .. } => is_twice(steps, self.hazards, 1),
+            _ => true,
+        }
+    }
+
+    // Whether a row that is told of the word is another than the one before it in the same protection.
+    fn shows_another(self, event: &Event) -> bool
+        ensures { result ≡ is_another event.now self }
+    {
+        match *event {
+            Event::Hazard {
+                slot: Some(slot),
+                ..
+            } => match self.own_hazard {
+                Some(other) => slot != other,
+                None => true,
+            },
+            _ => true,
+        }
+    }
+
+    /// Whether the event, which speaks of the word, fits the rows that it has published.
+    pub fn hazards_fit(self, event: &Event) -> bool
+        ensures { result ≡ hazards_right event.now self }
+    {
+        self.loads_fit(event) && self.shows_another(event)
     }
 }

@@ -2,6 +2,8 @@
 #![tactic(auto)]
 
 #[cfg(test)]
+mod hazards;
+#[cfg(test)]
 mod hostile;
 #[cfg(test)]
 mod lawful;
@@ -44,4 +46,16 @@ fn expect<R: Abort + AllocGlobal>(
 ) -> Result<(), Fail> {
     let source = CleanSource::new(rt.alloc(), text)?;
     expect_of(rt, source, status, line)
+}
+
+// Wants each record to be refused at its last line, which has this number, with this answer.
+#[cfg(test)]
+fn expect_unlawful<R: Abort + AllocGlobal>(
+    rt: &R,
+    records: &[(&[u8], u64, &[u8])],
+) -> Result<(), Fail> {
+    for (text, line, answer) in records {
+        expect(rt, text, Status::Unlawful { line: *line }, answer)?;
+    }
+    Ok(())
 }

@@ -1,19 +1,7 @@
-// For each law a record that breaks it, and the line that does. They are those of `examples/refused`.
-use crate::expect;
-use std::process::Abort;
+// For each law a record that breaks it, and the line that does. They are those of `examples/refused` but for the records of hazard
+// pointers there.
+use crate::expect_unlawful;
 use std::test::Fail;
-use wfe_trace::Status;
-
-// Wants each record to be refused at its last line, which has this number, with this answer.
-fn expect_unlawful<R: Abort + AllocGlobal>(
-    rt: &R,
-    records: &[(&[u8], u64, &[u8])],
-) -> Result<(), Fail> {
-    for (text, line, answer) in records {
-        expect(rt, text, Status::Unlawful { line: *line }, answer)?;
-    }
-    Ok(())
-}
 
 #[test]
 fn what_is_told_outside_a_call_is_refused(rt: HostRuntime) -> Result<(), Fail> {

@@ -157,12 +157,20 @@ room_there config p times i (events.Read guard span) seeks is h e fits s low =
     let seats : times.config.seats ≡ config.seats = ap (λ (c : Config). c.seats) is.setting in
     or-true (not (seeks_room (began_of i p) (blocks_of config i p))) (was_taken config.slots i s p) (λ q.
     all_taken config p times i is (omega arith) (or-rest (not seeks) _ fits (ap not e ∙ q)) s low)
+room_there config p times i (events.Saw guard slot) seeks is h e fits s low =
+    let seats : times.config.seats ≡ config.seats = ap (λ (c : Config). c.seats) is.setting in
+    or-true (not (seeks_room (began_of i p) (blocks_of config i p))) (was_taken config.slots i s p) (λ q.
+    all_taken config p times i is (omega arith) (or-rest (not seeks) _ fits (ap not e ∙ q)) s low)
 room_there config p times i event seeks is h e fits s low = refl
 
 pub room_back : (config : Config) (p : Past) (times : Times) (i : ℕ) (event : Event) (seeks : Bool) → IsTimes config times p → i < times.config.seats →
     IsSought event seeks (seeks_room (began_of i p) (blocks_of config i p)) →
     ((s : ℕ) → s ≤ config.slots → room_ok config s p i event ≡ true) → room_at times i event seeks ≡ true
 room_back config p times i (events.Read guard span) seeks is h e each =
+    let seats : times.config.seats ≡ config.seats = ap (λ (c : Config). c.seats) is.setting in
+    or-true (not seeks) _ (λ q. taken_all config p times i is (omega arith) (λ s low.
+    or-rest (not (seeks_room (began_of i p) (blocks_of config i p))) (was_taken config.slots i s p) (each s low) (ap not (sym e) ∙ q)))
+room_back config p times i (events.Saw guard slot) seeks is h e each =
     let seats : times.config.seats ≡ config.seats = ap (λ (c : Config). c.seats) is.setting in
     or-true (not seeks) _ (λ q. taken_all config p times i is (omega arith) (λ s low.
     or-rest (not (seeks_room (began_of i p) (blocks_of config i p))) (was_taken config.slots i s p) (each s low) (ap not (sym e) ∙ q)))

@@ -73,9 +73,11 @@ AreAmong rows others = (s : ℕ) → is_one_of s rows ≡ is_one_of s others
 -- where an entry reads, one is so where the other is
 abbrev pub IsSought : Event → (seeks : Bool) → (sought : Bool) → Type 0
 IsSought (events.Read guard span) seeks sought = seeks ≡ sought
+IsSought (events.Saw guard slot) seeks sought = seeks ≡ sought
 IsSought event seeks sought = Unit {0}
 
 -- where a block begins in search of a free row, each row was taken at a position of the call
 abbrev pub room_at : Times → (seat : ℕ) → Event → (seeks : Bool) → Bool
 room_at times i (events.Read guard span) seeks = not seeks || list_all (was_taken_at (seat_at times.seats.items i).begun) times.rows.items
+room_at times i (events.Saw guard slot) seeks = not seeks || list_all (was_taken_at (seat_at times.seats.items i).begun) times.rows.items
 room_at times i event seeks = true

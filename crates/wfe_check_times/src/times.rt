@@ -259,7 +259,7 @@ impl Times {
         ensures { result ≡ room_at self.now seat event.now seeks }
     {
         match event {
-            Event::Read { .. } => !seeks || self.had_no_room(seat),
+            Event::Read { .. } | Event::Saw { .. } => !seeks || self.had_no_room(seat),
             _ => true,
         }
     }

@@ -4,4 +4,4 @@ use Rattle.wfe_check_guards.specs.Shown.{index_kept}
 use Rattle.wfe_check_guards.proofs.protections.Protections.guard_kept.Given as goal
 
 abbrev pub invariant-loop-index : goal.invariant-loop-index
-invariant-loop-index l = l.all ≡ all_below (index_kept l.self l.rows l.guard l.span) l.index
+invariant-loop-index l = l.all ≡ all_below (index_kept l.self l.rows l.guard l.value) l.index

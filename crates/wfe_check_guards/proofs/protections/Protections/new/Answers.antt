@@ -8,5 +8,6 @@ returns c = start c.args.config _ c.requires (record {
   helpers = c.in_ok-helpers.ensures;
   wholes = c.in_ok-wholes.ensures;
   words = c.in_ok-words.ensures;
+  hazards = c.in_ok-hazards.ensures;
   standing = c.in_ok-standing.ensures;
 })

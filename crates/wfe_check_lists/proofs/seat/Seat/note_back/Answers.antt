@@ -7,15 +7,15 @@ use Rattle.wfe_check_lists.proofs.seat.Seat.note_back.Goals as goal
 pub returns : goal.returns
 returns c =
     let lives = c.self.inside.lives.items in
-    let spans = c.self.inside.spans.items in
+    let values = c.self.inside.values.items in
     let slot = c.args.slot in
     rw (← c.self.view_is)
     (record {
       lives = c.take_away.ensures ∙ filter_slot slot lives;
-      spans = refl;
+      values = refl;
       scans = refl;
       due = λ old.
-          let none = stays_kept (λ (life : Lifetime). not (life.slot == slot)) spans c.self.inside.place lives old.kept in
+          let none = stays_kept (λ (life : Lifetime). not (life.slot == slot)) values c.self.inside.place lives old.kept in
           let settled = rw (c.deref-3.ensures.value, c.deref-2.ensures.value, c.stays-place.ensures, c.deref.ensures.value) at c.settled-self-inside.ensures in
           settled (rw c.take_away.ensures none);
     })
