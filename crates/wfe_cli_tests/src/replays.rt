@@ -1,5 +1,6 @@
 // Whole replays over memory: worked records, bad input, and sources and sinks that fail.
 mod checking;
+mod hazards;
 mod hostile;
 mod leaving;
 

@@ -9,7 +9,9 @@ use wfe_outside::{MemSink, MemSource, Watcher};
 use wfe_server_run::{Gate, run};
 use wfe_trace::Status;
 
-const SCHEMES: [&str; 3] = ["he", "ibr", "wfe"];
+// Each scheme, with the first version whose traces have both it and conditional puts, and the steps of such
+// a put that is stale at a row.
+const SCHEMES: [(&str, u32, u32); 4] = [("he", 3, 9), ("ibr", 3, 9), ("wfe", 3, 9), ("hp", 5, 8)];
 
 // Puts of the writer, and looks of the reader.
 const PUTS: u64 = 100;
@@ -124,8 +126,8 @@ fn lines_with<R: AllocGlobal>(rt: &R, text: &[u8], start: &[u8]) -> Result<Vec<u
 }
 
 // The writer puts key 7 again and again. The reader holds its first version, copies it, and looks at it.
-fn kept_trace<R: AllocGlobal>(rt: &R, scheme: &str) -> Result<Vec<u8>, Fail> {
-    let mut trace = setting(rt, 2, scheme)?;
+fn kept_trace<R: AllocGlobal>(rt: &R, version: u32, scheme: &str) -> Result<Vec<u8>, Fail> {
+    let mut trace = setting(rt, version, scheme)?;
     for place in 0..PUTS {
         let value = place + 1;
         let line = format!(in rt.alloc(); "0 put 7 {value}\n")?;
@@ -139,13 +141,11 @@ fn kept_trace<R: AllocGlobal>(rt: &R, scheme: &str) -> Result<Vec<u8>, Fail> {
     Ok(trace)
 }
 
-// What the reader's calls answer.
-fn kept_text<R: AllocGlobal>(rt: &R, copies: u32) -> Result<Vec<u8>, Fail> {
-    let copied = format!(in rt.alloc(); "1 end {copies} copied 0\n")?;
-    let mut text = Vec::from_slice(
-        rt.alloc(),
-        b"1 begin hold 7\n1 end 4 holding 0\n1 begin copy 2 3\n",
-    )?;
+// What the reader's calls answer, where a hold and a copy take so many steps.
+fn kept_text<R: AllocGlobal>(rt: &R, holds: u32, copies: u32) -> Result<Vec<u8>, Fail> {
+    let held = format!(in rt.alloc(); "1 begin hold 7\n1 end {holds} holding 0\n")?;
+    let copied = format!(in rt.alloc(); "1 begin copy 2 3\n1 end {copies} copied 0\n")?;
+    let mut text = Vec::from_slice(rt.alloc(), held.as_bytes())?;
     text.extend_from_slice(copied.as_bytes())?;
     text.extend_from_slice(b"1 begin release\n1 end 1 released\n")?;
     for _look in 0..LOOKS {
@@ -160,13 +160,18 @@ fn kept_text<R: AllocGlobal>(rt: &R, copies: u32) -> Result<Vec<u8>, Fail> {
 fn a_reader_looks_at_the_version_that_it_copied_while_a_writer_goes_on(
     rt: HostRuntime,
 ) -> Result<(), Fail> {
-    for (scheme, copies) in [("he", 2), ("ibr", 1), ("wfe", 2)] {
-        let trace = kept_trace(&rt, scheme)?;
+    for (scheme, version, holds, copies) in [
+        ("he", 2, 4, 2),
+        ("ibr", 2, 4, 1),
+        ("wfe", 2, 4, 2),
+        ("hp", 5, 3, 2),
+    ] {
+        let trace = kept_trace(&rt, version, scheme)?;
         // The reader holds the first version, the writer goes on once the reader has its copy alone, and
         // the last half of the looks comes after the last put.
         let gate = Turns::new([(1, 1, 1), (0, 2, 3), (1, 14, PUTS)]);
         let sink = written(&rt, &trace, &gate)?;
-        let want = kept_text(&rt, copies)?;
+        let want = kept_text(&rt, holds, copies)?;
         let found = lines_with(&rt, sink.bytes(), b"1 ")?;
         assert_eq!(rt; found.as_slice(), want.as_slice(), "{scheme}");
         let last = lines_with(&rt, sink.bytes(), b"bucket ")?;
@@ -179,17 +184,15 @@ fn a_reader_looks_at_the_version_that_it_copied_while_a_writer_goes_on(
 fn a_put_at_a_version_that_another_has_replaced_is_tried_again(
     rt: HostRuntime,
 ) -> Result<(), Fail> {
-    for scheme in SCHEMES {
-        let mut trace = setting(&rt, 3, scheme)?;
+    for (scheme, version, steps) in SCHEMES {
+        let mut trace = setting(&rt, version, scheme)?;
         trace.extend_from_slice(b"0 put_if 7 70 0\n1 put_if 7 71 0\n1 put_if 7 71 1\nend\n")?;
         let gate = Turns::new([(1, 1, 1), (0, 2, 0), (0, 3, 0)]);
         let sink = written(&rt, &trace, &gate)?;
-        let ends = lines_with(&rt, sink.bytes(), b"1 end 9 ")?;
-        assert_eq!(rt;
-            ends.as_slice(),
-            b"1 end 9 stale 1\n".as_slice(),
-            "{scheme}"
-        );
+        let end = format!(in rt.alloc(); "1 end {steps} ")?;
+        let stale = format!(in rt.alloc(); "1 end {steps} stale 1\n")?;
+        let ends = lines_with(&rt, sink.bytes(), end.as_bytes())?;
+        assert_eq!(rt; ends.as_slice(), stale.as_bytes(), "{scheme}");
         let puts = lines_with(&rt, sink.bytes(), b"1 put ")?;
         assert_eq!(rt; puts.as_slice(), b"1 put 0 2 7 71\n".as_slice(), "{scheme}");
         let last = lines_with(&rt, sink.bytes(), b"bucket ")?;
@@ -200,8 +203,8 @@ fn a_put_at_a_version_that_another_has_replaced_is_tried_again(
 
 #[test]
 fn workers_put_at_one_version_and_one_of_them_is_done(rt: HostRuntime) -> Result<(), Fail> {
-    for scheme in SCHEMES {
-        let mut trace = setting(&rt, 3, scheme)?;
+    for (scheme, version, _) in SCHEMES {
+        let mut trace = setting(&rt, version, scheme)?;
         trace.extend_from_slice(b"0 put_if 7 70 0\n1 put_if 7 71 0\nend\n")?;
         let gate = Turns::new([(0, 2, 0), (1, 2, 0), (1, 3, 0)]);
         let sink = written(&rt, &trace, &gate)?;

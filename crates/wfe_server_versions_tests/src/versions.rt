@@ -1,10 +1,15 @@
 // Whole replays of traces by their versions: copies and looks from version 2 on, conditional puts and rows of
-// fourteen pairs from version 3 on, seats that leave from version 4 on.
+// fourteen pairs from version 3 on, seats that leave from version 4 on, hazard pointers from version 5 on.
 use std::process::Abort;
 use std::test::Fail;
 use wfe_outside::{MemSink, MemSource};
 use wfe_server_bench::replay_on_table;
 use wfe_trace::{Reason, Status};
+
+// The scheme of the traces of a version here.
+fn scheme_of(version: u32) -> &'static str {
+    if version >= 5 { "hp" } else { "he" }
+}
 
 // The setting of a trace with so many seats and indexes, after its first line.
 fn setting_of<R: AllocGlobal>(
@@ -12,8 +17,9 @@ fn setting_of<R: AllocGlobal>(
     version: u32,
     (seats, indexes): (u32, u32),
 ) -> Result<String, Fail> {
+    let scheme = scheme_of(version);
     Ok(format!(in rt.alloc();
-        "wfe {version}\nscheme he\nseats {seats}\nindexes {indexes}\nslots 8\nbuckets 1\ntries 2\nevery 1\nlast_era 100\nlast_version 100\nbegin\n"
+        "wfe {version}\nscheme {scheme}\nseats {seats}\nindexes {indexes}\nslots 8\nbuckets 1\ntries 2\nevery 1\nlast_era 100\nlast_version 100\nbegin\n"
     )?)
 }
 
@@ -42,7 +48,10 @@ fn expect_bad<R: Abort + AllocGlobal>(
 ) -> Result<(), Fail> {
     let (status, sink) = replayed(rt, version, (2, 4), line)?;
     assert_eq!(rt; status, Status::BadTrace { line: 12, reason }, "{line}");
-    let want = format!(in rt.alloc(); "record {version} he 2 4 8 1 2 1 100 100\nbad 12 {text}\n")?;
+    let scheme = scheme_of(version);
+    let want = format!(in rt.alloc();
+        "record {version} {scheme} 2 4 8 1 2 1 100 100\nbad 12 {text}\n"
+    )?;
     assert_eq!(rt; sink.bytes(), want.as_bytes(), "{line}");
     Ok(())
 }
@@ -60,11 +69,14 @@ fn expect_ends<R: Abort>(rt: &R, record: &[u8], ends: &[&[u8]]) {
     assert_eq!(rt; found, ends.len());
 }
 
+// Seat 1 holds a row, copies it and lets the first index go; seat 0 replaces the row; seat 1 looks at it
+// and drops it, and seat 0 scans.
+const COPIES: &str =
+    "0 put 7 70\n0 run\n1 hold 7\n1 run\n1 copy 2 3\n1 run\n1 release\n1 run\n0 put 7 71\n0 run\n1 look 3 7\n1 run\n1 drop 3\n1 run\n0 scan\n0 run\nend\n";
+
 #[test]
 fn a_copied_row_is_looked_at_while_the_map_moves_on(rt: HostRuntime) -> Result<(), Fail> {
-    let lines =
-        "0 put 7 70\n0 run\n1 hold 7\n1 run\n1 copy 2 3\n1 run\n1 release\n1 run\n0 put 7 71\n0 run\n1 look 3 7\n1 run\n1 drop 3\n1 run\n0 scan\n0 run\nend\n";
-    let (status, sink) = replayed(&rt, 2, (2, 4), lines)?;
+    let (status, sink) = replayed(&rt, 2, (2, 4), COPIES)?;
     assert_eq!(rt; status, Status::Done);
     let want = b"record 2 he 2 4 8 1 2 1 100 100\n\
 0 begin put 7 70\n0 reserve i0.0 1 1\n0 null 0 4\n0 give 0 1\n0 link b0 0\n0 put 0 1 7 70\n0 reserve i0.0 none\n0 end 13 done 1 still\n\
@@ -77,6 +89,26 @@ fn a_copied_row_is_looked_at_while_the_map_moves_on(rt: HostRuntime) -> Result<(
 1 begin drop 3\n1 clear 3 0\n1 reserve i1.3 none\n1 end 1 dropped\n\
 0 begin scan\n\
 0 read i0.0 none\n0 read i0.1 none\n0 read i0.2 none\n0 read i0.3 none\n0 read i1.0 none\n0 read i1.1 none\n0 read i1.2 none\n0 read i1.3 none\n0 back 0\n0 end 9 scanned 0 1\n\
+done\n";
+    assert_eq!(rt; sink.bytes(), want.as_slice());
+    Ok(())
+}
+
+#[test]
+fn a_copied_row_is_a_hazard_at_both_indexes(rt: HostRuntime) -> Result<(), Fail> {
+    let (status, sink) = replayed(&rt, 5, (2, 4), COPIES)?;
+    assert_eq!(rt; status, Status::Done);
+    let want = b"record 5 hp 2 4 8 1 2 1 100 100\n\
+0 begin put 7 70\n0 null 0 1\n0 give 0 1\n0 link b0 0\n0 put 0 1 7 70\n0 hazard i0.0 none\n0 end 10 done 1 still\n\
+1 begin hold 7\n1 hazard i1.2 0\n1 held 2 0 3\n1 end 3 holding 0\n\
+1 begin copy 2 3\n1 hazard i1.3 0\n1 copied 2 3 0\n1 end 2 copied 0\n\
+1 begin release\n1 clear 2 0\n1 hazard i1.2 none\n1 end 1 released\n\
+0 begin put 7 71\n0 hazard i0.0 0\n0 held 0 0 3\n0 give 1 1\n0 link b0 1\n0 cut 0\n0 put 0 2 7 71\n0 clear 0 0\n0 hazard i0.0 none\n0 retire 0 1 1\n\
+0 saw i0.0 none\n0 saw i0.1 none\n0 saw i0.2 none\n0 saw i0.3 none\n0 saw i1.0 none\n0 saw i1.1 none\n0 saw i1.2 none\n0 saw i1.3 0\n0 end 27 done 2 still\n\
+1 begin look 3 7\n1 end 4 looked 0 1 70\n\
+1 begin drop 3\n1 clear 3 0\n1 hazard i1.3 none\n1 end 1 dropped\n\
+0 begin scan\n\
+0 saw i0.0 none\n0 saw i0.1 none\n0 saw i0.2 none\n0 saw i0.3 none\n0 saw i1.0 none\n0 saw i1.1 none\n0 saw i1.2 none\n0 saw i1.3 none\n0 back 0\n0 end 9 scanned 0 1\n\
 done\n";
     assert_eq!(rt; sink.bytes(), want.as_slice());
     Ok(())
@@ -101,8 +133,9 @@ fn an_index_out_of_its_range_is_bad(rt: HostRuntime) -> Result<(), Fail> {
         "1 drop 1\n",
         "1 look 4 7\n",
     ] {
-        expect_bad(&rt, 2, line, Reason::Range, "range")?;
-        expect_bad(&rt, 3, line, Reason::Range, "range")?;
+        for version in [2, 3, 5] {
+            expect_bad(&rt, version, line, Reason::Range, "range")?;
+        }
     }
     Ok(())
 }
@@ -164,6 +197,7 @@ fn a_row_has_room_for_the_pairs_of_its_version(rt: HostRuntime) -> Result<(), Fa
             "0 end 35 bucket-full 14"
         );
     }
+    assert_eq!(rt; last_end(&rt, 5, 15)?.as_str(), "0 end 34 bucket-full 14");
     Ok(())
 }
 
@@ -175,7 +209,9 @@ fn a_seat_leaves_from_version_four_on(rt: HostRuntime) -> Result<(), Fail> {
         }
     }
     for line in ["2 leave\n", "0 adopt 2\n", "2 adopt 0\n"] {
-        expect_bad(&rt, 4, line, Reason::Seat, "seat")?;
+        for version in [4, 5] {
+            expect_bad(&rt, version, line, Reason::Seat, "seat")?;
+        }
     }
     Ok(())
 }
