@@ -18,6 +18,8 @@ import time
 from measure import SCHEMES, trace_of
 
 PROGRAM = "./wfe"
+# The proved program, which that script starts.
+BUILT = "crates/wfe/out/wfe"
 HEADER = b"record 1 he 1 3 8 1 2 1 100 100\n"
 LINE = b"watch" + b" 18446744073709551615" * 4 + b"\n"
 MOST = 1 << 30
@@ -72,7 +74,7 @@ def measured(scheme, seed, turns, repeats):
 def counted(command, source, sink):
     """The instructions of one run."""
     with open(source, "rb") as read, open(sink, "wb") as written, tempfile.NamedTemporaryFile() as out:
-        ran = subprocess.run(["valgrind", "--tool=callgrind", f"--callgrind-out-file={out.name}", PROGRAM, command], stdin=read,
+        ran = subprocess.run(["valgrind", "--tool=callgrind", f"--callgrind-out-file={out.name}", BUILT, command], stdin=read,
                              stdout=written, stderr=subprocess.PIPE, check=True)
     return int(re.search(rb"Collected : (\d+)", ran.stderr).group(1))
 

@@ -18,7 +18,7 @@ import sys
 import tempfile
 import time
 
-SCHEMES = ("he", "ibr", "wfe")
+SCHEMES = ("he", "ibr", "wfe", "hp")
 MASK = (1 << 64) - 1
 MULTIPLIER = 6364136223846793005
 INCREMENT = 1
@@ -44,7 +44,7 @@ def call_of(kind, key, value):
 
 def trace_of(scheme, seed, turns):
     """The lines of a generated trace, as text."""
-    lines = ["wfe 1", f"scheme {scheme}", "seats 4", "indexes 3", "slots 4096", "buckets 16", "tries 4", "every 8",
+    lines = ["wfe 5", f"scheme {scheme}", "seats 4", "indexes 3", "slots 4096", "buckets 16", "tries 4", "every 8",
              "last_era 4294967295", "last_version 281474976710656", "begin"]
     words = words_of(seed)
     for _ in range(turns):

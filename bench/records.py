@@ -51,7 +51,7 @@ class Record:
                 open=False, began=None, begun=0, left=False, adopted=False, given=None, linked=False, unused=False, cuts=[],
                 retired=0, gave=False, blocks=0, due=None, since=0, togo=0, moves=0, rooted=False, null=False, backs=0,
                 read=[], scans=False, raised=0, spanned=False, withdrawal=False, reserves={}, tried={}, own_last={},
-                own_rising={}, cut_at={})
+                own_rising={}, hazards={}, own_hazard={}, cut_at={})
         return self.seats[i]
 
     # What laws read of the record so far.
@@ -59,7 +59,7 @@ class Record:
     def guards(self):
         c = self.config
         indexes = [("i", i, j) for i in range(c["seats"]) for j in range(c["indexes"])]
-        if c["scheme"] == "he":
+        if c["scheme"] in ("he", "hp"):
             return indexes
         if c["scheme"] == "ibr":
             return [("v", i) for i in range(c["seats"])]
@@ -105,12 +105,15 @@ class Record:
         return False
 
 
-def meets(life, span):
-    return life[1] <= span[1] and (life[2] == 0 or span[0] <= life[2])
+def meets(life, value):
+    """What a guard publishes keeps the life: eras that meet it, or under hazard pointers its row."""
+    if value[0] == "row":
+        return life[0] == value[1]
+    return life[1] <= value[1] and (life[2] == 0 or value[0] <= life[2])
 
 
 def keeps(read, life):
-    return any(span is not None and meets(life, span) for _, span in read)
+    return any(value is not None and meets(life, value) for _, value in read)
 
 
 def own_guard(r, i, j):
@@ -200,7 +203,7 @@ def blocks(r, i, e):
     s, guards = r.seat(i), r.guards()
     whole = len(s["read"]) == len(guards)
     over = whole and next_back(r, i) is None
-    if e[0] == "read":
+    if e[0] in ("read", "saw"):
         number = 0 if whole else len(s["read"])
         if number >= len(guards) or e[1] != guards[number]:
             return False
@@ -212,7 +215,7 @@ def blocks(r, i, e):
 
 
 def reads(r, i, e):
-    return e[0] != "read" or e[2] == r.value(e[1])
+    return e[0] not in ("read", "saw") or e[2] == r.value(e[1])
 
 
 def given_one(call):
@@ -223,7 +226,7 @@ def block_due(r, i, e):
     s = r.seat(i)
     call = s["began"]
     scan = call == ("scan",)
-    if e[0] == "read":
+    if e[0] in ("read", "saw"):
         if s["togo"] != 0:
             return True
         if s["due"] is None:
@@ -236,7 +239,7 @@ def block_due(r, i, e):
 
 def room(r, i, e):
     s = r.seat(i)
-    if e[0] != "read" or s["togo"] != 0 or s["due"] is not None or not given_one(s["began"]):
+    if e[0] not in ("read", "saw") or s["togo"] != 0 or s["due"] is not None or not given_one(s["began"]):
         return True
     return all(any(row in r.taken[p] for p in r.since(i)) for row in range(r.config["slots"] + 1))
 
@@ -248,6 +251,11 @@ def numbers(r, i, e):
 def moves(r, i, e):
     s = r.seat(i)
     return e[0] != "end" or (s["moves"] <= 1 if s["began"] == ("advance",) else s["moves"] == 0)
+
+
+def advances(r, i, e):
+    s = r.seat(i)
+    return r.config["scheme"] != "hp" or e[0] != "era" or (s["began"] == ("advance",) and s["moves"] == 0)
 
 
 def births(r, i, e):
@@ -281,9 +289,17 @@ def rising(r, i, e):
 
 
 def guards(r, i, e):
+    if e[0] == "hazard":
+        return e[1][0] == "i" and seat_of(e[1]) == i
     if e[0] != "reserve" or seat_of(e[1]) == i:
         return True
     return r.config["scheme"] == "wfe" and e[1][0] == "i" and e[2] is not None and e[2] == r.value(("h", i))
+
+
+def kinds(r, i, e):
+    if e[0] in ("reserve", "read"):
+        return r.config["scheme"] != "hp"
+    return e[0] not in ("hazard", "saw") or r.config["scheme"] == "hp"
 
 
 def sources(r, i, e):
@@ -396,6 +412,16 @@ def raises(r, i, e):
     return e[-1] == 3 * r.seat(i)["raised"] + (3 if e[0] == "held" and e[1] == 1 else 2)
 
 
+def hazards(r, i, e):
+    if r.config["scheme"] != "hp":
+        return True
+    if e[0] in ("held", "null"):
+        return e[-1] == 2 * r.seat(i)["hazards"].get(e[1], 0) + (2 if e[0] == "held" and e[1] == 1 else 1)
+    if e[0] == "hazard" and e[2] is not None:
+        return r.seat(e[1][1])["own_hazard"].get(e[1][2]) != e[2]
+    return True
+
+
 def asks(r, i, e):
     if r.config["scheme"] != "wfe" or e[0] != "reserve" or e[1] != ("h", i) or e[2] is None:
         return True
@@ -426,18 +452,18 @@ def ends(r, i, e):
 
 
 def covered(r):
-    """What stands is taken, and its index's guard publishes an interval that meets its life: of the record with the entry."""
+    """What stands is taken, and its index's guard publishes what keeps its life: of the record with the entry."""
     for (i, j), rows in r.standing.items():
-        span = r.value(own_guard(r, i, j))
+        value = r.value(own_guard(r, i, j))
         for s in rows:
-            if s not in r.taken[-1] or span is None or not meets(r.life(s), span):
+            if s not in r.taken[-1] or value is None or not meets(r.life(s), value):
                 return False
     return True
 
 
 LAWS = (in_turn, no_reuse, free, placing, order, nexts, retiring, backs, lists, blocks, reads, block_due, room, numbers, moves,
-        births, retires, current, single, rising, guards, sources, finds, gots, links, behind, bare, rests, the_map, the_queue,
-        empty, steps, withdrawals, tries, raises, asks, ends)
+        advances, births, retires, current, single, rising, guards, kinds, sources, finds, gots, links, behind, bare, rests, the_map,
+        the_queue, empty, steps, withdrawals, tries, raises, hazards, asks, ends)
 
 
 def tell(r, i, e):
@@ -448,7 +474,7 @@ def tell(r, i, e):
     due = None
     helper = r.value(("h", i)) is not None
     s["withdrawal"] = kind in ("held", "null") and helper
-    s["scans"] = kind in ("read", "back")
+    s["scans"] = kind in ("read", "saw", "back")
     if kind == "begin":
         s.update(open=True, began=e[1], begun=len(r.entries) + 1, given=None, linked=False, unused=False, cuts=[], gave=False,
                  blocks=0, due=None, since=0, moves=0, rooted=False, null=False, backs=0, raised=0)
@@ -477,7 +503,13 @@ def tell(r, i, e):
                 s["raised"] += 1
             s["spanned"] = span is not None
         r.values[guard] = span
-    elif kind == "read":
+    elif kind == "hazard":
+        if e[1][0] == "i" and e[1][1] == i:
+            j = e[1][2]
+            s["hazards"][j] = 0 if e[2] is None else s["hazards"].get(j, 0) + 1
+            s["own_hazard"][j] = e[2]
+        r.values[e[1]] = e[2]
+    elif kind in ("read", "saw"):
         s["read"] = ([] if len(s["read"]) == len(r.guards()) else s["read"]) + [(e[1], e[2])]
         if s["togo"] == 0:
             s.update(blocks=s["blocks"] + 1, due=None if s["due"] is None else s["due"] + 1, since=s["since"] + 1,
@@ -557,7 +589,7 @@ def tell(r, i, e):
         r.seat(e[1])["adopted"] = True
     if kind in ("held", "null", "copied"):
         j = e[2] if kind == "copied" else e[1]
-        s["tried"][j], s["own_last"][j], s["own_rising"][j] = 0, None, True
+        s["tried"][j], s["own_last"][j], s["own_rising"][j], s["own_hazard"][j] = 0, None, True, None
     r.due, r.last = due, e
     r.entries.append((i, e))
     for history, value in ((r.taken, taken), (r.buckets, bucket), (r.heads, head), (r.tails, tail), (r.clocks, clock),
@@ -628,6 +660,10 @@ class Words:
     def span(self):
         word = self.word()
         return None if word == "none" else (number(word, 1 << 32), self.short())
+
+    def row(self):
+        word = self.word()
+        return None if word == "none" else ("row", number(word, self.config["slots"] + 1))
 
     def root(self):
         word = self.word()
@@ -715,6 +751,9 @@ class Words:
             return (kind, self.short())
         if kind in ("reserve", "read"):
             return (kind, self.guard(), self.span())
+        if kind in ("hazard", "saw"):
+            self.since(5)
+            return (kind, self.guard(), self.row())
         slot, index, bucket = ("slots", 1), ("indexes",), ("buckets",)
         forms = {"give": (slot, "short"), "unused": (slot,), "cut": (slot,), "retire": (slot, "short", "short"), "back": (slot,),
                  "held": (index, slot, "long"), "null": (index, "long"), "clear": (index, slot), "copied": (index, index, slot),
@@ -731,7 +770,9 @@ class Words:
 
 def header_of(line):
     words = line.split(" ")
-    if len(words) != 11 or words[0] != "record" or words[1] not in ("1", "2", "3", "4") or words[2] not in ("he", "ibr", "wfe"):
+    if len(words) != 11 or words[0] != "record" or words[1] not in ("1", "2", "3", "4", "5"):
+        return None
+    if words[2] not in ("he", "ibr", "wfe", "hp") or (words[2] == "hp" and words[1] != "5"):
         return None
     config = dict(zip(NUMBERS, (int(word) for word in words[3:])), scheme=words[2])
     version = int(words[1])
@@ -791,9 +832,10 @@ def call_of(rng, version, config):
 
 def random_trace(rng):
     """Calls of seats chosen at random, each for some steps; a seat's last call is run to its end before its next one begins."""
-    version = rng.randint(1, 4)
+    version = rng.randint(1, 5)
+    schemes = ("he", "ibr", "wfe") if version < 5 else ("he", "ibr", "wfe", "hp", "hp", "hp")
     config = {
-        "scheme": rng.choice(("he", "ibr", "wfe")), "seats": rng.randint(1, 4), "indexes": rng.randint(3, 5),
+        "scheme": rng.choice(schemes), "seats": rng.randint(1, 4), "indexes": rng.randint(3, 5),
         "slots": rng.choice((2, 3, 8, 20)), "buckets": rng.choice((1, 2, 7)), "tries": rng.randint(1, 3),
         "every": rng.choice((1, 2, 8)), "last_era": rng.choice((1, 3, 100)), "last_version": rng.choice((1, 5, 100)),
     }

@@ -20,7 +20,7 @@ import time
 
 PROGRAM = os.path.join(os.path.dirname(os.path.dirname(os.path.abspath(__file__))), "wfe")
 FIELDS = ("scheme", "seats", "indexes", "slots", "buckets", "tries", "every", "last_era", "last_version")
-ROOM = 6
+ROOMS = {1: 6, 5: 14}
 
 
 class Unlawful(Exception):
@@ -34,7 +34,7 @@ def want(holds, text):
 
 def setting_of(rng):
     return {
-        "scheme": rng.choice(("he", "ibr", "wfe")), "seats": rng.choice((1, 2, 3, 4, 8)), "indexes": rng.randint(3, 5),
+        "scheme": rng.choice(("he", "ibr", "wfe", "hp")), "seats": rng.choice((1, 2, 3, 4, 8)), "indexes": rng.randint(3, 5),
         "slots": rng.choice((2, 3, 8, 64, 1024)), "buckets": rng.choice((1, 2, 7)), "tries": rng.randint(1, 4),
         "every": rng.choice((1, 2, 8)), "last_era": rng.choice((1, 3, 100, 4294967295)),
         "last_version": rng.choice((1, 5, 100, 281474976710656)),
@@ -47,8 +47,13 @@ def call_of(rng, keys):
                        "deq", f"hold {key}", "release", "advance", "scan"))
 
 
+def version_of(setting):
+    """The version of traces in which the scheme is known."""
+    return 5 if setting["scheme"] == "hp" else 1
+
+
 def trace_of(setting, scripts, order):
-    lines = ["wfe 1"] + [f"{name} {setting[name]}" for name in FIELDS] + ["begin"]
+    lines = [f"wfe {version_of(setting)}"] + [f"{name} {setting[name]}" for name in FIELDS] + ["begin"]
     left = [iter(script) for script in scripts]
     lines += [f"{seat} {next(left[seat])}" for seat in order]
     return ("\n".join(lines + ["end"]) + "\n").encode()
@@ -165,7 +170,8 @@ def judge_answers(setting, logs):
             retires = (call.result == "done" and int(call.answer[1]) > 1) or call.result == "taken"
             want((call.retired is not None) == retires, "a row is retired for each that was replaced")
             retired += call.retired is not None
-            due = call.kind == "advance" or (call.retired is not None and retired % setting["every"] == 0)
+            moves = setting["scheme"] != "hp" and call.retired is not None
+            due = call.kind == "advance" or (moves and retired % setting["every"] == 0)
             word, _ = call.clock()
             if word is not None:
                 want((word == "still") == (not due), f"the clock moves where it is due: {call.asked} {call.answer}")
@@ -175,6 +181,7 @@ def judge_answers(setting, logs):
 
 def judge_versions(setting, logs, buckets):
     calls = [call for log in logs for call in log]
+    room = ROOMS[version_of(setting)]
     for bucket in range(setting["buckets"]):
         changes = {}
         for call in calls:
@@ -189,7 +196,7 @@ def judge_versions(setting, logs, buckets):
             if call.kind == "put":
                 value = int(call.asked[2])
                 places = [place for place, pair in enumerate(now) if pair[0] == call.key]
-                want(places or len(now) < ROOM, "a row with room")
+                want(places or len(now) < room, "a row with room")
                 if places:
                     now[places[0]] = (call.key, value)
                 else:
@@ -207,7 +214,7 @@ def judge_versions(setting, logs, buckets):
             if call.result == "got":
                 want((str(at[call.key]) if call.key in at else "none") == call.answer[2], f"a get's value: {call.asked} {call.answer} {at}")
             if call.result == "bucket-full":
-                want(len(at) == ROOM and call.key not in at, "a bucket that was full")
+                want(len(at) == room and call.key not in at, "a bucket that was full")
             if call.result == "absent":
                 want(call.key not in at, "a key that was not there")
             if call.result == "spent":
@@ -292,7 +299,7 @@ def judge_eras(setting, logs):
 
 def judge(setting, scripts, text):
     lines = [line.split() for line in text.decode().splitlines()]
-    header = ["record", "1"] + [str(setting[name]) for name in FIELDS]
+    header = ["record", str(version_of(setting))] + [str(setting[name]) for name in FIELDS]
     want(lines[0] == header, f"the header {lines[0]}")
     want(lines[-1] == ["done"], "the last line")
     groups, rest = groups_of(lines[1:-1], setting["seats"])
@@ -326,7 +333,7 @@ def run(trace):
 def speed(calls, repeats):
     """Seconds of the best run over each number of seats."""
     print("| scheme | seats | calls/s | to 1 seat |\n|---|---|---|---|")
-    for scheme in ("he", "ibr", "wfe"):
+    for scheme in ("he", "ibr", "wfe", "hp"):
         base = None
         for seats in (1, 2, 4):
             rng = random.Random(1)

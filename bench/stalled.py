@@ -17,7 +17,7 @@ import subprocess
 import sys
 import time
 
-SCHEMES = ("he", "ibr", "wfe")
+SCHEMES = ("he", "ibr", "wfe", "hp")
 TOP = os.path.dirname(os.path.dirname(os.path.realpath(__file__)))
 PROGRAM = f"{TOP}/crates/wfe_stall/out/wfe_stall"
 

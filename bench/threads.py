@@ -20,7 +20,7 @@ import sys
 import tempfile
 import time
 
-SCHEMES = ("he", "ibr", "wfe")
+SCHEMES = ("he", "ibr", "wfe", "hp")
 WORKS = ("reads", "mixed", "puts", "pairs")
 TOP = os.path.dirname(os.path.dirname(os.path.realpath(__file__)))
 OURS = f"{TOP}/crates/wfe_speed/out/wfe_speed"

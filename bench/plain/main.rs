@@ -4,8 +4,8 @@
 //!
 //!     plain SCHEME WORK THREADS CALLS
 //!
-//! SCHEME is `he`, `ibr`, `wfe` or `epochs` (no queue); WORK is `reads`, `mixed`, `puts` or `pairs`. Each
-//! thread makes CALLS calls.
+//! SCHEME is `he`, `ibr`, `wfe`, `hp` or `epochs` (no queue); WORK is `reads`, `mixed`, `puts` or `pairs`.
+//! Each thread makes CALLS calls.
 
 mod epochs;
 mod map;
@@ -36,6 +36,6 @@ fn main() -> ExitCode {
 }
 
 fn usage() -> ExitCode {
-    eprintln!("usage: plain he|ibr|wfe|epochs reads|mixed|puts|pairs THREADS CALLS");
+    eprintln!("usage: plain he|ibr|wfe|hp|epochs reads|mixed|puts|pairs THREADS CALLS");
     ExitCode::FAILURE
 }

@@ -90,14 +90,12 @@ pub fn retire<S: Scheme>(table: &Table, seat: &mut Seat, slot: usize) {
     }
 }
 
-/// Gives the retired rows back whose lives meet no guard.
+/// Gives the retired rows back that no guard keeps.
 pub fn scan<S: Scheme>(table: &Table, seat: &mut Seat) {
     S::read_guards(table, seat);
     let report = &seat.report;
     seat.list.retain(|life| {
-        let kept = report
-            .iter()
-            .any(|&(low, high)| life.birth <= high && low <= life.retire);
+        let kept = report.iter().any(|&found| S::keeps(found, life));
         if !kept {
             give_up(table, life.slot);
         }

@@ -1,20 +1,25 @@
 //! How each scheme protects a link, and which guards it publishes.
 
-use crate::table::{INDEXES, LAST_ERA, Seat, TRIES, Table};
+use crate::table::{INDEXES, LAST_ERA, Lifetime, Seat, TRIES, Table};
 
 const KIND: u32 = 62;
 const PENDING: u64 = 1;
 
-/// A scheme of eras.
+/// A scheme of eras or of hazard pointers.
 pub trait Scheme {
     fn begin(table: &Table, seat: &mut Seat);
     /// The link in the word, whose row is protected.
     fn protect(table: &Table, seat: &mut Seat, index: usize, word: usize) -> u64;
     fn clear(table: &Table, seat: &mut Seat, index: usize);
     fn finish(table: &Table, seat: &mut Seat);
+    /// The move of the clock before a scan.
     fn move_clock(table: &Table, seat: &mut Seat);
-    /// Reads all guards into the seat's report, each as the eras from the first to the last.
+    /// Reads all guards into the seat's report, each as the eras from the first to the last, or as a link twice.
     fn read_guards(table: &Table, seat: &mut Seat);
+    /// Whether a row is kept by what a guard publishes.
+    fn keeps(found: (u64, u64), life: &Lifetime) -> bool {
+        life.birth <= found.1 && found.0 <= life.retire
+    }
 }
 
 fn reservation(era: u64, tag: u64) -> u64 {
@@ -267,5 +272,50 @@ impl Scheme for Wfe {
             read_era(table, &mut seat.report, table.helper(number));
         }
         read_indexes(table, &mut seat.report);
+    }
+}
+
+/// Hazard pointers: an index word holds the link itself, and the clock is left alone.
+pub struct Hp;
+
+impl Scheme for Hp {
+    fn begin(_: &Table, _: &mut Seat) {}
+
+    fn protect(table: &Table, seat: &mut Seat, index: usize, word: usize) -> u64 {
+        let guard = table.index(seat.number, index);
+        let mut link = table.load(word);
+        while link != 0 {
+            table.publish(guard, link);
+            let now = table.load(word);
+            if now == link {
+                return link;
+            }
+            link = now;
+        }
+        0
+    }
+
+    fn clear(table: &Table, seat: &mut Seat, index: usize) {
+        table.store(table.index(seat.number, index), 0);
+    }
+
+    fn finish(_: &Table, _: &mut Seat) {}
+
+    fn move_clock(_: &Table, _: &mut Seat) {}
+
+    fn read_guards(table: &Table, seat: &mut Seat) {
+        seat.report.clear();
+        for number in 0..table.seats {
+            for index in 0..INDEXES {
+                let link = table.load(table.index(number, index));
+                if link != 0 {
+                    seat.report.push((link, link));
+                }
+            }
+        }
+    }
+
+    fn keeps(found: (u64, u64), life: &Lifetime) -> bool {
+        found.0 == life.slot as u64 + 1
     }
 }

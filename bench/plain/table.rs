@@ -6,7 +6,7 @@ use std::sync::atomic::{
 };
 
 // The plain program has the order of the proved one, and each word beside the next. Two builds of it show what other
-// choices would gain: with `--cfg weak` only what publishes an era is in one order with all steps, and with
+// choices would gain: with `--cfg weak` only what publishes an era or a link is in one order with all steps, and with
 // `--cfg apart` words that seats share, and rows, have lines of the cache of their own, and seats look for rows from
 // places apart.
 const LOAD: Ordering = if cfg!(weak) { Acquire } else { SeqCst };

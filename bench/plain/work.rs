@@ -1,7 +1,7 @@
 //! What is measured: the calls of each thread.
 
 use crate::epochs::{EpochMap, EpochSeat};
-use crate::schemes::{He, Ibr, Scheme, Wfe};
+use crate::schemes::{He, Hp, Ibr, Scheme, Wfe};
 use crate::table::{Seat, Table};
 use crate::{map, queue};
 
@@ -161,6 +161,7 @@ pub fn run(scheme: &str, work: Work, threads: usize, calls: u64) -> Option<u64> 
         "he" => Some(run_table::<He>(work, threads, calls)),
         "ibr" => Some(run_table::<Ibr>(work, threads, calls)),
         "wfe" => Some(run_table::<Wfe>(work, threads, calls)),
+        "hp" => Some(run_table::<Hp>(work, threads, calls)),
         "epochs" => Some(run_epochs(work, threads, calls)),
         _ => None,
     }
