@@ -17,15 +17,15 @@ use wfe_drive_cells::{Cells, MakeCells, PlainCells};
 
 /// The words of a table with one seat, and the operations that were performed on them.
 #[derive(Drop)]
-struct KeptCells {
-    cells: PlainCells,
+pub struct KeptCells {
+    pub cells: PlainCells,
     /// The steps of the call under way.
-    steps: u64,
+    pub steps: u64,
     kept: Vec<(Op, u64)>,
     /// Whether an operation was not kept, for want of memory.
     lost: bool,
     /// Whether the seat leaves by its last call.
-    left: bool,
+    pub left: bool,
 }
 
 impl Words for KeptCells {
@@ -140,11 +140,13 @@ fn names_indexes(config: Config, call: Call) -> bool
 }
 
 // Makes the calls on a new table, and wants of each its answer and as many steps as are said.
-fn make<R: Abort + AllocGlobal>(
+pub fn make<R: Abort + AllocGlobal>(
     rt: &R,
     config: Config,
     calls: &[(Call, u64, Answer)],
-) -> Result<KeptCells, Fail> {
+) -> Result<(KeptCells, Post, Desk), Fail>
+    ensures { IfOk result (λ t. Here (IsAt t.0.cells t.0.steps t.0.left) (at_phase Idle t.1 t.2)) }
+{
     let scheme = config.scheme;
     let (mut words, mut post, mut desk) = table(rt.alloc(), config)?;
     for (call, steps, want) in calls {
@@ -163,7 +165,7 @@ fn make<R: Abort + AllocGlobal>(
         );
         assert!(rt; !words.lost);
     }
-    Ok(words)
+    Ok((words, post, desk))
 }
 
 // A get has one kind of answer.
@@ -185,11 +187,11 @@ fn a_get_has_one_kind_of_answer(rt: HostRuntime) -> Result<(), Fail> {
     Ok(())
 }
 
-fn moved(era: u32) -> ClockMove {
+pub fn moved(era: u32) -> ClockMove {
     ClockMove::Moved { era }
 }
 
-fn done(version: u64, clock: ClockMove) -> Answer {
+pub fn done(version: u64, clock: ClockMove) -> Answer {
     Answer::Done { version, clock }
 }
 
@@ -215,7 +217,7 @@ fn operations_are_kept_in_the_order_of_the_calls(rt: HostRuntime) -> Result<(), 
         (put(70), 13, done(1, ClockMove::Still)),
         (Call::Get { key: 7 }, 9, got(1, Some(70))),
     ];
-    let words = make(&rt, single(SchemeKind::He), &calls)?;
+    let (words, _, _) = make(&rt, single(SchemeKind::He), &calls)?;
     let kept = &words.kept;
     assert_eq!(rt; kept.len(), 22);
     // Both calls begin with a load of the clock, which has not moved.

@@ -4,8 +4,6 @@
 
 mod cells;
 mod laws;
-#[cfg(test)]
-mod tests;
 
 pub use cells::{Cells, MakeCells, PlainCells, start_words};
 pub use laws::{calls_make_units, operations_make_steps, units_are_steps, words_lie_by_place};

@@ -5,8 +5,6 @@
 mod closed;
 mod reading;
 mod room;
-#[cfg(test)]
-mod tests;
 
 pub use closed::{BucketRow, Closed};
 pub use room::ClosedRoom;

@@ -30,7 +30,7 @@ fn row_word(layout: Layout, words: &[u64], slot: u32, place: u32) -> u64
 }
 
 // So many pairs of a row, in order.
-pub fn read_pairs(
+fn read_pairs(
     layout: Layout,
     words: &[u64],
     slot: u32,
@@ -137,7 +137,7 @@ fn is_taken(layout: Layout, words: &[u64], slot: u32) -> bool
 }
 
 // The rows that are taken, rising.
-pub fn read_used(layout: Layout, words: &[u64], mut used: Vec<u32>) -> Vec<u32>
+fn read_used(layout: Layout, words: &[u64], mut used: Vec<u32>) -> Vec<u32>
     requires whole { IsWhole layout words.now }
     requires empty { used.items ≡ [] }
     requires room { row_count layout ≤ vec_capacity used }

@@ -10,8 +10,6 @@ mod lists;
 mod rule;
 mod steps;
 mod table;
-#[cfg(test)]
-mod tests;
 
 pub use facts::{handles_end, handles_stand_in_histories, tables_follow_histories};
 pub use handles::{give_slot, split, take_in, take_slot};

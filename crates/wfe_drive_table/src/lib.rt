@@ -3,7 +3,5 @@
 #![tactic(auto)]
 
 mod table;
-#[cfg(test)]
-mod tests;
 
 pub use table::TableCells;

@@ -13,6 +13,3 @@ pub use give_up::GiveUp;
 pub use pairs::Pairs;
 pub use wfe_core::AllocateEnd;
 pub use write_row::{Row, WriteRow};
-
-#[cfg(test)]
-mod tests;

@@ -4,10 +4,10 @@ ghost use Rattle.std.specs.Prelude.{◌≡◌, ◌<◌, IfOk, IsTrue, length, sl
 ghost use Rattle.wfe_core.specs.words.Place.{is_valid};
 ghost use Rattle.wfe_drive_cells.specs.Memory.{HoldsStart};
 
-use crate::{Cells, MakeCells, PlainCells};
 use std::alloc::Global;
 use std::test::Fail;
 use wfe_core::{Config, Layout, NoMemory, Op, SchemeKind};
+use wfe_drive_cells::{Cells, MakeCells, PlainCells};
 
 const SMALL: Config = Config {
     scheme: SchemeKind::Wfe,

@@ -1,6 +1,6 @@
 -- A load leaves as many words as there were.
 use Rattle.std.proofs.Common.{length, ◌≡◌}
-use Rattle.wfe_drive_table.proofs.tests.perform_on_both.Given as goal
+use Rattle.wfe_drive_call_tests.proofs.atomic.perform_on_both.Given as goal
 
 abbrev pub invariant-loop-word : goal.invariant-loop-word
 invariant-loop-word g l = record {

@@ -7,26 +7,21 @@ ghost use Rattle.wfe_drive_rule.specs.Handles.{IsBare, IsResting, IsSeated, IsSi
 ghost use Rattle.wfe_core.specs.defs.declared.call.Call.TheVariants as calls;
 ghost use Rattle.wfe_drive_rule.specs.Views.{first_view, standing};
 
-use crate::{
-    Handle, Ledger, OwnedLedger, begin, close, finish, give_slot, open, split, step, take_in,
-    take_slot,
-};
+use crate::settings::SMALL;
 use std::test::Fail;
 use std::thread;
 use std::thread::Threads;
 use wfe_core::{Call, Config, Layout, Op, SchemeKind};
+use wfe_drive_rule::{
+    Handle, Ledger, OwnedLedger, begin, close, finish, give_slot, open, split, step, take_in,
+    take_slot,
+};
 
-const SMALL: Config = Config {
+// A small table of two seats.
+const DOUBLE: Config = Config {
     scheme: SchemeKind::He,
     seats: 2,
-    indexes: 3,
-    slots: 2,
-    buckets: 1,
-    tries: 1,
-    every: 1,
-    last_era: 9,
-    last_version: 9,
-    pairs: 6,
+    ..SMALL
 };
 
 // A seat loads the clock, and exchanges it for the next era: what it found at both steps. Where the
@@ -101,7 +96,7 @@ fn small_layout() -> Result<Layout, Fail>
     ensures seats { IfOk result (λ layout. layout.config.seats ≡ 2) }
     ensures scheme { IfOk result (λ layout. layout.config.scheme ≡ He) }
 {
-    Ok(Layout::new(SMALL)?)
+    Ok(Layout::new(DOUBLE)?)
 }
 
 // Both seats load the clock before one of them moves it.

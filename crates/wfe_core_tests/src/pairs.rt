@@ -1,6 +1,6 @@
-// The list once on its happy path.
-use super::*;
+// A list of pairs once on its happy path.
 use std::test::Fail;
+use wfe_slots::Pairs;
 
 #[test]
 fn keeps_its_order_with_as_many_as_fit(rt: HostRuntime) -> Result<(), Fail> {

@@ -5,26 +5,13 @@ ghost use Rattle.wfe_core.specs.words.Place.{is_valid};
 ghost use Rattle.wfe_drive_cells.specs.Memory.{HoldsStart};
 ghost use Rattle.wfe_drive_cells.specs.Operations.{word_in};
 
-use crate::TableCells;
+use crate::settings::SMALL;
 use std::alloc::Global;
 use std::process::Abort;
 use std::test::Fail;
-use wfe_core::{Config, Layout, NoMemory, Op, SchemeKind};
+use wfe_core::{Layout, NoMemory, Op};
 use wfe_drive_cells::{Cells, MakeCells, PlainCells};
-
-// A table of sixty words.
-const SMALL: Config = Config {
-    scheme: SchemeKind::Wfe,
-    seats: 1,
-    indexes: 3,
-    slots: 2,
-    buckets: 1,
-    tries: 1,
-    every: 1,
-    last_era: 9,
-    last_version: 9,
-    pairs: 6,
-};
+use wfe_drive_table::TableCells;
 
 fn made<C: MakeCells>(alloc: Global, layout: Layout) -> Result<C, NoMemory>
     requires { IsTrue (is_valid layout) }
@@ -33,7 +20,8 @@ fn made<C: MakeCells>(alloc: Global, layout: Layout) -> Result<C, NoMemory>
     C::make(alloc, layout)
 }
 
-fn load<C: Cells>(cells: &mut C, word: u32) -> u64
+// The word of this number.
+pub fn load<C: Cells>(cells: &mut C, word: u32) -> u64
     requires { word < length (C.words cells.old) }
     ensures word { result ≡ slice_index (C.words cells.old) word }
     ensures stays { C.words cells.new ≡ C.words cells.old }

@@ -1,0 +1,94 @@
+// What no clause says: that the room is had where there is memory; and what is read of the published
+// start words of a small table, and of the words that puts leave.
+ghost use Rattle.std.specs.Prelude.{◌≡◌, IfOk, length};
+ghost use Rattle.wfe_core.specs.words.Place.{words};
+ghost use Rattle.wfe_drive_closed.specs.Closing.{IsReached};
+
+use crate::atomic::load;
+use crate::calls::{done, make, moved};
+use crate::settings::SMALL;
+use std::alloc::Global;
+use std::process::Abort;
+use std::test::Fail;
+use wfe_core::{Answer, Call, ClockMove, Layout, NoMemory};
+use wfe_drive_cells::{MakeCells, PlainCells};
+use wfe_drive_closed::{Closed, ClosedRoom};
+
+// What a table that is closed with these words holds.
+fn read(alloc: Global, layout: Layout, cells: &mut PlainCells) -> Result<Closed, NoMemory>
+    requires { IsReached layout cells.old }
+{
+    let mut room = ClosedRoom::new(alloc, layout)?;
+    for word in 0..layout.words() {
+        room.push(load(cells, word));
+    }
+    Ok(room.read())
+}
+
+// The words of a small table after these calls, each with its steps and its answer.
+fn words_after<R: Abort + AllocGlobal>(
+    rt: &R,
+    calls: &[(Call, u64, Answer)],
+) -> Result<(Layout, PlainCells), Fail>
+    ensures reached { IfOk result (λ r. IsReached r.0 r.1) }
+    ensures count { IfOk result (λ r. length r.1 ≡ words r.0) }
+{
+    let (kept, post, _) = make(rt, SMALL, calls)?;
+    Ok((post.layout, kept.cells))
+}
+
+// The first put, of a key with the number after it. Its row is row 0.
+fn first_put() -> (Call, u64, Answer) {
+    let put = Call::Put { key: 32, value: 33 };
+    (put, 13, done(1, ClockMove::Still))
+}
+
+// The next put, whose row is row 1.
+fn second_put() -> (Call, u64, Answer) {
+    let put = Call::Put { key: 34, value: 35 };
+    (put, 30, done(2, moved(2)))
+}
+
+#[test]
+fn a_table_at_its_start_is_empty(rt: HostRuntime) -> Result<(), Fail> {
+    let layout = Layout::new(SMALL)?;
+    let mut cells = PlainCells::make(rt.alloc(), layout)?;
+    let closed = read(rt.alloc(), layout, &mut cells)?;
+    assert_eq!(rt; closed.clock, 1);
+    assert_eq!(rt; closed.buckets.len(), 1);
+    for row in &closed.buckets {
+        assert_eq!(rt; row.version, 0);
+        assert_eq!(rt; row.pairs.len(), 0);
+    }
+    assert_eq!(rt; closed.queue.len(), 0);
+    assert_eq!(rt; closed.used.as_slice(), [2].as_slice());
+    Ok(())
+}
+
+#[test]
+fn pairs_are_read_from_place_3_on(rt: HostRuntime) -> Result<(), Fail> {
+    let (layout, mut cells) = words_after(&rt, &[first_put(), second_put()])?;
+    assert_eq!(rt; layout.words(), 60);
+    // Row 1 begins at word 29, so each word of its pairs is its own number.
+    assert_eq!(rt; load(&mut cells, 32), 32);
+    assert_eq!(rt; load(&mut cells, 33), 33);
+    assert_eq!(rt; load(&mut cells, 34), 34);
+    assert_eq!(rt; load(&mut cells, 35), 35);
+    let closed = read(rt.alloc(), layout, &mut cells)?;
+    assert_eq!(rt; closed.buckets.len(), 1);
+    for row in &closed.buckets {
+        assert_eq!(rt; row.pairs.as_slice(), [(32, 33), (34, 35)].as_slice());
+    }
+    Ok(())
+}
+
+#[test]
+fn rows_with_their_bits_set_are_in_use(rt: HostRuntime) -> Result<(), Fail> {
+    let (layout, mut cells) = words_after(&rt, &[first_put()])?;
+    assert_eq!(rt; layout.words(), 60);
+    // Rows 0 and 2 are taken. The bits after that of the last row are set too.
+    assert_eq!(rt; load(&mut cells, 10), 0xffff_ffff_ffff_fffd);
+    let closed = read(rt.alloc(), layout, &mut cells)?;
+    assert_eq!(rt; closed.used.as_slice(), [0, 2].as_slice());
+    Ok(())
+}
