@@ -7,7 +7,5 @@ mod blocks;
 mod calls;
 mod grant;
 mod seat;
-#[cfg(test)]
-mod tests;
 
 pub use calls::Calls;

@@ -10,6 +10,3 @@ mod row_set;
 mod spans;
 
 pub use protections::Protections;
-
-#[cfg(test)]
-mod tests;

@@ -5,7 +5,5 @@
 mod guards;
 mod lists;
 mod seat;
-#[cfg(test)]
-mod tests;
 
 pub use lists::Lists;

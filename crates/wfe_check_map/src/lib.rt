@@ -5,7 +5,5 @@
 mod bucket;
 mod contents;
 mod queue;
-#[cfg(test)]
-mod tests;
 
 pub use contents::Contents;

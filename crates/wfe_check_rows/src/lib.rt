@@ -8,6 +8,3 @@ mod row;
 mod rows;
 
 pub use rows::Rows;
-
-#[cfg(test)]
-mod tests;

@@ -7,8 +7,6 @@
 mod counts;
 mod seat;
 mod steps;
-#[cfg(test)]
-mod tests;
 mod word;
 
 pub use steps::Steps;

@@ -9,6 +9,3 @@ mod seats;
 mod times;
 
 pub use times::Times;
-
-#[cfg(test)]
-mod tests;

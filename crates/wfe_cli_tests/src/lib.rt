@@ -1,5 +1,5 @@
-//! Tests of whole commands over memory: worked traces, bad and hostile input, and sources and sinks that
-//! fail.
+//! Tests of whole commands over memory, of what no text of a trace shows: sources and sinks that fail, and the
+//! longest trace.
 #![tactic(auto)]
 
 #[cfg(test)]

@@ -1,12 +1,10 @@
-//! Tests of runs by workers: what is printed of small traces, and that the gate holds a worker back until
-//! another has made its call.
+//! Tests of runs by workers, of what no text of a trace shows: that a gate holds a worker back until another has
+//! made its call, and what is told once whatever the order of the steps was.
 #![tactic(auto)]
 
 #[cfg(test)]
 mod gates;
 #[cfg(test)]
+mod kept;
+#[cfg(test)]
 mod long;
-#[cfg(test)]
-mod many;
-#[cfg(test)]
-mod texts;

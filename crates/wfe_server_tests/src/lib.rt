@@ -1,8 +1,16 @@
-//! Tests of replays and generated traces on the words of an atomic table: what a generated trace counts,
-//! and the longest trace that is read.
+//! Tests of what no command shows of replays: what watchers hear, deleters, a sink that fails between two of
+//! them, a table whose seats stay, and a seat that stops at each unit of each call.
 #![tactic(auto)]
 
 #[cfg(test)]
-mod generated;
+mod bench;
 #[cfg(test)]
-mod long;
+mod deleters;
+#[cfg(test)]
+mod out;
+#[cfg(test)]
+mod staying;
+#[cfg(test)]
+mod stopped;
+#[cfg(test)]
+mod watchers;

@@ -1,7 +1,0 @@
-//! Tests of whole replays with watchers: counts, and deleters.
-#![tactic(auto)]
-
-#[cfg(test)]
-mod deleters;
-#[cfg(test)]
-mod watchers;
