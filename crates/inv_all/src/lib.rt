@@ -1,5 +1,5 @@
-//! The invariant of the machines, joined of its parts, and what it gives of each history; and how few rounds a call loses. Each
-//! function here does nothing, and carries a theorem.
+//! The invariant whole (`Known.antt`), in each World of a history. What it gives there, how machines end (`Outcomes.antt`), and
+//! how few rounds a call loses. Each function here does nothing, and carries a theorem.
 #![tactic(auto)]
 
 ghost use Rattle.inv_all.specs.Ends.{InvEnds};

@@ -1,6 +1,5 @@
-//! What the rows of the map and of the queue hold, and what calls have read of them: a part of the
-//! invariant of the machines. Each function here does nothing, and carries
-//! a theorem.
+//! What rows of map and queue hold, and calls have read (`Knows.antt`). It is a part of the invariant. Each function here does
+//! nothing, and carries a theorem.
 #![tactic(auto)]
 
 ghost use Rattle.inv_contents.specs.Bounded.{BoundedBegin, BoundedKept, BoundedStart};

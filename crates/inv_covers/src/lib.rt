@@ -1,4 +1,4 @@
-//! The covers of rows: while a guard covers a row no step makes it free. Each function here does
+//! When a guard covers a row (`Covers.antt`): no step frees it then. It is a part of the invariant. Each function here does
 //! nothing, and carries a theorem.
 #![tactic(auto)]
 

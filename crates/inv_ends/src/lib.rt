@@ -1,5 +1,6 @@
-//! What steps tell of rows, and how machines end; and the covers of rows in the slow path of Wait-Free Eras, from the word of a
-//! helper to the word of the seat that asked. Each function here does nothing, and carries a theorem.
+//! What steps tell of rows (`Told.antt`), and how machines end. And the covers of rows in the slow path of Wait-Free Eras, from
+//! the word of a helper to the word of the seat that asked (`Helped.antt`). Each function here does nothing, and carries a
+//! theorem.
 #![tactic(auto)]
 
 ghost use Rattle.inv_ends.specs.Births.{GivenBegin, GivenKept, GivenStart, RetiresGiven};

@@ -1,5 +1,5 @@
-//! Where the links come from that protections end with, and what is true of them. Each function here does nothing, and carries
-//! a theorem.
+//! Where the links come from that protections end with (`Tracked.antt`). And what is true of them. Each function here does
+//! nothing, and carries a theorem.
 #![tactic(auto)]
 
 ghost use Rattle.inv_links.specs.Links.{HeldLinksStay, LinksBegin, LinksGive, LinksKept, LinksStart, TrackedTried};

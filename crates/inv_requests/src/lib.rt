@@ -1,5 +1,5 @@
-//! Requests of Wait-Free Eras and the helping of movers, as a part of what holds between any two
-//! steps of any calls.
+//! Requests of Wait-Free Eras, and movers that help (`Parts.antt`). It is a part of what holds between any two steps of any
+//! calls. Each function here does nothing, and carries a theorem.
 #![tactic(auto)]
 
 ghost use Rattle.std.specs.Prelude.{ℕ, ◌≡◌, ◌<◌, true, false};

@@ -1,5 +1,5 @@
-//! Which rows of a table are free, claimed, linked, cut and retired, and by which seat: a part of
-//! the invariant of the machines. Each function here does nothing, and carries a theorem.
+//! Which rows are free, claimed, linked, cut, retired, by whom (`Rows.antt`). It is a part of the invariant. Each function here
+//! does nothing, and carries a theorem.
 #![tactic(auto)]
 
 ghost use Rattle.inv_rows.specs.Agree.{RowsBegin, RowsKept, RowsStart};

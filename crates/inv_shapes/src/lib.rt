@@ -1,4 +1,5 @@
-//! The parts of the invariant that speak of each seat alone and of eras.
+//! Each seat's shape (`Seats.antt`), and eras up to the clock (`Eras.antt`). These are the parts of the invariant that speak of
+//! each seat alone, of words that decode, and of eras. Each function here does nothing, and carries a theorem.
 #![tactic(auto)]
 
 ghost use Rattle.std.specs.Prelude.{ℕ, ◌≡◌, ◌≤◌, ◌<◌, ◌+◌, length, true};

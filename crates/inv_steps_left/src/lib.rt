@@ -1,5 +1,4 @@
-//! How many steps a call has left. Each function here does nothing, and carries
-//! a theorem.
+//! How many steps a call has left, and that they fall (`Falls.antt`). Each function here does nothing, and carries a theorem.
 #![tactic(auto)]
 
 ghost use Rattle.inv_steps_left.specs.Falls.{LossesBegin, LossesKept, LossesStart, RestFalls, RestIsSmall, RestStays};

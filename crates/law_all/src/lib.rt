@@ -1,5 +1,6 @@
-//! All laws that each history keeps, as one statement; what the answers in a seat's log say; and the law of runs: what the logs of
-//! all seats, and the table that they leave, say together. Each function here does nothing, and carries a theorem.
+//! All that histories keep (`Whole.antt`), and the law of runs (`RunLaw.antt`). What the answers in a seat's log say
+//! (`Answers.antt`), and what the logs of all seats, and the table that they leave, say together. Each function here does
+//! nothing, and carries a theorem.
 #![tactic(auto)]
 
 ghost use Rattle.law_all.specs.Answers.{CallsAnswer, ChangesAreRead, GetsAgree, HoldsSeeNothing, LogsAnswer, LogsGrow, LogsMeet, LogsRise, LogsTakeFewSteps, ScansTellBacks};

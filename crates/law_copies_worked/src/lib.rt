@@ -1,5 +1,5 @@
-//! Worked records of copies, looks, drops and puts that name a version, each of which the laws take, and wrong ones with the
-//! laws that refuse them. Each function here does nothing, and carries a theorem.
+//! Worked and wrong records of copies, looks, drops, puts at a version. The laws take each worked one; of each wrong one it
+//! says which laws refuse it. Each function here does nothing, and carries a theorem.
 #![tactic(auto)]
 
 ghost use Rattle.law_copies_worked.specs.AtVersion.{AtVersionWorked};

@@ -1,5 +1,4 @@
-//! Which eras are told, and which calls answer. Each function here does nothing, and carries
-//! a theorem.
+//! Which eras are told (`Records.antt`), and which calls answer. Each function here does nothing, and carries a theorem.
 #![tactic(auto)]
 
 ghost use Rattle.law_eras.specs.Current.{ClockBetween};

@@ -1,5 +1,5 @@
-//! Worked records under hazard pointers, which the laws take, and wrong ones with the laws that refuse them. Each function here
-//! does nothing, and carries a theorem.
+//! Worked and wrong records under hazard pointers. The laws take each worked one; of each wrong one it says which laws refuse
+//! it. Each function here does nothing, and carries a theorem.
 #![tactic(auto)]
 
 ghost use Rattle.law_hazards_worked.specs.Crowded.{CrowdedTaken};

@@ -1,5 +1,5 @@
-//! What stands, where it was found, and what guards publish then. Each function here does nothing, and carries
-//! a theorem.
+//! What stands, where it was found, what guards publish then (`Records.antt`). Each function here does nothing, and carries a
+//! theorem.
 #![tactic(auto)]
 
 ghost use Rattle.law_held.specs.Records.{RecordsClearRows, RecordsCopyRows, RecordsFindRoots, RecordsFindSources, RecordsFollowHead, RecordsFollowNexts, RecordsHoldAlone, RecordsHoldThroughout, RecordsLinkHeld, RecordsRestGuards, RecordsTellRows, RecordsUseIndexes};

@@ -1,5 +1,5 @@
-//! Worked records of seats that leave and of lists that others take over, each of which the laws take, and wrong ones with the
-//! laws that refuse them. Each function here does nothing, and carries a theorem.
+//! Worked and wrong records of seats that leave and lists taken over. The laws take each worked one; of each wrong one it says
+//! which laws refuse it. Each function here does nothing, and carries a theorem.
 #![tactic(auto)]
 
 ghost use Rattle.law_leaves_worked.specs.HandedOver.{HandedOverWorked};

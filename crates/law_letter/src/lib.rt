@@ -1,5 +1,5 @@
-//! The laws follow from what each history keeps: lemmas on records alone. The function here does nothing, and carries a
-//! theorem.
+//! That the laws follow from what histories keep (`Letters.antt`). These are lemmas on records alone. The function here does
+//! nothing, and carries a theorem.
 #![tactic(auto)]
 
 ghost use Rattle.law_letter.specs.Letters.{LawsFollow};

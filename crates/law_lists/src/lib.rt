@@ -1,4 +1,4 @@
-//! How many rows wait in each seat's retire list. The function here does nothing, and carries a theorem.
+//! How many rows wait in each seat's retire list (`Counted.antt`). The function here does nothing, and carries a theorem.
 #![tactic(auto)]
 
 ghost use Rattle.law_lists.specs.Counted.{RecordsCountLists};

@@ -1,5 +1,6 @@
-//! What a seat's log is, by the record of its history, and in `specs` what the answers in it say of the map and of the queue:
-//! which versions and numbers a seat has met. Each function here does nothing, and carries a theorem.
+//! What a seat's log is by the record (`Records.antt`). And what the answers in it say of the map and of the queue
+//! (`Answered.antt`): which versions and numbers a seat has met (`Versions.antt`). Each function here does nothing, and carries
+//! a theorem.
 #![tactic(auto)]
 
 ghost use Rattle.law_logs.specs.Records.{LogsAreCut, LogsExtend, RecordReads, RecordsGrow, RecordsKeepLogs, TurnsLeaveNotes};

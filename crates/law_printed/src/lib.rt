@@ -1,5 +1,6 @@
-//! What a replay prints where its work is done: a record that a check finds lawful; and of which version the lines of a trace
-//! are, with the calls that their record begins. Each function here does nothing, and carries a theorem.
+//! That a check finds lawful what a replay prints (`Printed.antt`). That is so where the work is done, and what is printed no
+//! longer than a record may be. And of which version the lines of a trace are, with the calls that their record begins. Each
+//! function here does nothing, and carries a theorem.
 #![tactic(auto)]
 
 ghost use Rattle.law_printed.specs.Printed.{PrintsLawful};

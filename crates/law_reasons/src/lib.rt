@@ -1,5 +1,4 @@
-//! Why calls answer what they do, and how often they begin anew. Each function here does nothing, and carries
-//! a theorem.
+//! Why calls answer what they do, and how often they begin anew. Each function here does nothing, and carries a theorem.
 #![tactic(auto)]
 
 ghost use Rattle.law_reasons.specs.Records.{RecordsKeepFull, RecordsKeepLacks, RecordsKeepReasons, RecordsKeepRepeats, RecordsScanForRoom, RecordsStayInRange};

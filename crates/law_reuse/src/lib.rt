@@ -1,6 +1,6 @@
-//! No row is used again while it stands, rows are given and go back once, and scans keep just what
-//! they have to; what the record says of the map, the queue and of answers; and that histories are
-//! schedules. Each function here does nothing, and carries a theorem.
+//! No reuse, rows once, scans, map, queue, answers (`Records.antt`). No row is used again while it stands, rows are given and
+//! go back once, and scans keep just what they have to; what the record says of the map, the queue and of answers; and that
+//! histories are schedules. Each function here does nothing, and carries a theorem.
 #![tactic(auto)]
 
 ghost use Rattle.law_reuse.specs.Heard.{HistoriesCount};

@@ -1,5 +1,5 @@
-//! Runs that the law of runs takes, and changed ones that one bullet of it alone refuses. Each
-//! function here does nothing, and carries a theorem.
+//! Worked runs, and wrong ones, each refused by one bullet of their law. Each function here does nothing, and carries a
+//! theorem.
 #![tactic(auto)]
 
 ghost use Rattle.law_run_worked.specs.Crowded.{CrowdedWorked};

@@ -1,5 +1,5 @@
-//! Which rows calls are given, link, cut and retire, and in which order; which calls scan and which move the clock, and what they
-//! answer of it. Each function here does nothing, and carries a theorem.
+//! Which rows calls are given, link, cut, retire; which scan (`Records.antt`). In which order they do; which calls move the
+//! clock, and what they answer of it. Each function here does nothing, and carries a theorem.
 #![tactic(auto)]
 
 ghost use Rattle.law_scans.specs.Places.{RecordsCountRetires, RecordsKeepOrder, RecordsLinkNexts, RecordsPlaceRows, RecordsRefuse, RecordsRetireCuts, RecordsRetireOne};

@@ -1,5 +1,5 @@
-//! What the numbers of steps in a record count, and when help is asked for. Each function here does nothing, and carries
-//! a theorem.
+//! What numbers of steps count (`Records.antt`), when help is asked for. Each function here does nothing, and carries a
+//! theorem.
 #![tactic(auto)]
 
 ghost use Rattle.law_steps.specs.Records.{RecordsAskLate, RecordsKeepEnds, RecordsKeepHelpers, RecordsKeepRaises, RecordsShowLate, RecordsTakeLate};

@@ -1,5 +1,4 @@
-//! How many turns of a seat a protection takes. Each function here does nothing, and carries
-//! a theorem.
+//! How many turns of its seat a protection takes (`Records.antt`). Each function here does nothing, and carries a theorem.
 #![tactic(auto)]
 
 ghost use Rattle.law_turns.specs.Records.{HandoversMeet, HazardsCount, LoadsCount, ProtectionsCount, ProtectionsEnd, ProtectionsLast, RecordsWithdrawNext, TriesCount, WithdrawalsFollow, TurnsFindLast};

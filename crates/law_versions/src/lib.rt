@@ -1,5 +1,5 @@
-//! Which schemes, calls, answers and events the records of a version have.
-//! The function here does nothing, and carries a theorem.
+//! Which schemes, calls, answers and events a version has (`Versions.antt`). The records of a version have no others. The
+//! function here does nothing, and carries a theorem.
 #![tactic(auto)]
 
 ghost use Rattle.law_versions.specs.Versions.{RecordsAreOf};

@@ -1,5 +1,5 @@
-//! Worked records that each law takes, and wrong ones with the laws that refuse them. Each function here does nothing, and
-//! carries a theorem.
+//! Worked records that all laws take, and wrong ones (`Judges.antt`). Of each wrong one it says which laws refuse it: a file
+//! `Wrong..` for each kind of law. Each function here does nothing, and carries a theorem.
 #![tactic(auto)]
 
 ghost use Rattle.law_worked.specs.Full.{FullWorked};

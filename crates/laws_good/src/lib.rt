@@ -1,5 +1,5 @@
-//! Which records are good: what is judged of a record by itself, without the history that made it. No history is named here.
-//! Each function does nothing, and carries a theorem.
+//! Which records are good (`Good.antt`), and one entry more (`Fits.antt`). That is what is judged of a record by itself,
+//! without the history that made it. No history is named here. Each function does nothing, and carries a theorem.
 #![tactic(auto)]
 
 ghost use Rattle.laws_good.specs.Fits.{BlankIsGood, GoodGrows};

@@ -1,6 +1,5 @@
-//! Histories: calls that begin and steps that are made, the turns and the record that they tell,
-//! and whole runs as theorems. Each function here does nothing, and carries
-//! a theorem.
+//! Histories (`History.antt`), what their steps may tell, whole runs. They are calls that begin and steps that are made, with
+//! the turns and the record that they tell. Each function here does nothing, and carries a theorem.
 #![tactic(auto)]
 
 ghost use Rattle.model_history.specs.Falls.{ClockMovesUnderARequest, HeadMoves, HelperIsStopped, IntervalRises, ReaderTriesAgain, TableIsFull};

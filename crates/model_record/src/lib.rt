@@ -1,5 +1,6 @@
-//! Records: what seats tell, entry by entry, and histories as starts of calls and turns of seats. A law is a test of an
-//! entry at its position. The function here does nothing, and carries a theorem.
+//! Records, positions, tests (`Record.antt`); starts and turns (`Turns.antt`). A record is what seats tell, entry by entry; a
+//! law is a test of an entry at its position; a history is here starts of calls and turns of seats. The function here does
+//! nothing, and carries a theorem.
 #![tactic(auto)]
 
 ghost use Rattle.model_record.specs.Record.{Each, EachEntry, Past, Test};

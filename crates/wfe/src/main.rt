@@ -1,4 +1,5 @@
-//! The program `wfe`: replays a trace of calls on a map and a queue, and prints the record, or a summary of a generated trace.
+//! The program: what its words ask for, by `main_call`. It replays a trace of calls on a map and a queue, runs it on threads,
+//! checks a record, or prints a summary of a generated trace.
 #![tactic(auto)]
 
 use std::alloc::AllocError;

@@ -1,5 +1,5 @@
-//! The calls of the map, over any scheme. Those that change a bucket stand here: the puts and a remove
-//! are one machine, with the change that it makes. The others are handed on.
+//! Puts and remove, over any scheme: one machine (`change.rt`, `change_at.rt`). The calls of the map that change no bucket are
+//! handed on.
 #![tactic(auto)]
 
 mod change;

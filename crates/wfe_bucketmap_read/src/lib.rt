@@ -1,5 +1,5 @@
-//! The calls of the map that change no bucket and those on rows that are kept between calls, each a
-//! machine over any scheme, and the move of the clock as a call.
+//! Get, hold, release, copy, drop, look, advance: machines, a file each. They are the calls of the map that change no bucket,
+//! those on rows that are kept between calls, and the move of the clock as a call, over any scheme.
 #![tactic(auto)]
 
 mod advance;

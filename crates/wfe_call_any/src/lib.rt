@@ -1,4 +1,4 @@
-//! A call of any kind as one machine, over any scheme, and under each of the schemes.
+//! A call of any kind as one machine (`running.rt`), under each scheme.
 #![tactic(auto)]
 
 mod keeping;

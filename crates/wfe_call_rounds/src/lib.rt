@@ -1,4 +1,4 @@
-//! How the rounds of a call begin and end under any scheme.
+//! How a call's rounds begin (`opening.rt`) and end (`closing.rt`). They do so under any scheme.
 #![tactic(auto)]
 
 mod closing;

@@ -1,5 +1,5 @@
-//! What a call does once its rounds are over: it retires the row that it cut, and, when that is due,
-//! moves the clock, where the scheme has it moved, and scans.
+//! After the last round: the cut row retired (`reclaim.rt`), a scan (`tidy.rt`). When that is due the clock is moved, where the
+//! scheme has it moved, and the list scanned.
 #![tactic(auto)]
 
 mod reclaim;

@@ -1,6 +1,6 @@
-//! The program `wfe_cases` plays each case that lies in the folders where it runs, as the program `wfe` would, and prints those whose
-//! output or status is not the one that is due. How many there were it says on standard error, so that a case is added without a
-//! change of what this program must print.
+//! A program that plays the cases of every command, in its `data`. It plays each case that lies in the folders where it runs,
+//! as the program `wfe` would, and prints those whose output or status is not the one that is due. How many there were it says
+//! on standard error, so that a case is added without a change of what this program must print.
 #![tactic(auto)]
 
 mod case;

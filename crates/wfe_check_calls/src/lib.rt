@@ -1,6 +1,6 @@
-//! What a record says of each seat's calls: whether one is under way, which it is, what it has done
-//! with its row, which rows it has cut, and how its scans come to blocks. An entry is judged by this
-//! alone, at a cost that does not grow with the record.
+//! Checker: calls, their rows, cuts and blocks of scans (`seat.rt`). That is of each seat's calls whether one is under way,
+//! which it is, what it has done with its row, which rows it has cut, and how its scans come to blocks. An entry is judged by
+//! this alone, at a cost that does not grow with the record.
 #![tactic(auto)]
 
 mod blocks;

@@ -1,4 +1,4 @@
-//! What parts of the checker share: counts, what schemes can do, what guards publish, and the positions of a record by number.
+//! Checker: counts, guards, positions by number (`count.rt`). These are what its parts share.
 #![tactic(auto)]
 
 mod count;

@@ -1,6 +1,5 @@
-//! What a record says of guards and of rows that stand, entry by entry: what each guard publishes,
-//! which rows stand at each index of a seat, and whether each of these is held. Each answer is that
-//! of the laws at the record so far, though the record is not kept.
+//! Checker: what guards publish, which rows stand (`protections.rt`). And whether each of these is held. Each answer is that of
+//! the laws at the record so far, though the record is not kept.
 #![tactic(auto)]
 
 mod held;

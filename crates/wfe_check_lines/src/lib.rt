@@ -1,5 +1,5 @@
-//! Reads a record's text, line by line, and has its entries judged: what its first bad line is, or the
-//! line up to which its entries are not good, and what is written of that. Who judges is given.
+//! A record's text, read line by line and judged (`reader.rt`, `check.rt`). It says what its first bad line is, or the line up
+//! to which its entries are not good. Who judges is given.
 #![tactic(auto)]
 
 mod check;

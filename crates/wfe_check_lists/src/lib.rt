@@ -1,5 +1,5 @@
-//! What the record says of retire lists and of scans: which lives each seat's list has, what the seat has
-//! read of its block of guards, and which life goes back next.
+//! Checker: retire lists, and scans (`lists.rt`, `seat.rt`). That is which lives each seat's list has, what the seat has read
+//! of its block of guards, and which life goes back next.
 #![tactic(auto)]
 
 mod guards;

@@ -1,6 +1,6 @@
-//! A text that is made of lines of a record is read back: its reading finds no bad line and tells the entries of those lines.
-//! Where they are good the text comes to the verdict that it is, and to no other. Each function does nothing, and carries a
-//! theorem.
+//! Theorems: text made of lines of a record is read back (`Printed.antt`). Its reading finds no bad line and tells the entries
+//! of those lines. Where they are good the text comes to the verdict that it is, and to no other. Each function does nothing,
+//! and carries a theorem.
 #![tactic(auto)]
 
 ghost use Rattle.wfe_check_printed.specs.Printed.{LawfulIsOnly, LawfulIsRead, PrintedIsRead};

@@ -1,5 +1,5 @@
-//! Tests of what no record shows of its checker: sources that fail or have no end, a judge without
-//! memory, and what reads the lines of a record.
+//! Tests of the checker: sources that fail or don't end, no memory. These are what no record shows, and what reads the lines of
+//! a record.
 #![tactic(auto)]
 
 mod judge;

@@ -1,4 +1,5 @@
-//! The command `wfe` as a call: words, a source and a sink in, a status out.
+//! The command as a call: words, source, sink in, status out (`command.rt`). What it promises is in `Headline.antt` and
+//! `Command.antt`.
 #![tactic(auto)]
 
 mod command;

@@ -1,4 +1,4 @@
-//! The commands of the program, as the words after its name ask for them.
+//! Which job the words ask for (`job.rt`).
 #![tactic(auto)]
 
 mod job;

@@ -1,5 +1,4 @@
-//! Tests of whole commands over memory, of what no text of a trace shows: sources and sinks that fail, and the
-//! longest trace.
+//! Tests of commands: sources and sinks that fail, the longest trace. These are what no text of a trace shows.
 #![tactic(auto)]
 
 #[cfg(test)]

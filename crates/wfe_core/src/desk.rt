@@ -14,7 +14,8 @@ use std::marker::Model;
 use wfe_defs::{Answer, Event, Guard, Lifetime, NoMemory, Shown};
 use wfe_words::Layout;
 
-/// The rows that a seat has retired and not given back, in order of their retirement.
+/// The rows on a seat's retire list, those that it has retired or taken over and not given back, in the
+/// order in which they came to it.
 #[derive(Drop)]
 pub struct RetireList {
     entries: Vec<Lifetime>,
@@ -145,6 +146,7 @@ pub struct Notes {
     pub given: Option<(u32, u32)>,
     /// Whether that row was given up.
     pub unused: bool,
+    /// The row retired, with its birth era and its retire era.
     pub retired: Option<Lifetime>,
     /// The slots that went back, in order.
     pub back: Vec<u32>,

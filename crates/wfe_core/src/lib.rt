@@ -1,5 +1,5 @@
-//! What a seat does at each atomic step: operations, local states, machines, and the World that they
-//! move.
+//! The model (`Machine.antt`, `Steps.antt`, `World.antt`), what machines share. That is what a seat does at each atomic step:
+//! operations, local states, machines, and the World that they move; and in `src` the types and traits of the code.
 #![tactic(auto)]
 
 mod call;

@@ -1,5 +1,5 @@
-//! Tests of the crates below the machines: that definitions mean the published numbers, that calls which
-//! take memory succeed, what a seat keeps, and operations on words. And of a list of pairs.
+//! Tests of words, definitions, seats' lists, pairs, operations. They show that definitions mean the published numbers, that
+//! calls which take memory succeed, and what a seat keeps.
 #![tactic(auto)]
 
 #[cfg(test)]

@@ -1,4 +1,4 @@
-//! What a run tells and what a trace says: events, calls, answers and commands.
+//! Events, calls, answers, commands (`event.rt`, `call.rt`). They are what a run tells and what a trace says.
 #![tactic(auto)]
 
 mod call;

@@ -1,5 +1,5 @@
-//! The rig: the words of a table with its seats, where one unit of a seat's call is one step of the
-//! model, and the interface through which a trace is replayed.
+//! The rig of replays: one unit is one step of the model (`rig.rt`). It is the words of a table with its seats. `engine.rt` has
+//! the interface through which a trace is replayed.
 #![tactic(auto)]
 
 mod engine;

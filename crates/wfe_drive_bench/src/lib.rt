@@ -1,4 +1,4 @@
-//! The rig in the hands of a test, with the record of what its units told.
+//! The rig in the hands of a test (`bench.rt`). It keeps the record of what its units told.
 #![tactic(auto)]
 
 mod bench;

@@ -1,6 +1,7 @@
-//! Whole calls on the words of one seat, whatever holds those words and whoever else changes them. A put or a remove makes
-//! rounds: each protects the bucket's root, reads its row, decides, writes a row of its own and exchanges the root, one
-//! step after another; a call of the queue protects an end, reads its row, and links an item or takes one.
+//! Whole calls of threads (`drive.rt`): puts, remove, queue without machines. They are on the words of one seat, whatever holds
+//! those words and whoever else changes them. A put or a remove makes rounds: each protects the bucket's root, reads its row,
+//! decides, writes a row of its own and exchanges the root, one step after another; a call of the queue protects an end, reads
+//! its row, and links an item or takes one. What is rare is handed to a machine in a loop of its own.
 #![tactic(auto)]
 
 mod append;

@@ -1,5 +1,5 @@
-//! Tests of the words of a table: whole calls on words that one owner has, what a table that is closed
-//! shows of them, atomic words beside plain ones, and handles of threads on the same words.
+//! Tests of whole calls on one owner's words, of closing, of handles. That is of what a table that is closed shows, of atomic
+//! words beside plain ones, and of handles of threads on the same words.
 #![tactic(auto)]
 
 #[cfg(test)]

@@ -1,5 +1,5 @@
-//! The words of a table by number, operations on them, and how a list of them is the memory of the
-//! model, which has its words by place.
+//! Words by number, and that they are the model's memory (`Bridge.antt`). With the operations on them; the model has its words
+//! by place.
 #![tactic(auto)]
 
 mod cells;

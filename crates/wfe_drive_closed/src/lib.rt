@@ -1,5 +1,5 @@
-//! What a table that is closed holds, read off its words. All memory for it is taken before the table
-//! is closed, and reading takes none.
+//! What a closed table holds, read off its words (`reading.rt`). All memory for it is taken before the table is closed, and
+//! reading takes none.
 #![tactic(auto)]
 
 mod closed;

@@ -1,5 +1,5 @@
-//! Tables of seats that stay: a World in which the invariant holds is what they show, and units and beginnings
-//! keep that. Each function here does nothing, and carries a theorem.
+//! Theorems: the rig's table shows a World of the invariant (`Reached.antt`). Its seats stay; units and beginnings keep that.
+//! Each function here does nothing, and carries a theorem.
 #![tactic(auto)]
 
 ghost use Rattle.std.specs.Prelude.{◌<◌, ◌≡◌, List, Option, false, true, ℕ};

@@ -1,6 +1,5 @@
-//! The shared table as threads have it: an atomic table under the rule that a history comes to the
-//! World that its words and the views of its handles show, the steps of seats on it, and the making
-//! and joining of handles.
+//! The threads' table: its rule (`Rule.antt`), its steps (`steps.rt`, `lists.rt`). It is an atomic table under the rule that a
+//! history comes to the World that its words and the views of its handles show, with the making and joining of handles.
 #![tactic(auto)]
 
 mod facts;

@@ -1,6 +1,6 @@
-//! Pieces of calls on the words of one seat: runs of a machine, a protection by which the seat is as the
-//! model's, the beginning and the end of a round, a row taken and written, and a retirement. Each serves
-//! every call.
+//! Pieces of threads' calls (`opening.rt`, `rows.rt`, `retirement.rt`). They are on the words of one seat: runs of a machine, a
+//! protection by which the seat is as the model's, the beginning and the end of a round, a row taken and written, and a
+//! retirement. Each serves every call.
 #![tactic(auto)]
 
 mod base_run;

@@ -1,5 +1,5 @@
-//! Tests of the rig under random schedules of calls: whether a row is used again too early, or a scan
-//! keeps what it need not.
+//! Tests of the rig under random schedules of calls. They ask whether a row is used again too early, or a scan keeps what it
+//! need not.
 #![tactic(auto)]
 
 #[cfg(test)]

@@ -1,5 +1,5 @@
-//! A seat of a rig, whatever machines its calls are: its post, its desk and the call under way on it,
-//! and the seat's part of a unit.
+//! A seat of the rig, whatever its calls, and its part of a unit (`seat.rt`). That is its post, its desk and the call under way
+//! on it.
 #![tactic(auto)]
 
 mod letting;

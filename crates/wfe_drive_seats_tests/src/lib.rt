@@ -1,4 +1,4 @@
-//! Tests of the shared table: how one is made, and what its seats show of their calls.
+//! Tests of the threads' table: how it is made, what seats show.
 #![tactic(auto)]
 
 #[cfg(test)]

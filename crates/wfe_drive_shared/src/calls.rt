@@ -12,27 +12,28 @@ use crate::seat::Seat;
 use crate::shared::Shared;
 use wfe_core::{Answer, Call, ClockMove};
 
-/// A key's value at a version of its bucket.
+/// A key's value, or that it has none, at a version of its bucket. Version 0 is that of a bucket that was
+/// never changed.
 #[derive(Clone, Copy, Debug, PartialEq, Eq)]
 pub struct Got {
     pub version: u64,
     pub value: Option<u64>,
 }
 
-/// A change is the bucket's at this version.
+/// A change is the bucket's at this version, from 1. Of the clock: `Still`, unless it made a move due.
 #[derive(Clone, Copy, Debug, PartialEq, Eq)]
 pub struct Done {
     pub version: u64,
     pub clock: ClockMove,
 }
 
-/// An item has this number in the queue.
+/// An item has this number in the queue, from 1.
 #[derive(Clone, Copy, Debug, PartialEq, Eq)]
 pub struct Queued {
     pub number: u64,
 }
 
-/// The item that was at the queue's front.
+/// The item that was at the queue's front, with its number from 1. Of the clock: as of a change.
 #[derive(Clone, Copy, Debug, PartialEq, Eq)]
 pub struct Taken {
     pub number: u64,
@@ -56,18 +57,18 @@ pub struct Looked {
     pub value: Option<u64>,
 }
 
-/// The queue was empty.
+/// At some time of the call the queue was empty.
 #[derive(Clone, Copy, Debug, PartialEq, Eq)]
 pub struct Empty;
 
 /// Why a put changed nothing.
 #[derive(Clone, Copy, Debug, PartialEq, Eq)]
 pub enum PutRefusal {
-    /// No row was free.
+    /// No row was free, though the call has scanned.
     Full,
-    /// The row at this version had no room for another key.
+    /// The row at this version had no room for another key: it had the setting's `pairs`.
     BucketFull { version: u64 },
-    /// The bucket's version is the last.
+    /// The bucket's version is the setting's `last_version`.
     Spent { number: u64 },
 }
 
@@ -76,11 +77,11 @@ pub enum PutRefusal {
 pub enum PutIfRefusal {
     /// The bucket had this version, and another one was named.
     Stale { version: u64 },
-    /// The bucket's version, which was named, is the last.
+    /// The bucket's version, which was named, is the setting's `last_version`.
     Spent { number: u64 },
-    /// The row at this version, which was named, had no room for another key.
+    /// The row at this version, which was named, had no room for another key: it had the setting's `pairs`.
     BucketFull { version: u64 },
-    /// No row was free.
+    /// No row was free, though the call has scanned.
     Full,
 }
 
@@ -89,18 +90,18 @@ pub enum PutIfRefusal {
 pub enum RemoveRefusal {
     /// The key had no value at this version.
     Absent { version: u64 },
-    /// The bucket's version is the last.
+    /// The bucket's version is the setting's `last_version`, and the key has a value.
     Spent { number: u64 },
-    /// No row was free.
+    /// No row was free, though the call has scanned. (A remove links a new row without the key.)
     Full,
 }
 
 /// Why nothing was queued.
 #[derive(Clone, Copy, Debug, PartialEq, Eq)]
 pub enum EnqueueRefusal {
-    /// The queue's number is the last.
+    /// The queue's number is the setting's `last_version`.
     Spent { number: u64 },
-    /// No row was free.
+    /// No row was free, though the call has scanned.
     Full,
 }
 
@@ -116,7 +117,8 @@ impl Shared {
         seat.get(&self.ledger.shared, key)
     }
 
-    /// Gives the key this value.
+    /// Gives the key this value, by a row that takes the place of its bucket's: the bucket's next version.
+    /// Where it is refused it has changed nothing. No bound in steps is promised, but that it ends.
     pub fn put(&self, seat: &mut Seat, key: u64, value: u64) -> Result<Done, PutRefusal>
         requires of { IsOf seat.old self.now }
         ensures of { IsOf seat.new self.now }
@@ -133,7 +135,8 @@ impl Shared {
         }
     }
 
-    /// Gives the key this value where its bucket is at this version.
+    /// Gives the key this value as a put does, where its bucket is at this version; done, it made the next
+    /// one. Where it is refused it has changed nothing.
     pub fn put_if(
         &self,
         seat: &mut Seat,
@@ -162,7 +165,7 @@ impl Shared {
         }
     }
 
-    /// Takes the key's value away.
+    /// Takes the key's value away, as a put that leaves none. Where it is refused it has changed nothing.
     pub fn remove(&self, seat: &mut Seat, key: u64) -> Result<Done, RemoveRefusal>
         requires of { IsOf seat.old self.now }
         ensures of { IsOf seat.new self.now }
@@ -179,7 +182,8 @@ impl Shared {
         }
     }
 
-    /// Puts a value at the queue's end.
+    /// Puts a value at the queue's end (Michael and Scott 1996). Where it is refused it has changed nothing.
+    /// No bound in steps is promised, but that it ends.
     pub fn enqueue(&self, seat: &mut Seat, value: u64) -> Result<Queued, EnqueueRefusal>
         requires of { IsOf seat.old self.now }
         ensures of { IsOf seat.new self.now }
@@ -195,7 +199,8 @@ impl Shared {
         }
     }
 
-    /// Takes the value at the queue's front.
+    /// Takes the value at the queue's front (Michael and Scott 1996). No bound in steps is promised, but that
+    /// it ends.
     pub fn dequeue(&self, seat: &mut Seat) -> Result<Taken, Empty>
         requires of { IsOf seat.old self.now }
         ensures of { IsOf seat.new self.now }
@@ -218,9 +223,9 @@ impl Shared {
         }
     }
 
-    /// Protects the row of the key's bucket until a release, and gives its slot, or none where the
-    /// bucket has no row. What was held before is let go. Whatever the other threads do, it takes no more
-    /// steps than `bound` says.
+    /// Protects the row of the key's bucket at index 2 until the next hold or release, and gives its slot, or
+    /// none where the bucket has no row. What was held before is let go. Whatever the other threads do, it
+    /// takes no more steps than `bound` says.
     #[tactic(auto, using(crate::proofs::Bounded::hold_bounded))]
     pub fn hold(&self, seat: &mut Seat, key: u64) -> Option<u32>
         requires of { IsOf seat.old self.now }
@@ -249,8 +254,8 @@ impl Shared {
         }
     }
 
-    /// Protects the row that stands at one index at a higher one too, and gives its slot, or none where no
-    /// row stands there. What stood at the higher index is let go. It takes two steps at most.
+    /// Protects the row that stands at one index, from 2 on, at a higher one too, and gives its slot, or none
+    /// where no row stands there. What stood at the higher index is let go. It takes two steps at most.
     #[tactic(auto, using(crate::proofs::Bounded::copied_bounded, crate::proofs::Bounded::uncopied_bounded, crate::proofs::Kept::copied_stood, crate::proofs::Kept::uncopied_stood, crate::proofs::Kept::copy_may))]
     pub fn copy(&self, seat: &mut Seat, from: u32, index: u32) -> Option<u32>
         requires of { IsOf seat.old self.now }
@@ -269,7 +274,7 @@ impl Shared {
         }
     }
 
-    /// Lets go of what stands at an index, in one step.
+    /// Lets go of what stands at an index, from 2 on, in one step.
     #[tactic(auto, using(crate::proofs::Bounded::drop_bounded, crate::proofs::Kept::drop_may))]
     pub fn drop_index(&self, seat: &mut Seat, index: u32)
         requires of { IsOf seat.old self.now }

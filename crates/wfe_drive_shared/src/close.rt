@@ -23,6 +23,7 @@ pub enum CloseError {
         seats: Vec<Seat>,
         place: usize,
     },
+    /// There was no memory for reading the table.
     NoMemory {
         shared: Shared,
         seats: Vec<Seat>,

@@ -23,6 +23,7 @@ pub enum CloseLeftError {
         left: Vec<LeftSeat>,
         place: usize,
     },
+    /// There was no memory for reading the table.
     NoMemory {
         shared: Shared,
         seats: Vec<Seat>,

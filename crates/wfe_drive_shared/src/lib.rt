@@ -1,6 +1,5 @@
-//! The table of words that threads share, and the calls on its seats: each is one walk of its machine,
-//! one atomic step after another, whatever the other threads do between them. A call takes no memory
-//! and never waits.
+//! The table that threads share: `shared.rt`, `seat.rt`, `calls.rt`, `close.rt`. Each call on its seats is one walk of its
+//! machine, one atomic step after another, whatever the other threads do between them. A call takes no memory and never waits.
 #![tactic(auto)]
 
 mod calls;

@@ -11,8 +11,8 @@ use crate::shared::Shared;
 
 impl Shared {
     /// Takes over the list that a seat of this table has left: it goes to the end of the seat's own, and how
-    /// many rows are in it is answered. Where none was left there, or another seat has it, the place word
-    /// that was found is answered. It takes two steps at most, and no memory.
+    /// many rows are in it is answered. Else the place word that was found is answered: 0 where that seat
+    /// had not left, 2 or 3 where its list was taken over. It takes two steps at most, and no memory.
     pub fn take_place(&self, seat: &mut Seat, place: u32) -> Result<u32, u64>
         requires of { IsOf seat.old self.now }
         requires place { place < self.now.layout.config.seats }

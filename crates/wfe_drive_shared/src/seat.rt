@@ -207,9 +207,9 @@ impl Seat {
         self.post.seat
     }
 
-    /// The greatest version that a call of this seat has answered for the bucket, the number of a
-    /// refused change of a bucket at its last version included, and what looks show left aside; 0 before
-    /// the first.
+    /// The greatest version that a call of this seat has answered for the bucket, counted from 0: the number
+    /// of a refused change of a bucket at its last version included, and what looks show left aside; 0
+    /// before the first.
     pub fn seen(&self, bucket: u32) -> u64
         requires { bucket < self.now.track.local.post.layout.config.buckets }
         ensures { result ≡ seen_in self.now.track.local.post.layout.config.buckets bucket self.now.track.local.log }
@@ -228,14 +228,15 @@ impl Seat {
         &self.desk.notes
     }
 
-    /// What the seat's last scan read and did.
+    /// What the seat's last scan read and did, in whichever call that was; empty before the first.
     pub fn report(&self) -> &ScanReport
         ensures { report_of result.now ≡ self.now.track.local.desk.report }
     {
         &self.desk.report
     }
 
-    /// The rows that the seat has retired and not given back.
+    /// The rows on the seat's retire list, each with its life in eras: those that it has retired, or has
+    /// taken over from a seat that left, and not given back.
     pub fn list(&self) -> &RetireList
         ensures { result.now.lives ≡ self.now.track.local.desk.list }
     {

@@ -22,6 +22,7 @@ use wfe_words::Field;
 pub enum MakeError {
     /// A number of the setting is outside its range: the first such.
     BadConfig { field: Field },
+    /// The setting is good, and memory ran out.
     NoMemory,
 }
 
@@ -46,7 +47,8 @@ impl Model for Shared {
 
 impl Shared {
     /// A table of this setting at its start, and its seats in number order, none of which has made a
-    /// call. A number outside its range is refused, the first of them by name.
+    /// call. A number outside its range is refused, the first of them by name; `NoMemory` is answered to a
+    /// good setting, where memory ran out. All memory for later calls is taken here.
     pub fn new(alloc: Global, config: Config) -> Result<(Shared, Vec<Seat>), MakeError>
         ensures made { IfOk result (λ r. (layout_of config ≡ Ok r.0.layout) × (r.1.items ≡ new_seats r.0)) }
         ensures of { IfOk result (λ r. All (λ seat. IsOf seat r.0) r.1.items) }

@@ -1,5 +1,5 @@
-//! Tests of the shared table: what its calls answer and in how many steps, and what a table that is
-//! closed holds. How a table is made and what its seats show is tested in `wfe_drive_seats_tests`.
+//! Tests of the threads' table: answers, steps, what it holds closed. How a table is made and what its seats show is tested in
+//! `wfe_drive_seats_tests`.
 #![tactic(auto)]
 
 #[cfg(test)]

@@ -1,5 +1,5 @@
-//! The words of a table as threads can share them, in the hands of one owner: each operation is one
-//! atomic step. So one who makes all steps by himself makes them on the words that threads would have.
+//! The replay's words: an atomic table that one owner has (`table.rt`). Each operation is one atomic step. So one who makes all
+//! steps by himself makes them on words as threads can share them.
 #![tactic(auto)]
 
 mod table;

@@ -1,5 +1,5 @@
-//! Tests of the rig at work, unit by unit: what its calls answer and in how many steps, also on rows that
-//! stay protected between calls, and a protection that moves of the clock overtake, alone and within a call.
+//! Tests of the rig, unit by unit: answers and steps of each call. Also on rows that stay protected between calls, and of a
+//! protection that moves of the clock overtake, alone and within a call.
 #![tactic(auto)]
 
 #[cfg(test)]

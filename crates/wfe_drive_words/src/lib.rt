@@ -1,5 +1,5 @@
-//! The words of a table in the hands of one seat, and steps on them that follow one another: those of
-//! a machine, or of a protection and a get without one.
+//! One seat's words (`words.rt`), threads' protections and gets (`get.rt`). The steps on these words follow one another: those
+//! of a machine, or of a protection and a get without one.
 #![tactic(auto)]
 
 mod apart;

@@ -1,5 +1,5 @@
-//! Protection under Wait-Free Eras (Nikolaev and Ravindran 2020): some tries as of Hazard Eras, and
-//! then a request that movers of the clock answer.
+//! Protection of Wait-Free Eras: tries, a request (`protect.rt`, `own_turn.rt`). It is as Nikolaev and Ravindran have it
+//! (2020): the tries are as of Hazard Eras, and then comes a request that movers of the clock answer.
 #![tactic(auto)]
 
 mod own_turn;

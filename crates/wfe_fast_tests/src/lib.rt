@@ -1,4 +1,4 @@
-//! Tests of a protection of Wait-Free Eras in the hands of a test, which makes what other seats would do.
+//! Tests of a protection of Wait-Free Eras, step by step. It is in the hands of a test, which makes what other seats would do.
 #![tactic(auto)]
 
 #[cfg(test)]

@@ -26,7 +26,8 @@ impl<D: Deleter> Model for Finals<D> {
 }
 
 impl<D: Deleter> Finals<D> {
-    /// No deleter at any of the slots from 0 to `slots`.
+    /// No deleter at any of the slots from 0 to `slots`, which is the setting's number. `NoMemory`: memory ran
+    /// out.
     pub fn new(alloc: Global, slots: u32) -> Result<Finals<D>, NoMemory>
         ensures { IfOk result (λ finals. finals ≡ replicate (slots + 1) None) }
     {
@@ -59,7 +60,8 @@ impl<D: Deleter> Finals<D> {
     }
 
     /// Calls the deleter of each of these slots that has one, once and in the order of the slots, and
-    /// drops it; tells how many. The other deleters stay.
+    /// drops it; tells how many, or the greatest number of 32 bits where there are more. The other deleters
+    /// stay. Each slot has a place here, and the ledger has room for as many calls as there are slots.
     pub fn settle(&mut self, backs: &[u32], ledger: &mut Ledger) -> u32
         requires slots { All (λ slot. slot < length self.old) backs.now }
         requires room { length backs.now ≤ ledger.old.spare }

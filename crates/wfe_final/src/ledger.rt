@@ -25,7 +25,7 @@ impl Model for Ledger {
 }
 
 impl Ledger {
-    /// An empty ledger with room for so many calls.
+    /// An empty ledger with room for so many calls. `NoMemory`: memory ran out.
     pub fn new(alloc: Global, room: usize) -> Result<Ledger, NoMemory>
         ensures empty { IfOk result (λ ledger. ledger.calls ≡ []) }
         ensures room { IfOk result (λ ledger. room ≤ ledger.spare) }
@@ -36,7 +36,7 @@ impl Ledger {
         }
     }
 
-    /// Adds a call. It takes no memory.
+    /// Adds a call, for which there is room. It takes no memory.
     pub fn add(&mut self, id: u64, slot: u32)
         requires { 0 < self.old.spare }
         ensures { self.new ≡ with_call id slot self.old }
@@ -51,7 +51,7 @@ impl Ledger {
         self.calls.len()
     }
 
-    /// One of them: the deleter's id, and the slot.
+    /// One of them, by its place from 0: the deleter's id, and the slot.
     pub fn get(&self, place: usize) -> (u64, u32)
         requires { place < length self.now.calls }
         ensures { slice_get self.now.calls place ≡ Some result }

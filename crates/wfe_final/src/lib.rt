@@ -1,5 +1,5 @@
-//! Deleters: objects outside the table that belong to retired slots. Each is called once, after its slot
-//! went back, and is then dropped.
+//! Deleters of objects outside the table (`finals.rt`, `watcher.rt`). Such an object belongs to a retired slot. Each deleter is
+//! called once, after its slot went back, and is then dropped.
 #![tactic(auto)]
 
 mod deleter;

@@ -39,7 +39,8 @@ impl<D: Deleter> Model for FinalWatcher<D> {
 }
 
 impl<D: Deleter> FinalWatcher<D> {
-    /// A watcher over the slots from 0 to `slots` with these deleters, to which nothing was told.
+    /// A watcher over the slots from 0 to `slots` with these deleters, to which nothing was told. `NoMemory`:
+    /// memory ran out.
     pub fn new(alloc: Global, slots: u32, store: Vec<D>) -> Result<FinalWatcher<D>, NoMemory>
         ensures slots { IfOk result (λ w. w.slots ≡ slots) }
         ensures given { IfOk result (λ w. w.given ≡ map D.identity store.items) }

@@ -1,4 +1,4 @@
-//! Tests of deleters: of slots that are settled, and of a watcher that calls them.
+//! Tests of deleters: slots that are settled, a watcher that calls.
 #![tactic(auto)]
 
 #[cfg(test)]

@@ -1,5 +1,5 @@
-//! 2GE intervals (Wen and others 2018): a seat publishes one interval of eras, a protection raises its
-//! upper end until that is the clock, and the interval is withdrawn at the end.
+//! 2GE intervals: `begin.rt`, `protect.rt`, `withdraw.rt`. They are as Wen and others have them (2018): a seat publishes one
+//! interval of eras, a protection raises its upper end until that is the clock, and the interval is withdrawn at the end.
 #![tactic(auto)]
 
 mod begin;

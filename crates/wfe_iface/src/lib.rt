@@ -1,4 +1,5 @@
-//! The four schemes behind one interface, so that a call is written once for all of them.
+//! The four schemes behind one trait (`schemes.rt`), and `follow.rt`. So a call is written once for all of them. A dequeue
+//! follows the head's next link by `follow.rt`.
 #![tactic(auto)]
 
 mod follow;

@@ -1,4 +1,5 @@
-//! The rig of seats that leave, and of seats that take over what others have left.
+//! The rig whose seats leave and take lists over (`units.rt`, `Parts.antt`). It is seen as the rig's table with each such seat
+//! as the model has it.
 #![tactic(auto)]
 
 mod part;

@@ -21,7 +21,7 @@ pub enum AdoptEnd {
 }
 
 /// The seat leaves its table: it lets go of all that stands at its indexes, and its list of retired rows
-/// stays with the table, where another seat may adopt it.
+/// stays with the table, where another seat may adopt it. Keep what is given back until the table is closed.
 pub fn leave(shared: &Shared, seat: Seat) -> LeftSeat
     requires of { IsOf seat shared.now }
     ensures of { IsOf result shared.now }
@@ -31,7 +31,8 @@ pub fn leave(shared: &Shared, seat: Seat) -> LeftSeat
 }
 
 /// Takes over the list that the seat of this number has left, whole, if no seat has taken it over before:
-/// it comes after the rows that are on the seat's own list.
+/// it comes after the rows that are on the seat's own list. It takes two steps where it gets the list, and
+/// else one. The number is below the setting's `seats`.
 pub fn adopt(shared: &Shared, seat: &mut Seat, place: u32) -> AdoptEnd
     requires of { IsOf seat.old shared.now }
     requires place { place < shared.now.layout.config.seats }

@@ -1,4 +1,4 @@
-//! Seats of a shared table that leave, and seats that take over what others have left.
+//! Leave and adopt of threads (`calls.rt`), with their table handed on.
 #![tactic(auto)]
 
 mod calls;

@@ -1,5 +1,5 @@
-//! Tests of seats of a shared table that leave, and of seats that take over what others have left: what each
-//! call answers and in how many steps, and what a table that is closed holds.
+//! Tests of threads' seats that leave, and lists taken over. What each call answers and in how many steps, and what a table
+//! that is closed holds.
 #![tactic(auto)]
 
 #[cfg(test)]

@@ -1,5 +1,5 @@
-//! Tests of seats that leave, and of seats that take over what others have left: what each call tells and
-//! answers, and in how many steps, under each scheme.
+//! Tests of the rig's seats that leave, and lists taken over. What each call tells and answers, and in how many steps, under
+//! each scheme.
 #![tactic(auto)]
 
 #[cfg(test)]

@@ -1,4 +1,5 @@
-//! The calls of the queue (Michael and Scott 1996), each a machine over any scheme.
+//! Enqueue and dequeue over any scheme (`enqueue_at.rt`, `dequeue_at.rt`). They are the calls of the queue of Michael and Scott
+//! (1996), each a machine.
 #![tactic(auto)]
 
 mod dequeue;

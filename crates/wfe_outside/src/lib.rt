@@ -1,5 +1,5 @@
-//! Where bytes come from, where they go, and who is told of events. Sources and sinks count their
-//! faults, so that an answer which names a fault has its cause.
+//! Sources, sinks, watchers (`stream.rt`, `watcher.rt`, `real.rt`). They are where bytes come from, where they go, and who is
+//! told of events. Sources and sinks count their faults, so that an answer which names a fault has its cause.
 #![tactic(auto)]
 
 mod count;

@@ -1,4 +1,4 @@
-//! Tests of what meets the outside: sources and sinks.
+//! Tests of sources and sinks.
 #![tactic(auto)]
 
 #[cfg(test)]

@@ -1,5 +1,4 @@
-//! Reads the answer that a line of a record names, from the words of the line. No call here takes
-//! memory.
+//! Reads the answer in a record's line (`answer.rt`). It takes the words of the line. No call here takes memory.
 #![tactic(auto)]
 
 mod answer;

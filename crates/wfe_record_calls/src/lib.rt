@@ -1,5 +1,5 @@
-//! Reads the call that a line of a record names, from the words of the line. No call here takes
-//! memory.
+//! Reads the call in a record's line (`call.rt`). It takes the words of the line. What a trace asks of a call's indexes beside
+//! their ranges is not asked of a record. No call here takes memory.
 #![tactic(auto)]
 
 mod call;

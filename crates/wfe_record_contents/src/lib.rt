@@ -1,5 +1,4 @@
-//! Reads the event of keys, values or lists that a line of a record names, from the words of the line.
-//! No call here takes memory.
+//! Reads an event of keys, values or lists (`contents.rt`). It takes the words of a record's line. No call here takes memory.
 #![tactic(auto)]
 
 mod contents;

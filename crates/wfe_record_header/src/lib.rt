@@ -1,5 +1,5 @@
-//! Reads the first line of a record, as the crate of traces prints it: without its line feed. No call
-//! here takes memory.
+//! Reads a record's first line (`header.rt`). It is read without its line feed, as the crate of traces prints it. No call here
+//! takes memory.
 #![tactic(auto)]
 
 mod header;

@@ -1,4 +1,4 @@
-//! Retirement: a row that was cut gets its retire era, and goes on its seat's list.
+//! A cut row gets its retire era and goes on the list (`retire.rt`).
 #![tactic(auto)]
 
 mod retire;

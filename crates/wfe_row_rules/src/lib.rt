@@ -1,4 +1,4 @@
-//! A watcher of tests, which reads of each entry that it is told whether it is against a rule of rows.
+//! A watcher of tests: which entries are against rules of rows (`rules.rt`). It reads so of each entry that it is told.
 #![tactic(auto)]
 
 mod reading;

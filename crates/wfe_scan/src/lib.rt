@@ -1,5 +1,5 @@
-//! A scan: a seat reads each guard once, and then gives back the rows of its retire list whose lives
-//! nothing keeps that it read.
+//! A scan reads all guards and gives rows back (`scan.rt`, `guards.rt`). A seat reads each guard once, and then gives back the
+//! rows of its retire list whose lives nothing keeps that it read.
 #![tactic(auto)]
 
 mod guards;

@@ -1,5 +1,5 @@
-//! What the program does with traces: it replays one, or makes one from a seed, plays it on a table,
-//! and puts out how often each kind of event came.
+//! Traces from a seed (`generator.rt`, `turn.rt`), with `replay` handed on. A generated trace is played on a table, and what is
+//! put out is how often each kind of event came.
 #![tactic(auto)]
 
 mod generator;

@@ -1,5 +1,4 @@
-//! What work puts out: lines go to a sink, and each watcher is told each event before its line is
-//! written. No call here takes memory.
+//! Lines to a sink, events to watchers first (`telling.rt`, `Emits.antt`). No call here takes memory.
 #![tactic(auto)]
 
 mod fault;

@@ -1,4 +1,4 @@
-//! Replays a trace: takes its bytes as they come, plays its lines on a table, and puts the record out.
+//! A trace's bytes (`progress.rt`), its lines on a table (`play.rt`). It takes the bytes as they come, and puts the record out.
 #![tactic(auto)]
 
 mod play;

@@ -1,5 +1,5 @@
-//! Runs the calls of a trace on workers, one for each seat of a table that they share, and prints
-//! what each made and what the table holds in the end.
+//! A trace's calls on threads (`worker.rt`, `serve.rt`, `report.rt`). A worker makes the calls of each seat of a table that
+//! they share; then it prints what each made and what the table holds in the end.
 #![tactic(auto)]
 
 mod events;

@@ -1,5 +1,4 @@
-//! Tests of runs by workers, of what no text of a trace shows: that a gate holds a worker back until another has
-//! made its call, and what is told once whatever the order of the steps was.
+//! Tests of runs: workers held back at gates, versions told once. These are what no text of a trace shows.
 #![tactic(auto)]
 
 #[cfg(test)]

@@ -1,5 +1,5 @@
-//! Tests of what no command shows of replays: what watchers hear, deleters, a sink that fails between two of
-//! them, a table whose seats stay, and a seat that stops at each unit of each call.
+//! Tests of replays: watchers, deleters, failed writes, stopped seats. These are what no command shows. A table whose seats
+//! stay is tested too.
 #![tactic(auto)]
 
 #[cfg(test)]

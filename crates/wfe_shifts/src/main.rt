@@ -1,7 +1,7 @@
-//! Threads that come and go on one shared table, as a user of the library writes them. A steady worker
-//! makes its calls, and beside it come newcomers, one after the other, each on a thread of its own: it
-//! takes over the list of retired rows that the one before has left, makes its calls, and leaves. What is
-//! printed is the same in whatever order the threads took their steps.
+//! A program on the threads' table whose threads come and go. It is as a user of the library writes it. A steady worker makes
+//! its calls, and beside it come newcomers, one after the other, each on a thread of its own: it takes over the list of retired
+//! rows that the one before has left, makes its calls, and leaves. What is printed is the same in whatever order the threads
+//! took their steps.
 #![tactic(auto)]
 
 mod marks;

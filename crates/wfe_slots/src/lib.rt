@@ -1,5 +1,5 @@
-//! Rows taken and given back by one seat: the walk over the claim words, the writing of a row, and a
-//! row that is given up before it was linked.
+//! Rows taken (`allocate.rt`, `walk.rt`), written, given up. One seat does so: it walks over the claim words, writes a row
+//! (`write_row.rt`), or gives one up before it was linked (`give_up.rt`).
 #![tactic(auto)]
 
 mod allocate;

@@ -1,4 +1,4 @@
-//! Calls on one shared table by many threads, to be timed from outside:
+//! A program of calls on the threads' table, timed by `bench/threads.py`. Many threads make calls on one shared table:
 //!
 //!     wfe_speed SCHEME WORK THREADS CALLS
 //!

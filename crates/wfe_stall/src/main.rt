@@ -1,5 +1,5 @@
-//! How many steps readers take on one shared table, while other threads move its clock and change what is
-//! read without a rest:
+//! A program that tells its readers' most steps, for `bench/stalled.py`. They are on one shared table, while other threads move
+//! its clock and change what is read without a rest:
 //!
 //!     wfe_stall SCHEME SECONDS
 //!

@@ -1,5 +1,5 @@
-//! Reads the lines of a trace of the versions 1 to 5, and prints the lines of a record. No call here
-//! takes memory.
+//! Reads a trace's lines (`read.rt`), prints a record's (`print.rt`). Traces have the versions 1 to 5. No call here takes
+//! memory.
 #![tactic(auto)]
 
 mod body;

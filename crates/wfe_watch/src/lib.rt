@@ -1,6 +1,6 @@
-//! Watchers that count: how much garbage each seat made and gave back, and how often each key was
-//! put and removed. What each shows is a function of the entries that it was told. Beside them a
-//! counter of the rows in each seat's retire list.
+//! Watchers that count: `garbage.rt`, `keys.rt`, `lists.rt`. They count how much garbage each seat made and gave back, how
+//! often each key was put and removed, and the rows in each seat's retire list. What each shows is a function of the entries
+//! that it was told.
 #![tactic(auto)]
 
 mod garbage;

@@ -20,7 +20,7 @@ pub enum SchemeKind {
 #[derive(Clone, Copy, Debug, PartialEq, Eq)]
 pub struct Config {
     pub scheme: SchemeKind,
-    /// Threads that take part, 1 to 64.
+    /// Seats, of which each thread that takes part has one at least, 1 to 64.
     pub seats: u32,
     /// Protections that a seat may hold at a time, 3 to 8.
     pub indexes: u32,
@@ -28,9 +28,10 @@ pub struct Config {
     pub slots: u32,
     /// Buckets of the map, 1 to 1,024.
     pub buckets: u32,
-    /// Failed tries before a reader asks for help, 1 to 64.
+    /// Under Wait-Free Eras, failed tries before a reader asks for help, 1 to 64.
     pub tries: u32,
-    /// Retirements between two moves of the clock, 1 to 65,536.
+    /// Retirements of a seat after which it scans its retire list, 1 to 65,536. Before such a scan it moves
+    /// the clock, but under hazard pointers, where no retirement does.
     pub every: u32,
     /// The era at which the clock stops, 1 to 4,294,967,295.
     pub last_era: u32,

@@ -1,4 +1,4 @@
-//! The setting of a table, and the words that it lays out.
+//! A table's setting (`config.rt`), its words (`layout.rt`, `Place.antt`). What is packed into words is in `packed.rt`.
 #![tactic(auto)]
 
 mod config;
