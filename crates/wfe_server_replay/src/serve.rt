@@ -20,7 +20,7 @@ use wfe_server_out::{Fault, write_all};
 use wfe_trace::{Line, Mode, Status, print_bad};
 
 /// Why no more of the source is read.
-#[derive(Clone, Copy, Debug, PartialEq, Eq)]
+#[derive(Clone, Copy)]
 pub enum Ending {
     AtEnd,
     NoRead,

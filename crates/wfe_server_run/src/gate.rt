@@ -11,7 +11,7 @@ pub trait Gate: Sync {
 }
 
 /// A gate that holds nobody back.
-#[derive(Clone, Copy, Debug, PartialEq, Eq)]
+#[derive(Clone, Copy)]
 pub struct OpenGate;
 
 impl Gate for OpenGate {

@@ -15,7 +15,7 @@ use wfe_outside::{Command, NoMemory};
 use wfe_trace::{BadLine, Config, Item, Mode, Reason, TraceState, read_line};
 
 /// Why no more of a trace is taken.
-#[derive(Clone, Copy, Debug, PartialEq, Eq)]
+#[derive(Clone, Copy)]
 pub enum Stop {
     Bad { bad: BadLine },
     NoMemory,

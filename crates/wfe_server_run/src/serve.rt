@@ -21,7 +21,7 @@ use wfe_server_out::put_line;
 use wfe_trace::{BadLine, Line, Mode, Status, print_bad};
 
 /// Why no more of the source is read.
-#[derive(Clone, Copy, Debug, PartialEq, Eq)]
+#[derive(Clone, Copy)]
 pub enum Ending {
     AtEnd,
     NoRead,
@@ -29,7 +29,7 @@ pub enum Ending {
 }
 
 /// Why there are no scripts.
-#[derive(Clone, Copy, Debug, PartialEq, Eq)]
+#[derive(Clone, Copy)]
 pub enum Unread {
     Bad { bad: BadLine },
     Fault,

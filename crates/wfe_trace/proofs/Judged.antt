@@ -1,6 +1,6 @@
 -- What holds of a trace's line that is not bad.
 use Rattle.std.proofs.Common.{ℕ, ◌≡◌, ◌<◌, ◌≤◌, ◌&&◌, if◌then◌else◌, nat_lt, nat_le, Bool, true, false, List, length, Option, Some, None, Result, Ok, Err, refl, sym, ap, subst, arith, ◌∙◌}
-use Rattle.std.specs.Prelude.{codes, IfOk}
+use Rattle.std.specs.Prelude.{codes}
 use Rattle.std.specs.Result.{result_unwrap_or}
 use Rattle.std.specs.Str.{bytes_eq}
 use Rattle.std.proofs.lemmas.Bool.Decides.{nat_tests}
@@ -26,7 +26,7 @@ use Rattle.wfe_trace.specs.declared.verb.Verb.{Verb}
 use Rattle.wfe_trace.specs.declared.verb.Verb.TheVariants as verbs
 use Rattle.wfe_trace.specs.Body.{verb_in, in_form, numbers_in, is_for, is_placed, seat_of, fits_indexes, fits_seats, call_within, call_of, command_of, judged_line, places_in, command_at, command_in, IsCommandWithin}
 use Rattle.wfe_trace.specs.Good.{is_body, IsRead}
-use Rattle.wfe_trace.specs.Reading.{Reading, judged_at, judged, stage_after, version_after, config_after, gives_pairs, unread_config, IsVersioned}
+use Rattle.wfe_trace.specs.Reading.{Reading, judged_at, judged, stage_after, version_after, config_after, gives_pairs, unread_config, IsVersioned, IsItemWithin, IsItemVersioned}
 use Rattle.wfe_trace.specs.Setting.{version_line, pairs_in, word_after, field_name, scheme_line, scheme_version, scheme_known, number_line, with_number}
 use Rattle.wfe_trace.specs.Words.{words, number_in, need, or_number, ◌>>=◌}
 use Rattle.wfe_trace.proofs.Settings.{bad_field-with_number, versioned-with_number, versioned_first, allows-pairs_in, after-gives_pairs}
@@ -111,11 +111,6 @@ judged-line mode config named line c h =
     let (v, placed, h5) = both_good (need (is_placed config.seats verb numbers.first) reasons.Seat) _ c h4 in
     command-of verb config seat numbers c seated (needed _ reasons.Seat v placed) h5
 
--- a line that is good asks for what keeps to the setting
-pub line_within : (mode : Mode) (config : Config) (named : Option Verb) (line : Places) (r : Result Command Reason) → r ≡ judged_line mode config named line → IfOk r (IsCommandWithin config)
-line_within mode config named line (Err e) h = tt
-line_within mode config named line (Ok c) h = judged-line mode config named line c (sym h)
-
 command-at : (mode : Mode) (version : ℕ) (config : Config) (placed : Option (List ℕ × Places)) (c : Command) → command_at mode version config placed ≡ Ok c → IsCommandWithin config c
 command-at mode version config None c h = absurd (cc)
 command-at mode version config (Some placed) c h = judged-line mode config (verb_in version placed.0) placed.1 c h
@@ -189,3 +184,31 @@ pub judged-read : (r : Reading) (bytes : List ℕ) (item : Item) → judged r by
 judged-read r bytes item h =
     let (u, _, h1) = both_good (need (nat_le (length bytes) 200) reasons.LongLine) _ item h in
     read-at r.stage r bytes item h1
+
+abbrev Said : Reading → Item → Type 0
+Said r item = IsItemWithin r item × IsItemVersioned item
+
+same_said : (r : Reading) (a item : Item) (found : Result Item Reason) → found ≡ Ok a → found ≡ Ok item → Said r a → Said r item
+same_said r a item found is_a is_item = let same : a ≡ item = cc in subst (Said r) same
+
+said-at : (stage : Stage) (r : Reading) (bytes : List ℕ) (item : Item) → bad_field r.config ≡ None → IsVersioned r.version r.config → judged_at stage r bytes ≡ Ok item → Said r item
+said-at stages.First r bytes item good v h =
+    let (version, _, h1) = both_good (version_line bytes) _ item h in
+    same_said r items.Setting item _ refl h1 (tt, tt)
+said-at stages.Scheme r bytes item good v h =
+    let (scheme, _, h1) = both_good (scheme_known r.version (words bytes)) _ item h in
+    same_said r items.Setting item _ refl h1 (tt, tt)
+said-at (stages.Number field) r bytes item good v h =
+    let (number, _, h1) = both_good (number_line field (words bytes)) _ item h in
+    same_said r items.Setting item _ refl h1 (tt, tt)
+said-at stages.Begin r bytes item good v h =
+    let (u, _, h1) = both_good (need (bytes_eq bytes (codes "begin")) reasons.Config) _ item h in
+    same_said r (items.Ready r.version r.config) item _ refl h1 (good, v)
+said-at stages.Body r bytes item good v h =
+    let (c, said, h1) = both_good (command_in r.mode r.version r.config (words bytes)) _ item h in
+    same_said r (items.Command c) item _ refl h1 (command_within r.mode r.version r.config (words bytes) c said, tt)
+
+-- the item of a line keeps to a setting in its ranges, and a setting that is whole has its version
+pub said_of : (seen r : Reading) (bytes : List ℕ) (item : Item) → seen ≡ r → bad_field seen.config ≡ None → IsVersioned seen.version seen.config → judged_at r.stage r bytes ≡ Ok item → IsItemWithin r item × IsItemVersioned item
+said_of seen r bytes item same good v h =
+    said-at r.stage r bytes item (subst (λ (k : Reading). bad_field k.config ≡ None) same good) (subst (λ (k : Reading). IsVersioned k.version k.config) same v) h

@@ -14,9 +14,9 @@ use Rattle.wfe_defs.specs.declared.call.Call.{Call}
 use Rattle.wfe_defs.specs.declared.call.Answer.{Answer}
 use Rattle.wfe_defs.specs.declared.event.Event.{Event}
 use Rattle.wfe_trace.specs.declared.reason.Reason.{Reason}
-use Rattle.wfe_trace.specs.Fits.{NumberFits, GuardFits, SpanFits, ValueFits, RootFits, ClockFits, CallFits, AnswerFits, EventFits, ConfigFits}
+use Rattle.wfe_text.specs.Fits.{NumberFits, GuardFits, SpanFits, ValueFits, RootFits, ClockFits, CallFits, AnswerFits, EventFits, ConfigFits}
 use Rattle.wfe_trace.specs.Record.{spaced, line_of, guard_word, span_words, value_words, root_word, clock_words, call_words, answer_words, event_words, event_line, seat_word, table_line, watch_line, count_line, setting_words, header_line, reason_word, bad_line}
-use Rattle.wfe_trace.proofs.Digits.{twenty_digits}
+use Rattle.wfe_text.proofs.Digits.{twenty_digits}
 
 -- at most so many words, each of at most 50 bytes
 abbrev pub Short : ℕ → List (List ℕ) → Type 0

@@ -1,13 +1,9 @@
-pub mod Decimals
-pub mod Digits
-pub mod EventReader
-pub mod EventTexts
-pub mod EventWords
+pub use Rattle.wfe_text.proofs.Decimals as Decimals
+pub use Rattle.wfe_text.proofs.Digits as Digits
+pub use Rattle.wfe_text.proofs.EventWords as EventWords
+pub use Rattle.wfe_text.proofs.Numerals as Numerals
 pub mod Judged
 pub mod Lengths
-pub mod Numerals
 pub mod Reasons
 pub mod Settings
-pub mod Spaces
-pub mod Texts
 pub mod Versions

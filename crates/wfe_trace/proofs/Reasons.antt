@@ -114,10 +114,6 @@ judged-at (stages.Number field) r bytes = both (number_line field (words bytes))
 judged-at stages.Begin r bytes = both (need (bytes_eq bytes (codes "begin")) reasons.Config) _ (needed _ reasons.Config refl) (λ u. refl)
 judged-at stages.Body r bytes = both (command_in r.mode r.version r.config (words bytes)) _ (command-in r.mode r.version r.config (words bytes)) (λ c. refl)
 
--- a line of the body is bad for a reason of a line
-pub reason_in_body : (mode : Mode) (version : ℕ) (config : Config) (ws : List (List ℕ)) (reason : Reason) → command_in mode version config ws ≡ Err reason → is_of_line reason ≡ true
-reason_in_body mode version config ws reason h = sym (ap is_line_result h) ∙ command-in mode version config ws
-
 -- a line at its place in the trace is bad for a reason of a line
 pub reason_at : (stage : Stage) (r : Reading) (bytes : List ℕ) (reason : Reason) → judged_at stage r bytes ≡ Err reason → is_of_line reason ≡ true
 reason_at stage r bytes reason h = sym (ap is_line_result h) ∙ judged-at stage r bytes

@@ -1,6 +1,6 @@
 pub use Rattle.wfe_words.specs as words
+pub use Rattle.wfe_text.specs.Fits as Fits
 pub mod Body
-pub mod Fits
 pub mod Good
 pub mod Reading
 pub mod Record

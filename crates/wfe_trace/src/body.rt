@@ -1,12 +1,12 @@
 // The body lines of a trace, in each version that is read.
-ghost use Rattle.std.specs.Prelude.{◌≡◌, true, IfOk, option_map};
-ghost use Rattle.wfe_trace.specs.Body.{is_placed, count_in, in_form as form, numbers_in, seat_of as named_seat, call_within, call_of as call_with, command_of as command, judged_line, places_in, command_in, IsCommandWithin};
+ghost use Rattle.std.specs.Prelude.{◌≡◌, true, option_map};
+ghost use Rattle.wfe_trace.specs.Body.{is_placed, count_in, in_form as form, numbers_in, seat_of as named_seat, call_within, call_of as call_with, command_of as command, judged_line, places_in, command_in};
 ghost use Rattle.wfe_trace.specs.Words.{words};
 
 use crate::verb::{CallVerb, Verb, count_of, is_for, is_placed, names_seat, verb_of};
-use crate::words::{Words, need, number_of, or_number, words_of};
 use crate::{Mode, Reason};
 use wfe_defs::{Call, Command};
+use wfe_text::{Words, number_of, words_of};
 use wfe_words::Config;
 
 /// The words in the places of numbers, the seat's first: None is a word that is no number.
@@ -28,6 +28,34 @@ pub struct Numbers {
     pub third: u64,
 }
 
+fn all_numbers(
+    seat: Option<u64>,
+    first: Option<u64>,
+    second: Option<u64>,
+    third: Option<u64>,
+) -> Result<Numbers, Reason>
+    ensures { result ≡ numbers_in (Places.SeatThree seat first second third) }
+{
+    let Some(seat) = seat else {
+        return Err(Reason::Number);
+    };
+    let Some(first) = first else {
+        return Err(Reason::Number);
+    };
+    let Some(second) = second else {
+        return Err(Reason::Number);
+    };
+    let Some(third) = third else {
+        return Err(Reason::Number);
+    };
+    Ok(Numbers {
+        seat,
+        first,
+        second,
+        third,
+    })
+}
+
 impl Places {
     fn count(&self) -> usize
         ensures { result ≡ count_in self.now }
@@ -44,19 +72,13 @@ impl Places {
     fn numbers(self) -> Result<Numbers, Reason>
         ensures { result ≡ numbers_in self }
     {
-        let (seat, first, second, third) = match self {
-            Places::Nothing => (Some(0), Some(0), Some(0), Some(0)),
-            Places::Seat(seat) => (seat, Some(0), Some(0), Some(0)),
-            Places::SeatOne(seat, first) => (seat, first, Some(0), Some(0)),
-            Places::SeatTwo(seat, first, second) => (seat, first, second, Some(0)),
-            Places::SeatThree(seat, first, second, third) => (seat, first, second, third),
-        };
-        Ok(Numbers {
-            seat: or_number(seat)?,
-            first: or_number(first)?,
-            second: or_number(second)?,
-            third: or_number(third)?,
-        })
+        match self {
+            Places::Nothing => all_numbers(Some(0), Some(0), Some(0), Some(0)),
+            Places::Seat(seat) => all_numbers(seat, Some(0), Some(0), Some(0)),
+            Places::SeatOne(seat, first) => all_numbers(seat, first, Some(0), Some(0)),
+            Places::SeatTwo(seat, first, second) => all_numbers(seat, first, second, Some(0)),
+            Places::SeatThree(seat, first, second, third) => all_numbers(seat, first, second, third),
+        }
     }
 }
 
@@ -86,7 +108,9 @@ fn copy_of(indexes: u32, from: u64, index: u64) -> Result<Call, Reason>
     ensures { result ≡ call_within indexes (Call.Copy from index) }
 {
     let upwards = 2 <= from && (from < index && index < indexes as u64);
-    need(upwards, Reason::Range)?;
+    if !upwards {
+        return Err(Reason::Range);
+    }
     Ok(Call::Copy {
         from: from as u32,
         index: index as u32,
@@ -97,7 +121,10 @@ fn copy_of(indexes: u32, from: u64, index: u64) -> Result<Call, Reason>
 fn drop_of(indexes: u32, index: u64) -> Result<Call, Reason>
     ensures { result ≡ call_within indexes (Call.DropIndex index) }
 {
-    need(2 <= index && index < indexes as u64, Reason::Range)?;
+    let stands = 2 <= index && index < indexes as u64;
+    if !stands {
+        return Err(Reason::Range);
+    }
     let index = index as u32;
     Ok(Call::DropIndex { index })
 }
@@ -106,7 +133,10 @@ fn drop_of(indexes: u32, index: u64) -> Result<Call, Reason>
 fn look_of(indexes: u32, index: u64, key: u64) -> Result<Call, Reason>
     ensures { result ≡ call_within indexes (Call.Look index key) }
 {
-    need(2 <= index && index < indexes as u64, Reason::Range)?;
+    let stands = 2 <= index && index < indexes as u64;
+    if !stands {
+        return Err(Reason::Range);
+    }
     let index = index as u32;
     Ok(Call::Look { index, key })
 }
@@ -156,10 +186,10 @@ fn command_of(config: &Config, verb: Verb, seat: u32, numbers: Numbers) -> Resul
             Ok(Command::Call { seat, call })
         }
         Verb::Step => {
-            need(
-                1 <= numbers.first && numbers.first <= 100_000,
-                Reason::Range,
-            )?;
+            let within = 1 <= numbers.first && numbers.first <= 100_000;
+            if !within {
+                return Err(Reason::Range);
+            }
             let units = numbers.first as u32;
             Ok(Command::Step { seat, units })
         }
@@ -174,9 +204,13 @@ fn judge(mode: Mode, config: &Config, named: Option<Verb>, line: Places) -> Resu
 {
     let verb = in_form(named, line)?;
     let numbers = line.numbers()?;
-    need(is_for(mode, verb), Reason::RunLine)?;
+    if !is_for(mode, verb) {
+        return Err(Reason::RunLine);
+    }
     let seat = seat_of(config.seats, verb, numbers.seat)?;
-    need(is_placed(config.seats, verb, numbers.first), Reason::Seat)?;
+    if !is_placed(config.seats, verb, numbers.first) {
+        return Err(Reason::Seat);
+    }
     command_of(config, verb, seat, numbers)
 }
 
@@ -210,8 +244,7 @@ fn places_of(bytes: &[u8]) -> Option<(&[u8], Places)>
 
 /// Judges a line of the body, in a trace of the version and with the setting.
 pub fn read_body(mode: Mode, version: u32, config: &Config, bytes: &[u8]) -> Result<Command, Reason>
-    ensures command { result ≡ command_in mode version config.now (words bytes.now) }
-    ensures within { IfOk result (IsCommandWithin config.now) }
+    ensures { result ≡ command_in mode version config.now (words bytes.now) }
 {
     let Some((verb, line)) = places_of(bytes) else {
         return Err(Reason::Form);

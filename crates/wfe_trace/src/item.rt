@@ -3,7 +3,7 @@ use wfe_defs::Command;
 use wfe_words::{Config, Field};
 
 /// How the calls of a trace are made.
-#[derive(Clone, Copy, Debug, PartialEq, Eq)]
+#[derive(Clone, Copy)]
 pub enum Mode {
     /// One atomic step after the other, as the lines say.
     Replay,

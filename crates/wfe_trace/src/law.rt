@@ -11,22 +11,10 @@ ghost use Rattle.wfe_trace.specs.declared.item.Mode.{Mode};
 ghost use Rattle.wfe_trace.specs.declared.item.Mode.TheVariants as modes;
 ghost use Rattle.wfe_trace.specs.declared.reason.Reason.{Reason};
 ghost use Rattle.wfe_trace.specs.Body.{command_in};
-ghost use Rattle.wfe_trace.specs.Fits.{NumberFits, ValueFits, EventFits, ConfigFits};
+ghost use Rattle.wfe_text.specs.Fits.{NumberFits, ValueFits, EventFits, ConfigFits};
 ghost use Rattle.wfe_trace.specs.Good.{IsRead, is_for_workers, is_of_line, version_of};
 ghost use Rattle.wfe_trace.specs.Reading.{Reading, judged};
 ghost use Rattle.wfe_trace.specs.Record.{event_line, table_line, watch_line, count_line, header_line, bad_line};
-
-use wfe_defs::Event;
-
-/// A law: the line of an event of a seat is the line of no other seat and no other event. The
-/// first two conditions hold of every value of the type.
-pub fn event_line_is_of_one_event(seat: u32, event: Event, other_seat: u32, other: Event)
-    requires event { EventFits event }
-    requires other { EventFits other }
-    requires same { event_line seat event ≡ event_line other_seat other }
-    ensures seat { seat ≡ other_seat }
-    ensures event { event ≡ other }
-{}
 
 /// A law: where its numbers have at most 64 bits, as those of every value of the types do, each
 /// line of a record has at most 1,024 bytes.

@@ -6,9 +6,9 @@ ghost use Rattle.wfe_trace.specs.Reading.{IsItemWithin, IsItemVersioned, Reading
 use crate::body::read_body;
 use crate::item::Stage;
 use crate::setting::{pairs_of, read_number, read_scheme, read_version, with_number};
-use crate::words::need;
 use crate::{BadLine, Item, Mode, Reason};
 use std::marker::Model;
+use wfe_text::is;
 use wfe_words::{Config, Field, SchemeKind};
 
 /// A trace of which some lines were read.
@@ -102,46 +102,47 @@ impl TraceState {
     }
 
     // Judges a line that is short enough, and takes what it says of the setting.
-    #[tactic(auto, using(crate::proofs::Reasons::reason_at, crate::proofs::Reasons::reason_in_body))]
     fn judge(&mut self, bytes: &[u8]) -> Result<Item, Reason>
         ensures item { result ≡ judged_at self.old.stage self.old bytes.now }
         ensures taken { OnOk result (self.new ≡ record self.old
             { version = version_after self.old.stage self.old.version bytes.now; config = config_after self.old.stage self.old.config bytes.now }) }
         ensures kept { OnErr result (self.new ≡ self.old) }
-        ensures within { IfOk result (IsItemWithin self.old) }
-        ensures version { IfOk result IsItemVersioned }
-        ensures reason { IfErr result (λ reason. IsTrue (is_of_line reason)) }
     {
         match self.stage {
             Stage::First => {
                 let version = read_version(bytes)?;
                 self.version = version;
                 self.config = with_number(unread_config(), Field::Pairs, pairs_of(version));
+                Ok(Item::Setting)
             }
-            Stage::Scheme => self.config.scheme = read_scheme(self.version, bytes)?,
+            Stage::Scheme => {
+                self.config.scheme = read_scheme(self.version, bytes)?;
+                Ok(Item::Setting)
+            }
             Stage::Number { field } => {
                 let number = read_number(field, bytes)?;
                 self.config = with_number(self.config, field, number);
+                Ok(Item::Setting)
             }
             Stage::Begin => {
-                need(bytes == b"begin".as_slice(), Reason::Config)?;
-                return Ok(Item::Ready {
+                if !is(bytes, b"begin") {
+                    return Err(Reason::Config);
+                }
+                Ok(Item::Ready {
                     version: self.version,
                     config: self.config,
-                });
+                })
             }
             Stage::Body => {
                 let command = read_body(self.mode, self.version, &self.config, bytes)?;
-                return Ok(Item::Command { command });
+                Ok(Item::Command { command })
             }
         }
-        Ok(Item::Setting)
     }
 }
 
 /// Reads one line, without its line feed. A trace is read from its first line on, up to the first
 /// bad line or the line `end`.
-#[tactic(auto, using(crate::proofs::Reasons::reason_of))]
 pub fn read_line(state: &mut TraceState, bytes: &[u8]) -> Result<Item, BadLine>
     ensures item { MatchResult result
         (λ item. judged state.old bytes.now ≡ Ok item)
@@ -154,9 +155,9 @@ pub fn read_line(state: &mut TraceState, bytes: &[u8]) -> Result<Item, BadLine>
     ensures reason { IfErr result (λ bad. IsTrue (is_of_line bad.reason)) }
 {
     let line = state.line.saturating_add(1);
-    match need(bytes.len() <= 200, Reason::LongLine) {
-        Ok(()) => {}
-        Err(reason) => return Err(BadLine { line, reason }),
+    if bytes.len() > 200 {
+        let reason = Reason::LongLine;
+        return Err(BadLine { line, reason });
     }
     match state.judge(bytes) {
         Ok(item) => {

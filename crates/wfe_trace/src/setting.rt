@@ -5,22 +5,22 @@ ghost use Rattle.wfe_trace.specs.Setting.{version_line, pairs_in, word_after as 
 ghost use Rattle.wfe_trace.specs.Words.{words};
 
 use crate::Reason;
-use crate::words::{Words, need, number_of, or_number, words_of};
+use wfe_text::{Words, is, number_of, words_of};
 use wfe_words::{Config, Field, SchemeKind};
 
 /// The version that the first line names, 1 to 5.
 pub fn read_version(bytes: &[u8]) -> Result<u32, Reason>
     ensures { result ≡ version_line bytes.now }
 {
-    if bytes == b"wfe 1".as_slice() {
+    if is(bytes, b"wfe 1") {
         Ok(1)
-    } else if bytes == b"wfe 2".as_slice() {
+    } else if is(bytes, b"wfe 2") {
         Ok(2)
-    } else if bytes == b"wfe 3".as_slice() {
+    } else if is(bytes, b"wfe 3") {
         Ok(3)
-    } else if bytes == b"wfe 4".as_slice() {
+    } else if is(bytes, b"wfe 4") {
         Ok(4)
-    } else if bytes == b"wfe 5".as_slice() {
+    } else if is(bytes, b"wfe 5") {
         Ok(5)
     } else {
         Err(Reason::First)
@@ -40,7 +40,7 @@ fn word_after<'a>(name: &[u8], bytes: &'a [u8]) -> Result<&'a [u8], Reason>
     ensures { MatchResult result (λ w. after name.now (words bytes.now) ≡ Ok w.now) (λ e. after name.now (words bytes.now) ≡ Err e) }
 {
     match words_of(bytes) {
-        Words::Two(first, word) if first == name => Ok(word),
+        Words::Two(first, word) if is(first, name) => Ok(word),
         _ => Err(Reason::Config),
     }
 }
@@ -48,13 +48,13 @@ fn word_after<'a>(name: &[u8], bytes: &'a [u8]) -> Result<&'a [u8], Reason>
 fn scheme_of(word: &[u8]) -> Result<SchemeKind, Reason>
     ensures { result ≡ scheme_in word.now }
 {
-    if word == b"he".as_slice() {
+    if is(word, b"he") {
         Ok(SchemeKind::He)
-    } else if word == b"ibr".as_slice() {
+    } else if is(word, b"ibr") {
         Ok(SchemeKind::Ibr)
-    } else if word == b"wfe".as_slice() {
+    } else if is(word, b"wfe") {
         Ok(SchemeKind::Wfe)
-    } else if word == b"hp".as_slice() {
+    } else if is(word, b"hp") {
         Ok(SchemeKind::Hp)
     } else {
         Err(Reason::Config)
@@ -84,24 +84,27 @@ pub fn read_scheme(version: u32, bytes: &[u8]) -> Result<SchemeKind, Reason>
     ensures known { IfOk result (λ scheme. version_of_scheme scheme ≤ version) }
 {
     let scheme = named_scheme(bytes)?;
-    need(scheme_version(scheme) <= version, Reason::Config)?;
+    if scheme_version(scheme) > version {
+        return Err(Reason::Config);
+    }
     Ok(scheme)
 }
 
 fn field_name(field: Field) -> &'static [u8]
     ensures { result.now ≡ name_of_field field }
 {
-    match field {
-        Field::Seats => b"seats",
-        Field::Indexes => b"indexes",
-        Field::Slots => b"slots",
-        Field::Buckets => b"buckets",
-        Field::Tries => b"tries",
-        Field::Every => b"every",
-        Field::LastEra => b"last_era",
-        Field::LastVersion => b"last_version",
-        Field::Pairs => b"pairs",
-    }
+    const NAMES: [&[u8]; 9] = [
+        b"seats",
+        b"indexes",
+        b"slots",
+        b"buckets",
+        b"tries",
+        b"every",
+        b"last_era",
+        b"last_version",
+        b"pairs",
+    ];
+    NAMES[field as usize]
 }
 
 /// The number that a field's line gives it.
@@ -109,8 +112,12 @@ pub fn read_number(field: Field, bytes: &[u8]) -> Result<u64, Reason>
     ensures line { result ≡ number_line field (words bytes.now) }
     ensures within { IfOk result (λ number. IsTrue (in_range field number)) }
 {
-    let number = or_number(number_of(word_after(field_name(field), bytes)?))?;
-    need(field.allows(number), Reason::Range)?;
+    let Some(number) = number_of(word_after(field_name(field), bytes)?) else {
+        return Err(Reason::Number);
+    };
+    if !field.allows(number) {
+        return Err(Reason::Range);
+    }
     Ok(number)
 }
 

@@ -3,6 +3,7 @@ ghost use Rattle.std.specs.Prelude.{◌≡◌};
 ghost use Rattle.wfe_trace.specs.Body.{later_call_in, call_verb_in, first_version as version_of, known_in as known, verb_in, call_count as count_of_call, count_of as count, is_for as fits, is_placed as placed_in, names_seat as has_seat};
 
 use crate::Mode;
+use wfe_text::is;
 
 /// A call that a line begins.
 #[derive(Clone, Copy)]
@@ -38,17 +39,17 @@ pub enum Verb {
 fn later_call_of(word: &[u8]) -> Option<CallVerb>
     ensures { result ≡ later_call_in word.now }
 {
-    if word == b"copy".as_slice() {
+    if is(word, b"copy") {
         Some(CallVerb::Copy)
-    } else if word == b"drop".as_slice() {
+    } else if is(word, b"drop") {
         Some(CallVerb::DropIndex)
-    } else if word == b"look".as_slice() {
+    } else if is(word, b"look") {
         Some(CallVerb::Look)
-    } else if word == b"put_if".as_slice() {
+    } else if is(word, b"put_if") {
         Some(CallVerb::PutIf)
-    } else if word == b"leave".as_slice() {
+    } else if is(word, b"leave") {
         Some(CallVerb::Leave)
-    } else if word == b"adopt".as_slice() {
+    } else if is(word, b"adopt") {
         Some(CallVerb::Adopt)
     } else {
         None
@@ -58,23 +59,23 @@ fn later_call_of(word: &[u8]) -> Option<CallVerb>
 fn call_verb_of(word: &[u8]) -> Option<CallVerb>
     ensures { result ≡ call_verb_in word.now }
 {
-    if word == b"get".as_slice() {
+    if is(word, b"get") {
         Some(CallVerb::Get)
-    } else if word == b"put".as_slice() {
+    } else if is(word, b"put") {
         Some(CallVerb::Put)
-    } else if word == b"remove".as_slice() {
+    } else if is(word, b"remove") {
         Some(CallVerb::Remove)
-    } else if word == b"enq".as_slice() {
+    } else if is(word, b"enq") {
         Some(CallVerb::Enqueue)
-    } else if word == b"deq".as_slice() {
+    } else if is(word, b"deq") {
         Some(CallVerb::Dequeue)
-    } else if word == b"hold".as_slice() {
+    } else if is(word, b"hold") {
         Some(CallVerb::Hold)
-    } else if word == b"release".as_slice() {
+    } else if is(word, b"release") {
         Some(CallVerb::Release)
-    } else if word == b"advance".as_slice() {
+    } else if is(word, b"advance") {
         Some(CallVerb::Advance)
-    } else if word == b"scan".as_slice() {
+    } else if is(word, b"scan") {
         Some(CallVerb::Scan)
     } else {
         later_call_of(word)
@@ -106,13 +107,13 @@ fn known_in(version: u32, call: Option<CallVerb>) -> Option<Verb>
 pub fn verb_of(version: u32, word: &[u8]) -> Option<Verb>
     ensures { result ≡ verb_in version word.now }
 {
-    if word == b"step".as_slice() {
+    if is(word, b"step") {
         Some(Verb::Step)
-    } else if word == b"run".as_slice() {
+    } else if is(word, b"run") {
         Some(Verb::Run)
-    } else if word == b"table".as_slice() {
+    } else if is(word, b"table") {
         Some(Verb::Table)
-    } else if word == b"end".as_slice() {
+    } else if is(word, b"end") {
         Some(Verb::End)
     } else {
         known_in(version, call_verb_of(word))

@@ -1,0 +1,9 @@
+pub mod Decimals
+pub mod Digits
+pub mod EventReader
+pub mod EventTexts
+pub mod EventWords
+pub mod Numerals
+pub mod Phrases
+pub mod Spaces
+pub mod Texts

@@ -1,0 +1,4 @@
+pub mod Fits
+pub mod Phrase
+pub mod Record
+pub mod Words
