@@ -55,6 +55,15 @@ impl<S: Scheme> ChangeBucket<S> {
         }
     }
 
+    // It stands there from now on.
+    #[inline(always)]
+    fn stand(&mut self, at: State<S::Begin, S::Protect, S::Clear, S::Finish>)
+        ensures kept { self.new.kept ≡ self.old.kept }
+        ensures at { self.new.at ≡ at }
+    {
+        self.at = at;
+    }
+
     // The root of the bucket.
     #[inline(always)]
     fn root(&self, post: &Post) -> Root
@@ -74,22 +83,22 @@ impl<S: Scheme> ChangeBucket<S> {
     {
         match ending {
             ChangeEnd::Again => {
-                self.at = State::Starts;
+                self.stand(State::Starts);
                 None
             }
             ChangeEnd::MakeRoom => {
-                self.at = State::Tidies(Tidy::new(S::MOVES, S::HELPS));
+                self.stand(State::Tidies(Tidy::new(S::MOVES, S::HELPS)));
                 None
             }
             ChangeEnd::Answers(answer) => match self.kept.taken {
                 Some(slot) => {
-                    self.at = State::GivesUp(answer, GiveUp::new(slot));
+                    self.stand(State::GivesUp(answer, GiveUp::new(slot)));
                     None
                 }
                 None => Some(answer),
             },
             ChangeEnd::Retires { slot, version } => {
-                self.at = State::Reclaims(version, Reclaim::new(slot));
+                self.stand(State::Reclaims(version, Reclaim::new(slot)));
                 None
             }
         }
@@ -106,7 +115,7 @@ impl<S: Scheme> ChangeBucket<S> {
     {
         match close::<S>(post, told, 0, ending.is_again()) {
             Some(closing) => {
-                self.at = State::Closes(ending, closing);
+                self.stand(State::Closes(ending, closing));
                 None
             }
             None => self.closed(ending),
@@ -126,7 +135,7 @@ impl<S: Scheme> ChangeBucket<S> {
         match end {
             ProtectEnd::Held { slot, .. } => {
                 self.kept.protected(slot as u64 + 1);
-                self.at = State::Works(ChangeAt::LoadVersion { slot });
+                self.stand(State::Works(ChangeAt::LoadVersion { slot }));
                 None
             }
             ProtectEnd::Null => {
@@ -149,7 +158,7 @@ impl<S: Scheme> ChangeBucket<S> {
             count,
             pairs,
         };
-        self.at = State::Writes(WriteRow::new(slot, row));
+        self.stand(State::Writes(WriteRow::new(slot, row)));
     }
 
     // A step of the work leads on.
@@ -164,16 +173,19 @@ impl<S: Scheme> ChangeBucket<S> {
     {
         match step {
             Changed::Goes(at) => {
-                self.at = State::Works(at);
+                self.stand(State::Works(at));
                 None
             }
-            Changed::Fills => {
-                match self.kept.taken {
-                    Some(slot) => self.write(slot),
-                    None => self.at = State::Allocates(Allocate::new(post)),
+            Changed::Fills => match self.kept.taken {
+                Some(slot) => {
+                    self.write(slot);
+                    None
                 }
-                None
-            }
+                None => {
+                    self.stand(State::Allocates(Allocate::new(post)));
+                    None
+                }
+            },
             Changed::Ends(ending) => self.close(ending, post, told),
         }
     }
@@ -211,7 +223,7 @@ impl<S: Scheme> ChangeBucket<S> {
             Some(slot) => slot,
             None => 0,
         };
-        self.at = State::Works(ChangeAt::ExchangeRoot { slot });
+        self.stand(State::Works(ChangeAt::ExchangeRoot { slot }));
         None
     }
 
@@ -259,10 +271,10 @@ impl<S: Scheme> ChangeBucket<S> {
         ensures notes { (desk_of desk.new).notes ≡ (desk_of desk.old).notes }
         ensures most { length told.new ≤ 4 }
     {
+        let root = self.root(post);
         match &mut self.at {
             State::Starts => self.start(post, desk, found, told),
             State::Opens(opening) => {
-                let root = Root::Bucket(self.kept.bucket(post));
                 let end = take_open::<S>(opening, 0, root, post, found, told)?;
                 self.reach(end, post, told)
             }
@@ -296,7 +308,7 @@ impl<S: Scheme> ChangeBucket<S> {
             }
             State::Tidies(tidy) => {
                 tidy.take(post, desk, found, told)?;
-                self.at = State::Starts;
+                self.stand(State::Starts);
                 None
             }
         }

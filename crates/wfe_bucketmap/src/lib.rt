@@ -12,6 +12,5 @@ mod remove;
 pub use put::Put;
 pub use put_if::PutIf;
 pub use remove::Remove;
-pub use wfe_bucketmap_read::{
-    Advance, CopyIndex, DropIndex, Get, He, Hold, Hp, Ibr, Look, Release, Scheme, Wfe,
-};
+pub use wfe_bucketmap_hold::{DropIndex, Hold, Release};
+pub use wfe_bucketmap_read::{Advance, CopyIndex, Get, He, Hp, Ibr, Look, Scheme, Wfe};

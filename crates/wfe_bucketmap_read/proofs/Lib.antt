@@ -1,7 +1,5 @@
 pub use Rattle.wfe_call_rounds.proofs as call_rounds
 pub mod Copying
 pub mod Counting
-pub mod Holding
-pub mod Lettings
 pub mod Looking
 pub mod Turns

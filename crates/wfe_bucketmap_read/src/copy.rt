@@ -48,31 +48,6 @@ impl<S: Scheme> CopyIndex<S> {
         }
     }
 
-    // What stands at the first index stands at the other too. The other one publishes this number, an
-    // era or a link, unless the seat has one interval for all.
-    #[inline(always)]
-    fn copy(&self, number: Option<u32>, post: &mut Post, told: &mut Told) -> Answer
-        requires valid { IsValid post.old }
-        requires fits { CopyFits post.old self.now.from self.now.index }
-        requires empty { told.old ≡ [] }
-        ensures steps { (desk : ModelDesk) (phase : Phase) → Steps (copied self.now.from self.now.index post.old desk (published_by post.old self.now.index number) (stands post.old self.now.from)) post.new desk told.new (Some result) phase }
-        ensures seat { SameSeat post.old post.new told.new 4 }
-    {
-        let (from, index) = (self.from, self.index);
-        let Some(slot) = post.standing[from as usize] else {
-            return Answer::Nothing;
-        };
-        if let Some(old) = post.standing[index as usize] {
-            told.push(Event::Clear { index, slot: old });
-        }
-        post.standing[index as usize] = Some(slot);
-        if let Some(number) = number {
-            publish_index(publishes_rows(post), post, told, index, number);
-        }
-        told.push(Event::Copied { from, index, slot });
-        Answer::Copied { slot }
-    }
-
     // A step, with its events besides End. The desk is what it was.
     #[inline(always)]
     fn step(&mut self, post: &mut Post, desk: &Desk, found: u64, told: &mut Told) -> Option<Answer>
@@ -89,16 +64,46 @@ impl<S: Scheme> CopyIndex<S> {
                     return Some(Answer::Nothing);
                 }
                 if has_interval(post) {
-                    return Some(self.copy(None, post, told));
+                    return Some(copy(self.from, self.index, None, post, told));
                 }
                 self.at = CopyAt::Stores {
                     number: held_number(post, found),
                 };
                 None
             }
-            CopyAt::Stores { number } => Some(self.copy(Some(number), post, told)),
+            CopyAt::Stores { number } => Some(copy(
+                self.from,
+                self.index,
+                Some(number),
+                post,
+                told,
+            )),
         }
     }
+}
+
+// What stands at the first index stands at the other too. The other one publishes this number, an
+// era or a link, unless the seat has one interval for all.
+#[inline(always)]
+fn copy(from: u32, index: u32, number: Option<u32>, post: &mut Post, told: &mut Told) -> Answer
+    requires valid { IsValid post.old }
+    requires fits { CopyFits post.old from index }
+    requires empty { told.old ≡ [] }
+    ensures steps { (desk : ModelDesk) (phase : Phase) → Steps (copied from index post.old desk (published_by post.old index number) (stands post.old from)) post.new desk told.new (Some result) phase }
+    ensures seat { SameSeat post.old post.new told.new 4 }
+{
+    let Some(slot) = post.standing[from as usize] else {
+        return Answer::Nothing;
+    };
+    if let Some(old) = post.standing[index as usize] {
+        told.push(Event::Clear { index, slot: old });
+    }
+    post.standing[index as usize] = Some(slot);
+    if let Some(number) = number {
+        publish_index(publishes_rows(post), post, told, index, number);
+    }
+    told.push(Event::Copied { from, index, slot });
+    Answer::Copied { slot }
 }
 
 impl<S: Scheme> CallMachine for CopyIndex<S> {

@@ -1,16 +1,18 @@
 // The call that gets a key's value.
 ghost use Rattle.std.specs.Prelude.{◌≡◌, ◌≤◌, [], length, ℕ};
 ghost use Rattle.wfe_core.specs.defs.declared.call.Answer.TheVariants.{Got as GotAnswer};
-ghost use Rattle.wfe_core.specs.CallReady.{IsCallPlausible, IsCallReady};
+ghost use Rattle.wfe_core.specs.CallReady.{IsCallPlausible, IsCallReady, get_plausible, get_ready};
 ghost use Rattle.wfe_core.specs.Calls.{Answering, Gets, Opens, Runs};
 ghost use Rattle.wfe_core.specs.DeskHeld.{desk_of};
-ghost use Rattle.wfe_core.specs.Get.{got as model_got};
+ghost use Rattle.wfe_core.specs.Desks.{Desk as ModelDesk};
+ghost use Rattle.wfe_core.specs.Get.{get_turn, got as model_got};
 ghost use Rattle.wfe_core.specs.Phases.Ending.{Protected};
 ghost use Rattle.wfe_core.specs.Ready.{RootFits, protect_within};
 ghost use Rattle.wfe_core.specs.Rounds.{root_of, round};
 ghost use Rattle.wfe_core.specs.Steps.{opened, phase_turn};
 ghost use Rattle.wfe_core.specs.Valid.{IsValid};
 ghost use Rattle.wfe_core.specs.declared.post.Post.{Post};
+ghost use Rattle.wfe_bucketmap_read.specs.Finds.{find_of};
 ghost use Rattle.wfe_bucketmap_read.specs.Gets.{get_phase};
 ghost use Rattle.wfe_call_rounds.specs.Steps.{SameSeat, Steps};
 
@@ -50,6 +52,56 @@ impl<S: Scheme> Get<S> {
         }
     }
 
+    // It stands there from now on.
+    #[inline(always)]
+    fn stand(&mut self, at: GetAt<S::Begin, S::Protect, S::Clear, S::Finish>)
+        ensures key { self.new.key ≡ self.old.key }
+        ensures at { self.new.at ≡ at }
+    {
+        self.at = at;
+    }
+
+    // The first step of the round.
+    #[inline(always)]
+    fn start(&mut self, post: &mut Post, desk: &Desk, found: u64, told: &mut Told) -> Option<Answer>
+        requires valid { IsValid post.old }
+        requires scheme { post.old.layout.config.scheme ≡ S.kind }
+        requires ready { IsCallReady (round (Gets self.old.key) post.old) post.old (desk_of desk.now) }
+        requires plausible { IsCallPlausible (round (Gets self.old.key) post.old) post.old found }
+        requires empty { told.old ≡ [] }
+        ensures steps { Steps (phase_turn (round (Gets self.old.key) post.old) post.old (desk_of desk.now) found) post.new (desk_of desk.now) told.new result (get_phase ⟦<S as Rounds>⟧.all_phases self.new.key self.new.at post.new) }
+        ensures seat { SameSeat post.old post.new told.new 4 }
+    {
+        let root = root_for(self.key, post);
+        let mut opening = open::<S>(post, 0, root);
+        let end = take_open::<S>(&mut opening, 0, root, post, found, told);
+        self.stand(GetAt::Opens(opening));
+        match end {
+            Some(end) => self.reach(end, post, told),
+            None => None,
+        }
+    }
+
+    // A read of the row.
+    #[inline(always)]
+    fn read(&mut self, find: Find, post: &mut Post, found: u64, told: &mut Told) -> Option<Answer>
+        requires valid { IsValid post.old }
+        requires scheme { post.old.layout.config.scheme ≡ S.kind }
+        requires ready { get_ready (find_of find) post.old }
+        requires plausible { get_plausible (find_of find) post.old found }
+        requires empty { told.old ≡ [] }
+        ensures steps { (desk : ModelDesk) → Steps (get_turn self.old.key (find_of find) post.old desk found) post.new desk told.new result (get_phase ⟦<S as Rounds>⟧.all_phases self.new.key self.new.at post.new) }
+        ensures seat { SameSeat post.old post.new told.new 4 }
+    {
+        match find.take(post, self.key, found) {
+            Found::Goes(next) => {
+                self.stand(GetAt::Finds(next));
+                None
+            }
+            Found::Got { version, value } => self.got(version, value, post, told),
+        }
+    }
+
     // A step, with its events besides End. The desk is what it was.
     #[inline(always)]
     fn step(&mut self, post: &mut Post, desk: &Desk, found: u64, told: &mut Told) -> Option<Answer>
@@ -61,39 +113,28 @@ impl<S: Scheme> Get<S> {
         ensures steps { Steps (phase_turn (get_phase ⟦<S as Rounds>⟧.all_phases self.old.key self.old.at post.old) post.old (desk_of desk.now) found) post.new (desk_of desk.now) told.new result (get_phase ⟦<S as Rounds>⟧.all_phases self.new.key self.new.at post.new) }
         ensures seat { SameSeat post.old post.new told.new 4 }
     {
+        let root = root_for(self.key, post);
         match &mut self.at {
-            GetAt::Starts => {
-                let root = root_for(self.key, post);
-                let mut opening = open::<S>(post, 0, root);
-                let end = take_open::<S>(&mut opening, 0, root, post, found, told);
-                self.at = GetAt::Opens(opening);
-                match end {
-                    Some(end) => self.reach(end, post, desk, told),
-                    None => None,
-                }
-            }
+            GetAt::Starts => self.start(post, desk, found, told),
             GetAt::Opens(opening) => {
-                let root = root_for(self.key, post);
                 let end = take_open::<S>(opening, 0, root, post, found, told)?;
-                self.reach(end, post, desk, told)
+                self.reach(end, post, told)
             }
-            GetAt::Finds(find) => match find.take(post, self.key, found) {
-                Found::Goes(next) => {
-                    *find = next;
-                    None
-                }
-                Found::Got { version, value } => self.got(version, value, post, desk, told),
-            },
+            GetAt::Finds(find) => {
+                let find = *find;
+                self.read(find, post, found, told)
+            }
             GetAt::Closes {
                 closing,
                 version,
                 value,
             } => {
+                let answer = Answer::Got {
+                    version: *version,
+                    value: *value,
+                };
                 if take_close::<S>(closing, false, post, found, told) {
-                    return Some(Answer::Got {
-                        version: *version,
-                        value: *value,
-                    });
+                    return Some(answer);
                 }
                 None
             }
@@ -102,25 +143,19 @@ impl<S: Scheme> Get<S> {
 
     // The protection has ended: the row is read, or there is none.
     #[inline(always)]
-    fn reach(
-        &mut self,
-        end: ProtectEnd,
-        post: &mut Post,
-        desk: &Desk,
-        told: &mut Told,
-    ) -> Option<Answer>
+    fn reach(&mut self, end: ProtectEnd, post: &mut Post, told: &mut Told) -> Option<Answer>
         requires valid { IsValid post.old }
         requires scheme { post.old.layout.config.scheme ≡ S.kind }
         requires few { length told.old ≤ 2 }
-        ensures steps { Steps (opened (Gets self.old.key) (Protected end) post.old (desk_of desk.now) told.old) post.new (desk_of desk.now) told.new result (get_phase ⟦<S as Rounds>⟧.all_phases self.new.key self.new.at post.new) }
+        ensures steps { (desk : ModelDesk) → Steps (opened (Gets self.old.key) (Protected end) post.old desk told.old) post.new desk told.new result (get_phase ⟦<S as Rounds>⟧.all_phases self.new.key self.new.at post.new) }
         ensures seat { SameSeat post.old post.new told.new 4 }
     {
         match end {
             ProtectEnd::Held { slot, .. } => {
-                self.at = GetAt::Finds(Find::Version { slot });
+                self.stand(GetAt::Finds(Find::Version { slot }));
                 None
             }
-            ProtectEnd::Null => self.got(0, None, post, desk, told),
+            ProtectEnd::Null => self.got(0, None, post, told),
         }
     }
 
@@ -131,13 +166,12 @@ impl<S: Scheme> Get<S> {
         version: u64,
         value: Option<u64>,
         post: &mut Post,
-        desk: &Desk,
         told: &mut Told,
     ) -> Option<Answer>
         requires valid { IsValid post.old }
         requires scheme { post.old.layout.config.scheme ≡ S.kind }
         requires few { length told.old ≤ 2 }
-        ensures steps { Steps (model_got self.old.key version value post.old (desk_of desk.now) told.old) post.new (desk_of desk.now) told.new result (get_phase ⟦<S as Rounds>⟧.all_phases self.new.key self.new.at post.new) }
+        ensures steps { (desk : ModelDesk) → Steps (model_got self.old.key version value post.old desk told.old) post.new desk told.new result (get_phase ⟦<S as Rounds>⟧.all_phases self.new.key self.new.at post.new) }
         ensures key { self.new.key ≡ self.old.key }
         ensures seat { SameSeat post.old post.new told.new 4 }
     {
@@ -151,11 +185,11 @@ impl<S: Scheme> Get<S> {
         });
         match close::<S>(post, told, 0, false) {
             Some(closing) => {
-                self.at = GetAt::Closes {
+                self.stand(GetAt::Closes {
                     closing,
                     version,
                     value,
-                };
+                });
                 None
             }
             None => Some(Answer::Got { version, value }),

@@ -1,21 +1,17 @@
--- Where a call on what is kept stands, and for which tables it is.
-use Rattle.wfe_scan.specs.words.declared.config.SchemeKind.{SchemeKind}
+-- Where a call on what is kept stands.
 use Rattle.wfe_core.specs.declared.post.Post.{Post}
 use Rattle.wfe_core.specs.Calls.{Phase}
+use Rattle.wfe_bucketmap.specs.declared.Hold.{Hold}
+use Rattle.wfe_bucketmap.specs.declared.Release.{Release}
+use Rattle.wfe_bucketmap.specs.declared.CopyIndex.{CopyIndex}
+use Rattle.wfe_bucketmap.specs.declared.Look.{Look}
+use Rattle.wfe_bucketmap.specs.declared.DropIndex.{DropIndex}
 use Rattle.wfe_call_any.specs.declared.keeping.Keeping.{Keeping}
-use Rattle.wfe_call_any.specs.declared.keeping.Keeping.TheVariants as keeps
+use Rattle.wfe_call_any.specs.declared.keeping.Keeping.TheVariants as names
 
-abbrev pub keeping_phase : {H R C L D : Type 0} → (H → Post → Phase) → (R → Post → Phase) → (C → Post → Phase) → (L → Post → Phase) → (D → Post → Phase) → Keeping H R C L D → Post → Phase
-keeping_phase hold release copy look drop (keeps.Holds machine) post = hold machine post
-keeping_phase hold release copy look drop (keeps.Releases machine) post = release machine post
-keeping_phase hold release copy look drop (keeps.Copies machine) post = copy machine post
-keeping_phase hold release copy look drop (keeps.Looks machine) post = look machine post
-keeping_phase hold release copy look drop (keeps.Drops machine) post = drop machine post
-
--- a table for which each of the machines is
-pub record EachSuits (hold release copy look drop : SchemeKind → Type 0) (kind : SchemeKind) : Type 0 where
-  pub holds : hold kind
-  pub releases : release kind
-  pub copies : copy kind
-  pub looks : look kind
-  pub drops : drop kind
+abbrev pub keeping_phase : {S B P C F R : Type 0} → (Hold S B P C F R → Post → Phase) → (Release S B P C F R → Post → Phase) → (CopyIndex S B P C F R → Post → Phase) → (Look S B P C F R → Post → Phase) → (DropIndex S B P C F R → Post → Phase) → Keeping S B P C F R → Post → Phase
+keeping_phase hold release copy look drop (names.Holds machine) post = hold machine post
+keeping_phase hold release copy look drop (names.Releases machine) post = release machine post
+keeping_phase hold release copy look drop (names.Copies machine) post = copy machine post
+keeping_phase hold release copy look drop (names.Looks machine) post = look machine post
+keeping_phase hold release copy look drop (names.Drops machine) post = drop machine post

@@ -1,24 +1,24 @@
-// One of the calls on rows that are kept between calls, by name.
+// A call on what stands at indexes from 2 on, under one scheme.
+ghost use Rattle.std.specs.Prelude.{◌≡◌};
+ghost use Rattle.wfe_call_any.specs.Keeps.{keeping_phase};
+
 use wfe_bucketmap::{CopyIndex, DropIndex, Hold, Look, Release, Scheme};
 use wfe_core::{Answer, CallMachine, Desk, Op, Post, Told};
 
 /// A call on what stands at indexes from 2 on, whichever it is.
 #[derive(Drop)]
-pub enum Keeping<H: CallMachine, R: CallMachine, C: CallMachine, L: CallMachine, D: CallMachine> {
-    Holds(H),
-    Releases(R),
-    Copies(C),
-    Looks(L),
-    Drops(D),
+pub enum Keeping<S: Scheme> {
+    Holds(Hold<S>),
+    Releases(Release<S>),
+    Copies(CopyIndex<S>),
+    Looks(Look<S>),
+    Drops(DropIndex<S>),
 }
 
-impl<H: CallMachine, R: CallMachine, C: CallMachine, L: CallMachine, D: CallMachine> CallMachine
-    for Keeping<H, R, C, L, D> {
-    ghost use Rattle.wfe_call_any.specs.Keeps.{EachSuits, keeping_phase};
+impl<S: Scheme> CallMachine for Keeping<S> {
+    ghost suits = { λ kind. kind ≡ S.kind };
 
-    ghost suits = { EachSuits H.suits R.suits C.suits L.suits D.suits };
-
-    ghost phase = { keeping_phase H.phase R.phase C.phase L.phase D.phase };
+    ghost phase = { keeping_phase ⟦<Hold<S> as CallMachine>⟧.phase ⟦<Release<S> as CallMachine>⟧.phase ⟦<CopyIndex<S> as CallMachine>⟧.phase ⟦<Look<S> as CallMachine>⟧.phase ⟦<DropIndex<S> as CallMachine>⟧.phase };
 
     fn next_op(&self, post: &Post, desk: &Desk) -> Op {
         match self {
@@ -46,6 +46,3 @@ impl<H: CallMachine, R: CallMachine, C: CallMachine, L: CallMachine, D: CallMach
         }
     }
 }
-
-/// A call on what stands at indexes from 2 on, under one scheme.
-pub type KeepingOf<S> = Keeping<Hold<S>, Release<S>, CopyIndex<S>, Look<S>, DropIndex<S>>;

@@ -1,58 +1,18 @@
-// The calls of each scheme: one type with the scheme as its parameter, which is proved once, and a type without
-// parameters for each, so that types that hold all four stay short.
+// The calls of each scheme: a type without parameters for each, so that types that hold all four stay short.
 ghost use Rattle.std.specs.Prelude.{◌≡◌, true};
 ghost use Rattle.wfe_core.specs.Locals.{stays};
 ghost use Rattle.wfe_core.specs.Steps.{first_phase};
 ghost use Rattle.wfe_core.specs.declared.post.Post.{Post};
 ghost use Rattle.wfe_scan.specs.words.declared.config.SchemeKind.TheVariants as kinds;
 
-use crate::running::{CallOf, begin_call};
-use wfe_bucketmap::{He, Hp, Ibr, Scheme, Wfe};
+use crate::running::{Running, begin_call};
+use wfe_bucketmap::{He, Hp, Ibr, Wfe};
 use wfe_core::{Answer, Call, CallMachine, Desk, Layout, Op, Post, Told};
-
-// A call under one scheme.
-#[derive(Drop)]
-struct SchemeCall<S: Scheme> {
-    call: CallOf<S>,
-}
-
-impl<S: Scheme> SchemeCall<S> {
-    // The call of a seat that stays, on a table of this layout, at its first step.
-    fn begin(layout: Layout, call: Call) -> SchemeCall<S>
-        requires { stays call ≡ true }
-        ensures phase { (post : Post) → post.layout.config.scheme ≡ S.kind → ⟦<SchemeCall<S> as CallMachine>⟧.phase result post ≡ first_phase call post }
-        ensures suits { ⟦<SchemeCall<S> as CallMachine>⟧.suits S.kind }
-    {
-        SchemeCall {
-            call: begin_call(layout, call),
-        }
-    }
-}
-
-impl<S: Scheme> CallMachine for SchemeCall<S> {
-    ghost suits = { ⟦<CallOf<S> as CallMachine>⟧.suits };
-
-    ghost phase = { λ m post. ⟦<CallOf<S> as CallMachine>⟧.phase m.call post };
-
-    fn next_op(&self, post: &Post, desk: &Desk) -> Op {
-        self.call.next_op(post, desk)
-    }
-
-    fn take(
-        &mut self,
-        post: &mut Post,
-        desk: &mut Desk,
-        found: u64,
-        told: &mut Told,
-    ) -> Option<Answer> {
-        self.call.take(post, desk, found, told)
-    }
-}
 
 /// A call under Hazard Eras.
 #[derive(Drop)]
 pub struct HeCall {
-    call: SchemeCall<He>,
+    call: Running<He>,
 }
 
 impl HeCall {
@@ -63,15 +23,15 @@ impl HeCall {
         ensures suits { ⟦<HeCall as CallMachine>⟧.suits kinds.He }
     {
         HeCall {
-            call: SchemeCall::begin(layout, call),
+            call: begin_call(layout, call),
         }
     }
 }
 
 impl CallMachine for HeCall {
-    ghost suits = { ⟦<SchemeCall<He> as CallMachine>⟧.suits };
+    ghost suits = { ⟦<Running<He> as CallMachine>⟧.suits };
 
-    ghost phase = { λ m post. ⟦<SchemeCall<He> as CallMachine>⟧.phase m.call post };
+    ghost phase = { λ m post. ⟦<Running<He> as CallMachine>⟧.phase m.call post };
 
     fn next_op(&self, post: &Post, desk: &Desk) -> Op {
         self.call.next_op(post, desk)
@@ -91,7 +51,7 @@ impl CallMachine for HeCall {
 /// A call under 2GE intervals.
 #[derive(Drop)]
 pub struct IbrCall {
-    call: SchemeCall<Ibr>,
+    call: Running<Ibr>,
 }
 
 impl IbrCall {
@@ -102,15 +62,15 @@ impl IbrCall {
         ensures suits { ⟦<IbrCall as CallMachine>⟧.suits kinds.Ibr }
     {
         IbrCall {
-            call: SchemeCall::begin(layout, call),
+            call: begin_call(layout, call),
         }
     }
 }
 
 impl CallMachine for IbrCall {
-    ghost suits = { ⟦<SchemeCall<Ibr> as CallMachine>⟧.suits };
+    ghost suits = { ⟦<Running<Ibr> as CallMachine>⟧.suits };
 
-    ghost phase = { λ m post. ⟦<SchemeCall<Ibr> as CallMachine>⟧.phase m.call post };
+    ghost phase = { λ m post. ⟦<Running<Ibr> as CallMachine>⟧.phase m.call post };
 
     fn next_op(&self, post: &Post, desk: &Desk) -> Op {
         self.call.next_op(post, desk)
@@ -130,7 +90,7 @@ impl CallMachine for IbrCall {
 /// A call under Wait-Free Eras.
 #[derive(Drop)]
 pub struct WfeCall {
-    call: SchemeCall<Wfe>,
+    call: Running<Wfe>,
 }
 
 impl WfeCall {
@@ -141,15 +101,15 @@ impl WfeCall {
         ensures suits { ⟦<WfeCall as CallMachine>⟧.suits kinds.Wfe }
     {
         WfeCall {
-            call: SchemeCall::begin(layout, call),
+            call: begin_call(layout, call),
         }
     }
 }
 
 impl CallMachine for WfeCall {
-    ghost suits = { ⟦<SchemeCall<Wfe> as CallMachine>⟧.suits };
+    ghost suits = { ⟦<Running<Wfe> as CallMachine>⟧.suits };
 
-    ghost phase = { λ m post. ⟦<SchemeCall<Wfe> as CallMachine>⟧.phase m.call post };
+    ghost phase = { λ m post. ⟦<Running<Wfe> as CallMachine>⟧.phase m.call post };
 
     fn next_op(&self, post: &Post, desk: &Desk) -> Op {
         self.call.next_op(post, desk)
@@ -169,7 +129,7 @@ impl CallMachine for WfeCall {
 /// A call under hazard pointers.
 #[derive(Drop)]
 pub struct HpCall {
-    call: SchemeCall<Hp>,
+    call: Running<Hp>,
 }
 
 impl HpCall {
@@ -180,15 +140,15 @@ impl HpCall {
         ensures suits { ⟦<HpCall as CallMachine>⟧.suits kinds.Hp }
     {
         HpCall {
-            call: SchemeCall::begin(layout, call),
+            call: begin_call(layout, call),
         }
     }
 }
 
 impl CallMachine for HpCall {
-    ghost suits = { ⟦<SchemeCall<Hp> as CallMachine>⟧.suits };
+    ghost suits = { ⟦<Running<Hp> as CallMachine>⟧.suits };
 
-    ghost phase = { λ m post. ⟦<SchemeCall<Hp> as CallMachine>⟧.phase m.call post };
+    ghost phase = { λ m post. ⟦<Running<Hp> as CallMachine>⟧.phase m.call post };
 
     fn next_op(&self, post: &Post, desk: &Desk) -> Op {
         self.call.next_op(post, desk)

@@ -1,3 +1,5 @@
 pub use Rattle.wfe_iface.proofs as iface
+pub mod Counted
 pub mod Model
+pub mod Ran
 pub mod Taken

@@ -1,11 +1,13 @@
 -- A step of a call, before its events are noted.
-use Rattle.std.specs.Prelude.{◌≡◌, ◌≤◌, length, List, Option, ℕ}
+use Rattle.std.specs.Prelude.{◌≡◌, ◌≤◌, length, List, Option, Some, None, ℕ}
 use Rattle.wfe_core.specs.defs.declared.call.Answer.{Answer}
 use Rattle.wfe_core.specs.defs.declared.event.Event.{Event}
 use Rattle.wfe_core.specs.declared.post.Post.{Post}
-use Rattle.wfe_core.specs.Calls.{Phase, CallTurn}
+use Rattle.wfe_core.specs.Calls.{Phase, Why, Runs, CallTurn, goes_on}
 use Rattle.wfe_core.specs.DeskHeld.{Leads}
 use Rattle.wfe_core.specs.Desks.{Desk}
+use Rattle.wfe_core.specs.Phases.{Base, Ending}
+use Rattle.wfe_core.specs.Steps.{resume}
 use Rattle.wfe_core.specs.Valid.{IsValid}
 
 -- the call took this turn, and its desk is this one
@@ -21,3 +23,8 @@ pub record SameSeat (old new : Post) (told : List Event) (count : ℕ) : Type 0 
   pub layout : new.layout ≡ old.layout
   pub seat : new.seat ≡ old.seat
   pub most : length told ≤ count
+
+-- the turn of a call whose machine has made a step, by what it answered: it goes on, or the call does from its end
+abbrev pub came : {E : Type 0} → (E → Ending) → Why → Base → Option E → Post → Desk → List Event → CallTurn
+came ending why base None post desk told = goes_on post desk told (Runs why base)
+came ending why base (Some e) post desk told = resume why (ending e) post desk told

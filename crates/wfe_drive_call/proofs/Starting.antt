@@ -1,19 +1,23 @@
 -- A call that begins is under way; and where under 2GE no row is kept.
-use Rattle.std.proofs.Common.{Bool, None, Option, Some, drop, false, if◌then◌else◌, refl, true, ℕ, ◌≡◌}
+use Rattle.std.proofs.Common.{Bool, None, Option, Some, ap, drop, false, if◌then◌else◌, refl, sym, true, ℕ, ◌∙◌, ◌≡◌}
+use Rattle.std.proofs.lemmas.Bool.{false≢true}
 use Rattle.wfe_core.specs.words.Schemes.{has_one_interval, publishes_rows}
+use Rattle.wfe_core.specs.words.declared.config.SchemeKind.{SchemeKind}
 use Rattle.wfe_core.specs.words.declared.config.SchemeKind.TheVariants.{Ibr}
 use Rattle.wfe_core.specs.defs.declared.call.Call.{Call}
 use Rattle.wfe_core.specs.defs.declared.call.Call.TheVariants as names
 use Rattle.wfe_core.specs.defs.declared.fold.Change.TheVariants as changes
 use Rattle.wfe_core.specs.defs.declared.lifetime.Interval.{Interval}
 use Rattle.wfe_core.specs.Calls.{Dequeues, Dropped, Enqueues, Gets, Holds, LetGo, Rehold, Released, Task}
-use Rattle.wfe_core.specs.Locals.{busy_in}
+use Rattle.wfe_core.specs.Locals.{busy_in, stays}
 use Rattle.wfe_core.specs.Phases.{Base}
 use Rattle.wfe_core.specs.Keep.{parting_from, parting_index, parting_span}
 use Rattle.wfe_core.specs.Posts.{standing_from, stands}
 use Rattle.wfe_core.specs.Rounds.{begin_base, finish_base, finish_span, kept_row, let_index, letting, letting_by, release_base, round, round_by, scheme_of}
 use Rattle.wfe_core.specs.Steps.{changing, copying, first_phase, holding, looking_at}
 use Rattle.wfe_core.specs.declared.post.Post.{Post}
+use Rattle.wfe_drive_runs.specs.Pieces.{IsFree}
+use Rattle.wfe_drive_call.specs.Others.{is_other}
 
 by_base : (task : Task) (post : Post) (base : Option Base) → busy_in (round_by task post base) ≡ true
 by_base task post None = refl
@@ -77,3 +81,35 @@ span_ends (Some slot) base e = absurd (cc)
 
 pub ends_free : (post : Post) (base : Base) → finish_base Ibr post ≡ Some base → kept_row post ≡ None
 ends_free post base e = span_ends (kept_row post) base e
+
+-- a scheme that has no interval
+pub free_without : (kind : SchemeKind) (post : Post) → post.layout.config.scheme ≡ kind → has_one_interval kind ≡ false → IsFree post
+free_without kind post e none one = absurd (false≢true (sym none ∙ (sym (ap has_one_interval e) ∙ one)))
+
+-- a call that is none of those that `drive_under` makes by itself
+pub other_by : (call : Call) → ((key : ℕ) → call ≡ names.Get key → ⊥) → ((key value : ℕ) → call ≡ names.Put key value → ⊥) → ((key : ℕ) → call ≡ names.Remove key → ⊥) → ((key value version : ℕ) → call ≡ names.PutIf key value version → ⊥) → ((value : ℕ) → call ≡ names.Enqueue value → ⊥) → (call ≡ names.Dequeue → ⊥) → is_other call ≡ true
+other_by (names.Get key) get put remove put_if enqueue dequeue = absurd (get key refl)
+other_by (names.Put key value) get put remove put_if enqueue dequeue = absurd (put key value refl)
+other_by (names.Remove key) get put remove put_if enqueue dequeue = absurd (remove key refl)
+other_by (names.PutIf key value version) get put remove put_if enqueue dequeue = absurd (put_if key value version refl)
+other_by (names.Enqueue value) get put remove put_if enqueue dequeue = absurd (enqueue value refl)
+other_by names.Dequeue get put remove put_if enqueue dequeue = absurd (dequeue refl)
+other_by _ get put remove put_if enqueue dequeue = refl
+
+-- and each that stays is made
+pub none_other : (call : Call) → is_other call ≡ true → stays call ≡ true → ((key : ℕ) → call ≡ names.Hold key → ⊥) → (call ≡ names.Release → ⊥) → (call ≡ names.Advance → ⊥) → (call ≡ names.Scan → ⊥) → ((from index : ℕ) → call ≡ names.Copy from index → ⊥) → ((index : ℕ) → call ≡ names.DropIndex index → ⊥) → ((index key : ℕ) → call ≡ names.Look index key → ⊥) → ⊥
+none_other (names.Hold key) other there hold release advance scan copy drop look = hold key refl
+none_other names.Release other there hold release advance scan copy drop look = release refl
+none_other names.Advance other there hold release advance scan copy drop look = advance refl
+none_other names.Scan other there hold release advance scan copy drop look = scan refl
+none_other (names.Copy from index) other there hold release advance scan copy drop look = copy from index refl
+none_other (names.DropIndex index) other there hold release advance scan copy drop look = drop index refl
+none_other (names.Look index key) other there hold release advance scan copy drop look = look index key refl
+none_other (names.Get key) other there hold release advance scan copy drop look = cc
+none_other (names.Put key value) other there hold release advance scan copy drop look = cc
+none_other (names.Remove key) other there hold release advance scan copy drop look = cc
+none_other (names.PutIf key value version) other there hold release advance scan copy drop look = cc
+none_other (names.Enqueue value) other there hold release advance scan copy drop look = cc
+none_other names.Dequeue other there hold release advance scan copy drop look = cc
+none_other names.Leave other there hold release advance scan copy drop look = cc
+none_other (names.Adopt place) other there hold release advance scan copy drop look = cc

@@ -18,6 +18,7 @@ mod kept;
 mod opening;
 mod read;
 mod take;
+mod under;
 mod write;
 
 pub use drive::{drive_call, drive_get};

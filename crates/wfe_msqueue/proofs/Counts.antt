@@ -1,19 +1,12 @@
 -- Where a call stands does not depend on how many steps it has made.
-use Rattle.std.proofs.Common.{ℕ, ◌≡◌, List, ◌++◌, Option, refl, sym, ap, subst}
-use Rattle.wfe_core.specs.defs.declared.call.Answer.{Answer}
-use Rattle.wfe_core.specs.defs.declared.event.Event.{Event}
-use Rattle.wfe_core.specs.declared.desk.Desk.{Desk as HeldDesk}
+use Rattle.std.proofs.Common.{◌≡◌, refl}
 use Rattle.wfe_core.specs.declared.post.Post.{Post}
-use Rattle.wfe_core.specs.Calls.{EnqueueKept, Enqueues, Dequeues, Phase}
-use Rattle.wfe_core.specs.DeskHeld.{Took, desk_of, told_answer}
-use Rattle.wfe_core.specs.Desks.{Desk, noting}
-use Rattle.wfe_core.specs.Memory.{bump}
+use Rattle.wfe_core.specs.Calls.{EnqueueKept, Enqueues, Dequeues}
 use Rattle.wfe_core.specs.Phases.{Base}
 use Rattle.wfe_core.specs.Posts.{counted}
-use Rattle.wfe_core.specs.Steps.{phase_turn}
-use Rattle.wfe_call_rounds.specs.Steps.{Steps}
 use Rattle.wfe_call_rounds.specs.iface.Schemes.{RoundPhases}
-use Rattle.wfe_call_rounds.proofs.Taken.{round_counted, took_from}
+use Rattle.wfe_call_rounds.proofs.Taken.{round_counted}
+use Rattle.wfe_msqueue.specs.declared.dequeue_at.Kept.{Kept}
 use Rattle.wfe_msqueue.specs.declared.dequeue_state.State.{State}
 use Rattle.wfe_msqueue.specs.declared.dequeue_state.State.TheVariants as states
 use Rattle.wfe_msqueue.specs.declared.enqueue_state.State.{State as EnqueueState}
@@ -22,36 +15,17 @@ use Rattle.wfe_msqueue.specs.DequeueStates.{dequeue_phase}
 use Rattle.wfe_msqueue.specs.EnqueueStates.{enqueue_phase}
 
 -- a dequeue
-pub dequeue_counted : {B P W C F : Type 0} (phases : RoundPhases B P C F) (follow : W → Base) (state : State B P W C F) (post : Post) → dequeue_phase phases follow state post ≡ dequeue_phase phases follow state (counted post)
-dequeue_counted phases follow states.Starts post = round_counted Dequeues post
-dequeue_counted phases follow (states.Opens opening) post = refl
-dequeue_counted phases follow (states.Works at) post = refl
-dequeue_counted phases follow (states.Follows head tail machine) post = refl
-dequeue_counted phases follow (states.ClearsNext ending machine) post = refl
-dequeue_counted phases follow (states.Closes ending closing) post = refl
-dequeue_counted phases follow (states.Reclaims item reclaim) post = refl
+pub dequeue_counted : {B P W C F : Type 0} (phases : RoundPhases B P C F) (follow : W → Base) (kept : Kept) (state : State B P W C F) (post : Post) → dequeue_phase phases follow kept state post ≡ dequeue_phase phases follow kept state (counted post)
+dequeue_counted phases follow kept states.Starts post = round_counted Dequeues post
+dequeue_counted phases follow kept (states.Opens opening) post = refl
+dequeue_counted phases follow kept (states.Works at) post = refl
+dequeue_counted phases follow kept (states.Follows machine) post = refl
+dequeue_counted phases follow kept (states.Leaves at) post = refl
 
 -- an enqueue
 pub enqueue_counted : {B P C F : Type 0} (phases : RoundPhases B P C F) (kept : EnqueueKept) (state : EnqueueState B P C F) (post : Post) → enqueue_phase phases kept state post ≡ enqueue_phase phases kept state (counted post)
 enqueue_counted phases kept fills.Starts post = round_counted (Enqueues kept) post
 enqueue_counted phases kept (fills.Opens opening) post = refl
 enqueue_counted phases kept (fills.Works at) post = refl
-enqueue_counted phases kept (fills.Allocates machine) post = refl
-enqueue_counted phases kept (fills.Writes machine) post = refl
-enqueue_counted phases kept (fills.Closes ending closing) post = refl
-enqueue_counted phases kept (fills.GivesUp answer machine) post = refl
-enqueue_counted phases kept (fills.Tidies tidy) post = refl
-
-steps_counted : (post : Post) (steps : ℕ) → steps ≡ bump post.steps → record post { steps = steps } ≡ counted post
-steps_counted post steps e = ap (λ (n : ℕ). record post { steps = n }) e
-
--- a call that was counted, made its step and noted its events took its turn
-pub took_counted : (at : Post → Phase) (post last : Post) (steps found : ℕ) (desk stop : Desk) (told all : List Event) (answer : Option Answer) (phase : Phase) (held : HeldDesk) → at post ≡ at (counted post) → steps ≡ bump post.steps → Steps (phase_turn (at (record post { steps = steps })) (record post { steps = steps }) desk found) last stop told answer phase → all ≡ told ++ told_answer last answer → desk_of held ≡ noting stop all → Took (phase_turn (at post) (counted post) desk found) last held all answer phase
-took_counted at post last steps found desk stop told all answer phase held c e s a d =
-    let same : record post { steps = steps } ≡ counted post = steps_counted post steps e in
-    let stepped : Steps (phase_turn (at (counted post)) (counted post) desk found) last stop told answer phase =
-    subst (λ (p : Post). Steps (phase_turn (at p) p desk found) last stop told answer phase) same s
-    in
-    took_from (phase_turn (at post) (counted post) desk found) last stop told all answer phase held (
-    subst (λ (p : Phase). Steps (phase_turn p (counted post) desk found) last stop told answer phase) (sym c) stepped
-    ) a d
+enqueue_counted phases kept (fills.Fills at) post = refl
+enqueue_counted phases kept (fills.Leaves at) post = refl

@@ -1,39 +1,88 @@
--- The ends of a call's rounds, as turns of the model.
-use Rattle.std.proofs.Common.{ℕ, ◌≡◌, Bool, List, Option, Some, None, sym, ap, subst, ◌∙◌}
+-- The ends of a dequeue's rounds as turns of the model, and what the parts of a step keep together.
+use Rattle.std.proofs.Common.{ℕ, ◌≡◌, ◌≤◌, List, ◌++◌, length, Option, Some, None, refl, sym, ap, subst, ◌∙◌, arith}
+use Rattle.std.proofs.lemmas.List.{append-nil}
 use Rattle.wfe_slots.specs.words.declared.config.SchemeKind.{SchemeKind}
-use Rattle.wfe_core.specs.defs.declared.call.Answer.{Answer}
+use Rattle.wfe_slots.specs.words.declared.config.SchemeKind.TheVariants.{He, Hp, Ibr, Wfe}
+use Rattle.wfe_slots.specs.words.declared.layout.Layout.{Layout}
 use Rattle.wfe_core.specs.defs.declared.event.Event.{Event}
+use Rattle.wfe_core.specs.declared.desk.Desk.{Desk as HeldDesk}
 use Rattle.wfe_core.specs.declared.post.Post.{Post}
-use Rattle.wfe_core.specs.Calls.{Task, Next, Phase, CallTurn}
+use Rattle.wfe_core.specs.Calls.{Dequeues, ClearsNext, Next, Runs, goes_on}
+use Rattle.wfe_core.specs.DeskHeld.{HasRoom}
 use Rattle.wfe_core.specs.Desks.{Desk}
-use Rattle.wfe_core.specs.Rounds.{scheme_of, index_of, clearing, closed}
-use Rattle.wfe_core.specs.Steps.{phase_turn}
-use Rattle.wfe_call_rounds.specs.Rounds.{CloseAt, close_from, close_step, close_phase, is_again, then_close}
-use Rattle.wfe_call_rounds.specs.Steps.{Steps}
-use Rattle.wfe_call_rounds.proofs.Model.{clearing_at}
-use Rattle.wfe_call_rounds.proofs.Taken.{closes_step, closed_step, then_over}
+use Rattle.wfe_core.specs.Phases.{Base}
+use Rattle.wfe_core.specs.Rounds.{scheme_of, clear_base, clear_post, clear_told, clearing, clearing_next, clearing_next_by}
+use Rattle.wfe_core.specs.Valid.{IsValid}
+use Rattle.wfe_call_rounds.specs.Steps.{SameSeat}
+use Rattle.wfe_msqueue.specs.Turns.{Keeps}
 
-clearing_with : (task : Task) (next : Next) (kind : SchemeKind) (again : Bool) (post : Post) (desk : Desk) (told : List Event) → scheme_of post ≡ kind → again ≡ is_again next → clearing task next post desk told ≡ then_close task next desk (close_from kind (index_of task) again post told)
-clearing_with task next kind again post desk told s e =
-    clearing_at task next post desk told
+-- a clear that takes a step leaves all else to it
+post_stays : (kind : SchemeKind) (base : Base) (post : Post) → Some base ≡ clear_base kind 1 → clear_post kind post 1 ≡ post
+post_stays He base post o = refl
+post_stays Ibr base post o = absurd (cc)
+post_stays Wfe base post o = refl
+post_stays Hp base post o = refl
+
+told_stays : (kind : SchemeKind) (base : Base) (post : Post) (told : List Event) → Some base ≡ clear_base kind 1 → told ++ clear_told kind post 1 ≡ told
+told_stays He base post told o = append-nil told
+told_stays Ibr base post told o = absurd (cc)
+told_stays Wfe base post told o = append-nil told
+told_stays Hp base post told o = append-nil told
+
+clearing_next_along : (next : Next) (kind : SchemeKind) (post : Post) (desk : Desk) (told : List Event) (base : Option Base) → scheme_of post ≡ kind → base ≡ clear_base kind 1 → clearing_next next post desk told ≡ clearing_next_by next post desk told base
+clearing_next_along next kind post desk told base s o =
+    ap (λ (k : SchemeKind). clearing_next_by next post desk told (clear_base k 1)) s ∙ ap (λ (x : Option Base). clearing_next_by next post desk told x) (sym o)
+
+-- index 1 is cleared by a step
+pub next_goes : (next : Next) (kind : SchemeKind) (base : Base) (post last : Post) (desk : Desk) (told early : List Event) → scheme_of post ≡ kind → Some base ≡ clear_base kind 1 → last ≡ clear_post kind post 1 → early ≡ told ++ clear_told kind post 1 → clearing_next next post desk told ≡ goes_on last desk early (Runs (ClearsNext next) base)
+next_goes next kind base post last desk told early s o p t =
+    clearing_next_along next kind post desk told (Some base) s o
     ∙ (
-    ap (λ (k : SchemeKind). then_close task next desk (close_from k (index_of task) (is_again next) post told)) s
-    ∙ ap (λ (b : Bool). then_close task next desk (close_from kind (index_of task) b post told)) (sym e)
+    ap (λ (x : Post). goes_on x desk told (Runs (ClearsNext next) base)) (sym (p ∙ post_stays kind base post o))
+    ∙ ap (λ (events : List Event). goes_on last desk events (Runs (ClearsNext next) base)) (sym (t ∙ told_stays kind base post told o))
     )
 
--- a round is over at once, and the call goes on from there
-pub clearing_over : (task : Task) (next : Next) (kind : SchemeKind) (again : Bool) (post mid : Post) (desk : Desk) (start early : List Event) (answer : Option Answer) (phase : Phase) → scheme_of post ≡ kind → again ≡ is_again next → mid ≡ (close_from kind (index_of task) again post start).post → early ≡ (close_from kind (index_of task) again post start).told → (close_from kind (index_of task) again post start).at ≡ None → Steps (closed task next mid desk early) mid desk early answer phase → Steps (clearing task next post desk start) mid desk early answer phase
-clearing_over task next kind again post mid desk start early answer phase s e p t o h =
-    subst (λ (turn : CallTurn). Steps turn mid desk early answer phase) (sym (clearing_with task next kind again post desk start s e)) (
-    then_over task next desk mid mid early early answer phase (close_from kind (index_of task) again post start) p t o h
+-- or at once, and index 0 comes next
+pub next_clears : (next : Next) (kind : SchemeKind) (post last : Post) (desk : Desk) (told early : List Event) → scheme_of post ≡ kind → None ≡ clear_base kind 1 → last ≡ clear_post kind post 1 → early ≡ told ++ clear_told kind post 1 → clearing_next next post desk told ≡ clearing Dequeues next last desk early
+next_clears next kind post last desk told early s o p t =
+    clearing_next_along next kind post desk told None s o
+    ∙ (
+    ap (λ (k : SchemeKind). clearing Dequeues next (clear_post k post 1) desk (told ++ clear_told k post 1)) s
+    ∙ (
+    ap (λ (x : Post). clearing Dequeues next x desk (told ++ clear_told kind post 1)) (sym p)
+    ∙ ap (λ (events : List Event). clearing Dequeues next last desk events) (sym t)
+    )
     )
 
--- the round's last machines go on
-pub closes_with : (task : Task) (next : Next) (kind : SchemeKind) (again : Bool) (at stop : CloseAt) (post last : Post) (desk : Desk) (told : List Event) (found : ℕ) → scheme_of post ≡ kind → again ≡ is_again next → last ≡ (close_step kind again at post found).post → told ≡ (close_step kind again at post found).told → (close_step kind again at post found).at ≡ Some stop → Steps (phase_turn (close_phase task next at) post desk found) last desk told None (close_phase task next stop)
-closes_with task next kind again at stop post last desk told found s e p t o =
-    closes_step task next kind at stop post last desk told found s (rw e at p) (rw e at t) (rw e at o)
+-- a step of a machine that leaves the desk alone
+pub keeps_desk : (old new : Post) (desk : HeldDesk) (told : List Event) (few count : ℕ) → IsValid new → new.layout ≡ old.layout → new.seat ≡ old.seat → length told ≤ few → few ≤ count → HasRoom desk old.layout → Keeps old new desk desk told count
+keeps_desk old new desk told few count v l s m n r = record {
+  valid = v;
+  layout = l;
+  seat = s;
+  most = omega arith;
+  room = subst (λ (layout : Layout). HasRoom desk layout) (sym l) r;
+  notes = refl;
+}
 
--- they are over, and the call goes on from there
-pub closed_with : (task : Task) (next : Next) (kind : SchemeKind) (again : Bool) (at : CloseAt) (post mid : Post) (desk : Desk) (told : List Event) (found : ℕ) (answer : Option Answer) (phase : Phase) → scheme_of post ≡ kind → again ≡ is_again next → mid ≡ (close_step kind again at post found).post → told ≡ (close_step kind again at post found).told → (close_step kind again at post found).at ≡ None → Steps (closed task next mid desk told) mid desk told answer phase → Steps (phase_turn (close_phase task next at) post desk found) mid desk told answer phase
-closed_with task next kind again at post mid desk told found answer phase s e p t o h =
-    closed_step task next kind at post mid mid desk told told found answer phase s (rw e at p) (rw e at t) (rw e at o) h
+-- what comes after a step keeps as much
+pub keeps_on : (old mid new : Post) (desk held : HeldDesk) (early told : List Event) (few count : ℕ) → Keeps old mid desk held early few → SameSeat mid new told count → Keeps old new desk held told count
+keeps_on old mid new desk held early told few count k s = record {
+  valid = s.valid;
+  layout = s.layout ∙ k.layout;
+  seat = s.seat ∙ k.seat;
+  most = s.most;
+  room = subst (λ (layout : Layout). HasRoom held layout) (sym s.layout) k.room;
+  notes = k.notes;
+}
+
+-- and where nothing does
+pub keeps_more : (old new : Post) (desk held : HeldDesk) (told : List Event) (few count : ℕ) → Keeps old new desk held told few → few ≤ count → Keeps old new desk held told count
+keeps_more old new desk held told few count k n = record {
+  valid = k.valid;
+  layout = k.layout;
+  seat = k.seat;
+  most = omega (arith, k.most);
+  room = k.room;
+  notes = k.notes;
+}

@@ -2,3 +2,4 @@ pub mod DequeueStates
 pub mod Dequeues
 pub mod EnqueueStates
 pub mod Enqueues
+pub mod Turns

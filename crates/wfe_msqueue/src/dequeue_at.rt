@@ -1,17 +1,24 @@
 // The work of a dequeue on its rows, between the protections of a round.
-ghost use Rattle.std.specs.Prelude.{◌≡◌, ◌≤◌, [], ◌∷◌, length};
+ghost use Rattle.std.specs.Prelude.{◌≡◌, ◌≤◌, ◌+◌, ◌==◌, [], ◌∷◌, length, List, IfSome};
+ghost use Rattle.wfe_core.specs.defs.declared.event.Event.{Event as ModelEvent};
 ghost use Rattle.wfe_core.specs.defs.declared.event.Event.TheVariants.{Cut as CutTold, Link as LinkTold, Taken as TakenTold};
 ghost use Rattle.wfe_core.specs.defs.declared.event.Root.TheVariants.{Head};
 ghost use Rattle.wfe_core.specs.CallReady.{dequeue_plausible, dequeue_ready};
-ghost use Rattle.wfe_core.specs.Dequeue.{dequeue_move, dequeue_turn};
+ghost use Rattle.wfe_core.specs.Calls.{Dequeues, FollowsHead, Opens, Runs};
+ghost use Rattle.wfe_core.specs.Dequeue.{dequeue_move, dequeue_turn, followed_row};
 ghost use Rattle.wfe_core.specs.Desks.{Desk};
 ghost use Rattle.wfe_core.specs.Memory.{numbered};
+ghost use Rattle.wfe_core.specs.Phases.{Base};
+ghost use Rattle.wfe_core.specs.Phases.Ending.{Followed, Protected};
 ghost use Rattle.wfe_core.specs.Valid.{IsValid};
+ghost use Rattle.wfe_core.specs.declared.post.Post.{Post as ModelPost};
 ghost use Rattle.wfe_call_rounds.specs.Rounds.{is_again};
-ghost use Rattle.wfe_msqueue.specs.Dequeues.{LedWithin, at_of, led, next_of};
+ghost use Rattle.wfe_call_rounds.specs.Steps.{came};
+ghost use Rattle.wfe_msqueue.specs.Dequeues.{LedWithin, at_of, led, next_of, ran};
+ghost use Rattle.wfe_msqueue.specs.declared.dequeue_at.Dequeued.TheVariants.{Goes};
 
 use super::links::{link_to, tell_link};
-use wfe_core::{Event, Op, Post, Root, Told};
+use wfe_core::{Answer, Event, FollowEnd, Op, Post, ProtectEnd, Root, Told};
 
 // The step to come. `head` is the row that the head led to, `next` the row after it.
 #[derive(Clone, Copy)]
@@ -58,12 +65,76 @@ impl DequeueEnd {
     }
 }
 
-// What a step leads to: the next one, the protection of the row after the head's, or the round's end.
+// An item that was taken.
+#[derive(Clone, Copy)]
+pub struct Item {
+    pub number: u64,
+    pub value: u64,
+}
+
+// What a dequeue keeps beside where it stands: while the row after the head's is protected, the head's row
+// and the tail's link; while a round ends, how it ends; and the item that it has taken.
+#[derive(Clone, Copy)]
+pub struct Kept {
+    pub head: u32,
+    pub tail: u64,
+    pub ending: DequeueEnd,
+    pub item: Item,
+}
+
+// What a step leads to: the work's next one; the protection of the row after the head's; the round's end,
+// where index 1 is to be cleared, where index 0 alone is, and where nothing is any more; or the answer.
 #[derive(Clone, Copy)]
 pub enum Dequeued {
     Goes(DequeueAt),
     Follows { head: u32, tail: u64 },
     Ends(DequeueEnd),
+    Clears(DequeueEnd),
+    Closed(DequeueEnd),
+    Answers(Answer),
+}
+
+// The head's protection has made a step. Where it is over, and leads to a row, the work begins.
+#[inline(always)]
+pub fn reached(end: Option<ProtectEnd>) -> Option<Dequeued>
+    ensures turn { (base : Base) (post : ModelPost) (desk : Desk) (told : List ModelEvent) → came Protected (Opens Dequeues) base end post desk told ≡ ran result post desk told (Runs (Opens Dequeues) base) }
+    ensures within { (post : ModelPost) → IfSome result (λ step. LedWithin step post) }
+{
+    match end {
+        Some(ProtectEnd::Held { slot, .. }) => {
+            Some(Dequeued::Goes(DequeueAt::LoadTail { head: slot }))
+        }
+        Some(ProtectEnd::Null) => Some(Dequeued::Clears(DequeueEnd::Again)),
+        None => None,
+    }
+}
+
+// The protection of the row after the head's has made a step. Where it is over, the tail lags, or the
+// row is read, or there is none.
+#[inline(always)]
+pub fn followed(head: u32, tail: u64, end: Option<FollowEnd>) -> Option<Dequeued>
+    ensures turn { (base : Base) (post : ModelPost) (desk : Desk) (told : List ModelEvent) → came Followed (FollowsHead head tail) base end post desk told ≡ ran result post desk told (Runs (FollowsHead head tail) base) }
+    ensures within { (post : ModelPost) → IfSome result (λ step. LedWithin step post) }
+{
+    match end {
+        Some(FollowEnd::Followed { slot }) => {
+            Some(Dequeued::Goes(after_follow(head, tail, slot)))
+        }
+        Some(FollowEnd::NoNext) => Some(Dequeued::Ends(DequeueEnd::Empty)),
+        Some(FollowEnd::RootMoved { .. }) => Some(Dequeued::Ends(DequeueEnd::Again)),
+        None => None,
+    }
+}
+
+// The work once the row after the head's is held: a tail that lags is moved on first.
+#[inline(always)]
+fn after_follow(head: u32, tail: u64, next: u32) -> DequeueAt
+    ensures { (post : ModelPost) (desk : Desk) (told : List ModelEvent) → followed_row head next post desk told (tail == head + 1) ≡ led (Goes result) post desk told }
+{
+    if tail == link_to(head) {
+        return DequeueAt::SwingTail { head, next };
+    }
+    DequeueAt::TakeNumber { head, next }
 }
 
 impl DequeueAt {

@@ -1,17 +1,28 @@
 // The work of an enqueue on its rows, between the protections of a round.
-ghost use Rattle.std.specs.Prelude.{◌≡◌, ◌<◌, ◌≤◌, ◌+◌, [], ◌∷◌, length};
+ghost use Rattle.std.specs.Prelude.{◌≡◌, ◌<◌, ◌≤◌, ◌+◌, [], ◌∷◌, length, List, IfSome};
+ghost use Rattle.wfe_core.specs.defs.declared.event.Event.{Event as ModelEvent};
 ghost use Rattle.wfe_core.specs.defs.declared.event.Event.TheVariants.{Link as LinkTold, Queued as QueuedTold};
 ghost use Rattle.wfe_core.specs.defs.declared.event.Root.TheVariants.{Next as NextOf};
 ghost use Rattle.wfe_core.specs.CallReady.{EnqueueFits, enqueue_plausible, enqueue_ready};
+ghost use Rattle.wfe_core.specs.Calls.{Enqueues, Fills, Opens, Runs};
+ghost use Rattle.wfe_core.specs.Change.{no_room as model_no_room};
 ghost use Rattle.wfe_core.specs.Desks.{Desk};
-ghost use Rattle.wfe_core.specs.Enqueue.{enqueue_move, enqueue_turn};
+ghost use Rattle.wfe_core.specs.Enqueue.{enqueue_move, enqueue_turn, new_item};
 ghost use Rattle.wfe_core.specs.Memory.{numbered};
+ghost use Rattle.wfe_core.specs.Phases.{Base};
+ghost use Rattle.wfe_core.specs.Phases.Ending.{Allocated, Protected};
+ghost use Rattle.wfe_core.specs.Steps.{written_row};
 ghost use Rattle.wfe_core.specs.Valid.{IsValid};
+ghost use Rattle.wfe_core.specs.WriteRow.{writing};
+ghost use Rattle.wfe_core.specs.declared.post.Post.{Post as ModelPost};
+ghost use Rattle.wfe_slots.specs.Writes.{write_phase};
 ghost use Rattle.wfe_call_rounds.specs.Rounds.{is_again};
-ghost use Rattle.wfe_msqueue.specs.Enqueues.{at_of, kept_of, led, next_of};
+ghost use Rattle.wfe_call_rounds.specs.Steps.{came};
+ghost use Rattle.wfe_msqueue.specs.Enqueues.{LedWithin, at_of, kept_of, led, next_of, ran};
 
 use super::links::{link_to, tell_link};
-use wfe_core::{Answer, Event, Op, Post, Root, Told};
+use wfe_core::{AllocateEnd, Answer, Event, Op, Post, ProtectEnd, Root, Told};
+use wfe_slots::{Row, WriteRow};
 
 // What an enqueue keeps: its value, the row that it has taken and not linked, whether a walk for one
 // has failed, and, from the tail loaded last, the tail's row and that row's number.
@@ -22,6 +33,83 @@ pub struct Kept {
     pub walked: bool,
     pub tail: u32,
     pub number: u64,
+}
+
+impl Kept {
+    // The tail's protection has made a step. Where it is over, and leads to a row, the work begins.
+    #[inline(always)]
+    pub fn reached(&mut self, end: Option<ProtectEnd>) -> Option<Enqueued>
+        ensures turn { (base : Base) (post : ModelPost) (desk : Desk) (told : List ModelEvent) → came Protected (Opens (Enqueues (kept_of self.old))) base end post desk told ≡ ran (kept_of self.new) result post desk told (Runs (Opens (Enqueues (kept_of self.new))) base) }
+        ensures within { IfSome result (λ step. LedWithin (kept_of self.new) step) }
+    {
+        match end {
+            Some(ProtectEnd::Held { slot, .. }) => {
+                self.tail = slot;
+                Some(Enqueued::Goes(EnqueueAt::LoadNumber))
+            }
+            Some(ProtectEnd::Null) => Some(Enqueued::Ends(EnqueueEnd::Again)),
+            None => None,
+        }
+    }
+
+    // A walk for a row has made a step. Where one has failed for the first time, a scan may make room.
+    #[inline(always)]
+    pub fn allocated(&mut self, end: Option<AllocateEnd>) -> Option<Enqueued>
+        requires number { self.old.number + 1 < 18446744073709551616 }
+        ensures turn { (base : Base) (post : ModelPost) (desk : Desk) (told : List ModelEvent) → came Allocated (Fills (Enqueues (kept_of self.old))) base end post desk told ≡ ran (kept_of self.new) result post desk told (Runs (Fills (Enqueues (kept_of self.new))) base) }
+        ensures within { IfSome result (λ step. LedWithin (kept_of self.new) step) }
+    {
+        match end {
+            Some(AllocateEnd::Given { slot, .. }) => {
+                self.taken = Some(slot);
+                Some(Enqueued::Fills)
+            }
+            Some(AllocateEnd::Full) => {
+                let ending = no_room(self.walked);
+                self.walked = true;
+                Some(Enqueued::Ends(ending))
+            }
+            None => None,
+        }
+    }
+
+    // The row that is to be written: the next number, and the value.
+    #[inline(always)]
+    pub fn write(&self, slot: u32) -> WriteRow
+        requires { self.now.number + 1 < 18446744073709551616 }
+        ensures { write_phase result ≡ writing slot (new_item (kept_of self.now)) }
+    {
+        let row = Row::Queue {
+            number: self.number + 1,
+            value: self.value,
+        };
+        WriteRow::new(slot, row)
+    }
+
+    // The row is written: it is to be linked.
+    #[inline(always)]
+    pub fn written(&self) -> Enqueued
+        ensures turn { (post : ModelPost) (desk : Desk) (told : List ModelEvent) → written_row (Enqueues (kept_of self.now)) post desk told ≡ led (kept_of self.now) result post desk told }
+        ensures within { LedWithin (kept_of self.now) result }
+    {
+        let slot = match self.taken {
+            Some(slot) => slot,
+            None => 0,
+        };
+        Enqueued::Goes(EnqueueAt::ExchangeNext { slot })
+    }
+}
+
+// How a round ends in which no row was free: the second walk of a call answers.
+#[inline(always)]
+fn no_room(walked: bool) -> EnqueueEnd
+    ensures { next_of result ≡ model_no_room walked }
+{
+    if walked {
+        EnqueueEnd::Answers(Answer::Full)
+    } else {
+        EnqueueEnd::MakeRoom
+    }
 }
 
 // The step to come. A slot is the new row's.
@@ -53,12 +141,15 @@ impl EnqueueEnd {
     }
 }
 
-// What a step leads to: the next one, a row to be filled, or the round's end.
+// What a step leads to: the work's next one; a row to be filled; the round's end, where index 0 is to be
+// cleared, and where nothing is any more; or the answer.
 #[derive(Clone, Copy)]
 pub enum Enqueued {
     Goes(EnqueueAt),
     Fills,
     Ends(EnqueueEnd),
+    Closed(EnqueueEnd),
+    Answers(Answer),
 }
 
 impl EnqueueAt {
@@ -104,7 +195,7 @@ impl EnqueueAt {
         requires plausible { enqueue_plausible (at_of self) post.now found }
         requires empty { told.old ≡ [] }
         ensures turn { (desk : Desk) → enqueue_turn (kept_of kept.old) (at_of self) post.now desk found ≡ led (kept_of kept.new) result post.now desk told.new }
-        ensures fits { EnqueueFits post.now (kept_of kept.new) }
+        ensures within { LedWithin (kept_of kept.new) result }
         ensures few { length told.new ≤ 2 }
     {
         match self {

@@ -14,4 +14,4 @@ finish-requires g c =
     may.valid
 
 pub drive_free-requires-clause-free : goal.drive_free-requires-clause-free
-drive_free-requires-clause-free g c = ends_free c.args.post.now _ (sym c.in-Some.ensures)
+drive_free-requires-clause-free g c = λ one. ends_free c.args.post.now _ (sym c.in-Some.ensures)

@@ -1,18 +1,23 @@
-use Rattle.wfe_core.specs.Calls.{Dequeues}
+use Rattle.std.proofs.Common.{arith, ◌∙◌}
 use Rattle.wfe_core.specs.DeskHeld.{desk_of}
-use Rattle.wfe_call_rounds.specs.Rounds.{close_at}
-use Rattle.wfe_msqueue.specs.Dequeues.{next_of}
-use Rattle.wfe_msqueue.proofs.Turns.{closes_with, closed_with}
+use Rattle.wfe_call_rounds.proofs.Ran.{answers_steps, goes_steps}
+use Rattle.wfe_msqueue.proofs.Turns.{keeps_more, keeps_on}
 use Rattle.wfe_msqueue.proofs.dequeue.Dequeue.step.Goals as goal
 
-pub returns-then-take_close-clause-steps : goal.returns-then-take_close-clause-steps
-returns-then-take_close-clause-steps g c =
-    rw c.in-Closes.is (
-    closed_with Dequeues (next_of c.in-Closes.ending) g.S.Scheme.kind c.is_again.result (close_at g.S.Clear.Machine.phase g.S.Finish.Machine.phase c.in-Closes.closing) c.args.post.now c.take_close.new.post (desk_of c.args.desk.now) c.take_close.new.told c.args.found c.closed.result _ c.requires.scheme c.is_again.ensures c.take_close.ensures.post c.take_close.ensures.told c.if-take_close.ensures.next (c.closed.ensures c.take_close.new.post (desk_of c.args.desk.now) c.take_close.new.told)
-    )
+pub returns-in-None-clause-steps : goal.returns-in-None-clause-steps
+returns-in-None-clause-steps g c = goes_steps _ _ _ _ _ c.in-None.ensures.turn
 
-pub returns-else-take_close-clause-steps : goal.returns-else-take_close-clause-steps
-returns-else-take_close-clause-steps g c =
-    rw c.in-Closes.is (
-    closes_with Dequeues (next_of c.in-Closes.ending) g.S.Scheme.kind c.is_again.result (close_at g.S.Clear.Machine.phase g.S.Finish.Machine.phase c.in-Closes.closing) (close_at g.S.Clear.Machine.phase g.S.Finish.Machine.phase c.take_close.new.closing) c.args.post.now c.take_close.new.post (desk_of c.args.desk.now) c.take_close.new.told c.args.found c.requires.scheme c.is_again.ensures c.take_close.ensures.post c.take_close.ensures.told c.if-take_close.ensures.next
-    )
+pub returns-in-None-clause-kept : goal.returns-in-None-clause-kept
+returns-in-None-clause-kept g c = keeps_more _ _ _ _ _ 3 5 c.run.ensures.kept (omega arith)
+
+pub returns-in-Stands-clause-steps : goal.returns-in-Stands-clause-steps
+returns-in-Stands-clause-steps g c = rw (c.stand.ensures.at, c.stand.ensures.kept) (goes_steps _ _ _ _ _ (c.in-Some.ensures.turn ∙ c.in-Stands.ensures.turn (desk_of c.run.new.desk)))
+
+pub returns-in-Stands-clause-kept : goal.returns-in-Stands-clause-kept
+returns-in-Stands-clause-kept g c = keeps_on _ c.run.new.post _ _ _ c.run.new.told _ 3 5 c.run.ensures.kept c.lead.ensures.seat
+
+pub returns-in-Answers-clause-steps : goal.returns-in-Answers-clause-steps
+returns-in-Answers-clause-steps g c = answers_steps _ _ _ _ _ _ (c.in-Some.ensures.turn ∙ c.in-Answers.ensures.turn (desk_of c.run.new.desk))
+
+pub returns-in-Answers-clause-kept : goal.returns-in-Answers-clause-kept
+returns-in-Answers-clause-kept g c = keeps_on _ c.run.new.post _ _ _ c.run.new.told _ 3 5 c.run.ensures.kept c.lead.ensures.seat

@@ -3,16 +3,41 @@ use Rattle.wfe_core.specs.declared.post.Post.{Post}
 use Rattle.wfe_core.specs.DeskHeld.{desk_of}
 use Rattle.wfe_call_rounds.specs.iface.Follows.{at_phase}
 use Rattle.wfe_call_rounds.specs.iface.Schemes.{round_phases}
-use Rattle.wfe_msqueue.specs.DequeueStates.{dequeue_phase}
-use Rattle.wfe_msqueue.proofs.Counts.{dequeue_counted, took_counted}
-use Rattle.wfe_msqueue.proofs.dequeue.DequeueCallMachine.take.Goals as goal
 use Rattle.wfe_call_rounds.proofs.iface.Followed.{bumped}
+use Rattle.wfe_call_rounds.proofs.Counted.{plausible_counted, ready_counted, took_counted}
+use Rattle.wfe_msqueue.specs.DequeueStates.{dequeue_phase}
+use Rattle.wfe_msqueue.proofs.Counts.{dequeue_counted}
+use Rattle.wfe_msqueue.proofs.dequeue.DequeueCallMachine.take.Goals as goal
+
+pub step-answer-requires-clause-ready : goal.step-answer-requires-clause-ready
+step-answer-requires-clause-ready g c =
+    let post = c.args.post.now in
+    ready_counted
+    (λ (p : Post). dequeue_phase (round_phases g.S.Begin.Machine.phase g.S.Protect.Machine.phase g.S.Clear.Machine.phase g.S.Finish.Machine.phase) (λ f. at_phase g.S.Protect.Machine.phase f.parent f.index f.steps f.at) c.args.self.now.kept c.args.self.now.at p)
+    post
+    c.saturating_add-post.result
+    (desk_of c.args.desk.now)
+    (dequeue_counted _ _ c.args.self.now.kept c.args.self.now.at post)
+    (bumped c.saturating_add-post.result post.steps (omega arith) c.saturating_add-post.ensures)
+    c.requires.ready
+
+pub step-answer-requires-clause-plausible : goal.step-answer-requires-clause-plausible
+step-answer-requires-clause-plausible g c =
+    let post = c.args.post.now in
+    plausible_counted
+    (λ (p : Post). dequeue_phase (round_phases g.S.Begin.Machine.phase g.S.Protect.Machine.phase g.S.Clear.Machine.phase g.S.Finish.Machine.phase) (λ f. at_phase g.S.Protect.Machine.phase f.parent f.index f.steps f.at) c.args.self.now.kept c.args.self.now.at p)
+    post
+    c.saturating_add-post.result
+    c.args.found
+    (dequeue_counted _ _ c.args.self.now.kept c.args.self.now.at post)
+    (bumped c.saturating_add-post.result post.steps (omega arith) c.saturating_add-post.ensures)
+    c.requires.plausible
 
 pub returns-clause-took : goal.returns-clause-took
 returns-clause-took g c =
     let post = c.args.post.now in
     took_counted
-    (λ (p : Post). dequeue_phase (round_phases g.S.Begin.Machine.phase g.S.Protect.Machine.phase g.S.Clear.Machine.phase g.S.Finish.Machine.phase) (λ f. at_phase g.S.Protect.Machine.phase f.parent f.index f.steps f.at) c.args.self.now.at p)
+    (λ (p : Post). dequeue_phase (round_phases g.S.Begin.Machine.phase g.S.Protect.Machine.phase g.S.Clear.Machine.phase g.S.Finish.Machine.phase) (λ f. at_phase g.S.Protect.Machine.phase f.parent f.index f.steps f.at) c.args.self.now.kept c.args.self.now.at p)
     post
     c.step-answer.new.post
     c.saturating_add-post.result
@@ -24,7 +49,7 @@ returns-clause-took g c =
     c.step-answer.result
     _
     c.settle.new.self
-    (dequeue_counted _ _ c.args.self.now.at post)
+    (dequeue_counted _ _ c.args.self.now.kept c.args.self.now.at post)
     (bumped c.saturating_add-post.result post.steps (omega arith) c.saturating_add-post.ensures)
     c.step-answer.ensures.steps
     c.settle.ensures.told

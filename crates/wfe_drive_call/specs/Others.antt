@@ -1,0 +1,13 @@
+-- Calls other than a get, a change of a bucket, an enqueue and a dequeue.
+use Rattle.std.specs.Prelude.{Bool, false, true}
+use Rattle.wfe_core.specs.defs.declared.call.Call.{Call}
+use Rattle.wfe_core.specs.defs.declared.call.Call.TheVariants as names
+
+abbrev pub is_other : Call → Bool
+is_other (names.Get key) = false
+is_other (names.Put key value) = false
+is_other (names.Remove key) = false
+is_other (names.PutIf key value version) = false
+is_other (names.Enqueue value) = false
+is_other names.Dequeue = false
+is_other call = true
