@@ -11,9 +11,9 @@ use Rattle.inv_ends.specs.model.MayStep.{MayStep}
 use Rattle.inv_ends.specs.model.Posts.{stands}
 use Rattle.inv_ends.specs.model.World.{World, begin, finds, is_busy, may_start, offered, start, step, told_in}
 use Rattle.inv_ends.specs.requests.Views.{View as Asked}
-use Rattle.inv_steps_left.specs.rows.Hands.{row_move}
-use Rattle.inv_steps_left.specs.rows.Queue.{Line}
-use Rattle.inv_steps_left.specs.rows.Rows.{View}
+use Rattle.inv_ends.specs.rows.Hands.{row_move}
+use Rattle.inv_ends.specs.rows.Queue.{Line}
+use Rattle.inv_ends.specs.rows.Rows.{View}
 use Rattle.inv_ends.specs.covers.Covers.{number_shown, shown, takes_or_frees}
 use Rattle.inv_ends.specs.model.Guards.{own_guard}
 use Rattle.inv_ends.specs.model.words.Schemes.{publishes_rows}

@@ -5,7 +5,7 @@ use Rattle.inv_ends.specs.model.defs.declared.lifetime.Lifetime.{Lifetime}
 use Rattle.inv_ends.specs.model.CallReady.{NotListed}
 use Rattle.inv_ends.specs.model.Desks.{Desk, no_notes}
 use Rattle.inv_ends.specs.model.World.{World, is_busy}
-use Rattle.inv_steps_left.specs.rows.Facts.{Listing}
+use Rattle.inv_ends.specs.rows.Facts.{Listing}
 use Rattle.inv_all.specs.Inv.{Inv}
 
 -- the desk of seat k, where the list goes from one seat to another; the notes of the latter's last call are cleared

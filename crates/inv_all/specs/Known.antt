@@ -12,19 +12,19 @@ use Rattle.inv_ends.specs.requests.Paces.{Paces}
 use Rattle.inv_ends.specs.requests.Parents.{Parents}
 use Rattle.inv_ends.specs.requests.Standing.{Requests}
 use Rattle.inv_ends.specs.requests.Views.{View as Asked}
-use Rattle.inv_steps_left.specs.rows.Queue.{Line}
-use Rattle.inv_steps_left.specs.rows.Rows.{View}
-use Rattle.inv_steps_left.specs.rows.Tries.{Whole}
+use Rattle.inv_ends.specs.rows.Queue.{Line}
+use Rattle.inv_ends.specs.rows.Rows.{View}
+use Rattle.inv_ends.specs.rows.Tries.{Whole}
 use Rattle.inv_ends.specs.covers.Covers.{Scanning}
 use Rattle.inv_ends.specs.covers.Held.{Held}
 use Rattle.inv_ends.specs.covers.Rests.{Rests}
 use Rattle.inv_ends.specs.Helped.{Helped}
-use Rattle.inv_links.specs.Links.{Links}
+use Rattle.inv_ends.specs.Links.{Links}
 use Rattle.inv_contents.specs.Contents.{Contents}
 use Rattle.inv_contents.specs.Stands.{Stands}
 use Rattle.inv_contents.specs.Bounded.{Bounded}
 use Rattle.inv_contents.specs.Items.{Items}
-use Rattle.inv_steps_left.specs.Losses.{Losses}
+use Rattle.inv_ends.specs.Losses.{Losses}
 use Rattle.inv_all.specs.Rounds.{Rounds}
 
 -- `v` are the rows, `l` what no word shows of the queue, and `z` the requests

@@ -2,11 +2,9 @@ pub use Rattle.inv_ends.specs.model as model
 pub use Rattle.inv_contents.specs as contents
 pub use Rattle.inv_ends.specs.covers as covers
 pub use Rattle.inv_ends.specs as ends
-pub use Rattle.inv_links.specs as links
 pub use Rattle.inv_ends.specs.requests as requests
-pub use Rattle.inv_steps_left.specs.rows as rows
+pub use Rattle.inv_ends.specs.rows
 pub use Rattle.inv_ends.specs.shapes as shapes
-pub use Rattle.inv_steps_left.specs as steps_left
 pub use Rattle.inv_ends.specs.history as history
 pub mod Ends
 pub mod Finish

@@ -15,9 +15,9 @@ use Rattle.inv_ends.specs.model.Phases.Ending.{Allocated}
 use Rattle.inv_ends.specs.model.Calls.{Why, Runs}
 use Rattle.inv_ends.specs.model.World.{World, step, finds, told_in}
 use Rattle.inv_ends.specs.requests.Views.{View as Asked}
-use Rattle.inv_steps_left.specs.rows.Agree.{Agree, rows_after}
-use Rattle.inv_steps_left.specs.rows.Rows.{View, is_taken}
-use Rattle.inv_steps_left.specs.rows.Rows.RowMove.{Lists}
+use Rattle.inv_ends.specs.rows.Agree.{Agree, rows_after}
+use Rattle.inv_ends.specs.rows.Rows.{View, is_taken}
+use Rattle.inv_ends.specs.rows.Rows.RowMove.{Lists}
 use Rattle.inv_ends.specs.model.Guards.{own_guard}
 use Rattle.inv_ends.specs.covers.Held.{Holds}
 use Rattle.inv_ends.specs.history.History.{Item, world_of}

@@ -5,9 +5,9 @@ use Rattle.inv_ends.specs.model.Calls.{Keeping, MarkLeft, MarkTaken, TakeList, P
 use Rattle.inv_ends.specs.model.Posts.{stands}
 use Rattle.inv_ends.specs.model.World.{World, is_busy, is_here, list_in, step}
 use Rattle.inv_ends.specs.Told.{move_of}
-use Rattle.inv_steps_left.specs.rows.Facts.{SeatShows}
-use Rattle.inv_steps_left.specs.rows.Rows.{RowMove}
-use Rattle.inv_steps_left.specs.rows.Rows.RowMove.{Adopts}
+use Rattle.inv_ends.specs.rows.Facts.{SeatShows}
+use Rattle.inv_ends.specs.rows.Rows.{RowMove}
+use Rattle.inv_ends.specs.rows.Rows.RowMove.{Adopts}
 use Rattle.inv_all.specs.Inv.{Inv}
 
 pub record PlaceShows (w : World) (k : ℕ) : Type 0 where

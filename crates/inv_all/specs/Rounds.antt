@@ -7,15 +7,15 @@ use Rattle.inv_contents.specs.model.World.{World, start, begin, step, is_busy}
 use Rattle.inv_contents.specs.rows.Rows.{View}
 use Rattle.inv_contents.specs.rows.Queue.{Line}
 use Rattle.inv_contents.specs.rows.Chain.{Both, first_line, line_after}
-use Rattle.inv_links.specs.requests.Views.{View as Asking}
-use Rattle.inv_links.specs.requests.Views.Deal.{Quiet}
-use Rattle.inv_links.specs.shapes.Slots.{Slots}
-use Rattle.inv_links.specs.requests.NextDeals.{next_deals}
-use Rattle.inv_links.specs.requests.Standing.{Requests}
-use Rattle.inv_links.specs.Origins.{Origins, OriginsNeeds}
+use Rattle.inv_ends.specs.requests.Views.{View as Asking}
+use Rattle.inv_ends.specs.requests.Views.Deal.{Quiet}
+use Rattle.inv_ends.specs.shapes.Slots.{Slots}
+use Rattle.inv_ends.specs.requests.NextDeals.{next_deals}
+use Rattle.inv_ends.specs.requests.Standing.{Requests}
+use Rattle.inv_ends.specs.Origins.{Origins, OriginsNeeds}
 use Rattle.inv_contents.specs.Items.{Items}
 use Rattle.inv_contents.specs.Bounded.{Bounded}
-use Rattle.inv_steps_left.specs.Losses.{Losses, LossNeeds}
+use Rattle.inv_ends.specs.Losses.{Losses, LossNeeds}
 use Rattle.inv_all.specs.Tallies.{tally, phase_paced, good_link}
 
 -- each seat's call, and each link that is tracked for it

@@ -4,7 +4,7 @@ use Rattle.inv_covers.specs.words.declared.layout.Layout.{Layout}
 use Rattle.inv_covers.specs.defs.Pairs.{pairs_after}
 use Rattle.inv_covers.specs.defs.declared.call.Call.{Call}
 use Rattle.inv_covers.specs.model.World.{World, start, begin, step}
-use Rattle.inv_requests.specs.shapes.Slots.{Slots}
+use Rattle.inv_covers.specs.shapes.Slots.{Slots}
 use Rattle.inv_covers.specs.rows.Rows.{View}
 use Rattle.inv_covers.specs.rows.Queue.{Line}
 use Rattle.inv_covers.specs.rows.Chain.{Both}

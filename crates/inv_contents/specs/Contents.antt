@@ -20,9 +20,9 @@ use Rattle.inv_covers.specs.model.World.{World, start, step, begin, finds}
 use Rattle.inv_covers.specs.rows.Rows.{View, is_settled}
 use Rattle.inv_covers.specs.rows.Rows.Status.{Linked}
 use Rattle.inv_covers.specs.rows.Agree.{Agree, RowsNeeds, rows_after, first_rows}
-use Rattle.inv_requests.specs.Parents.{rises_at}
-use Rattle.inv_requests.specs.shapes.Seats.{Seats}
-use Rattle.inv_requests.specs.shapes.Slots.{Slots}
+use Rattle.inv_covers.specs.Requests.Parents.{rises_at}
+use Rattle.inv_covers.specs.shapes.Seats.{Seats}
+use Rattle.inv_covers.specs.shapes.Slots.{Slots}
 use Rattle.inv_contents.specs.Shelf.{Shelf, Filled, shelf_of, Shows, OfBucket}
 use Rattle.inv_contents.specs.Knows.{Ground, Knows, reads_in}
 

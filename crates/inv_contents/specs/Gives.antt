@@ -6,7 +6,7 @@ use Rattle.inv_covers.specs.defs.declared.event.Event.TheVariants as events
 use Rattle.inv_covers.specs.model.Book.{Book}
 use Rattle.inv_covers.specs.model.Calls.{EnqueueKept, ExchangeNext, Work, Enqueuing, Works}
 use Rattle.inv_covers.specs.model.World.{World, finds, told_in}
-use Rattle.inv_requests.specs.shapes.Slots.{work_finds}
+use Rattle.inv_covers.specs.shapes.Slots.{work_finds}
 use Rattle.inv_covers.specs.rows.Rows.{View, is_settled}
 use Rattle.inv_covers.specs.rows.Queue.{Line}
 use Rattle.inv_covers.specs.rows.Chain.{Both}

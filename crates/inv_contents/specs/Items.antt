@@ -7,7 +7,7 @@ use Rattle.inv_covers.specs.defs.declared.call.Call.{Call}
 use Rattle.inv_covers.specs.model.Book.{Book}
 use Rattle.inv_covers.specs.model.Calls.{AfterScan, GiveBack, Scans}
 use Rattle.inv_covers.specs.model.World.{World, start, begin, step}
-use Rattle.inv_requests.specs.shapes.Slots.{Slots}
+use Rattle.inv_covers.specs.shapes.Slots.{Slots}
 use Rattle.inv_covers.specs.rows.Rows.{View}
 use Rattle.inv_covers.specs.rows.Agree.{rows_after, first_rows}
 use Rattle.inv_covers.specs.rows.Queue.{Line}

@@ -7,8 +7,8 @@ use Rattle.inv_covers.specs.model.declared.post.Post.{Post}
 use Rattle.inv_covers.specs.model.Posts.{stands}
 use Rattle.inv_covers.specs.model.Calls.{DequeueAt, LoadTail, SwingTail, TakeNumber, TakeValue, ExchangeHead, Looks, Work, Getting, Changing, Enqueuing, Dequeuing, Keeping, Phase, Idle, Runs, Scans, Works}
 use Rattle.inv_covers.specs.model.World.{World, start, begin, step}
-use Rattle.inv_requests.specs.shapes.Seats.{Seats}
-use Rattle.inv_requests.specs.Parents.{Parents}
+use Rattle.inv_covers.specs.shapes.Seats.{Seats}
+use Rattle.inv_covers.specs.Requests.Parents.{Parents}
 use Rattle.inv_covers.specs.rows.Queue.{stands_on}
 use Rattle.inv_contents.specs.Knows.{reads_in}
 

@@ -13,7 +13,7 @@ use Rattle.inv_covers.specs.model.Phases.{Ending, Outcome, Goes, Ends}
 use Rattle.inv_covers.specs.model.Phases.Ending.{Done, Protected, Followed, Allocated, Retired, Clocked}
 use Rattle.inv_covers.specs.model.Calls.{ChangeKept, EnqueueKept, Why, Opens, FollowsHead, ChangeAt, LoadVersion, LoadCount, LoadKey, LoadValue, ExchangeRoot, EnqueueAt, LoadNumber, LoadNext, PassTail, ExchangeNext, ExchangeTail, DequeueAt, LoadTail, SwingTail, TakeNumber, TakeValue, ExchangeHead, Work, Getting, Changing, Enqueuing, Dequeuing, Keeping, Phase, Idle, Runs, Scans, Works, CallTurn}
 use Rattle.inv_covers.specs.model.Steps.{phase_turn, first_phase}
-use Rattle.inv_requests.specs.shapes.Frame.{phase_left}
+use Rattle.inv_covers.specs.shapes.Frame.{phase_left}
 use Rattle.inv_covers.specs.rows.Queue.{Line}
 use Rattle.inv_contents.specs.Reads.{value_under, Reads}
 

@@ -2,18 +2,18 @@
 use Rattle.std.proofs.Common.{ℕ, zero, suc, ◌≡◌, ◌∙◌, sym, subst, true, false, arith, refl, Bool, Some}
 use Rattle.std.proofs.lemmas.Bool.Decides.{nat_tests}
 use Rattle.std.specs.Prelude.{◌==◌, if◌then◌else◌}
-use Rattle.inv_shapes.specs.words.Place.Place.{Clock}
-use Rattle.inv_shapes.specs.words.declared.layout.Layout.{Layout}
-use Rattle.inv_shapes.specs.defs.declared.call.Call.{Call}
-use Rattle.inv_shapes.specs.defs.declared.event.Guard.{Guard}
-use Rattle.inv_shapes.specs.defs.declared.lifetime.Lifetime.{Lifetime}
-use Rattle.inv_shapes.specs.model.Guards.{guards, own_guard}
-use Rattle.inv_shapes.specs.model.Posts.{new_post, stands}
-use Rattle.inv_shapes.specs.model.Phases.{Base}
-use Rattle.inv_shapes.specs.model.Steps.{first_phase}
-use Rattle.inv_shapes.specs.model.Calls.{Why, Phase, Runs}
-use Rattle.inv_shapes.specs.model.Locals.{Local, begun, begun_post}
-use Rattle.inv_shapes.specs.model.World.{World, begin}
+use Rattle.inv_rows.specs.words.Place.Place.{Clock}
+use Rattle.inv_rows.specs.words.declared.layout.Layout.{Layout}
+use Rattle.inv_rows.specs.defs.declared.call.Call.{Call}
+use Rattle.inv_rows.specs.defs.declared.event.Guard.{Guard}
+use Rattle.inv_rows.specs.defs.declared.lifetime.Lifetime.{Lifetime}
+use Rattle.inv_rows.specs.model.Guards.{guards, own_guard}
+use Rattle.inv_rows.specs.model.Posts.{new_post, stands}
+use Rattle.inv_rows.specs.model.Phases.{Base}
+use Rattle.inv_rows.specs.model.Steps.{first_phase}
+use Rattle.inv_rows.specs.model.Calls.{Why, Phase, Runs}
+use Rattle.inv_rows.specs.model.Locals.{Local, begun, begun_post}
+use Rattle.inv_rows.specs.model.World.{World, begin}
 use Rattle.inv_rows.specs.Rows.{View}
 use Rattle.inv_covers.specs.Covers.{has_met, life_of, number_of, Covers}
 use Rattle.inv_covers.specs.Tries.{is_start, starts_base}
@@ -22,7 +22,7 @@ pub use Rattle.inv_covers.proofs.Fresh.{first_begins}
 use Rattle.inv_covers.proofs.Kept.{not_reused}
 use Rattle.inv_covers.proofs.Scans.{fresh_met}
 use Rattle.inv_covers.proofs.Tried.{start_untried}
-use Rattle.inv_shapes.proofs.model.Facts.{no_truth}
+use Rattle.inv_rows.proofs.model.Facts.{no_truth}
 
 -- nothing stands in a new post
 pub new_stands : (seat : ℕ) (layout : Layout) (j s : ℕ) → stands (new_post seat layout) j ≡ Some s → false ≡ true

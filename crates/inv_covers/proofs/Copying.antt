@@ -2,28 +2,28 @@
 use Rattle.std.proofs.Common.{ℕ, ◌<◌, ◌≡◌, ◌∙◌, sym, subst, ap, Bool, true, false, arith, refl}
 use Rattle.std.proofs.lemmas.Bool.Decides.{nat_tests}
 use Rattle.std.specs.Prelude.{◌==◌}
-use Rattle.inv_shapes.specs.words.Place.Place.{Index as IndexOf}
-use Rattle.inv_shapes.specs.words.Schemes.{has_one_interval, publishes_rows}
-use Rattle.inv_shapes.specs.words.declared.config.SchemeKind.{SchemeKind}
-use Rattle.inv_shapes.specs.words.declared.packed.Reservation.{Reservation}
-use Rattle.inv_shapes.specs.defs.declared.event.Guard.TheVariants.{Index}
-use Rattle.inv_shapes.specs.defs.Shown as values
-use Rattle.inv_shapes.specs.model.Guards.{one_era, own_guard, published}
-use Rattle.inv_shapes.specs.model.Memory.{Move as Act, place_in, change}
-use Rattle.inv_shapes.specs.model.Posts.{shown_word, tag_of}
-use Rattle.inv_shapes.specs.model.Calls.{StoreHeld, Keeping, Works}
-use Rattle.inv_shapes.specs.model.World.{World, step}
-use Rattle.inv_shapes.proofs.Frame.{word_steps}
-use Rattle.inv_shapes.proofs.words.Parts.{read_reservation-halves}
-use Rattle.inv_shapes.proofs.model.Schemes.{interval_guard}
+use Rattle.inv_rows.specs.words.Place.Place.{Index as IndexOf}
+use Rattle.inv_rows.specs.words.Schemes.{has_one_interval, publishes_rows}
+use Rattle.inv_rows.specs.words.declared.config.SchemeKind.{SchemeKind}
+use Rattle.inv_rows.specs.words.declared.packed.Reservation.{Reservation}
+use Rattle.inv_rows.specs.defs.declared.event.Guard.TheVariants.{Index}
+use Rattle.inv_rows.specs.defs.Shown as values
+use Rattle.inv_rows.specs.model.Guards.{one_era, own_guard, published}
+use Rattle.inv_rows.specs.model.Memory.{Move as Act, place_in, change}
+use Rattle.inv_rows.specs.model.Posts.{shown_word, tag_of}
+use Rattle.inv_rows.specs.model.Calls.{StoreHeld, Keeping, Works}
+use Rattle.inv_rows.specs.model.World.{World, step}
+use Rattle.inv_rows.proofs.Shapes.Frame.{word_steps}
+use Rattle.inv_rows.proofs.words.Parts.{read_reservation-halves}
+use Rattle.inv_rows.proofs.model.Schemes.{interval_guard}
 use Rattle.inv_rows.specs.Agree.{rows_after}
 use Rattle.inv_rows.specs.Rows.{View}
 use Rattle.inv_covers.specs.Covers.{number_shown, shown, Covers, CoversNeeds, GuardFits, Scanning}
 use Rattle.inv_covers.proofs.Guards.{index_rises, handed_kept}
 use Rattle.inv_covers.proofs.Words.{move_is, keeps_at, shown_kept, widens_same, work_index}
-use Rattle.inv_shapes.specs.model.declared.post.Post.{Post}
-use Rattle.inv_shapes.specs.model.Rounds.{scheme_of}
-use Rattle.inv_shapes.specs.words.declared.layout.Layout.{Layout}
+use Rattle.inv_rows.specs.model.declared.post.Post.{Post}
+use Rattle.inv_rows.specs.model.Rounds.{scheme_of}
+use Rattle.inv_rows.specs.words.declared.layout.Layout.{Layout}
 
 -- the word that a copy's second step stores
 stored_word : (w : World) (i from index number : ℕ) → (w.seat i).phase ≡ Works (Keeping (StoreHeld from index number)) → (step w i).mem (IndexOf (w.seat i).post.seat index) ≡ shown_word (publishes_rows (scheme_of (w.seat i).post)) (w.seat i).post index number

@@ -1,47 +1,47 @@
 -- The row whose next link is followed stands at index 0, under Hazard Eras and 2GE.
 use Rattle.std.proofs.Common.{ℕ, ◌+◌, ◌-◌, ◌≡◌, sym, subst, true, false, refl, Bool, Option, Some, None, List, [], ◌∷◌, ◌<◌, length, ◌∙◌, ap, drop}
 use Rattle.std.specs.Prelude.{◌==◌, ◌||◌, if◌then◌else◌, nat_lt}
-use Rattle.inv_shapes.specs.words.declared.config.SchemeKind.{SchemeKind}
-use Rattle.inv_shapes.specs.words.declared.layout.Layout.{Layout}
-use Rattle.inv_shapes.specs.defs.declared.event.Event.{Event}
-use Rattle.inv_shapes.specs.defs.declared.event.Event.TheVariants as events
-use Rattle.inv_shapes.specs.defs.declared.event.Root.{Root}
-use Rattle.inv_shapes.specs.defs.declared.event.Root.TheVariants as roots
-use Rattle.inv_shapes.specs.model.declared.post.Post.{Post}
-use Rattle.inv_shapes.specs.model.Desks.{Desk, noting}
-use Rattle.inv_shapes.specs.model.Guards.{guards, guard_at, published}
-use Rattle.inv_shapes.specs.model.Posts.{stands, withdrawn, upper, with_row, counted, standing_from}
-use Rattle.inv_shapes.specs.model.Phases.BeginAt.{LoadLower, PublishSpan}
-use Rattle.inv_shapes.specs.model.Phases.{BeginAt, Aim, Alone, Follows, Base, ProtectAt, Ending, Outcome, Goes, Ends, Turn, goes, ends}
-use Rattle.inv_shapes.specs.model.Phases.ProtectAt.{LoadClock, PublishEra, LoadLink, CheckClock, LoadWithin, CheckUpper, RaiseUpper, ByHazard}
-use Rattle.inv_shapes.specs.model.Phases.HazardAt.{FirstLink, PublishLink, CheckLink}
-use Rattle.inv_shapes.specs.model.Phases.Base.{Begin, Protect, Reload, Clear, Finish, Release, Allocate, Write, GiveUp, Retire, Move}
-use Rattle.inv_shapes.specs.model.Phases.Ending.{Protected, Followed}
-use Rattle.inv_shapes.specs.model.Protect.{protect_end, held_post, told_held, failed_once, concluded, protected}
-use Rattle.inv_shapes.specs.model.Memory.{bump}
-use Rattle.inv_shapes.specs.model.declared.ends.FollowEnd.TheVariants as follow_ends
-use Rattle.inv_shapes.specs.model.Machine.{after, protect_turn}
-use Rattle.inv_shapes.specs.model.Rounds.{scheme_of, index_of, kept_row, release_span, let_index, letting_by, letting}
-use Rattle.inv_shapes.specs.model.Scan.{Entry, scanned, giving_back, reading, unmet_from, with_kept, with_read, with_back, reads_guard, scan_turn}
-use Rattle.inv_shapes.specs.model.Steps.{resumed, phase_turn, holding, copying, looking_at, first_phase}
-use Rattle.inv_shapes.specs.model.Calls.{Task, Gets, Changes, Holds, Enqueues, Dequeues, AfterScan, Answered, Repeated, Counted, ScanAt, ReadGuard, GiveBack, Why, Opens, FollowsHead, Fills, ClearsNext, Clears, Finishes, GivesUp, Retires, Tidies, Advances, Releases, LetGo, Released, Rehold, Dropped, Phase, Idle, Runs, Scans, Works, CallTurn, CallOutcome, GoesOn, Answers}
-use Rattle.inv_shapes.specs.Seats.{task_root, root_by, protect_fits, Run}
-use Rattle.inv_shapes.specs.words.Schemes.{helps, has_one_interval, publishes_rows}
-use Rattle.inv_shapes.specs.model.declared.ends.ProtectEnd.TheVariants as protect_ends
-use Rattle.inv_shapes.specs.model.Locals.{Local, turn, settled, settled_by, told_by, rounds_told, begun, begun_post}
-use Rattle.inv_shapes.specs.model.Locals as locals
-use Rattle.inv_shapes.specs.Frame.{phase_left}
-use Rattle.inv_shapes.specs.defs.declared.call.Call.{Call}
-use Rattle.inv_shapes.specs.defs.declared.call.Call.TheVariants as names
-use Rattle.inv_shapes.specs.model.World.{finds, offered}
+use Rattle.inv_rows.specs.words.declared.config.SchemeKind.{SchemeKind}
+use Rattle.inv_rows.specs.words.declared.layout.Layout.{Layout}
+use Rattle.inv_rows.specs.defs.declared.event.Event.{Event}
+use Rattle.inv_rows.specs.defs.declared.event.Event.TheVariants as events
+use Rattle.inv_rows.specs.defs.declared.event.Root.{Root}
+use Rattle.inv_rows.specs.defs.declared.event.Root.TheVariants as roots
+use Rattle.inv_rows.specs.model.declared.post.Post.{Post}
+use Rattle.inv_rows.specs.model.Desks.{Desk, noting}
+use Rattle.inv_rows.specs.model.Guards.{guards, guard_at, published}
+use Rattle.inv_rows.specs.model.Posts.{stands, withdrawn, upper, with_row, counted, standing_from}
+use Rattle.inv_rows.specs.model.Phases.BeginAt.{LoadLower, PublishSpan}
+use Rattle.inv_rows.specs.model.Phases.{BeginAt, Aim, Alone, Follows, Base, ProtectAt, Ending, Outcome, Goes, Ends, Turn, goes, ends}
+use Rattle.inv_rows.specs.model.Phases.ProtectAt.{LoadClock, PublishEra, LoadLink, CheckClock, LoadWithin, CheckUpper, RaiseUpper, ByHazard}
+use Rattle.inv_rows.specs.model.Phases.HazardAt.{FirstLink, PublishLink, CheckLink}
+use Rattle.inv_rows.specs.model.Phases.Base.{Begin, Protect, Reload, Clear, Finish, Release, Allocate, Write, GiveUp, Retire, Move}
+use Rattle.inv_rows.specs.model.Phases.Ending.{Protected, Followed}
+use Rattle.inv_rows.specs.model.Protect.{protect_end, held_post, told_held, failed_once, concluded, protected}
+use Rattle.inv_rows.specs.model.Memory.{bump}
+use Rattle.inv_rows.specs.model.declared.ends.FollowEnd.TheVariants as follow_ends
+use Rattle.inv_rows.specs.model.Machine.{after, protect_turn}
+use Rattle.inv_rows.specs.model.Rounds.{scheme_of, index_of, kept_row, release_span, let_index, letting_by, letting}
+use Rattle.inv_rows.specs.model.Scan.{Entry, scanned, giving_back, reading, unmet_from, with_kept, with_read, with_back, reads_guard, scan_turn}
+use Rattle.inv_rows.specs.model.Steps.{resumed, phase_turn, holding, copying, looking_at, first_phase}
+use Rattle.inv_rows.specs.model.Calls.{Task, Gets, Changes, Holds, Enqueues, Dequeues, AfterScan, Answered, Repeated, Counted, ScanAt, ReadGuard, GiveBack, Why, Opens, FollowsHead, Fills, ClearsNext, Clears, Finishes, GivesUp, Retires, Tidies, Advances, Releases, LetGo, Released, Rehold, Dropped, Phase, Idle, Runs, Scans, Works, CallTurn, CallOutcome, GoesOn, Answers}
+use Rattle.inv_rows.specs.Shapes.Seats.{task_root, root_by, protect_fits, Run}
+use Rattle.inv_rows.specs.words.Schemes.{helps, has_one_interval, publishes_rows}
+use Rattle.inv_rows.specs.model.declared.ends.ProtectEnd.TheVariants as protect_ends
+use Rattle.inv_rows.specs.model.Locals.{Local, turn, settled, settled_by, told_by, rounds_told, begun, begun_post}
+use Rattle.inv_rows.specs.model.Locals as locals
+use Rattle.inv_rows.specs.Shapes.Frame.{phase_left}
+use Rattle.inv_rows.specs.defs.declared.call.Call.{Call}
+use Rattle.inv_rows.specs.defs.declared.call.Call.TheVariants as names
+use Rattle.inv_rows.specs.model.World.{finds, offered}
 use Rattle.inv_covers.specs.Held.{follows_root, follows_row}
 use Rattle.inv_covers.specs.Parents.{has_parent_why, Parent, ParentsStart, ParentsBegin, ParentsKept, ParentsGive}
 use Rattle.inv_covers.proofs.Parents.{Tended, stood_task, stood_why, round_tends, work_tends, resume_tends, parting_tends}
-use Rattle.inv_shapes.proofs.model.Standing.{stands-with_row_same}
-use Rattle.inv_shapes.proofs.model.Facts.{no_truth, if_by}
-use Rattle.inv_shapes.proofs.model.Schemes.{each_release}
-use Rattle.inv_shapes.specs.model.Keep.{parting, parting_from, parting_span}
-use Rattle.inv_shapes.specs.defs.declared.lifetime.Interval.{Interval}
+use Rattle.inv_rows.proofs.model.Standing.{stands-with_row_same}
+use Rattle.inv_rows.proofs.model.Facts.{no_truth, if_by}
+use Rattle.inv_rows.proofs.model.Schemes.{each_release}
+use Rattle.inv_rows.specs.model.Keep.{parting, parting_from, parting_span}
+use Rattle.inv_rows.specs.defs.declared.lifetime.Interval.{Interval}
 
 -- a scan follows no link
 scanned_tends : (later : AfterScan) (post : Post) (desk : Desk) (told : List Event) → Tended (scanned later post desk told)

@@ -2,43 +2,43 @@
 -- link, and nothing stands that did not stand before.
 use Rattle.std.proofs.Common.{ℕ, ◌+◌, Bool, true, false, List, [], ◌∷◌, ◌++◌, length, Option, Some, None, refl, subst, sym, ◌∙◌, ◌≡◌, drop}
 use Rattle.std.specs.Prelude.{◌==◌, ◌%◌, ◌-◌, nat_lt}
-use Rattle.inv_shapes.specs.defs.declared.call.Answer.{Answer}
-use Rattle.inv_shapes.specs.defs.declared.call.Call.{Call}
-use Rattle.inv_shapes.specs.defs.declared.call.Call.TheVariants as names
-use Rattle.inv_shapes.specs.defs.declared.call.Answer.TheVariants as the_answers
-use Rattle.inv_shapes.specs.defs.declared.call.ClockMove.TheVariants as moves
-use Rattle.inv_shapes.specs.defs.declared.event.Event.{Event}
-use Rattle.inv_shapes.specs.defs.declared.event.Event.TheVariants as events
-use Rattle.inv_shapes.specs.defs.declared.event.Root.TheVariants as roots
-use Rattle.inv_shapes.specs.model.declared.ends.AllocateEnd.{AllocateEnd}
-use Rattle.inv_shapes.specs.model.declared.ends.AllocateEnd.TheVariants as allocate_ends
-use Rattle.inv_shapes.specs.model.declared.ends.FollowEnd.{FollowEnd}
-use Rattle.inv_shapes.specs.model.declared.ends.FollowEnd.TheVariants as follow_ends
-use Rattle.inv_shapes.specs.model.declared.ends.ProtectEnd.TheVariants as protect_ends
-use Rattle.inv_shapes.specs.model.declared.post.Post.{Post}
-use Rattle.inv_shapes.specs.model.Desks.{Desk, with_life}
-use Rattle.inv_shapes.specs.model.Phases.{Ending, Base}
-use Rattle.inv_shapes.specs.model.Phases.Ending.{Done, Protected, Followed, Allocated, Retired, Clocked}
-use Rattle.inv_shapes.specs.model.Rounds.{bucket_of, scheme_of, index_of, taken_of, begin_base, clear_base, clear_post, clear_told, finish_base, kept_row, release_span, let_index, letting_by, letting, round_by, round, given_up, closed, finishing_by, finishing, clearing_by, clearing, clearing_next_by, clearing_next, begin_span, finish_span, protect_base, opening, root_of, tidy_by}
-use Rattle.inv_shapes.specs.model.Get as gets
-use Rattle.inv_shapes.specs.model.Change as alters
-use Rattle.inv_shapes.specs.model.Enqueue as enqueues
-use Rattle.inv_shapes.specs.model.Dequeue as dequeues
-use Rattle.inv_shapes.specs.model.Keep as keeps
-use Rattle.inv_shapes.specs.model.Steps as steps
-use Rattle.inv_shapes.specs.model.Calls.{Task, Gets, Changes, Holds, Enqueues, Dequeues, Again, Answering, Retiring, AfterScan, Why, Phase, ChangeKept, EnqueueKept, GetAt, FindVersion, FindCount, FindKey, FindValue, ChangeAt, LoadVersion, LoadCount, LoadKey, LoadValue, ExchangeRoot, EnqueueAt, LoadNumber, LoadNext, PassTail, ExchangeNext, ExchangeTail, DequeueAt, LoadTail, SwingTail, TakeNumber, TakeValue, ExchangeHead, Work, Getting, Changing, Enqueuing, Dequeuing, Opens, FollowsHead, Fills, ClearsNext, Clears, Finishes, GivesUp, Retires, Tidies, Advances, Releases, LetGo, Released, Rehold, Dropped, Parting, Loosens, LoadHeld, StoreHeld, Looks, Misses, HideSpan, MarkLeft, TakeList, MarkTaken, Keeping, Next, MakeRoom, Runs, Works, CallTurn, Answered, Repeated, goes_on}
-use Rattle.inv_shapes.specs.words.declared.config.SchemeKind.{SchemeKind}
-use Rattle.inv_shapes.specs.words.declared.config.SchemeKind.TheVariants.{He, Hp, Ibr, Wfe}
-use Rattle.inv_shapes.specs.defs.declared.lifetime.Interval.{Interval}
-use Rattle.inv_shapes.specs.model.Posts.{stands, withdrawn, cleared, standing_from, publishes_index}
-use Rattle.inv_shapes.specs.Frame.{phase_left}
-use Rattle.inv_shapes.specs.words.Schemes.{has_one_interval, publishes_rows, moves}
-use Rattle.inv_shapes.specs.defs.declared.event.Root.{Root}
+use Rattle.inv_rows.specs.defs.declared.call.Answer.{Answer}
+use Rattle.inv_rows.specs.defs.declared.call.Call.{Call}
+use Rattle.inv_rows.specs.defs.declared.call.Call.TheVariants as names
+use Rattle.inv_rows.specs.defs.declared.call.Answer.TheVariants as the_answers
+use Rattle.inv_rows.specs.defs.declared.call.ClockMove.TheVariants as moves
+use Rattle.inv_rows.specs.defs.declared.event.Event.{Event}
+use Rattle.inv_rows.specs.defs.declared.event.Event.TheVariants as events
+use Rattle.inv_rows.specs.defs.declared.event.Root.TheVariants as roots
+use Rattle.inv_rows.specs.model.declared.ends.AllocateEnd.{AllocateEnd}
+use Rattle.inv_rows.specs.model.declared.ends.AllocateEnd.TheVariants as allocate_ends
+use Rattle.inv_rows.specs.model.declared.ends.FollowEnd.{FollowEnd}
+use Rattle.inv_rows.specs.model.declared.ends.FollowEnd.TheVariants as follow_ends
+use Rattle.inv_rows.specs.model.declared.ends.ProtectEnd.TheVariants as protect_ends
+use Rattle.inv_rows.specs.model.declared.post.Post.{Post}
+use Rattle.inv_rows.specs.model.Desks.{Desk, with_life}
+use Rattle.inv_rows.specs.model.Phases.{Ending, Base}
+use Rattle.inv_rows.specs.model.Phases.Ending.{Done, Protected, Followed, Allocated, Retired, Clocked}
+use Rattle.inv_rows.specs.model.Rounds.{bucket_of, scheme_of, index_of, taken_of, begin_base, clear_base, clear_post, clear_told, finish_base, kept_row, release_span, let_index, letting_by, letting, round_by, round, given_up, closed, finishing_by, finishing, clearing_by, clearing, clearing_next_by, clearing_next, begin_span, finish_span, protect_base, opening, root_of, tidy_by}
+use Rattle.inv_rows.specs.model.Get as gets
+use Rattle.inv_rows.specs.model.Change as alters
+use Rattle.inv_rows.specs.model.Enqueue as enqueues
+use Rattle.inv_rows.specs.model.Dequeue as dequeues
+use Rattle.inv_rows.specs.model.Keep as keeps
+use Rattle.inv_rows.specs.model.Steps as steps
+use Rattle.inv_rows.specs.model.Calls.{Task, Gets, Changes, Holds, Enqueues, Dequeues, Again, Answering, Retiring, AfterScan, Why, Phase, ChangeKept, EnqueueKept, GetAt, FindVersion, FindCount, FindKey, FindValue, ChangeAt, LoadVersion, LoadCount, LoadKey, LoadValue, ExchangeRoot, EnqueueAt, LoadNumber, LoadNext, PassTail, ExchangeNext, ExchangeTail, DequeueAt, LoadTail, SwingTail, TakeNumber, TakeValue, ExchangeHead, Work, Getting, Changing, Enqueuing, Dequeuing, Opens, FollowsHead, Fills, ClearsNext, Clears, Finishes, GivesUp, Retires, Tidies, Advances, Releases, LetGo, Released, Rehold, Dropped, Parting, Loosens, LoadHeld, StoreHeld, Looks, Misses, HideSpan, MarkLeft, TakeList, MarkTaken, Keeping, Next, MakeRoom, Runs, Works, CallTurn, Answered, Repeated, goes_on}
+use Rattle.inv_rows.specs.words.declared.config.SchemeKind.{SchemeKind}
+use Rattle.inv_rows.specs.words.declared.config.SchemeKind.TheVariants.{He, Hp, Ibr, Wfe}
+use Rattle.inv_rows.specs.defs.declared.lifetime.Interval.{Interval}
+use Rattle.inv_rows.specs.model.Posts.{stands, withdrawn, cleared, standing_from, publishes_index}
+use Rattle.inv_rows.specs.Shapes.Frame.{phase_left}
+use Rattle.inv_rows.specs.words.Schemes.{has_one_interval, publishes_rows, moves}
+use Rattle.inv_rows.specs.defs.declared.event.Root.{Root}
 use Rattle.inv_covers.proofs.Stands.{withdrawn_shrinks, bare_none}
 use Rattle.inv_covers.specs.Covers.{is_fresh}
 use Rattle.inv_covers.specs.Tries.{is_copy, is_start, starts_base, Begins, Leaves, Shrinks}
-use Rattle.inv_shapes.proofs.model.Schemes.{each_begin, each_clear, each_clear_post, each_finish, each_release}
-use Rattle.inv_shapes.proofs.model.Facts.{if_by}
+use Rattle.inv_rows.proofs.model.Schemes.{each_begin, each_clear, each_clear_post, each_finish, each_release}
+use Rattle.inv_rows.proofs.model.Facts.{if_by}
 
 opening_at : (task : Task) (post : Post) (index : ℕ) (root : Root) (scheme : SchemeKind) → Begins (Phase.Runs (Opens task) (protect_base scheme index root))
 opening_at task post index root He = record { fresh = refl; starts = refl }

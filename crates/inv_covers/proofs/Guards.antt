@@ -4,18 +4,18 @@ use Rattle.std.proofs.lemmas.Bool.Decides.{nat_tests}
 use Rattle.std.proofs.lemmas.Nat.{div-mul-add, mod-mul-add}
 use Rattle.std.proofs.Math.Nat.{mul-le-mul_right}
 use Rattle.std.specs.Prelude.{nat_lt}
-use Rattle.inv_shapes.specs.words.declared.config.Config.{Config}
-use Rattle.inv_shapes.specs.words.declared.config.SchemeKind.{SchemeKind}
-use Rattle.inv_shapes.specs.words.declared.config.SchemeKind.TheVariants.{He, Hp, Ibr, Wfe}
-use Rattle.inv_shapes.specs.defs.declared.event.Guard.{Guard}
-use Rattle.inv_shapes.specs.defs.declared.event.Guard.TheVariants.{Helper, Index}
-use Rattle.inv_shapes.specs.defs.declared.lifetime.Lifetime.{Lifetime}
-use Rattle.inv_shapes.specs.model.Guards.{index_at, guards, guards_by, guard_by, own_guard}
-use Rattle.inv_shapes.specs.model.Desks.{Report}
-use Rattle.inv_shapes.specs.model.Calls.{Phase}
-use Rattle.inv_shapes.specs.words.Schemes.{helps}
+use Rattle.inv_rows.specs.words.declared.config.Config.{Config}
+use Rattle.inv_rows.specs.words.declared.config.SchemeKind.{SchemeKind}
+use Rattle.inv_rows.specs.words.declared.config.SchemeKind.TheVariants.{He, Hp, Ibr, Wfe}
+use Rattle.inv_rows.specs.defs.declared.event.Guard.{Guard}
+use Rattle.inv_rows.specs.defs.declared.event.Guard.TheVariants.{Helper, Index}
+use Rattle.inv_rows.specs.defs.declared.lifetime.Lifetime.{Lifetime}
+use Rattle.inv_rows.specs.model.Guards.{index_at, guards, guards_by, guard_by, own_guard}
+use Rattle.inv_rows.specs.model.Desks.{Report}
+use Rattle.inv_rows.specs.model.Calls.{Phase}
+use Rattle.inv_rows.specs.words.Schemes.{helps}
 use Rattle.inv_covers.specs.Covers.{has_met, number_by, number_of, life_of}
-use Rattle.inv_shapes.specs.model.World.{step}
+use Rattle.inv_rows.specs.model.World.{step}
 use Rattle.inv_rows.specs.Agree.{rows_after}
 use Rattle.inv_covers.proofs.Kept.{covers_kept}
 use Rattle.inv_covers.specs.Held.{GuardsFit, HelpersFit, HelpersFirst, HandedCovers, HandedKept}

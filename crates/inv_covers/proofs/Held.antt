@@ -2,48 +2,48 @@
 use Rattle.std.proofs.Common.{ℕ, ◌≤◌, ◌+◌, ◌≡◌, ◌∙◌, sym, subst, ap, true, false, arith, refl, Bool, Option, Some, None, ◌⊎◌, inl, inr, List, [], ◌<◌}
 use Rattle.std.proofs.lemmas.Bool.Decides.{nat_tests}
 use Rattle.std.specs.Prelude.{◌==◌, if◌then◌else◌, ◌-◌, is_some, length}
-use Rattle.inv_shapes.specs.words.Place.{Place}
-use Rattle.inv_shapes.specs.words.Place.Place.{Clock, Head, Index as IndexOf, Interval as IntervalOf}
-use Rattle.inv_shapes.specs.words.declared.layout.Layout.{Layout}
-use Rattle.inv_shapes.specs.words.declared.config.SchemeKind.{SchemeKind}
-use Rattle.inv_shapes.specs.defs.declared.event.Event.{Event}
-use Rattle.inv_shapes.specs.defs.declared.event.Guard.{Guard}
-use Rattle.inv_shapes.specs.defs.declared.event.Guard.TheVariants.{Index, Whole}
-use Rattle.inv_shapes.specs.defs.declared.event.Root.{Root}
-use Rattle.inv_shapes.specs.defs.declared.event.Root.TheVariants as roots
-use Rattle.inv_shapes.specs.defs.declared.lifetime.Interval.{Interval}
-use Rattle.inv_shapes.specs.defs.declared.shown.Shown.{Shown}
-use Rattle.inv_shapes.specs.defs.declared.shown.Shown.TheVariants.{Nothing, Eras, Row}
-use Rattle.inv_shapes.specs.defs.Shown as values
-use Rattle.inv_shapes.specs.model.declared.post.Post.{Post}
-use Rattle.inv_shapes.specs.model.Desks.{Desk, noting}
-use Rattle.inv_shapes.specs.model.Guards.{guard_place, from_to, linked_row, own_guard}
-use Rattle.inv_shapes.specs.model.Links.{link_place, parent_of}
-use Rattle.inv_shapes.specs.model.Memory.{found, place_in, written, bump}
-use Rattle.inv_shapes.specs.model.Memory as memory
-use Rattle.inv_shapes.specs.model.Posts.{index_word, shown_word, stands, upper, lower, counted, publishes_index}
-use Rattle.inv_shapes.specs.model.Phases.{Aim, Alone, Follows, Tries, HazardAt, ProtectAt, Base, Outcome, Goes, Ends, Turn}
-use Rattle.inv_shapes.specs.model.Phases.BeginAt.{LoadLower, PublishSpan}
-use Rattle.inv_shapes.specs.model.Phases.ProtectAt.{LoadClock, PublishEra, LoadLink, CheckClock, PublishRequest, LoadOwnClock, PublishHelper, LoadOwnLink, CheckOwnClock, AnswerOwn, LoadAnswer, TakeAnswer, WithdrawRequest, WithdrawHelper, LoadWithin, CheckUpper, RaiseUpper, ByHazard}
-use Rattle.inv_shapes.specs.model.Phases.HazardAt.{FirstLink, PublishLink, CheckLink}
-use Rattle.inv_shapes.specs.model.Phases.Base.{Begin, Protect, Reload, Clear, Finish, Release, Allocate, Write, GiveUp, Retire, Move}
-use Rattle.inv_shapes.specs.model.Machine.{protect_move, base_move}
-use Rattle.inv_shapes.specs.model.Machine as machine
-use Rattle.inv_shapes.specs.model.Steps.{phase_turn, phase_move, resumed, work_turn}
-use Rattle.inv_shapes.specs.model.Scan.{scan_turn}
-use Rattle.inv_shapes.specs.model.Keep.{copied, load_held}
-use Rattle.inv_shapes.specs.model.Rounds.{scheme_of}
-use Rattle.inv_shapes.specs.model.Calls.{KeepAt, Loosens, LoadHeld, StoreHeld, Looks, Misses, HideSpan, MarkLeft, TakeList, MarkTaken, Work, Getting, Changing, Enqueuing, Dequeuing, Keeping, Why, Phase, Idle, Runs, Scans, Works, CallTurn, CallOutcome, GoesOn, Answers}
-use Rattle.inv_shapes.specs.model.Locals.{Local, move, turn, settled_by, told_by, rounds_told}
-use Rattle.inv_shapes.specs.model.World.{World, step, finds, offered}
+use Rattle.inv_rows.specs.words.Place.{Place}
+use Rattle.inv_rows.specs.words.Place.Place.{Clock, Head, Index as IndexOf, Interval as IntervalOf}
+use Rattle.inv_rows.specs.words.declared.layout.Layout.{Layout}
+use Rattle.inv_rows.specs.words.declared.config.SchemeKind.{SchemeKind}
+use Rattle.inv_rows.specs.defs.declared.event.Event.{Event}
+use Rattle.inv_rows.specs.defs.declared.event.Guard.{Guard}
+use Rattle.inv_rows.specs.defs.declared.event.Guard.TheVariants.{Index, Whole}
+use Rattle.inv_rows.specs.defs.declared.event.Root.{Root}
+use Rattle.inv_rows.specs.defs.declared.event.Root.TheVariants as roots
+use Rattle.inv_rows.specs.defs.declared.lifetime.Interval.{Interval}
+use Rattle.inv_rows.specs.defs.declared.shown.Shown.{Shown}
+use Rattle.inv_rows.specs.defs.declared.shown.Shown.TheVariants.{Nothing, Eras, Row}
+use Rattle.inv_rows.specs.defs.Shown as values
+use Rattle.inv_rows.specs.model.declared.post.Post.{Post}
+use Rattle.inv_rows.specs.model.Desks.{Desk, noting}
+use Rattle.inv_rows.specs.model.Guards.{guard_place, from_to, linked_row, own_guard}
+use Rattle.inv_rows.specs.model.Links.{link_place, parent_of}
+use Rattle.inv_rows.specs.model.Memory.{found, place_in, written, bump}
+use Rattle.inv_rows.specs.model.Memory as memory
+use Rattle.inv_rows.specs.model.Posts.{index_word, shown_word, stands, upper, lower, counted, publishes_index}
+use Rattle.inv_rows.specs.model.Phases.{Aim, Alone, Follows, Tries, HazardAt, ProtectAt, Base, Outcome, Goes, Ends, Turn}
+use Rattle.inv_rows.specs.model.Phases.BeginAt.{LoadLower, PublishSpan}
+use Rattle.inv_rows.specs.model.Phases.ProtectAt.{LoadClock, PublishEra, LoadLink, CheckClock, PublishRequest, LoadOwnClock, PublishHelper, LoadOwnLink, CheckOwnClock, AnswerOwn, LoadAnswer, TakeAnswer, WithdrawRequest, WithdrawHelper, LoadWithin, CheckUpper, RaiseUpper, ByHazard}
+use Rattle.inv_rows.specs.model.Phases.HazardAt.{FirstLink, PublishLink, CheckLink}
+use Rattle.inv_rows.specs.model.Phases.Base.{Begin, Protect, Reload, Clear, Finish, Release, Allocate, Write, GiveUp, Retire, Move}
+use Rattle.inv_rows.specs.model.Machine.{protect_move, base_move}
+use Rattle.inv_rows.specs.model.Machine as machine
+use Rattle.inv_rows.specs.model.Steps.{phase_turn, phase_move, resumed, work_turn}
+use Rattle.inv_rows.specs.model.Scan.{scan_turn}
+use Rattle.inv_rows.specs.model.Keep.{copied, load_held}
+use Rattle.inv_rows.specs.model.Rounds.{scheme_of}
+use Rattle.inv_rows.specs.model.Calls.{KeepAt, Loosens, LoadHeld, StoreHeld, Looks, Misses, HideSpan, MarkLeft, TakeList, MarkTaken, Work, Getting, Changing, Enqueuing, Dequeuing, Keeping, Why, Phase, Idle, Runs, Scans, Works, CallTurn, CallOutcome, GoesOn, Answers}
+use Rattle.inv_rows.specs.model.Locals.{Local, move, turn, settled_by, told_by, rounds_told}
+use Rattle.inv_rows.specs.model.World.{World, step, finds, offered}
 use Rattle.inv_rows.specs.Rows.{Status, View, made, is_settled}
 use Rattle.inv_rows.specs.Rows.Status.{Free, Claimed, Born, Linked, InQueue, Cut, Sealed, Listed}
 use Rattle.inv_rows.specs.Hands.{row_move}
 use Rattle.inv_rows.specs.Agree.{Agree, rows_after}
-use Rattle.inv_shapes.specs.Frame.{phase_left}
-use Rattle.inv_shapes.specs.words.Schemes.{has_one_interval, helps, publishes_rows}
-use Rattle.inv_shapes.specs.Seats.{base_fits}
-use Rattle.inv_shapes.proofs.Frame.{seat_stays, seat_steps}
+use Rattle.inv_rows.specs.Shapes.Frame.{phase_left}
+use Rattle.inv_rows.specs.words.Schemes.{has_one_interval, helps, publishes_rows}
+use Rattle.inv_rows.specs.Shapes.Seats.{base_fits}
+use Rattle.inv_rows.proofs.Shapes.Frame.{seat_stays, seat_steps}
 use Rattle.inv_covers.specs.Covers.{retired_at, life_of, eras_shown, shown, Covers, Widens}
 use Rattle.inv_covers.specs.Tries.{is_start, starts_base}
 use Rattle.inv_covers.specs.Held.{reaches, under, tries_protect, tries_base, index_base, Holds, Held, Followed, follows_row, rests_base, BaseNeeds, RootsNeeds, LoadsCover, HeldNeeds, HeldKept}
@@ -57,11 +57,11 @@ use Rattle.inv_covers.proofs.Stood.{Was, loads_again, again_base, base_stood}
 use Rattle.inv_covers.proofs.Tried.{out_tries, out_index, loads_link, protect_tries, other_tries, is_protect, tried_quiet, loaded_quiet, protect_clock, start_untried, queued_back, tries_back}
 use Rattle.inv_covers.proofs.Words.{keeps, eras_are_shown, rows_are_shown, shown_kept, widens_same, stores_guard, base_other, base_quiet, scan_quiet, work_span, work_stores, work_quiet}
 use Rattle.inv_rows.proofs.Queued.{queue_is}
-use Rattle.inv_shapes.proofs.model.Facts.{no_truth}
-use Rattle.inv_shapes.proofs.model.Schemes.{each_guard, index_guard, interval_guard}
-use Rattle.inv_shapes.proofs.words.Schemes.{eras_not_interval, eras_not_rows, interval_not_rows, rows_not_interval}
-use Rattle.inv_shapes.proofs.Tries.{try_eras}
-pub use Rattle.inv_shapes.proofs.Frame.{finds_at, settled_phase}
+use Rattle.inv_rows.proofs.model.Facts.{no_truth}
+use Rattle.inv_rows.proofs.model.Schemes.{each_guard, index_guard, interval_guard}
+use Rattle.inv_rows.proofs.words.Schemes.{eras_not_interval, eras_not_rows, interval_not_rows, rows_not_interval}
+use Rattle.inv_rows.proofs.Shapes.Tries.{try_eras}
+pub use Rattle.inv_rows.proofs.Shapes.Frame.{finds_at, settled_phase}
 pub use Rattle.inv_covers.proofs.Words.{move_is, keeps_at}
 
 -- a row that a root leads to is linked, and its life goes on

@@ -2,48 +2,48 @@
 use Rattle.std.proofs.Common.{ℕ, zero, suc, ◌+◌, ◌-◌, ◌<◌, ◌≡◌, ◌∙◌, sym, subst, ap, true, false, arith, refl, Bool, List, [], ◌∷◌, nat_lt}
 use Rattle.std.proofs.lemmas.Bool.Decides.{nat_tests}
 use Rattle.std.specs.Prelude.{◌==◌, if◌then◌else◌}
-use Rattle.inv_shapes.specs.words.declared.layout.Layout.{Layout}
-use Rattle.inv_shapes.specs.words.Place.{Place, claim_word}
-use Rattle.inv_shapes.specs.words.Place.Place.{Clock, Bucket, Head, Claim, Row}
-use Rattle.inv_shapes.specs.words.declared.config.Config.{Config}
-use Rattle.inv_shapes.specs.defs.declared.event.Guard.{Guard}
-use Rattle.inv_shapes.specs.defs.declared.lifetime.Lifetime.{Lifetime}
-use Rattle.inv_shapes.specs.defs.declared.shown.Shown.{Shown}
-use Rattle.inv_shapes.specs.defs.Shown.{Seen, keeps, keeps_any}
-use Rattle.inv_shapes.specs.model.declared.post.Post.{Post}
-use Rattle.inv_shapes.specs.model.Desks.{Desk, Report, noting}
-use Rattle.inv_shapes.specs.model.Guards.{guards, guard_at, guard_place, published}
-use Rattle.inv_shapes.specs.model.Memory.{found, place_in}
-use Rattle.inv_shapes.specs.model.Posts.{counted}
-use Rattle.inv_shapes.specs.model.Phases.{Base, Turn, Outcome, Goes, Ends}
-use Rattle.inv_shapes.specs.model.Phases.AllocateAt.{LoadBirth, ClaimSlot, StoreLife}
-use Rattle.inv_shapes.specs.model.Phases.RetireAt.{LoadLife, LoadRetire, StoreRetired}
-use Rattle.inv_shapes.specs.model.Phases.Base.{Begin, Protect, Reload, Clear, Finish, Release, Allocate, Write, GiveUp, Retire, Move}
-use Rattle.inv_shapes.specs.model.Allocate.{is_claimed}
-use Rattle.inv_shapes.specs.model.Change.{changed_bucket}
-use Rattle.inv_shapes.specs.defs.declared.event.Event.{Event}
-use Rattle.inv_shapes.specs.model.Machine as machine
-use Rattle.inv_shapes.specs.model.Steps.{phase_turn, phase_move, resumed, run_turn, work_turn, first_phase}
-use Rattle.inv_shapes.specs.defs.declared.call.Call.{Call}
-use Rattle.inv_shapes.specs.model.Calls.{AfterScan, ScanAt, ReadGuard, GiveBack, Why, LoadVersion, LoadCount, LoadKey, LoadValue, ExchangeRoot, LoadNumber, LoadNext, PassTail, ExchangeNext, ExchangeTail, LoadTail, SwingTail, TakeNumber, TakeValue, ExchangeHead, Work, Getting, Changing, Enqueuing, Dequeuing, Keeping, Phase, Idle, Runs, Scans, Works, CallTurn, CallOutcome, GoesOn, Answers, KeepAt, Loosens, TakeList, LoadHeld, StoreHeld, Looks, Misses, HideSpan, MarkLeft, MarkTaken}
-use Rattle.inv_shapes.specs.model.Locals.{begun, begun_post, Local, turn, after, settled, settled_by, told_by, rounds_told, busy_in}
-use Rattle.inv_shapes.specs.model.World.{World, step, finds, list_in, offered}
+use Rattle.inv_rows.specs.words.declared.layout.Layout.{Layout}
+use Rattle.inv_rows.specs.words.Place.{Place, claim_word}
+use Rattle.inv_rows.specs.words.Place.Place.{Clock, Bucket, Head, Claim, Row}
+use Rattle.inv_rows.specs.words.declared.config.Config.{Config}
+use Rattle.inv_rows.specs.defs.declared.event.Guard.{Guard}
+use Rattle.inv_rows.specs.defs.declared.lifetime.Lifetime.{Lifetime}
+use Rattle.inv_rows.specs.defs.declared.shown.Shown.{Shown}
+use Rattle.inv_rows.specs.defs.Shown.{Seen, keeps, keeps_any}
+use Rattle.inv_rows.specs.model.declared.post.Post.{Post}
+use Rattle.inv_rows.specs.model.Desks.{Desk, Report, noting}
+use Rattle.inv_rows.specs.model.Guards.{guards, guard_at, guard_place, published}
+use Rattle.inv_rows.specs.model.Memory.{found, place_in}
+use Rattle.inv_rows.specs.model.Posts.{counted}
+use Rattle.inv_rows.specs.model.Phases.{Base, Turn, Outcome, Goes, Ends}
+use Rattle.inv_rows.specs.model.Phases.AllocateAt.{LoadBirth, ClaimSlot, StoreLife}
+use Rattle.inv_rows.specs.model.Phases.RetireAt.{LoadLife, LoadRetire, StoreRetired}
+use Rattle.inv_rows.specs.model.Phases.Base.{Begin, Protect, Reload, Clear, Finish, Release, Allocate, Write, GiveUp, Retire, Move}
+use Rattle.inv_rows.specs.model.Allocate.{is_claimed}
+use Rattle.inv_rows.specs.model.Change.{changed_bucket}
+use Rattle.inv_rows.specs.defs.declared.event.Event.{Event}
+use Rattle.inv_rows.specs.model.Machine as machine
+use Rattle.inv_rows.specs.model.Steps.{phase_turn, phase_move, resumed, run_turn, work_turn, first_phase}
+use Rattle.inv_rows.specs.defs.declared.call.Call.{Call}
+use Rattle.inv_rows.specs.model.Calls.{AfterScan, ScanAt, ReadGuard, GiveBack, Why, LoadVersion, LoadCount, LoadKey, LoadValue, ExchangeRoot, LoadNumber, LoadNext, PassTail, ExchangeNext, ExchangeTail, LoadTail, SwingTail, TakeNumber, TakeValue, ExchangeHead, Work, Getting, Changing, Enqueuing, Dequeuing, Keeping, Phase, Idle, Runs, Scans, Works, CallTurn, CallOutcome, GoesOn, Answers, KeepAt, Loosens, TakeList, LoadHeld, StoreHeld, Looks, Misses, HideSpan, MarkLeft, MarkTaken}
+use Rattle.inv_rows.specs.model.Locals.{begun, begun_post, Local, turn, after, settled, settled_by, told_by, rounds_told, busy_in}
+use Rattle.inv_rows.specs.model.World.{World, step, finds, list_in, offered}
 use Rattle.inv_rows.specs.Rows.{View, Good, RowMove, made, is_settled, Adopts}
 use Rattle.inv_rows.specs.Rows.Status.{Listed}
 use Rattle.inv_rows.specs.Rows.RowMove.{Stays, Claims, Bears, Drops, Links, Replaces, Appends, Pops, Reads, Seals, Lists, Returns}
 use Rattle.inv_rows.specs.Hands.{in_list, stands_at, base_row, work_row, scan_row, row_move, keep_row}
 use Rattle.inv_rows.specs.Agree.{Plays, rows_after, Agree}
-use Rattle.inv_shapes.specs.Frame.{phase_left}
-use Rattle.inv_shapes.proofs.Frame.{seat_stays, seat_steps}
+use Rattle.inv_rows.specs.Shapes.Frame.{phase_left}
+use Rattle.inv_rows.proofs.Shapes.Frame.{seat_stays, seat_steps}
 use Rattle.inv_rows.proofs.Fits.{MoveFits, phase_fits}
 use Rattle.inv_covers.specs.Covers.{NotBefore, Late, frees, takes_or_frees, has_met, life_of, life_in, number_of, shown, Covers, unmet_at, is_unmet, is_fresh, GuardFits, CoversNeeds, NotReused, CoversKept, ScansStart, ScansBegin, ScansKept}
 use Rattle.inv_covers.proofs.Fresh.{works_fresh, resume_fresh, first_begins}
 use Rattle.inv_covers.proofs.Rows.{past_kept, life_kept, birth_kept, listed_other}
 use Rattle.inv_covers.proofs.Scans.{fresh_met, fresh_unmet, scan_met, scan_unmet_kept}
-use Rattle.inv_shapes.proofs.model.Facts.{no_truth}
-use Rattle.inv_shapes.specs.model.Keep.{keep_move}
-use Rattle.inv_shapes.specs.words.Schemes.{publishes_rows}
-use Rattle.inv_shapes.specs.model.Rounds.{scheme_of}
+use Rattle.inv_rows.proofs.model.Facts.{no_truth}
+use Rattle.inv_rows.specs.model.Keep.{keep_move}
+use Rattle.inv_rows.specs.words.Schemes.{publishes_rows}
+use Rattle.inv_rows.specs.model.Rounds.{scheme_of}
 
 -- an entry that goes back: its life meets nothing that was read
 record Goes_back (read : List Seen) (list : List Lifetime) (slot : ℕ) : Type 0 where

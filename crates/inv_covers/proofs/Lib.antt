@@ -1,7 +1,7 @@
 pub use Rattle.inv_rows.proofs as rows
-pub use Rattle.inv_shapes.proofs as shapes
-pub use Rattle.inv_shapes.proofs.model as model
-pub use Rattle.inv_shapes.proofs.words as words
+pub use Rattle.inv_rows.proofs.Shapes as shapes
+pub use Rattle.inv_rows.proofs.model
+pub use Rattle.inv_rows.proofs.words
 pub mod Begun
 pub mod Copying
 pub mod Following
@@ -10,6 +10,7 @@ pub mod Guards
 pub mod Held
 pub mod Kept
 pub mod Parents
+pub mod Requests
 pub mod Resting
 pub mod Rests
 pub mod Rows

@@ -2,43 +2,43 @@
 use Rattle.std.proofs.Common.{ℕ, zero, suc, ◌≡◌, ◌≢◌, ◌∙◌, sym, subst, true, false, arith, refl, Bool, Option, Some, None, ap}
 use Rattle.std.proofs.lemmas.Bool.Decides.{nat_tests}
 use Rattle.std.specs.Prelude.{◌==◌, if◌then◌else◌, nat_lt}
-use Rattle.inv_shapes.specs.words.declared.layout.Layout.{Layout}
-use Rattle.inv_shapes.specs.defs.declared.call.Call.{Call}
-use Rattle.inv_shapes.specs.defs.declared.call.Call.TheVariants as names
-use Rattle.inv_shapes.specs.model.declared.post.Post.{Post}
-use Rattle.inv_shapes.specs.model.Desks.{Desk, noting}
-use Rattle.inv_shapes.specs.model.Posts.{new_post, stands, withdrawn, counted}
-use Rattle.inv_shapes.specs.model.Phases.{Aim, ProtectAt, Base}
-use Rattle.inv_shapes.specs.defs.declared.event.Root.{Root}
-use Rattle.inv_shapes.specs.model.Phases.ProtectAt.{PublishEra, TakeAnswer, ByHazard}
-use Rattle.inv_shapes.specs.model.Phases.HazardAt.{PublishLink}
-use Rattle.inv_shapes.specs.model.Phases.Base.{Protect, Finish, Release}
-use Rattle.inv_shapes.specs.model.Rounds.{scheme_of, index_of, kept_row, release_span, let_index, letting_by, letting}
-use Rattle.inv_shapes.specs.model.Steps.{holding, copying, looking_at, first_phase}
-use Rattle.inv_shapes.specs.model.Calls.{Task, Gets, Changes, Holds, Enqueues, Dequeues, Why, Opens, FollowsHead, Fills, ClearsNext, Clears, Finishes, GivesUp, Retires, Tidies, Advances, Releases, LetGo, Released, Rehold, Dropped, Phase, Idle, CallTurn, CallOutcome, GoesOn, Answers}
-use Rattle.inv_shapes.specs.model.Locals.{Local, busy_in, turn, after, settled, settled_by, told_by, rounds_told, begun, begun_post}
-use Rattle.inv_shapes.specs.model.World.{finds, offered, World}
-use Rattle.inv_shapes.specs.Frame.{phase_left}
-use Rattle.inv_shapes.specs.Seats.{Run}
+use Rattle.inv_rows.specs.words.declared.layout.Layout.{Layout}
+use Rattle.inv_rows.specs.defs.declared.call.Call.{Call}
+use Rattle.inv_rows.specs.defs.declared.call.Call.TheVariants as names
+use Rattle.inv_rows.specs.model.declared.post.Post.{Post}
+use Rattle.inv_rows.specs.model.Desks.{Desk, noting}
+use Rattle.inv_rows.specs.model.Posts.{new_post, stands, withdrawn, counted}
+use Rattle.inv_rows.specs.model.Phases.{Aim, ProtectAt, Base}
+use Rattle.inv_rows.specs.defs.declared.event.Root.{Root}
+use Rattle.inv_rows.specs.model.Phases.ProtectAt.{PublishEra, TakeAnswer, ByHazard}
+use Rattle.inv_rows.specs.model.Phases.HazardAt.{PublishLink}
+use Rattle.inv_rows.specs.model.Phases.Base.{Protect, Finish, Release}
+use Rattle.inv_rows.specs.model.Rounds.{scheme_of, index_of, kept_row, release_span, let_index, letting_by, letting}
+use Rattle.inv_rows.specs.model.Steps.{holding, copying, looking_at, first_phase}
+use Rattle.inv_rows.specs.model.Calls.{Task, Gets, Changes, Holds, Enqueues, Dequeues, Why, Opens, FollowsHead, Fills, ClearsNext, Clears, Finishes, GivesUp, Retires, Tidies, Advances, Releases, LetGo, Released, Rehold, Dropped, Phase, Idle, CallTurn, CallOutcome, GoesOn, Answers}
+use Rattle.inv_rows.specs.model.Locals.{Local, busy_in, turn, after, settled, settled_by, told_by, rounds_told, begun, begun_post}
+use Rattle.inv_rows.specs.model.World.{finds, offered, World}
+use Rattle.inv_rows.specs.Shapes.Frame.{phase_left}
+use Rattle.inv_rows.specs.Shapes.Seats.{Run}
 use Rattle.inv_covers.specs.Held.{rests_protect, rests_base}
 use Rattle.inv_covers.specs.Rests.{spare, bare, vacant_why, vacant, Vacant, RestsStart, RestsBegin, RestsKept, RestsGive, vacant_let, SpanRests, SpansRest}
 use Rattle.inv_covers.proofs.Rests.{spare_bare, round_vacant, withdrawn_vacant}
 use Rattle.inv_covers.proofs.Vacant.{turn_vacant}
-use Rattle.inv_shapes.proofs.model.Facts.{no_truth, if_by}
-use Rattle.inv_shapes.proofs.model.Schemes.{each_release, interval_guard}
-use Rattle.inv_shapes.proofs.model.Standing.{none_kept, stands-withdrawn_other}
-use Rattle.inv_shapes.specs.model.Keep.{parting, parting_from, parting_span}
+use Rattle.inv_rows.proofs.model.Facts.{no_truth, if_by}
+use Rattle.inv_rows.proofs.model.Schemes.{each_release, interval_guard}
+use Rattle.inv_rows.proofs.model.Standing.{none_kept, stands-withdrawn_other}
+use Rattle.inv_rows.specs.model.Keep.{parting, parting_from, parting_span}
 use Rattle.inv_covers.proofs.Rests.{parting_vacant, spare_let}
-use Rattle.inv_shapes.specs.defs.declared.lifetime.Interval.{Interval}
-use Rattle.inv_shapes.specs.words.Schemes.{has_one_interval, publishes_rows}
+use Rattle.inv_rows.specs.defs.declared.lifetime.Interval.{Interval}
+use Rattle.inv_rows.specs.words.Schemes.{has_one_interval, publishes_rows}
 use Rattle.inv_covers.specs.Covers.{Covers, eras_shown, life_in}
 use Rattle.inv_rows.specs.Rows.{View}
-use Rattle.inv_shapes.specs.defs.declared.event.Guard.{Guard}
-use Rattle.inv_shapes.specs.defs.declared.event.Guard.TheVariants.{Whole}
-use Rattle.inv_shapes.specs.defs.Shown as values
-use Rattle.inv_shapes.specs.defs.declared.shown.Shown.{Shown}
+use Rattle.inv_rows.specs.defs.declared.event.Guard.{Guard}
+use Rattle.inv_rows.specs.defs.declared.event.Guard.TheVariants.{Whole}
+use Rattle.inv_rows.specs.defs.Shown as values
+use Rattle.inv_rows.specs.defs.declared.shown.Shown.{Shown}
 use Rattle.inv_covers.proofs.Words.{eras_are_shown}
-use Rattle.inv_shapes.proofs.words.Schemes.{interval_not_rows}
+use Rattle.inv_rows.proofs.words.Schemes.{interval_not_rows}
 
 abbrev VacantIn : Local → Type 0
 VacantIn l = Vacant (vacant l.phase) l.post

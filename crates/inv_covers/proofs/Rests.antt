@@ -2,44 +2,44 @@
 use Rattle.std.proofs.Common.{ℕ, ◌≡◌, ◌≢◌, ◌≤◌, ◌+◌, ◌∙◌, Bool, true, false, List, [], ◌∷◌, ◌++◌, length, Option, Some, None, refl, ap, sym, subst, arith, drop}
 use Rattle.std.proofs.lemmas.Bool.Decides.{nat_tests}
 use Rattle.std.specs.Prelude.{◌==◌, ◌%◌, ◌-◌, nat_lt, if◌then◌else◌, ◌||◌}
-use Rattle.inv_shapes.specs.defs.declared.call.Answer.{Answer}
-use Rattle.inv_shapes.specs.defs.declared.call.Answer.TheVariants as the_answers
-use Rattle.inv_shapes.specs.defs.declared.call.ClockMove.TheVariants as moves
-use Rattle.inv_shapes.specs.defs.declared.event.Event.{Event}
-use Rattle.inv_shapes.specs.defs.declared.event.Event.TheVariants as events
-use Rattle.inv_shapes.specs.defs.declared.event.Root.TheVariants as roots
-use Rattle.inv_shapes.specs.model.declared.ends.AllocateEnd.{AllocateEnd}
-use Rattle.inv_shapes.specs.model.declared.ends.AllocateEnd.TheVariants as allocate_ends
-use Rattle.inv_shapes.specs.model.declared.ends.FollowEnd.{FollowEnd}
-use Rattle.inv_shapes.specs.model.declared.ends.FollowEnd.TheVariants as follow_ends
-use Rattle.inv_shapes.specs.model.declared.ends.ProtectEnd.TheVariants as protect_ends
-use Rattle.inv_shapes.specs.model.declared.post.Post.{Post}
-use Rattle.inv_shapes.specs.model.Desks.{Desk, with_life}
-use Rattle.inv_shapes.specs.model.Phases.{Ending, Base}
-use Rattle.inv_shapes.specs.model.Phases.Ending.{Done, Protected, Followed, Allocated, Retired, Clocked}
-use Rattle.inv_shapes.specs.model.Rounds.{bucket_of, scheme_of, index_of, root_of, taken_of, begin_span, begin_base, clear_post, clear_told, finish_base, kept_row, let_index, round_by, round, given_up, closed, finishing_by, finishing, clearing_by, clearing, clearing_next_by, clearing_next, finish_span, protect_base, opening, tidy_by}
-use Rattle.inv_shapes.specs.model.Get as gets
-use Rattle.inv_shapes.specs.model.Change as alters
-use Rattle.inv_shapes.specs.model.Enqueue as enqueues
-use Rattle.inv_shapes.specs.model.Dequeue as dequeues
-use Rattle.inv_shapes.specs.model.Keep as keeps
-use Rattle.inv_shapes.specs.model.Steps as steps
-use Rattle.inv_shapes.specs.model.Calls.{Task, Gets, Changes, Holds, Enqueues, Dequeues, Again, Answering, Retiring, AfterScan, Why, Phase, ChangeKept, EnqueueKept, GetAt, FindVersion, FindCount, FindKey, FindValue, ChangeAt, LoadVersion, LoadCount, LoadKey, LoadValue, ExchangeRoot, EnqueueAt, LoadNumber, LoadNext, PassTail, ExchangeNext, ExchangeTail, DequeueAt, LoadTail, SwingTail, TakeNumber, TakeValue, ExchangeHead, Work, Getting, Changing, Enqueuing, Dequeuing, Opens, FollowsHead, Fills, ClearsNext, Clears, Finishes, GivesUp, Retires, Tidies, Advances, Releases, LetGo, Released, Rehold, Dropped, Parting, KeepAt, Loosens, LoadHeld, StoreHeld, Looks, Misses, HideSpan, MarkLeft, TakeList, MarkTaken, Keeping, Next, MakeRoom, CallTurn, Answered, Repeated}
-use Rattle.inv_shapes.specs.Slots.{CopyIn, KeepIn}
-use Rattle.inv_shapes.specs.words.declared.config.Config.{Config}
-use Rattle.inv_shapes.specs.words.declared.config.SchemeKind.{SchemeKind}
-use Rattle.inv_shapes.specs.words.declared.config.SchemeKind.TheVariants.{He, Hp, Ibr, Wfe}
-use Rattle.inv_shapes.specs.model.Posts.{stands, withdrawn, with_row, cleared, standing_from, publishes_index}
-use Rattle.inv_shapes.specs.defs.declared.event.Root.{Root}
-use Rattle.inv_shapes.specs.defs.declared.lifetime.Interval.{Interval}
-use Rattle.inv_shapes.specs.Frame.{phase_left}
+use Rattle.inv_rows.specs.defs.declared.call.Answer.{Answer}
+use Rattle.inv_rows.specs.defs.declared.call.Answer.TheVariants as the_answers
+use Rattle.inv_rows.specs.defs.declared.call.ClockMove.TheVariants as moves
+use Rattle.inv_rows.specs.defs.declared.event.Event.{Event}
+use Rattle.inv_rows.specs.defs.declared.event.Event.TheVariants as events
+use Rattle.inv_rows.specs.defs.declared.event.Root.TheVariants as roots
+use Rattle.inv_rows.specs.model.declared.ends.AllocateEnd.{AllocateEnd}
+use Rattle.inv_rows.specs.model.declared.ends.AllocateEnd.TheVariants as allocate_ends
+use Rattle.inv_rows.specs.model.declared.ends.FollowEnd.{FollowEnd}
+use Rattle.inv_rows.specs.model.declared.ends.FollowEnd.TheVariants as follow_ends
+use Rattle.inv_rows.specs.model.declared.ends.ProtectEnd.TheVariants as protect_ends
+use Rattle.inv_rows.specs.model.declared.post.Post.{Post}
+use Rattle.inv_rows.specs.model.Desks.{Desk, with_life}
+use Rattle.inv_rows.specs.model.Phases.{Ending, Base}
+use Rattle.inv_rows.specs.model.Phases.Ending.{Done, Protected, Followed, Allocated, Retired, Clocked}
+use Rattle.inv_rows.specs.model.Rounds.{bucket_of, scheme_of, index_of, root_of, taken_of, begin_span, begin_base, clear_post, clear_told, finish_base, kept_row, let_index, round_by, round, given_up, closed, finishing_by, finishing, clearing_by, clearing, clearing_next_by, clearing_next, finish_span, protect_base, opening, tidy_by}
+use Rattle.inv_rows.specs.model.Get as gets
+use Rattle.inv_rows.specs.model.Change as alters
+use Rattle.inv_rows.specs.model.Enqueue as enqueues
+use Rattle.inv_rows.specs.model.Dequeue as dequeues
+use Rattle.inv_rows.specs.model.Keep as keeps
+use Rattle.inv_rows.specs.model.Steps as steps
+use Rattle.inv_rows.specs.model.Calls.{Task, Gets, Changes, Holds, Enqueues, Dequeues, Again, Answering, Retiring, AfterScan, Why, Phase, ChangeKept, EnqueueKept, GetAt, FindVersion, FindCount, FindKey, FindValue, ChangeAt, LoadVersion, LoadCount, LoadKey, LoadValue, ExchangeRoot, EnqueueAt, LoadNumber, LoadNext, PassTail, ExchangeNext, ExchangeTail, DequeueAt, LoadTail, SwingTail, TakeNumber, TakeValue, ExchangeHead, Work, Getting, Changing, Enqueuing, Dequeuing, Opens, FollowsHead, Fills, ClearsNext, Clears, Finishes, GivesUp, Retires, Tidies, Advances, Releases, LetGo, Released, Rehold, Dropped, Parting, KeepAt, Loosens, LoadHeld, StoreHeld, Looks, Misses, HideSpan, MarkLeft, TakeList, MarkTaken, Keeping, Next, MakeRoom, CallTurn, Answered, Repeated}
+use Rattle.inv_rows.specs.Shapes.Slots.{CopyIn, KeepIn}
+use Rattle.inv_rows.specs.words.declared.config.Config.{Config}
+use Rattle.inv_rows.specs.words.declared.config.SchemeKind.{SchemeKind}
+use Rattle.inv_rows.specs.words.declared.config.SchemeKind.TheVariants.{He, Hp, Ibr, Wfe}
+use Rattle.inv_rows.specs.model.Posts.{stands, withdrawn, with_row, cleared, standing_from, publishes_index}
+use Rattle.inv_rows.specs.defs.declared.event.Root.{Root}
+use Rattle.inv_rows.specs.defs.declared.lifetime.Interval.{Interval}
+use Rattle.inv_rows.specs.Shapes.Frame.{phase_left}
 use Rattle.inv_covers.specs.Rests.{spare, bare, beside, within, deep, vacant_later, vacant_dequeue, vacant_work, vacant, vacant_filled, vacant_opened, vacant_followed, vacant_released, vacant_after, Vacant, vacant_let, vacant_keep}
-use Rattle.inv_shapes.proofs.model.Standing.{stands-withdrawn_same, stands-withdrawn_other, stands-with_row_other}
-use Rattle.inv_shapes.proofs.model.Schemes.{each_begin, each_finish}
-use Rattle.inv_shapes.specs.words.Schemes.{has_one_interval, publishes_rows, moves}
-use Rattle.inv_shapes.specs.model.Phases.Base.{Clear}
+use Rattle.inv_rows.proofs.model.Standing.{stands-withdrawn_same, stands-withdrawn_other, stands-with_row_other}
+use Rattle.inv_rows.proofs.model.Schemes.{each_begin, each_finish}
+use Rattle.inv_rows.specs.words.Schemes.{has_one_interval, publishes_rows, moves}
+use Rattle.inv_rows.specs.model.Phases.Base.{Clear}
 use Rattle.inv_covers.proofs.Stands.{bare_stands}
-use Rattle.inv_shapes.proofs.Leaving.{next_stands, none_stand}
+use Rattle.inv_rows.proofs.Shapes.Leaving.{next_stands, none_stand}
 
 -- nothing stands where the next phase says so
 abbrev pub Turned : CallTurn → Type 0

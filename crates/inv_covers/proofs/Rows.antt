@@ -2,8 +2,8 @@
 use Rattle.std.proofs.Common.{ℕ, ◌≡◌, Bool, true, false, subst, sym, arith, refl}
 use Rattle.std.proofs.lemmas.Bool.Decides.{nat_tests}
 use Rattle.std.specs.Prelude.{◌==◌, if◌then◌else◌}
-use Rattle.inv_shapes.specs.defs.declared.shown.Shown.{Shown}
-use Rattle.inv_shapes.specs.defs.Shown.{keeps}
+use Rattle.inv_rows.specs.defs.declared.shown.Shown.{Shown}
+use Rattle.inv_rows.specs.defs.Shown.{keeps}
 use Rattle.inv_rows.specs.Rows.{Status, View, RowMove, made, is_settled, passed}
 use Rattle.inv_rows.specs.Rows.Status.{Free, Claimed, Born, Linked, InQueue, Cut, Sealed, Listed}
 use Rattle.inv_rows.specs.Rows.RowMove.{Stays, Claims, Bears, Drops, Links, Replaces, Appends, Pops, Reads, Seals, Lists, Returns, Adopts}

@@ -2,20 +2,20 @@
 use Rattle.std.proofs.Common.{ℕ, zero, suc, ◌≤◌, ◌+◌, ◌<◌, ◌≡◌, true, false, arith, refl, ◌∙◌, ap, sym, Bool, Option, Some, None, List, [], ◌∷◌, ◌++◌, suc-add, zero-add, add-one, ◌||◌}
 use Rattle.std.proofs.lemmas.Bool.Decides.{nat_tests}
 use Rattle.std.specs.Prelude.{nat_lt, drop}
-use Rattle.inv_shapes.specs.defs.declared.event.Event.{Event}
-use Rattle.inv_shapes.specs.defs.declared.event.Event.TheVariants as events
-use Rattle.inv_shapes.specs.defs.declared.lifetime.Lifetime.{Lifetime}
-use Rattle.inv_shapes.specs.defs.Shown.{Seen, keeps, keeps_any}
-use Rattle.inv_shapes.specs.model.declared.post.Post.{Post}
-use Rattle.inv_shapes.specs.model.Desks.{Desk, Report}
-use Rattle.inv_shapes.specs.model.Guards.{guards, guard_at, published}
-use Rattle.inv_shapes.specs.model.Scan.{read_before, Entry, first_unmet, unmet_from, scanned, giving_back, reading, with_kept, with_read, with_back, reads_guard, scan_turn}
-use Rattle.inv_shapes.specs.model.Calls.{AfterScan, Answered, Repeated, Counted, ScanAt, ReadGuard, GiveBack, Phase, Idle, Runs, Scans, Works}
-use Rattle.inv_shapes.specs.Frame.{phase_left}
+use Rattle.inv_rows.specs.defs.declared.event.Event.{Event}
+use Rattle.inv_rows.specs.defs.declared.event.Event.TheVariants as events
+use Rattle.inv_rows.specs.defs.declared.lifetime.Lifetime.{Lifetime}
+use Rattle.inv_rows.specs.defs.Shown.{Seen, keeps, keeps_any}
+use Rattle.inv_rows.specs.model.declared.post.Post.{Post}
+use Rattle.inv_rows.specs.model.Desks.{Desk, Report}
+use Rattle.inv_rows.specs.model.Guards.{guards, guard_at, published}
+use Rattle.inv_rows.specs.model.Scan.{read_before, Entry, first_unmet, unmet_from, scanned, giving_back, reading, with_kept, with_read, with_back, reads_guard, scan_turn}
+use Rattle.inv_rows.specs.model.Calls.{AfterScan, Answered, Repeated, Counted, ScanAt, ReadGuard, GiveBack, Phase, Idle, Runs, Scans, Works}
+use Rattle.inv_rows.specs.Shapes.Frame.{phase_left}
 use Rattle.inv_covers.specs.Covers.{has_met, unmet_at, is_unmet, is_fresh}
 use Rattle.inv_covers.specs.Tries.{is_start, Shrinks}
 use Rattle.inv_covers.proofs.Fresh.{round_fresh}
-use Rattle.inv_shapes.specs.words.Schemes.{publishes_rows}
+use Rattle.inv_rows.specs.words.Schemes.{publishes_rows}
 
 fresh_number : (number : ℕ) (later : AfterScan) → is_fresh (Scans later (ReadGuard number)) ≡ true → number ≡ 0
 fresh_number zero later h = refl

@@ -2,10 +2,10 @@
 use Rattle.std.proofs.Common.{ℕ, zero, suc, None, ◌≡◌, ◌≢◌, ◌<◌, length, arith, sym, subst, ◌∙◌, true, false, Bool, refl}
 use Rattle.std.proofs.lemmas.Bool.Decides.{nat_tests}
 use Rattle.std.specs.Prelude.{Some, ◌==◌}
-use Rattle.inv_shapes.specs.model.declared.post.Post.{Post}
-use Rattle.inv_shapes.specs.model.Posts.{stands, with_row, withdrawn, withdrawn_all}
+use Rattle.inv_rows.specs.model.declared.post.Post.{Post}
+use Rattle.inv_rows.specs.model.Posts.{stands, with_row, withdrawn, withdrawn_all}
 use Rattle.inv_covers.specs.Tries.{Shrinks}
-use Rattle.inv_shapes.proofs.model.Standing.{stands-withdrawn_same, stands-with_row_same, stands-withdrawn_other, stands-with_row_other}
+use Rattle.inv_rows.proofs.model.Standing.{stands-withdrawn_same, stands-with_row_same, stands-withdrawn_other, stands-with_row_other}
 
 no_row : (post : Post) (index s : ℕ) → stands (withdrawn post index) index ≡ Some s → false ≡ true
 no_row post index s h = let w = stands-withdrawn_same post index in absurd (cc)

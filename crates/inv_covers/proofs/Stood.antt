@@ -2,42 +2,42 @@
 use Rattle.std.proofs.Common.{ℕ, ◌<◌, ◌+◌, ◌-◌, ◌≡◌, subst, true, false, arith, refl, Bool, Option, Some, None, ◌&&◌, ◌⊎◌, inl, inr, length, List, [], ◌∷◌}
 use Rattle.std.proofs.lemmas.Bool.Decides.{nat_tests}
 use Rattle.std.specs.Prelude.{◌==◌, ◌||◌, if◌then◌else◌}
-use Rattle.inv_shapes.specs.words.Place.{Place}
-use Rattle.inv_shapes.specs.words.Place.Place.{Clock, Head}
-use Rattle.inv_shapes.specs.words.declared.config.Config.{Config}
-use Rattle.inv_shapes.specs.defs.declared.event.Event.{Event}
-use Rattle.inv_shapes.specs.defs.declared.event.Root.{Root}
-use Rattle.inv_shapes.specs.defs.declared.event.Root.TheVariants as roots
-use Rattle.inv_shapes.specs.model.declared.post.Post.{Post}
-use Rattle.inv_shapes.specs.model.Memory.{found, place_in, bump}
-use Rattle.inv_shapes.specs.model.Posts.{stands, upper, with_row}
-use Rattle.inv_shapes.specs.model.Allocate.{walking, walk_past, is_claimed, after_claim_slot}
-use Rattle.inv_shapes.specs.model.Phases.{Aim, Walk, Tries, BeginAt, ProtectAt, AllocateAt, RetireAt, MoveAt, Base, RowOf, goes, ends, HazardAt}
-use Rattle.inv_shapes.specs.model.Phases.BeginAt.{LoadLower, PublishSpan}
-use Rattle.inv_shapes.specs.model.Phases.ProtectAt.{LoadClock, PublishEra, LoadLink, CheckClock, PublishRequest, LoadOwnClock, PublishHelper, LoadOwnLink, CheckOwnClock, AnswerOwn, LoadAnswer, TakeAnswer, WithdrawRequest, WithdrawHelper, LoadWithin, CheckUpper, RaiseUpper, ByHazard}
-use Rattle.inv_shapes.specs.model.Phases.HazardAt.{FirstLink, PublishLink, CheckLink}
-use Rattle.inv_shapes.specs.model.Phases.AllocateAt.{LoadBirth, ClaimSlot, StoreLife}
-use Rattle.inv_shapes.specs.model.Phases.RetireAt.{LoadLife, LoadRetire, StoreRetired}
-use Rattle.inv_shapes.specs.model.Phases.MoveAt.{LoadEra, LoadRequest, ShowEra, LoadAsked, CheckEra, AnswerAsked, LoadReserved, HandOver, HideEra, HideLate, ExchangeClock}
-use Rattle.inv_shapes.specs.model.Phases.Base.{Begin, Protect, Reload, Clear, Finish, Release, Allocate, Write, GiveUp, Retire, Move}
-use Rattle.inv_shapes.specs.model.Protect.{held_post, told_held, failed_once, concluded, protected}
-use Rattle.inv_shapes.specs.model.Phases.Ending.{Followed}
-use Rattle.inv_shapes.specs.model.declared.ends.FollowEnd.TheVariants as follow_ends
-use Rattle.inv_shapes.specs.defs.declared.event.Event.TheVariants as events
-use Rattle.inv_shapes.specs.words.declared.config.SchemeKind.{SchemeKind}
-use Rattle.inv_shapes.specs.model.Machine.{protect_move, base_move, begin_turn, protect_turn, allocate_turn, retire_turn, move_turn, after}
-use Rattle.inv_shapes.specs.words.Packed.{read_reservation, reservation_word}
-use Rattle.inv_shapes.specs.model.SlowPath.{asking, own_request, after_check_own_clock, after_answer_own}
-use Rattle.inv_shapes.specs.model.MoveClock.{after_load_era, after_check_era, after_answer_asked, after_load_reserved, after_hand_over, after_exchange_clock}
-use Rattle.inv_shapes.specs.model.WriteRow.{last_written, after_write}
+use Rattle.inv_rows.specs.words.Place.{Place}
+use Rattle.inv_rows.specs.words.Place.Place.{Clock, Head}
+use Rattle.inv_rows.specs.words.declared.config.Config.{Config}
+use Rattle.inv_rows.specs.defs.declared.event.Event.{Event}
+use Rattle.inv_rows.specs.defs.declared.event.Root.{Root}
+use Rattle.inv_rows.specs.defs.declared.event.Root.TheVariants as roots
+use Rattle.inv_rows.specs.model.declared.post.Post.{Post}
+use Rattle.inv_rows.specs.model.Memory.{found, place_in, bump}
+use Rattle.inv_rows.specs.model.Posts.{stands, upper, with_row}
+use Rattle.inv_rows.specs.model.Allocate.{walking, walk_past, is_claimed, after_claim_slot}
+use Rattle.inv_rows.specs.model.Phases.{Aim, Walk, Tries, BeginAt, ProtectAt, AllocateAt, RetireAt, MoveAt, Base, RowOf, goes, ends, HazardAt}
+use Rattle.inv_rows.specs.model.Phases.BeginAt.{LoadLower, PublishSpan}
+use Rattle.inv_rows.specs.model.Phases.ProtectAt.{LoadClock, PublishEra, LoadLink, CheckClock, PublishRequest, LoadOwnClock, PublishHelper, LoadOwnLink, CheckOwnClock, AnswerOwn, LoadAnswer, TakeAnswer, WithdrawRequest, WithdrawHelper, LoadWithin, CheckUpper, RaiseUpper, ByHazard}
+use Rattle.inv_rows.specs.model.Phases.HazardAt.{FirstLink, PublishLink, CheckLink}
+use Rattle.inv_rows.specs.model.Phases.AllocateAt.{LoadBirth, ClaimSlot, StoreLife}
+use Rattle.inv_rows.specs.model.Phases.RetireAt.{LoadLife, LoadRetire, StoreRetired}
+use Rattle.inv_rows.specs.model.Phases.MoveAt.{LoadEra, LoadRequest, ShowEra, LoadAsked, CheckEra, AnswerAsked, LoadReserved, HandOver, HideEra, HideLate, ExchangeClock}
+use Rattle.inv_rows.specs.model.Phases.Base.{Begin, Protect, Reload, Clear, Finish, Release, Allocate, Write, GiveUp, Retire, Move}
+use Rattle.inv_rows.specs.model.Protect.{held_post, told_held, failed_once, concluded, protected}
+use Rattle.inv_rows.specs.model.Phases.Ending.{Followed}
+use Rattle.inv_rows.specs.model.declared.ends.FollowEnd.TheVariants as follow_ends
+use Rattle.inv_rows.specs.defs.declared.event.Event.TheVariants as events
+use Rattle.inv_rows.specs.words.declared.config.SchemeKind.{SchemeKind}
+use Rattle.inv_rows.specs.model.Machine.{protect_move, base_move, begin_turn, protect_turn, allocate_turn, retire_turn, move_turn, after}
+use Rattle.inv_rows.specs.words.Packed.{read_reservation, reservation_word}
+use Rattle.inv_rows.specs.model.SlowPath.{asking, own_request, after_check_own_clock, after_answer_own}
+use Rattle.inv_rows.specs.model.MoveClock.{after_load_era, after_check_era, after_answer_asked, after_load_reserved, after_hand_over, after_exchange_clock}
+use Rattle.inv_rows.specs.model.WriteRow.{last_written, after_write}
 use Rattle.inv_rows.specs.Rows.{Status}
-use Rattle.inv_shapes.specs.words.Schemes.{helps}
-use Rattle.inv_shapes.specs.Seats.{protect_fits, base_fits}
+use Rattle.inv_rows.specs.words.Schemes.{helps}
+use Rattle.inv_rows.specs.Shapes.Seats.{protect_fits, base_fits}
 use Rattle.inv_covers.specs.Held.{leads, under, tries_protect, tries_base, index_base}
 use Rattle.inv_rows.specs.Queue.{in_queue}
 use Rattle.inv_covers.proofs.Stands.{withdrawn_shrinks, with_row_apart, with_row_is}
-use Rattle.inv_shapes.specs.model.Links.{link_place}
-pub use Rattle.inv_shapes.proofs.Frame.{concluded_post}
+use Rattle.inv_rows.specs.model.Links.{link_place}
+pub use Rattle.inv_rows.proofs.Shapes.Frame.{concluded_post}
 
 -- a link that is loaded again is still the one that was published
 abbrev pub loads_again : (ℕ → Status) → (Place → ℕ) → Root → HazardAt → ℕ → Bool

@@ -2,44 +2,44 @@
 use Rattle.std.proofs.Common.{ℕ, ◌≤◌, ◌+◌, ◌≡◌, sym, subst, true, false, arith, refl, Bool, Option, Some, None, ◌&&◌, ◌⊎◌, inl, inr, List, [], ◌∷◌}
 use Rattle.std.proofs.lemmas.Bool.Decides.{nat_tests}
 use Rattle.std.specs.Prelude.{◌==◌, ◌||◌, if◌then◌else◌, nat_le}
-use Rattle.inv_shapes.specs.words.Place.{Place}
-use Rattle.inv_shapes.specs.words.Place.Place.{Clock}
-use Rattle.inv_shapes.specs.words.declared.config.SchemeKind.{SchemeKind}
-use Rattle.inv_shapes.specs.defs.declared.event.Event.{Event}
-use Rattle.inv_shapes.specs.defs.declared.event.Root.{Root}
-use Rattle.inv_shapes.specs.defs.declared.event.Root.TheVariants as roots
-use Rattle.inv_shapes.specs.model.declared.post.Post.{Post}
-use Rattle.inv_shapes.specs.model.Links.{link_place, parent_of}
-use Rattle.inv_shapes.specs.model.Memory.{found, place_in, written}
-use Rattle.inv_shapes.specs.model.Posts.{upper}
-use Rattle.inv_shapes.specs.model.Phases.{Aim, Alone, Follows, Tries, Endless, Failed, ProtectAt, Base, Outcome, Goes, Ends, goes, Walk, BeginAt, AllocateAt, RetireAt, MoveAt, Turn}
-use Rattle.inv_shapes.specs.model.Phases.ProtectAt.{LoadClock, PublishEra, LoadLink, CheckClock, PublishRequest, LoadOwnClock, PublishHelper, LoadOwnLink, CheckOwnClock, AnswerOwn, LoadAnswer, TakeAnswer, WithdrawRequest, WithdrawHelper, LoadWithin, CheckUpper, RaiseUpper, ByHazard}
-use Rattle.inv_shapes.specs.model.Phases.HazardAt.{FirstLink, PublishLink, CheckLink}
-use Rattle.inv_shapes.specs.model.Phases.Base.{Begin, Protect, Reload, Clear, Finish, Release, Allocate, Write, GiveUp, Retire, Move}
-use Rattle.inv_shapes.specs.model.Protect.{held_post, told_held, failed_once, trying, concluded, protected}
-use Rattle.inv_shapes.specs.model.Machine.{protect_move, begin_turn, protect_turn, allocate_turn, retire_turn, move_turn, after}
-use Rattle.inv_shapes.specs.model.Phases.BeginAt.{LoadLower, PublishSpan}
-use Rattle.inv_shapes.specs.model.Phases.AllocateAt.{LoadBirth, ClaimSlot, StoreLife}
-use Rattle.inv_shapes.specs.model.Phases.RetireAt.{LoadLife, LoadRetire, StoreRetired}
-use Rattle.inv_shapes.specs.model.Phases.MoveAt.{LoadEra, LoadRequest, ShowEra, LoadAsked, CheckEra, AnswerAsked, LoadReserved, HandOver, HideEra, HideLate, ExchangeClock}
-use Rattle.inv_shapes.specs.model.Allocate.{walking, walk_past, is_claimed, next_slot}
-use Rattle.inv_shapes.specs.model.MoveClock.{after_hand_over}
-use Rattle.inv_shapes.specs.model.SlowPath.{asking}
-use Rattle.inv_shapes.specs.model.WriteRow.{last_written}
-use Rattle.inv_shapes.specs.words.Packed.{reservation_word, read_reservation}
-use Rattle.inv_shapes.specs.defs.declared.event.Event.TheVariants as events
+use Rattle.inv_rows.specs.words.Place.{Place}
+use Rattle.inv_rows.specs.words.Place.Place.{Clock}
+use Rattle.inv_rows.specs.words.declared.config.SchemeKind.{SchemeKind}
+use Rattle.inv_rows.specs.defs.declared.event.Event.{Event}
+use Rattle.inv_rows.specs.defs.declared.event.Root.{Root}
+use Rattle.inv_rows.specs.defs.declared.event.Root.TheVariants as roots
+use Rattle.inv_rows.specs.model.declared.post.Post.{Post}
+use Rattle.inv_rows.specs.model.Links.{link_place, parent_of}
+use Rattle.inv_rows.specs.model.Memory.{found, place_in, written}
+use Rattle.inv_rows.specs.model.Posts.{upper}
+use Rattle.inv_rows.specs.model.Phases.{Aim, Alone, Follows, Tries, Endless, Failed, ProtectAt, Base, Outcome, Goes, Ends, goes, Walk, BeginAt, AllocateAt, RetireAt, MoveAt, Turn}
+use Rattle.inv_rows.specs.model.Phases.ProtectAt.{LoadClock, PublishEra, LoadLink, CheckClock, PublishRequest, LoadOwnClock, PublishHelper, LoadOwnLink, CheckOwnClock, AnswerOwn, LoadAnswer, TakeAnswer, WithdrawRequest, WithdrawHelper, LoadWithin, CheckUpper, RaiseUpper, ByHazard}
+use Rattle.inv_rows.specs.model.Phases.HazardAt.{FirstLink, PublishLink, CheckLink}
+use Rattle.inv_rows.specs.model.Phases.Base.{Begin, Protect, Reload, Clear, Finish, Release, Allocate, Write, GiveUp, Retire, Move}
+use Rattle.inv_rows.specs.model.Protect.{held_post, told_held, failed_once, trying, concluded, protected}
+use Rattle.inv_rows.specs.model.Machine.{protect_move, begin_turn, protect_turn, allocate_turn, retire_turn, move_turn, after}
+use Rattle.inv_rows.specs.model.Phases.BeginAt.{LoadLower, PublishSpan}
+use Rattle.inv_rows.specs.model.Phases.AllocateAt.{LoadBirth, ClaimSlot, StoreLife}
+use Rattle.inv_rows.specs.model.Phases.RetireAt.{LoadLife, LoadRetire, StoreRetired}
+use Rattle.inv_rows.specs.model.Phases.MoveAt.{LoadEra, LoadRequest, ShowEra, LoadAsked, CheckEra, AnswerAsked, LoadReserved, HandOver, HideEra, HideLate, ExchangeClock}
+use Rattle.inv_rows.specs.model.Allocate.{walking, walk_past, is_claimed, next_slot}
+use Rattle.inv_rows.specs.model.MoveClock.{after_hand_over}
+use Rattle.inv_rows.specs.model.SlowPath.{asking}
+use Rattle.inv_rows.specs.model.WriteRow.{last_written}
+use Rattle.inv_rows.specs.words.Packed.{reservation_word, read_reservation}
+use Rattle.inv_rows.specs.defs.declared.event.Event.TheVariants as events
 use Rattle.inv_covers.proofs.Words.{stores_protect}
 use Rattle.inv_rows.specs.Rows.{Status, View, RowMove, made, is_settled, passed, Adopts, Claimed, Born, Linked, Cut, Sealed, Listed, Free, InQueue}
 use Rattle.inv_rows.specs.Rows.RowMove.{Stays, Claims, Bears, Drops, Links, Replaces, Appends, Pops, Reads, Seals, Lists, Returns}
-use Rattle.inv_shapes.specs.words.Schemes.{helps}
-use Rattle.inv_shapes.specs.Seats.{protect_fits}
+use Rattle.inv_rows.specs.words.Schemes.{helps}
+use Rattle.inv_rows.specs.Shapes.Seats.{protect_fits}
 use Rattle.inv_rows.proofs.Fits.{MoveFits}
 use Rattle.inv_covers.specs.Held.{leads, under, tries_protect, tries_base, index_base, follows_root, follows_row, era_protect, era_base}
 use Rattle.inv_rows.specs.Queue.{in_queue}
 use Rattle.inv_covers.specs.Tries.{starts_protect, starts_base}
-use Rattle.inv_shapes.specs.words.declared.config.Config.{Config}
+use Rattle.inv_rows.specs.words.declared.config.Config.{Config}
 use Rattle.inv_covers.proofs.Stood.{loads_again}
-use Rattle.inv_shapes.proofs.model.Facts.{same_number}
+use Rattle.inv_rows.proofs.model.Facts.{same_number}
 
 -- what an outcome has tried
 abbrev pub out_tries : ℕ → (ℕ → Status) → Post → Outcome → ℕ → Bool

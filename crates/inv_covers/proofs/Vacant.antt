@@ -2,41 +2,41 @@
 use Rattle.std.proofs.Common.{ℕ, ◌+◌, ◌-◌, ◌≡◌, sym, subst, ap, true, false, arith, refl, Bool, Option, Some, None, List, [], ◌∷◌}
 use Rattle.std.proofs.lemmas.Bool.Decides.{nat_tests}
 use Rattle.std.specs.Prelude.{◌==◌, ◌||◌, if◌then◌else◌, nat_lt}
-use Rattle.inv_shapes.specs.words.declared.layout.Layout.{Layout}
-use Rattle.inv_shapes.specs.defs.declared.event.Event.{Event}
-use Rattle.inv_shapes.specs.defs.declared.event.Event.TheVariants as events
-use Rattle.inv_shapes.specs.defs.declared.event.Root.{Root}
-use Rattle.inv_shapes.specs.defs.declared.event.Root.TheVariants as roots
-use Rattle.inv_shapes.specs.model.declared.post.Post.{Post}
-use Rattle.inv_shapes.specs.model.Desks.{Desk}
-use Rattle.inv_shapes.specs.model.Guards.{guards, guard_at, published}
-use Rattle.inv_shapes.specs.model.Posts.{stands, upper, with_row, tag_of, with_tag, reserves_helper}
-use Rattle.inv_shapes.specs.model.Phases.{Aim, Alone, Follows, Base, ProtectAt, Ending, Outcome, Goes, Ends, Turn, goes, ends}
-use Rattle.inv_shapes.specs.model.Phases.ProtectAt.{LoadClock, PublishEra, LoadLink, CheckClock, PublishRequest, LoadOwnClock, PublishHelper, LoadOwnLink, CheckOwnClock, AnswerOwn, LoadAnswer, TakeAnswer, WithdrawRequest, WithdrawHelper, LoadWithin, CheckUpper, RaiseUpper, ByHazard}
-use Rattle.inv_shapes.specs.model.Phases.HazardAt.{FirstLink, PublishLink, CheckLink}
-use Rattle.inv_shapes.specs.words.Packed.{read_request}
-use Rattle.inv_shapes.specs.model.SlowPath.{own_request, answer_in, lost_turn}
-use Rattle.inv_shapes.specs.model.Phases.Base.{Begin, Protect, Reload, Clear, Finish, Release, Allocate, Write, GiveUp, Retire, Move}
-use Rattle.inv_shapes.specs.model.Phases.Ending.{Done, Protected, Followed, Allocated, Retired, Clocked}
-use Rattle.inv_shapes.specs.model.Protect.{held_post, told_held, failed_once, trying, concluded, protected}
-use Rattle.inv_shapes.specs.model.Memory.{bump}
-use Rattle.inv_shapes.specs.model.WriteRow.{last_written}
-use Rattle.inv_shapes.specs.model.declared.ends.FollowEnd.TheVariants as follow_ends
-use Rattle.inv_shapes.specs.defs.declared.call.Answer.{Answer}
-use Rattle.inv_shapes.specs.model.Calls.{Next, Task, Gets, Changes, Holds, Enqueues, Dequeues, AfterScan, Answered, Repeated, Counted, ScanAt, ReadGuard, GiveBack, Why, Opens, FollowsHead, Fills, ClearsNext, Clears, Finishes, GivesUp, Retires, Tidies, Advances, Releases, LetGo, KeepAt, Keeping, Phase, Idle, Runs, Scans, Works}
-use Rattle.inv_shapes.specs.model.Machine.{after, protect_turn}
-use Rattle.inv_shapes.specs.model.Rounds.{index_of}
-use Rattle.inv_shapes.specs.model.Scan.{Entry, scanned, giving_back, reading, unmet_from, with_kept, with_read, with_back, reads_guard, scan_turn}
-use Rattle.inv_shapes.specs.model.Steps.{resumed, phase_turn}
+use Rattle.inv_rows.specs.words.declared.layout.Layout.{Layout}
+use Rattle.inv_rows.specs.defs.declared.event.Event.{Event}
+use Rattle.inv_rows.specs.defs.declared.event.Event.TheVariants as events
+use Rattle.inv_rows.specs.defs.declared.event.Root.{Root}
+use Rattle.inv_rows.specs.defs.declared.event.Root.TheVariants as roots
+use Rattle.inv_rows.specs.model.declared.post.Post.{Post}
+use Rattle.inv_rows.specs.model.Desks.{Desk}
+use Rattle.inv_rows.specs.model.Guards.{guards, guard_at, published}
+use Rattle.inv_rows.specs.model.Posts.{stands, upper, with_row, tag_of, with_tag, reserves_helper}
+use Rattle.inv_rows.specs.model.Phases.{Aim, Alone, Follows, Base, ProtectAt, Ending, Outcome, Goes, Ends, Turn, goes, ends}
+use Rattle.inv_rows.specs.model.Phases.ProtectAt.{LoadClock, PublishEra, LoadLink, CheckClock, PublishRequest, LoadOwnClock, PublishHelper, LoadOwnLink, CheckOwnClock, AnswerOwn, LoadAnswer, TakeAnswer, WithdrawRequest, WithdrawHelper, LoadWithin, CheckUpper, RaiseUpper, ByHazard}
+use Rattle.inv_rows.specs.model.Phases.HazardAt.{FirstLink, PublishLink, CheckLink}
+use Rattle.inv_rows.specs.words.Packed.{read_request}
+use Rattle.inv_rows.specs.model.SlowPath.{own_request, answer_in, lost_turn}
+use Rattle.inv_rows.specs.model.Phases.Base.{Begin, Protect, Reload, Clear, Finish, Release, Allocate, Write, GiveUp, Retire, Move}
+use Rattle.inv_rows.specs.model.Phases.Ending.{Done, Protected, Followed, Allocated, Retired, Clocked}
+use Rattle.inv_rows.specs.model.Protect.{held_post, told_held, failed_once, trying, concluded, protected}
+use Rattle.inv_rows.specs.model.Memory.{bump}
+use Rattle.inv_rows.specs.model.WriteRow.{last_written}
+use Rattle.inv_rows.specs.model.declared.ends.FollowEnd.TheVariants as follow_ends
+use Rattle.inv_rows.specs.defs.declared.call.Answer.{Answer}
+use Rattle.inv_rows.specs.model.Calls.{Next, Task, Gets, Changes, Holds, Enqueues, Dequeues, AfterScan, Answered, Repeated, Counted, ScanAt, ReadGuard, GiveBack, Why, Opens, FollowsHead, Fills, ClearsNext, Clears, Finishes, GivesUp, Retires, Tidies, Advances, Releases, LetGo, KeepAt, Keeping, Phase, Idle, Runs, Scans, Works}
+use Rattle.inv_rows.specs.model.Machine.{after, protect_turn}
+use Rattle.inv_rows.specs.model.Rounds.{index_of}
+use Rattle.inv_rows.specs.model.Scan.{Entry, scanned, giving_back, reading, unmet_from, with_kept, with_read, with_back, reads_guard, scan_turn}
+use Rattle.inv_rows.specs.model.Steps.{resumed, phase_turn}
 use Rattle.inv_rows.specs.Hands.{runs_right, task_fills}
-use Rattle.inv_shapes.specs.Seats.{Run}
-use Rattle.inv_shapes.specs.Slots.{KeepIn}
+use Rattle.inv_rows.specs.Shapes.Seats.{Run}
+use Rattle.inv_rows.specs.Shapes.Slots.{KeepIn}
 use Rattle.inv_covers.specs.Rests.{spare, bare, beside, within, deep, vacant_later, has_taken, base_taken, vacant_opening, vacant_why, vacant, vacant_filled, vacant_after, Vacant, vacant_let}
 use Rattle.inv_covers.proofs.Rests.{Turned, round_vacant, work_vacant, resume_vacant, withdrawn_vacant, let_vacant, bare_beside}
 use Rattle.inv_covers.proofs.Stands.{with_row_apart}
 use Rattle.inv_covers.proofs.Stood.{begin_stood, allocate_stood, write_stood, retire_stood, move_stood}
-use Rattle.inv_shapes.proofs.model.Facts.{no_truth}
-use Rattle.inv_shapes.specs.words.Schemes.{publishes_rows}
+use Rattle.inv_rows.proofs.model.Facts.{no_truth}
+use Rattle.inv_rows.specs.words.Schemes.{publishes_rows}
 
 -- a scan
 scanned_vacant : (later : AfterScan) (post : Post) (desk : Desk) (told : List Event) → Vacant (vacant_later later) post → Turned (scanned later post desk told)

@@ -2,40 +2,40 @@
 use Rattle.std.proofs.Common.{ℕ, ◌≡◌, ap, true, false, arith, refl, Bool, not}
 use Rattle.std.proofs.lemmas.Bool.Decides.{nat_tests}
 use Rattle.std.specs.Prelude.{◌==◌, ◌&&◌}
-use Rattle.inv_shapes.specs.words.Place.{Place, same}
-use Rattle.inv_shapes.specs.words.Place.Place.{Index, Interval}
-use Rattle.inv_shapes.specs.words.declared.config.Config.{Config}
-use Rattle.inv_shapes.specs.words.declared.config.SchemeKind.{SchemeKind}
-use Rattle.inv_shapes.specs.defs.declared.event.Guard.{Guard}
-use Rattle.inv_shapes.specs.defs.declared.event.Root.{Root}
-use Rattle.inv_shapes.specs.defs.declared.shown.Shown.{Shown}
-use Rattle.inv_shapes.specs.defs.Shown as values
-use Rattle.inv_shapes.specs.model.declared.post.Post.{Post}
-use Rattle.inv_shapes.specs.model.Guards.{guard_place, eras_in, linked_row, published, own_guard}
-use Rattle.inv_shapes.specs.model.Memory.{Move as Act, Load, Store, Cas, Or, And, written}
-use Rattle.inv_shapes.specs.model.Phases.{BeginAt, ProtectAt, AllocateAt, RetireAt, MoveAt, Base}
-use Rattle.inv_shapes.specs.model.Phases.BeginAt.{LoadLower, PublishSpan}
-use Rattle.inv_shapes.specs.model.Phases.ProtectAt.{PublishEra, TakeAnswer, RaiseUpper, ByHazard}
-use Rattle.inv_shapes.specs.model.Phases.HazardAt.{FirstLink, PublishLink, CheckLink}
-use Rattle.inv_shapes.specs.model.Phases.AllocateAt.{LoadBirth}
-use Rattle.inv_shapes.specs.model.Phases.RetireAt.{LoadLife}
-use Rattle.inv_shapes.specs.model.Phases.MoveAt.{LoadEra, HandOver}
-use Rattle.inv_shapes.specs.model.Phases.Base.{Begin, Protect, Reload, Clear, Finish, Release, Allocate, Write, GiveUp, Retire, Move}
-use Rattle.inv_shapes.specs.model.Machine.{begin_move, protect_move, allocate_move, retire_move, move_move, base_move}
-use Rattle.inv_shapes.specs.model.Scan.{scan_move}
-use Rattle.inv_shapes.specs.model.Get.{get_move}
-use Rattle.inv_shapes.specs.model.Change.{change_move}
-use Rattle.inv_shapes.specs.model.Enqueue.{enqueue_move}
-use Rattle.inv_shapes.specs.model.Dequeue.{dequeue_move}
-use Rattle.inv_shapes.specs.model.Keep.{keep_move}
-use Rattle.inv_shapes.specs.model.Steps.{phase_move, work_move}
-use Rattle.inv_shapes.specs.model.Calls.{ChangeKept, EnqueueKept, ScanAt, ReadGuard, GiveBack, GetAt, FindVersion, ChangeAt, LoadVersion, EnqueueAt, LoadNumber, DequeueAt, LoadTail, KeepAt, Loosens, LoadHeld, StoreHeld, Looks, Misses, HideSpan, MarkLeft, TakeList, MarkTaken, Work, Getting, Changing, Enqueuing, Dequeuing, Keeping, Phase}
-use Rattle.inv_shapes.specs.model.Locals.{move}
-use Rattle.inv_shapes.specs.model.World.{World, step}
-use Rattle.inv_shapes.specs.words.Schemes.{helps, publishes_rows}
-use Rattle.inv_shapes.specs.Seats.{move_fits, base_fits}
+use Rattle.inv_rows.specs.words.Place.{Place, same}
+use Rattle.inv_rows.specs.words.Place.Place.{Index, Interval}
+use Rattle.inv_rows.specs.words.declared.config.Config.{Config}
+use Rattle.inv_rows.specs.words.declared.config.SchemeKind.{SchemeKind}
+use Rattle.inv_rows.specs.defs.declared.event.Guard.{Guard}
+use Rattle.inv_rows.specs.defs.declared.event.Root.{Root}
+use Rattle.inv_rows.specs.defs.declared.shown.Shown.{Shown}
+use Rattle.inv_rows.specs.defs.Shown as values
+use Rattle.inv_rows.specs.model.declared.post.Post.{Post}
+use Rattle.inv_rows.specs.model.Guards.{guard_place, eras_in, linked_row, published, own_guard}
+use Rattle.inv_rows.specs.model.Memory.{Move as Act, Load, Store, Cas, Or, And, written}
+use Rattle.inv_rows.specs.model.Phases.{BeginAt, ProtectAt, AllocateAt, RetireAt, MoveAt, Base}
+use Rattle.inv_rows.specs.model.Phases.BeginAt.{LoadLower, PublishSpan}
+use Rattle.inv_rows.specs.model.Phases.ProtectAt.{PublishEra, TakeAnswer, RaiseUpper, ByHazard}
+use Rattle.inv_rows.specs.model.Phases.HazardAt.{FirstLink, PublishLink, CheckLink}
+use Rattle.inv_rows.specs.model.Phases.AllocateAt.{LoadBirth}
+use Rattle.inv_rows.specs.model.Phases.RetireAt.{LoadLife}
+use Rattle.inv_rows.specs.model.Phases.MoveAt.{LoadEra, HandOver}
+use Rattle.inv_rows.specs.model.Phases.Base.{Begin, Protect, Reload, Clear, Finish, Release, Allocate, Write, GiveUp, Retire, Move}
+use Rattle.inv_rows.specs.model.Machine.{begin_move, protect_move, allocate_move, retire_move, move_move, base_move}
+use Rattle.inv_rows.specs.model.Scan.{scan_move}
+use Rattle.inv_rows.specs.model.Get.{get_move}
+use Rattle.inv_rows.specs.model.Change.{change_move}
+use Rattle.inv_rows.specs.model.Enqueue.{enqueue_move}
+use Rattle.inv_rows.specs.model.Dequeue.{dequeue_move}
+use Rattle.inv_rows.specs.model.Keep.{keep_move}
+use Rattle.inv_rows.specs.model.Steps.{phase_move, work_move}
+use Rattle.inv_rows.specs.model.Calls.{ChangeKept, EnqueueKept, ScanAt, ReadGuard, GiveBack, GetAt, FindVersion, ChangeAt, LoadVersion, EnqueueAt, LoadNumber, DequeueAt, LoadTail, KeepAt, Loosens, LoadHeld, StoreHeld, Looks, Misses, HideSpan, MarkLeft, TakeList, MarkTaken, Work, Getting, Changing, Enqueuing, Dequeuing, Keeping, Phase}
+use Rattle.inv_rows.specs.model.Locals.{move}
+use Rattle.inv_rows.specs.model.World.{World, step}
+use Rattle.inv_rows.specs.words.Schemes.{helps, publishes_rows}
+use Rattle.inv_rows.specs.Shapes.Seats.{move_fits, base_fits}
 use Rattle.inv_covers.specs.Covers.{eras_shown, shown, Widens}
-use Rattle.inv_shapes.proofs.model.Schemes.{each_guard}
+use Rattle.inv_rows.proofs.model.Schemes.{each_guard}
 
 -- the operation leaves the word of the place
 abbrev pub keeps : Act → Place → Bool

@@ -1,29 +1,29 @@
 -- When a guard covers a row: the row was linked and is not free since, the guard publishes what keeps its life, and a scan
 -- that has the row on its list has met that life, or has not come to the guard.
 use Rattle.std.specs.Prelude.{ℕ, zero, suc, ◌≡◌, ◌<◌, ◌==◌, ◌+◌, ◌*◌, ◌||◌, nat_lt, not, Bool, true, false, List, [], ◌∷◌, Option}
-use Rattle.inv_shapes.specs.words.declared.config.Config.{Config}
-use Rattle.inv_shapes.specs.words.declared.config.SchemeKind.{SchemeKind}
-use Rattle.inv_shapes.specs.words.declared.config.SchemeKind.TheVariants.{He, Hp, Ibr, Wfe}
-use Rattle.inv_shapes.specs.defs.declared.event.Guard.{Guard}
-use Rattle.inv_shapes.specs.defs.declared.event.Guard.TheVariants.{Helper, Index, Whole}
-use Rattle.inv_shapes.specs.defs.declared.lifetime.Interval.{Interval}
-use Rattle.inv_shapes.specs.defs.declared.lifetime.Lifetime.{Lifetime}
-use Rattle.inv_shapes.specs.defs.declared.shown.Shown.{Shown}
-use Rattle.inv_shapes.specs.defs.Shown.{Seen, keeps, keeps_any, shown as eras_as, shown_row}
-use Rattle.inv_shapes.specs.model.Desks.{Desk, Report}
-use Rattle.inv_shapes.specs.model.Guards.{guards, guard_at, guard_place, eras_in, linked_row, one_era, published}
-use Rattle.inv_shapes.specs.model.Scan.{read_before}
-use Rattle.inv_shapes.specs.model.Calls.{ScanAt, ReadGuard, GiveBack, Phase, Idle, Runs, Scans, Works}
-use Rattle.inv_shapes.specs.model.World.{World, start, step, begin, finds}
+use Rattle.inv_rows.specs.words.declared.config.Config.{Config}
+use Rattle.inv_rows.specs.words.declared.config.SchemeKind.{SchemeKind}
+use Rattle.inv_rows.specs.words.declared.config.SchemeKind.TheVariants.{He, Hp, Ibr, Wfe}
+use Rattle.inv_rows.specs.defs.declared.event.Guard.{Guard}
+use Rattle.inv_rows.specs.defs.declared.event.Guard.TheVariants.{Helper, Index, Whole}
+use Rattle.inv_rows.specs.defs.declared.lifetime.Interval.{Interval}
+use Rattle.inv_rows.specs.defs.declared.lifetime.Lifetime.{Lifetime}
+use Rattle.inv_rows.specs.defs.declared.shown.Shown.{Shown}
+use Rattle.inv_rows.specs.defs.Shown.{Seen, keeps, keeps_any, shown as eras_as, shown_row}
+use Rattle.inv_rows.specs.model.Desks.{Desk, Report}
+use Rattle.inv_rows.specs.model.Guards.{guards, guard_at, guard_place, eras_in, linked_row, one_era, published}
+use Rattle.inv_rows.specs.model.Scan.{read_before}
+use Rattle.inv_rows.specs.model.Calls.{ScanAt, ReadGuard, GiveBack, Phase, Idle, Runs, Scans, Works}
+use Rattle.inv_rows.specs.model.World.{World, start, step, begin, finds}
 use Rattle.inv_rows.specs.Hands.{row_move}
 use Rattle.inv_rows.specs.Agree.{Agree, RowsNeeds, rows_after}
-use Rattle.inv_shapes.specs.words.declared.layout.Layout.{Layout}
-use Rattle.inv_shapes.specs.words.Place.Place.{Clock}
-use Rattle.inv_shapes.specs.defs.declared.call.Call.{Call}
+use Rattle.inv_rows.specs.words.declared.layout.Layout.{Layout}
+use Rattle.inv_rows.specs.words.Place.Place.{Clock}
+use Rattle.inv_rows.specs.defs.declared.call.Call.{Call}
 use Rattle.inv_rows.specs.Rows.{Status, View, RowMove, is_settled}
 use Rattle.inv_rows.specs.Rows.Status.{Sealed, Listed}
 use Rattle.inv_rows.specs.Rows.RowMove.{Stays, Claims, Bears, Drops, Links, Replaces, Appends, Pops, Reads, Seals, Lists, Returns, Adopts}
-use Rattle.inv_shapes.specs.words.Schemes.{publishes_rows}
+use Rattle.inv_rows.specs.words.Schemes.{publishes_rows}
 
 -- the retire era of a row, once it is loaded, and 0 before
 abbrev pub retired_at : Status → ℕ

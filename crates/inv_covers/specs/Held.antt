@@ -1,33 +1,33 @@
 -- What guards hold: what stands at an index, and what a try has loaded while its era is still the clock, is covered.
 use Rattle.std.specs.Prelude.{Bool, ℕ, ◌+◌, ◌==◌, true, false, ◌&&◌, Some, ◌≡◌, not, None, ◌≤◌, length, ◌<◌, is_some, nat_le}
-use Rattle.inv_shapes.specs.defs.declared.event.Root.{Root}
+use Rattle.inv_rows.specs.defs.declared.event.Root.{Root}
 use Rattle.inv_rows.specs.Rows.{Status, View, is_settled}
 use Rattle.inv_rows.specs.Queue.{in_queue}
-use Rattle.inv_shapes.specs.defs.declared.event.Root.TheVariants as roots
-use Rattle.inv_shapes.specs.model.Phases.ProtectAt.{AnswerOwn, CheckClock, CheckOwnClock, CheckUpper, LoadAnswer, LoadClock, LoadLink, LoadOwnClock, LoadOwnLink, LoadWithin, PublishEra, PublishHelper, PublishRequest, RaiseUpper, TakeAnswer, WithdrawHelper, WithdrawRequest, ByHazard}
-use Rattle.inv_shapes.specs.model.Phases.HazardAt.{PublishLink, CheckLink}
-use Rattle.inv_shapes.specs.model.declared.post.Post.{Post}
-use Rattle.inv_shapes.specs.model.Phases.{ProtectAt, Base, Follows, Aim, Tries}
-use Rattle.inv_shapes.specs.model.Posts.{upper, stands, tag_of}
-use Rattle.inv_shapes.specs.model.Phases.Base.{Allocate, Begin, Clear, Finish, GiveUp, Move, Protect, Release, Reload, Retire, Write}
+use Rattle.inv_rows.specs.defs.declared.event.Root.TheVariants as roots
+use Rattle.inv_rows.specs.model.Phases.ProtectAt.{AnswerOwn, CheckClock, CheckOwnClock, CheckUpper, LoadAnswer, LoadClock, LoadLink, LoadOwnClock, LoadOwnLink, LoadWithin, PublishEra, PublishHelper, PublishRequest, RaiseUpper, TakeAnswer, WithdrawHelper, WithdrawRequest, ByHazard}
+use Rattle.inv_rows.specs.model.Phases.HazardAt.{PublishLink, CheckLink}
+use Rattle.inv_rows.specs.model.declared.post.Post.{Post}
+use Rattle.inv_rows.specs.model.Phases.{ProtectAt, Base, Follows, Aim, Tries}
+use Rattle.inv_rows.specs.model.Posts.{upper, stands, tag_of}
+use Rattle.inv_rows.specs.model.Phases.Base.{Allocate, Begin, Clear, Finish, GiveUp, Move, Protect, Release, Reload, Retire, Write}
 use Rattle.inv_covers.specs.Covers.{Covers, GuardFits, number_of, number_shown, eras_shown, shown, CoversNeeds, Scanning, takes_or_frees, Widens}
-use Rattle.inv_shapes.specs.defs.declared.event.Guard.{Guard}
-use Rattle.inv_shapes.specs.model.World.{World, step, start, begin, finds}
-use Rattle.inv_shapes.specs.words.Place.Place.{Clock, Index as IndexOf, Row as RowOf, Tail}
-use Rattle.inv_shapes.specs.model.Calls.{Runs, Why, LoadHeld, StoreHeld, Keeping, Works}
-use Rattle.inv_shapes.specs.model.Guards.{own_guard, from_to}
-use Rattle.inv_shapes.specs.model.Links.{parent_of, link_place}
-use Rattle.inv_shapes.specs.defs.declared.event.Guard.TheVariants.{Index, Whole, Helper}
-use Rattle.inv_shapes.specs.Seats.{base_fits}
+use Rattle.inv_rows.specs.defs.declared.event.Guard.{Guard}
+use Rattle.inv_rows.specs.model.World.{World, step, start, begin, finds}
+use Rattle.inv_rows.specs.words.Place.Place.{Clock, Index as IndexOf, Row as RowOf, Tail}
+use Rattle.inv_rows.specs.model.Calls.{Runs, Why, LoadHeld, StoreHeld, Keeping, Works}
+use Rattle.inv_rows.specs.model.Guards.{own_guard, from_to}
+use Rattle.inv_rows.specs.model.Links.{parent_of, link_place}
+use Rattle.inv_rows.specs.defs.declared.event.Guard.TheVariants.{Index, Whole, Helper}
+use Rattle.inv_rows.specs.Shapes.Seats.{base_fits}
 use Rattle.inv_rows.specs.Agree.{Agree, rows_after}
 use Rattle.inv_rows.specs.Rows.Status.{InQueue}
-use Rattle.inv_shapes.specs.words.Schemes.{has_one_interval, helps, publishes_rows}
-use Rattle.inv_shapes.specs.words.declared.layout.Layout.{Layout}
-use Rattle.inv_shapes.specs.defs.declared.call.Call.{Call}
+use Rattle.inv_rows.specs.words.Schemes.{has_one_interval, helps, publishes_rows}
+use Rattle.inv_rows.specs.words.declared.layout.Layout.{Layout}
+use Rattle.inv_rows.specs.defs.declared.call.Call.{Call}
 use Rattle.inv_rows.specs.Hands.{row_move}
-use Rattle.inv_shapes.specs.words.declared.config.Config.{Config}
-use Rattle.inv_shapes.specs.defs.declared.shown.Shown.{Shown}
-use Rattle.inv_shapes.specs.defs.declared.shown.Shown.TheVariants.{Nothing, Eras, Row}
+use Rattle.inv_rows.specs.words.declared.config.Config.{Config}
+use Rattle.inv_rows.specs.defs.declared.shown.Shown.{Shown}
+use Rattle.inv_rows.specs.defs.declared.shown.Shown.TheVariants.{Nothing, Eras, Row}
 
 -- the link leads to the row
 abbrev pub leads : ℕ → ℕ → Bool

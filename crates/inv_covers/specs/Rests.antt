@@ -1,24 +1,24 @@
 -- Where nothing stands, by where a call stands.
 use Rattle.std.specs.Prelude.{ℕ, ◌≡◌, ◌==◌, ◌+◌, ◌&&◌, ◌||◌, nat_lt, not, Bool, true, false, None}
-use Rattle.inv_shapes.specs.model.declared.post.Post.{Post}
-use Rattle.inv_shapes.specs.model.Posts.{stands}
-use Rattle.inv_shapes.specs.model.Rounds.{index_of, scheme_of}
-use Rattle.inv_shapes.specs.model.Calls.{Task, Gets, Changes, Holds, Enqueues, Dequeues, AfterScan, Answered, Repeated, Counted, Why, Opens, FollowsHead, Fills, ClearsNext, Clears, Finishes, GivesUp, Retires, Tidies, Advances, Releases, LetGo, Released, Rehold, Dropped, Parting, DequeueAt, LoadTail, SwingTail, TakeNumber, TakeValue, ExchangeHead, Work, Getting, Changing, Enqueuing, Dequeuing, KeepAt, Loosens, LoadHeld, StoreHeld, Looks, Misses, HideSpan, MarkLeft, TakeList, MarkTaken, Keeping, Phase, Idle, Runs, Scans, Works}
-use Rattle.inv_shapes.specs.model.Phases.Ending.{Done, Protected, Followed, Allocated, Retired, Clocked}
-use Rattle.inv_shapes.specs.model.Phases.{Ending, ProtectAt, Base}
-use Rattle.inv_shapes.specs.model.World.{World, start, begin, step, is_busy}
-use Rattle.inv_shapes.specs.model.Phases.ProtectAt.{WithdrawRequest, WithdrawHelper}
-use Rattle.inv_shapes.specs.model.Phases.Base.{Protect}
-use Rattle.inv_shapes.specs.words.Schemes.{has_one_interval}
-use Rattle.inv_shapes.specs.words.declared.layout.Layout.{Layout}
-use Rattle.inv_shapes.specs.defs.declared.call.Call.{Call}
+use Rattle.inv_rows.specs.model.declared.post.Post.{Post}
+use Rattle.inv_rows.specs.model.Posts.{stands}
+use Rattle.inv_rows.specs.model.Rounds.{index_of, scheme_of}
+use Rattle.inv_rows.specs.model.Calls.{Task, Gets, Changes, Holds, Enqueues, Dequeues, AfterScan, Answered, Repeated, Counted, Why, Opens, FollowsHead, Fills, ClearsNext, Clears, Finishes, GivesUp, Retires, Tidies, Advances, Releases, LetGo, Released, Rehold, Dropped, Parting, DequeueAt, LoadTail, SwingTail, TakeNumber, TakeValue, ExchangeHead, Work, Getting, Changing, Enqueuing, Dequeuing, KeepAt, Loosens, LoadHeld, StoreHeld, Looks, Misses, HideSpan, MarkLeft, TakeList, MarkTaken, Keeping, Phase, Idle, Runs, Scans, Works}
+use Rattle.inv_rows.specs.model.Phases.Ending.{Done, Protected, Followed, Allocated, Retired, Clocked}
+use Rattle.inv_rows.specs.model.Phases.{Ending, ProtectAt, Base}
+use Rattle.inv_rows.specs.model.World.{World, start, begin, step, is_busy}
+use Rattle.inv_rows.specs.model.Phases.ProtectAt.{WithdrawRequest, WithdrawHelper}
+use Rattle.inv_rows.specs.model.Phases.Base.{Protect}
+use Rattle.inv_rows.specs.words.Schemes.{has_one_interval}
+use Rattle.inv_rows.specs.words.declared.layout.Layout.{Layout}
+use Rattle.inv_rows.specs.defs.declared.call.Call.{Call}
 use Rattle.inv_rows.specs.Hands.{runs_right}
-use Rattle.inv_shapes.specs.Seats.{Run}
-use Rattle.inv_shapes.specs.Slots.{KeepIn}
+use Rattle.inv_rows.specs.Shapes.Seats.{Run}
+use Rattle.inv_rows.specs.Shapes.Slots.{KeepIn}
 use Rattle.inv_covers.specs.Held.{rests_base, Held}
 use Rattle.inv_covers.specs.Covers.{eras_shown}
 use Rattle.inv_rows.specs.Rows.{View}
-use Rattle.inv_shapes.specs.defs.declared.event.Guard.TheVariants.{Whole}
+use Rattle.inv_rows.specs.defs.declared.event.Guard.TheVariants.{Whole}
 
 -- between rounds only what is kept stands, at indexes from 2 on
 abbrev pub spare : ℕ → Bool

@@ -1,14 +1,14 @@
 -- What a protection has loaded and not yet concluded, and what stands where.
 use Rattle.std.specs.Prelude.{ℕ, ◌≡◌, Bool, true, false, not, Some}
-use Rattle.inv_shapes.specs.model.declared.post.Post.{Post}
-use Rattle.inv_shapes.specs.model.Posts.{stands}
-use Rattle.inv_shapes.specs.model.Phases.{ProtectAt, MoveAt, Base}
-use Rattle.inv_shapes.specs.model.Phases.ProtectAt.{LoadClock, PublishEra, LoadLink, CheckClock, PublishRequest, LoadOwnClock, PublishHelper, LoadOwnLink, CheckOwnClock, AnswerOwn, LoadAnswer, TakeAnswer, WithdrawRequest, WithdrawHelper, LoadWithin, CheckUpper, RaiseUpper, ByHazard}
-use Rattle.inv_shapes.specs.model.Phases.HazardAt.{FirstLink, PublishLink, CheckLink}
-use Rattle.inv_shapes.specs.model.Phases.MoveAt.{LoadEra, LoadRequest, ShowEra, LoadAsked, CheckEra, AnswerAsked, LoadReserved, HandOver}
-use Rattle.inv_shapes.specs.model.Phases.Base.{Begin, Protect, Reload, Clear, Finish, Release, Allocate, Write, GiveUp, Retire, Move}
-use Rattle.inv_shapes.specs.model.Calls.{LoadHeld, StoreHeld, Work, Keeping, Phase, Idle, Runs, Scans, Works, CallTurn}
-use Rattle.inv_shapes.specs.Frame.{phase_left, stores_held}
+use Rattle.inv_rows.specs.model.declared.post.Post.{Post}
+use Rattle.inv_rows.specs.model.Posts.{stands}
+use Rattle.inv_rows.specs.model.Phases.{ProtectAt, MoveAt, Base}
+use Rattle.inv_rows.specs.model.Phases.ProtectAt.{LoadClock, PublishEra, LoadLink, CheckClock, PublishRequest, LoadOwnClock, PublishHelper, LoadOwnLink, CheckOwnClock, AnswerOwn, LoadAnswer, TakeAnswer, WithdrawRequest, WithdrawHelper, LoadWithin, CheckUpper, RaiseUpper, ByHazard}
+use Rattle.inv_rows.specs.model.Phases.HazardAt.{FirstLink, PublishLink, CheckLink}
+use Rattle.inv_rows.specs.model.Phases.MoveAt.{LoadEra, LoadRequest, ShowEra, LoadAsked, CheckEra, AnswerAsked, LoadReserved, HandOver}
+use Rattle.inv_rows.specs.model.Phases.Base.{Begin, Protect, Reload, Clear, Finish, Release, Allocate, Write, GiveUp, Retire, Move}
+use Rattle.inv_rows.specs.model.Calls.{LoadHeld, StoreHeld, Work, Keeping, Phase, Idle, Runs, Scans, Works, CallTurn}
+use Rattle.inv_rows.specs.Shapes.Frame.{phase_left, stores_held}
 use Rattle.inv_covers.specs.Covers.{is_fresh}
 
 -- no link is loaded yet, or none is kept any more

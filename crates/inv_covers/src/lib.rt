@@ -1,11 +1,18 @@
-//! When a guard covers a row (`Covers.antt`): no step frees it then. It is a part of the invariant. Each function here does
-//! nothing, and carries a theorem.
+//! When a guard covers a row (`Covers.antt`); requests, and movers that help (`Requests/Parts.antt`). It is a part of the
+//! invariant. Each function here does nothing, and carries a theorem.
 #![tactic(auto)]
+
+mod movers;
 
 ghost use Rattle.inv_covers.specs.Covers.{CoversKept, NotReused, ScansBegin, ScansKept, ScansStart};
 ghost use Rattle.inv_covers.specs.Held.{GuardsFit, HandedCovers, HandedKept, HeldBegin, HeldKept, HeldStart, HelpersFirst, HelpersFit, LoadsCover, StandingStays};
 ghost use Rattle.inv_covers.specs.Parents.{ParentsBegin, ParentsGive, ParentsKept, ParentsStart};
 ghost use Rattle.inv_covers.specs.Rests.{RestsBegin, RestsGive, RestsKept, RestsStart, SpansRest};
+
+pub use movers::{
+    copied_words_stay, moves_end_in_time, parents_stand, pending_requests_hold_the_clock,
+    protections_end_in_time, published_links_stay, requests_hold, requests_tell,
+};
 
 /// A row that a guard covers stays covered by it over each step of any seat that does not take from
 /// what the guard publishes: the row's life meets the guard's interval, and each scan that has the

@@ -12,11 +12,11 @@ use Rattle.inv_covers.specs.shapes.Eras.{Eras}
 use Rattle.inv_covers.specs.words.Schemes.{helps}
 use Rattle.inv_covers.specs.shapes.Seats.{Seats}
 use Rattle.inv_covers.specs.shapes.Slots.{Slots}
-use Rattle.inv_requests.specs.NextDeals.{next_deals}
-use Rattle.inv_requests.specs.Parents.{Parents}
-use Rattle.inv_requests.specs.Standing.{Requests}
-use Rattle.inv_requests.specs.Views.{Deal, View as Asked}
-use Rattle.inv_requests.specs.Views.Deal.{Quiet}
+use Rattle.inv_covers.specs.Requests.NextDeals.{next_deals}
+use Rattle.inv_covers.specs.Requests.Parents.{Parents}
+use Rattle.inv_covers.specs.Requests.Standing.{Requests}
+use Rattle.inv_covers.specs.Requests.Views.{Deal, View as Asked}
+use Rattle.inv_covers.specs.Requests.Views.Deal.{Quiet}
 use Rattle.inv_covers.specs.rows.Agree.{rows_after}
 use Rattle.inv_covers.specs.rows.Hands.{row_move}
 use Rattle.inv_covers.specs.rows.Rows.{View}

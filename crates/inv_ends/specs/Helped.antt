@@ -11,8 +11,8 @@ use Rattle.inv_covers.specs.model.Phases.MoveAt.{LoadEra, LoadRequest, ShowEra, 
 use Rattle.inv_covers.specs.model.Phases.Base.{Begin, Protect, Reload, Clear, Finish, Release, Allocate, Write, GiveUp, Retire, Move}
 use Rattle.inv_covers.specs.model.Calls.{Why, Runs}
 use Rattle.inv_covers.specs.model.World.{World}
-use Rattle.inv_requests.specs.Views.{Deal}
-use Rattle.inv_requests.specs.Views.Deal.{Quiet, Open, Answered, Passed, Taken}
+use Rattle.inv_covers.specs.Requests.Views.{Deal}
+use Rattle.inv_covers.specs.Requests.Views.Deal.{Quiet, Open, Answered, Passed, Taken}
 use Rattle.inv_covers.specs.rows.Rows.{Status, View}
 use Rattle.inv_covers.specs.Held.{leads, under, Holds}
 

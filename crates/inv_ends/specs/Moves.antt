@@ -14,11 +14,11 @@ use Rattle.inv_covers.specs.model.Phases.Base.{Move}
 use Rattle.inv_covers.specs.model.Calls.{Why, Phase, Runs}
 use Rattle.inv_covers.specs.model.World.{World, start, step, begin, finds}
 use Rattle.inv_covers.specs.shapes.Seats.{Seats}
-use Rattle.inv_requests.specs.Needs.{Needs}
-use Rattle.inv_requests.specs.NextDeals.{next_deals}
-use Rattle.inv_requests.specs.Standing.{Requests}
-use Rattle.inv_requests.specs.Views.{View, Deal}
-use Rattle.inv_requests.specs.Views.Deal.{Quiet, Open, Answered, Passed, Taken}
+use Rattle.inv_covers.specs.Requests.Needs.{Needs}
+use Rattle.inv_covers.specs.Requests.NextDeals.{next_deals}
+use Rattle.inv_covers.specs.Requests.Standing.{Requests}
+use Rattle.inv_covers.specs.Requests.Views.{View, Deal}
+use Rattle.inv_covers.specs.Requests.Views.Deal.{Quiet, Open, Answered, Passed, Taken}
 
 -- the request of this tag and index is pending
 abbrev pub open_at : ℕ → ℕ → Deal → Bool

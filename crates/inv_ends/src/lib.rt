@@ -1,7 +1,10 @@
-//! What steps tell of rows (`Told.antt`), and how machines end. And the covers of rows in the slow path of Wait-Free Eras, from
-//! the word of a helper to the word of the seat that asked (`Helped.antt`). Each function here does nothing, and carries a
-//! theorem.
+//! What steps tell of rows (`Told.antt`), how machines end, whence links come, steps left (`Falls.antt`). And the covers of
+//! rows in the slow path of Wait-Free Eras, from the word of a helper to the word of the seat that asked (`Helped.antt`). Each
+//! function here does nothing, and carries a theorem.
 #![tactic(auto)]
+
+mod falls;
+mod tracked;
 
 ghost use Rattle.inv_ends.specs.Births.{GivenBegin, GivenKept, GivenStart, RetiresGiven};
 ghost use Rattle.inv_ends.specs.Lists.{AdoptsAlone, AdoptsTold, LeftTold, ListsTold, MarkedTold, NoneTaken};
@@ -11,6 +14,11 @@ ghost use Rattle.inv_ends.specs.Standing.{ClearStood, CopiedCovered, CopiedStand
 ghost use Rattle.inv_ends.specs.Told.{NoReuse, RowsTold, RowsWere};
 ghost use Rattle.inv_ends.specs.Walks.{FullSeen, SeenTaken, WalkingBegin, WalkingKept, WalkingStart};
 ghost use Rattle.inv_ends.specs.Handover.{AnsweredRowsStay, FollowedRowsStand, HandoverBegin, HandoverKept, HandoverStart};
+
+pub use falls::{rest_falls, rest_is_small, rest_stays, rounds_are_few};
+pub use tracked::{
+    ends_are_tracked, held_links_stay, links_give, links_hold, origins_hold, tracked_links_came,
+};
 
 /// What a step tells of rows is its move of rows: which row is given, unused, retired or back. A row
 /// that is given was free, and one that is unused or back was the seat's own. A row is retired with

@@ -1,4 +1,5 @@
 pub use Rattle.wfe_core.proofs as model
+pub use Rattle.wfe_core.proofs.words
 pub mod Facts
 pub mod Fits
 pub mod Follow
@@ -14,6 +15,7 @@ pub mod Queued
 pub mod Quiet
 pub mod Rounds
 pub mod Runs
+pub mod Shapes
 pub mod Steps
 pub mod Tries
 pub mod Turns

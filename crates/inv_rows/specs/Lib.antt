@@ -8,4 +8,5 @@ pub mod Follow
 pub mod Hands
 pub mod Queue
 pub mod Rows
+pub mod Shapes
 pub mod Tries

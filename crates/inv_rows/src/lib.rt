@@ -1,11 +1,18 @@
-//! Which rows are free, claimed, linked, cut, retired, by whom (`Rows.antt`). It is a part of the invariant. Each function here
-//! does nothing, and carries a theorem.
+//! Each seat's shape (`Shapes/Seats.antt`); which rows are free, claimed, linked, cut, by whom (`Rows.antt`). It is a part of
+//! the invariant. Each function here does nothing, and carries a theorem.
 #![tactic(auto)]
+
+mod seats;
 
 ghost use Rattle.inv_rows.specs.Agree.{RowsBegin, RowsKept, RowsStart};
 ghost use Rattle.inv_rows.specs.Chain.{QueueBegin, QueueKept, QueueStart};
 ghost use Rattle.inv_rows.specs.Facts.{LinedStays, QueueEnds, QueueShows, RowWordsStay, RowsShow};
 ghost use Rattle.inv_rows.specs.Tries.{WholeBegin, WholeKept, WholeStart};
+
+pub use seats::{
+    few_go_back, links_stay_within, phases_give, seats_keep_their_shape, steps_are_ready,
+    words_decode,
+};
 
 /// At the start of a table with a valid setting every row is free but the dummy, which is the
 /// queue's head.

@@ -2,46 +2,46 @@
 use Rattle.std.proofs.Common.{ℕ, ◌≡◌, ◌<◌, ◌+◌, ◌-◌, Bool, true, false, List, [], ◌∷◌, ◌++◌, Option, Some, None, refl, sym, ap, ◌∙◌, subst, arith}
 use Rattle.std.proofs.lemmas.Bool.Decides.{nat_tests}
 use Rattle.std.specs.Prelude.{◌&&◌, ◌==◌, ◌||◌, drop, if◌then◌else◌, not}
-use Rattle.law_steps.proofs.inv.model.Facts.{both, first_of, rest_of, same_number}
-use Rattle.law_steps.specs.inv.model.Calls.{Gets, Changes, Holds, Enqueues, Dequeues, Why, Opens, FollowsHead, Keeping, Loosens, LoadHeld, StoreHeld, Looks, Misses, HideSpan, MarkLeft, TakeList, MarkTaken, Getting, Changing, Enqueuing, Dequeuing, ReadGuard, GiveBack, Work, Phase, Idle, Runs, Scans, Works, CallTurn, CallOutcome, GoesOn, Answers}
-use Rattle.law_steps.specs.inv.model.Guards.{guard_at}
-use Rattle.law_steps.specs.inv.model.Locals.{told_end, turn}
-use Rattle.law_steps.specs.inv.model.Machine as machine
-use Rattle.law_steps.specs.inv.model.Memory.{bump}
-use Rattle.law_steps.specs.inv.model.Phases.{Aim, ProtectAt, Base, Turn}
-use Rattle.law_steps.specs.inv.model.Phases.Base.{Protect, Reload}
-use Rattle.law_steps.specs.inv.model.Phases.HazardAt.{CheckLink, FirstLink, PublishLink}
-use Rattle.law_steps.specs.inv.model.Phases.ProtectAt.{ByHazard, CheckClock, TakeAnswer, CheckUpper}
-use Rattle.law_steps.specs.inv.model.Rounds.{let_index, scheme_of}
-use Rattle.law_steps.specs.inv.model.words.Schemes.{has_one_interval, publishes_rows}
-use Rattle.law_steps.specs.inv.model.defs.declared.fold.Change.TheVariants as changes
-use Rattle.law_steps.specs.inv.model.defs.declared.fold.Change.{Change}
-use Rattle.law_steps.specs.inv.model.Posts.{cleared, cleared_from, counted, publishes_index, reserves_span, stands, upper}
-use Rattle.law_steps.specs.inv.model.Protect as protects
-use Rattle.law_steps.specs.inv.model.World.{World, finds, offered, told_in}
-use Rattle.law_steps.specs.inv.model.declared.post.Post.{Post}
-use Rattle.law_steps.specs.inv.model.defs.declared.call.Call.TheVariants as calls
-use Rattle.law_steps.specs.inv.model.defs.declared.call.Call.{Call}
-use Rattle.law_steps.specs.inv.model.defs.declared.event.Event.TheVariants as events
-use Rattle.law_steps.specs.inv.model.defs.declared.event.Event.{Event}
-use Rattle.law_steps.specs.inv.model.defs.declared.event.Root.TheVariants as roots
-use Rattle.law_steps.specs.inv.model.defs.declared.event.Root.{Root}
-use Rattle.law_steps.specs.inv.model.words.declared.layout.Layout.{Layout}
-use Rattle.law_steps.specs.laws.StateAt.{RowShows, began_of, bucket_of, shows_of}
-use Rattle.law_steps.specs.inv.Inv.{Inv}
-use Rattle.law_steps.specs.inv.requests.Parents.{rises_at}
-use Rattle.law_steps.specs.inv.shapes.Seats.{kind_of, suits}
-use Rattle.law_steps.specs.inv.history.Record.Past.{Then}
-use Rattle.law_steps.specs.inv.history.Record.{Each, Past, tells_of}
-use Rattle.law_steps.proofs.inv.Inv.Whole.{contents_need}
-use Rattle.law_steps.proofs.inv.contents.Contents.Keeps.{rises_counted}
-use Rattle.law_eras.proofs.inv.ends.Handover.Asks.{run_of}
-use Rattle.law_steps.proofs.inv.history.AllOf.{all_of, of_along, of_weaker}
-use Rattle.law_steps.proofs.inv.history.MayTell as mays
-use Rattle.law_steps.proofs.inv.history.MayTell.{concluded_told, is_find, no_find, clear_any}
-use Rattle.law_steps.proofs.inv.history.Passes.{Closed, First, is_quiet, step_goes, work_told, copied_told}
-use Rattle.law_eras.proofs.reuse.AnswersTold.Owed.{Serves, WhyServes, call_for}
-use Rattle.law_eras.proofs.reuse.ReadGuards.{reads_are}
+use Rattle.law_held.proofs.inv.model.Facts.{both, first_of, rest_of, same_number}
+use Rattle.law_held.specs.inv.model.Calls.{Gets, Changes, Holds, Enqueues, Dequeues, Why, Opens, FollowsHead, Keeping, Loosens, LoadHeld, StoreHeld, Looks, Misses, HideSpan, MarkLeft, TakeList, MarkTaken, Getting, Changing, Enqueuing, Dequeuing, ReadGuard, GiveBack, Work, Phase, Idle, Runs, Scans, Works, CallTurn, CallOutcome, GoesOn, Answers}
+use Rattle.law_held.specs.inv.model.Guards.{guard_at}
+use Rattle.law_held.specs.inv.model.Locals.{told_end, turn}
+use Rattle.law_held.specs.inv.model.Machine as machine
+use Rattle.law_held.specs.inv.model.Memory.{bump}
+use Rattle.law_held.specs.inv.model.Phases.{Aim, ProtectAt, Base, Turn}
+use Rattle.law_held.specs.inv.model.Phases.Base.{Protect, Reload}
+use Rattle.law_held.specs.inv.model.Phases.HazardAt.{CheckLink, FirstLink, PublishLink}
+use Rattle.law_held.specs.inv.model.Phases.ProtectAt.{ByHazard, CheckClock, TakeAnswer, CheckUpper}
+use Rattle.law_held.specs.inv.model.Rounds.{let_index, scheme_of}
+use Rattle.law_held.specs.inv.model.words.Schemes.{has_one_interval, publishes_rows}
+use Rattle.law_held.specs.inv.model.defs.declared.fold.Change.TheVariants as changes
+use Rattle.law_held.specs.inv.model.defs.declared.fold.Change.{Change}
+use Rattle.law_held.specs.inv.model.Posts.{cleared, cleared_from, counted, publishes_index, reserves_span, stands, upper}
+use Rattle.law_held.specs.inv.model.Protect as protects
+use Rattle.law_held.specs.inv.model.World.{World, finds, offered, told_in}
+use Rattle.law_held.specs.inv.model.declared.post.Post.{Post}
+use Rattle.law_held.specs.inv.model.defs.declared.call.Call.TheVariants as calls
+use Rattle.law_held.specs.inv.model.defs.declared.call.Call.{Call}
+use Rattle.law_held.specs.inv.model.defs.declared.event.Event.TheVariants as events
+use Rattle.law_held.specs.inv.model.defs.declared.event.Event.{Event}
+use Rattle.law_held.specs.inv.model.defs.declared.event.Root.TheVariants as roots
+use Rattle.law_held.specs.inv.model.defs.declared.event.Root.{Root}
+use Rattle.law_held.specs.inv.model.words.declared.layout.Layout.{Layout}
+use Rattle.law_held.specs.laws.StateAt.{RowShows, began_of, bucket_of, shows_of}
+use Rattle.law_held.specs.inv.Inv.{Inv}
+use Rattle.law_held.specs.inv.requests.Parents.{rises_at}
+use Rattle.law_held.specs.inv.shapes.Seats.{kind_of, suits}
+use Rattle.law_held.specs.inv.history.Record.Past.{Then}
+use Rattle.law_held.specs.inv.history.Record.{Each, Past, tells_of}
+use Rattle.law_held.proofs.inv.Inv.Whole.{contents_need}
+use Rattle.law_held.proofs.inv.contents.Contents.Keeps.{rises_counted}
+use Rattle.law_reasons.proofs.inv.ends.Handover.Asks.{run_of}
+use Rattle.law_held.proofs.inv.history.AllOf.{all_of, of_along, of_weaker}
+use Rattle.law_held.proofs.inv.history.MayTell as mays
+use Rattle.law_held.proofs.inv.history.MayTell.{concluded_told, is_find, no_find, clear_any}
+use Rattle.law_held.proofs.inv.history.Passes.{Closed, First, is_quiet, step_goes, work_told, copied_told}
+use Rattle.law_reasons.proofs.reuse.AnswersTold.Owed.{Serves, WhyServes, call_for}
+use Rattle.law_reasons.proofs.reuse.ReadGuards.{reads_are}
 use Rattle.law_held.proofs.scans.Placing.Marks.{InOrder, is_common, ordered, step_order}
 use Rattle.law_reasons.proofs.Reasons.Shows.{Shows}
 use Rattle.law_logs.specs.Shown.{shows_bucket, shows_for, shows_ok}

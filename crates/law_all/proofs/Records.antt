@@ -1,37 +1,37 @@
 -- What the logs of each history say of its record.
 use Rattle.std.proofs.Common.{ℕ, ◌≡◌, ◌≤◌, ◌-◌, true, List, [], ◌∷◌, ◌++◌, Option, Some, sym, ap, ◌∙◌, subst, arith}
-use Rattle.law_steps.specs.inv.model.Desks.{Notes, noted}
-use Rattle.law_steps.specs.inv.model.Locals.{Group}
-use Rattle.law_steps.specs.inv.model.defs.declared.call.Call.{Call}
-use Rattle.law_steps.specs.inv.model.defs.Pairs.{Pair, value_after, value_in}
-use Rattle.law_steps.specs.inv.model.defs.declared.call.Answer.TheVariants as answers
-use Rattle.law_steps.specs.inv.model.defs.declared.call.Call.TheVariants as calls
-use Rattle.law_steps.specs.inv.model.defs.declared.event.Event.{Event}
-use Rattle.law_steps.specs.inv.model.defs.declared.fold.Change.{Change}
-use Rattle.law_steps.specs.inv.model.defs.declared.fold.Change.TheVariants as changes
-use Rattle.law_steps.proofs.laws.records.defs.Values.{value_in-changed}
-use Rattle.law_steps.specs.inv.model.defs.declared.event.Event.TheVariants as events
-use Rattle.law_steps.specs.inv.model.words.Place.{is_valid}
-use Rattle.law_steps.specs.inv.model.words.declared.config.Config.{Config}
-use Rattle.law_steps.specs.inv.model.words.declared.layout.Layout.{Layout}
-use Rattle.law_steps.specs.laws.HistoryAnswers.{full_ok}
-use Rattle.law_steps.specs.laws.HistoryHolds.{sources_ok}
-use Rattle.law_steps.specs.laws.Once.{lists_ok, order_ok}
-use Rattle.law_steps.specs.laws.StateAt.{began_of, bucket_of, count_of, pairs_at, value_at}
+use Rattle.law_held.specs.inv.model.Desks.{Notes, noted}
+use Rattle.law_held.specs.inv.model.Locals.{Group}
+use Rattle.law_held.specs.inv.model.defs.declared.call.Call.{Call}
+use Rattle.law_held.specs.inv.model.defs.Pairs.{Pair, value_after, value_in}
+use Rattle.law_held.specs.inv.model.defs.declared.call.Answer.TheVariants as answers
+use Rattle.law_held.specs.inv.model.defs.declared.call.Call.TheVariants as calls
+use Rattle.law_held.specs.inv.model.defs.declared.event.Event.{Event}
+use Rattle.law_held.specs.inv.model.defs.declared.fold.Change.{Change}
+use Rattle.law_held.specs.inv.model.defs.declared.fold.Change.TheVariants as changes
+use Rattle.law_held.proofs.laws.records.defs.Values.{value_in-changed}
+use Rattle.law_held.specs.inv.model.defs.declared.event.Event.TheVariants as events
+use Rattle.law_held.specs.inv.model.words.Place.{is_valid}
+use Rattle.law_held.specs.inv.model.words.declared.config.Config.{Config}
+use Rattle.law_held.specs.inv.model.words.declared.layout.Layout.{Layout}
+use Rattle.law_held.specs.laws.HistoryAnswers.{full_ok}
+use Rattle.law_held.specs.laws.HistoryHolds.{sources_ok}
+use Rattle.law_held.specs.laws.Once.{lists_ok, order_ok}
+use Rattle.law_held.specs.laws.StateAt.{began_of, bucket_of, count_of, pairs_at, value_at}
 use Rattle.law_logs.proofs.letter.Clocks.{full_kept}
 use Rattle.law_reasons.proofs.Full.Keeps.{records_keep_full}
 use Rattle.law_reasons.proofs.Reasons.Keeps.{records_keep_reasons}
 use Rattle.law_held.proofs.Roots.Sources.{records_find_sources}
 use Rattle.law_held.proofs.scans.Ordering.Ordered.{records_keep_order}
-use Rattle.law_eras.proofs.reuse.AnswersTold.Answering.{records_keep_answers}
-use Rattle.law_eras.proofs.reuse.Lawful.Maps.{records_keep_map}
-use Rattle.law_eras.proofs.reuse.Lawful.Queues.{records_keep_queue}
-use Rattle.law_eras.proofs.reuse.OpenCalls.{records_open_calls}
-use Rattle.law_eras.proofs.reuse.Once.Handed.{records_keep_lists}
-use Rattle.law_steps.proofs.inv.history.Entries.{each_of_entries}
-use Rattle.law_steps.specs.inv.history.History.{Item, record_of, world_of}
-use Rattle.law_steps.specs.inv.history.Record.{Past, tells}
-use Rattle.law_steps.specs.inv.history.Record.Past.{Then}
+use Rattle.law_reasons.proofs.reuse.AnswersTold.Answering.{records_keep_answers}
+use Rattle.law_reasons.proofs.reuse.Lawful.Maps.{records_keep_map}
+use Rattle.law_reasons.proofs.reuse.Lawful.Queues.{records_keep_queue}
+use Rattle.law_reasons.proofs.reuse.OpenCalls.{records_open_calls}
+use Rattle.law_reasons.proofs.reuse.Once.Handed.{records_keep_lists}
+use Rattle.law_held.proofs.inv.history.Entries.{each_of_entries}
+use Rattle.law_held.specs.inv.history.History.{Item, record_of, world_of}
+use Rattle.law_held.specs.inv.history.Record.{Past, tells}
+use Rattle.law_held.specs.inv.history.Record.Past.{Then}
 use Rattle.law_logs.specs.Answered.{IsDone, IsGot, Says, SaysOfRows}
 use Rattle.law_logs.specs.Ledgers.{log_of, notes_of}
 use Rattle.law_logs.specs.Records.{IsAnswered, IsEnded}

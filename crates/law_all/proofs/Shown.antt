@@ -1,43 +1,43 @@
 -- What rows that are kept show of buckets, in each history.
 use Rattle.std.proofs.Common.{ℕ, ◌≡◌, ◌<◌, ◌++◌, Bool, true, false, List, [], ◌∷◌, Option, Some, None, refl, sym, ap, ◌∙◌, subst}
 use Rattle.std.specs.Prelude.{◌==◌, ◌&&◌, is_none, nat_lt}
-use Rattle.law_steps.proofs.inv.model.Facts.{and_false, first_of, not_of_false, number_is, rest_of}
-use Rattle.law_steps.specs.inv.model.Calls.{CallTurn, CallOutcome, GoesOn, Answers}
-use Rattle.law_steps.specs.inv.model.Desks.{Desk, noting}
-use Rattle.law_steps.specs.inv.model.Locals.{Local, begun, begun_post, rounds_told, settled_by, told_by, told_end, turn}
-use Rattle.law_steps.specs.inv.model.Posts.{counted, stands}
-use Rattle.law_steps.specs.inv.model.Rounds.{scheme_of}
-use Rattle.law_steps.specs.inv.model.words.Schemes.{publishes_rows}
-use Rattle.law_steps.specs.inv.model.World.{World, begin, finds, is_busy, offered, step, told_in}
-use Rattle.law_steps.specs.inv.model.declared.post.Post.{Post}
-use Rattle.law_steps.specs.inv.model.defs.declared.call.Answer.TheVariants as the_answers
-use Rattle.law_steps.specs.inv.model.defs.declared.call.Answer.{Answer}
-use Rattle.law_steps.specs.inv.model.defs.declared.call.Call.TheVariants as calls
-use Rattle.law_steps.specs.inv.model.defs.declared.call.Call.{Call}
-use Rattle.law_steps.specs.inv.model.defs.declared.event.Event.TheVariants as events
-use Rattle.law_steps.specs.inv.model.defs.declared.event.Event.{Event}
-use Rattle.law_steps.specs.inv.model.words.Place.{is_valid}
-use Rattle.law_steps.specs.inv.model.words.declared.layout.Layout.{Layout}
-use Rattle.law_steps.proofs.laws.Tells.{tells_both}
-use Rattle.law_steps.specs.laws.StateAt.{began_of, is_row, stood_at}
-use Rattle.law_steps.specs.inv.Inv.{Inv}
-use Rattle.law_steps.specs.inv.history.History.{Begins, Item, Made, Steps, done, done_if, first_made, fits, made_of, record_of, world_of}
-use Rattle.law_steps.specs.inv.history.Record.Past.{Then}
-use Rattle.law_steps.specs.inv.history.Record.{Each, Past, tells_of}
-use Rattle.law_steps.specs.inv.shapes.Frame.{phase_left}
-use Rattle.law_steps.proofs.inv.Inv.Reached.{inv_reached}
-use Rattle.law_steps.proofs.inv.Inv.Tells.{inv_tells}
-use Rattle.law_steps.proofs.inv.Machines.{is_within, within_of}
-use Rattle.law_steps.proofs.inv.covers.Held.{stepped_post}
-use Rattle.law_eras.proofs.inv.ends.Handover.Asks.{run_of}
-use Rattle.law_steps.proofs.inv.history.Along.{low_seat, made_snoc, paths_keep}
-use Rattle.law_steps.proofs.inv.history.AllOf.{all_of}
-use Rattle.law_steps.proofs.inv.shapes.Frame.{begin_begins, begin_stays, seat_stays, seat_steps}
+use Rattle.law_held.proofs.inv.model.Facts.{and_false, first_of, not_of_false, number_is, rest_of}
+use Rattle.law_held.specs.inv.model.Calls.{CallTurn, CallOutcome, GoesOn, Answers}
+use Rattle.law_held.specs.inv.model.Desks.{Desk, noting}
+use Rattle.law_held.specs.inv.model.Locals.{Local, begun, begun_post, rounds_told, settled_by, told_by, told_end, turn}
+use Rattle.law_held.specs.inv.model.Posts.{counted, stands}
+use Rattle.law_held.specs.inv.model.Rounds.{scheme_of}
+use Rattle.law_held.specs.inv.model.words.Schemes.{publishes_rows}
+use Rattle.law_held.specs.inv.model.World.{World, begin, finds, is_busy, offered, step, told_in}
+use Rattle.law_held.specs.inv.model.declared.post.Post.{Post}
+use Rattle.law_held.specs.inv.model.defs.declared.call.Answer.TheVariants as the_answers
+use Rattle.law_held.specs.inv.model.defs.declared.call.Answer.{Answer}
+use Rattle.law_held.specs.inv.model.defs.declared.call.Call.TheVariants as calls
+use Rattle.law_held.specs.inv.model.defs.declared.call.Call.{Call}
+use Rattle.law_held.specs.inv.model.defs.declared.event.Event.TheVariants as events
+use Rattle.law_held.specs.inv.model.defs.declared.event.Event.{Event}
+use Rattle.law_held.specs.inv.model.words.Place.{is_valid}
+use Rattle.law_held.specs.inv.model.words.declared.layout.Layout.{Layout}
+use Rattle.law_held.proofs.laws.Tells.{tells_both}
+use Rattle.law_held.specs.laws.StateAt.{began_of, is_row, stood_at}
+use Rattle.law_held.specs.inv.Inv.{Inv}
+use Rattle.law_held.specs.inv.history.History.{Begins, Item, Made, Steps, done, done_if, first_made, fits, made_of, record_of, world_of}
+use Rattle.law_held.specs.inv.history.Record.Past.{Then}
+use Rattle.law_held.specs.inv.history.Record.{Each, Past, tells_of}
+use Rattle.law_held.specs.inv.shapes.Frame.{phase_left}
+use Rattle.law_held.proofs.inv.Inv.Reached.{inv_reached}
+use Rattle.law_held.proofs.inv.Inv.Tells.{inv_tells}
+use Rattle.law_held.proofs.inv.Machines.{is_within, within_of}
+use Rattle.law_held.proofs.inv.covers.Held.{stepped_post}
+use Rattle.law_reasons.proofs.inv.ends.Handover.Asks.{run_of}
+use Rattle.law_held.proofs.inv.history.Along.{low_seat, made_snoc, paths_keep}
+use Rattle.law_held.proofs.inv.history.AllOf.{all_of}
+use Rattle.law_held.proofs.reuse.shapes.Frame.{begin_begins, begin_stays, seat_stays, seat_steps}
 use Rattle.law_held.proofs.Roots.Ways.{answers_of}
-use Rattle.law_eras.proofs.reuse.BareEnds.{end_stood}
-use Rattle.law_eras.proofs.reuse.AnswersTold.Answering.{began_along, first_all, owes_of}
-use Rattle.law_eras.proofs.reuse.AnswersTold.Owed.{Owes, is_open, owed}
-use Rattle.law_eras.proofs.reuse.Reuse.Keeps.{record_stands}
+use Rattle.law_reasons.proofs.reuse.BareEnds.{end_stood}
+use Rattle.law_reasons.proofs.reuse.AnswersTold.Answering.{began_along, first_all, owes_of}
+use Rattle.law_reasons.proofs.reuse.AnswersTold.Owed.{Owes, is_open, owed}
+use Rattle.law_reasons.proofs.reuse.Reuse.Keeps.{record_stands}
 use Rattle.law_reasons.proofs.Reasons.Shows.{Shows, begin_shows, first_book_shows, step_shows}
 use Rattle.law_all.proofs.HeldRows.{held_step}
 use Rattle.law_logs.proofs.HoldPhases.{Missed, hold_begins, hold_goes, hold_phase, phase_missed}

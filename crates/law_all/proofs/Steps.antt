@@ -2,38 +2,38 @@
 -- back.
 use Rattle.std.proofs.Common.{ℕ, ◌≡◌, Bool, true, false, List, [], ◌∷◌, length, Option, Some, refl, sym, ap, ◌∙◌, subst, length-append}
 use Rattle.std.specs.Prelude.{◌==◌, if◌then◌else◌}
-use Rattle.law_steps.proofs.inv.model.Facts.{number_is, rest_of}
-use Rattle.law_steps.specs.inv.model.Desks.{Notes}
-use Rattle.law_steps.specs.inv.model.Locals.{Group}
-use Rattle.law_steps.specs.inv.model.defs.declared.call.Answer.{Answer}
-use Rattle.law_steps.specs.inv.model.defs.declared.call.Answer.TheVariants as answers
-use Rattle.law_steps.specs.inv.model.defs.declared.call.Call.{Call}
-use Rattle.law_steps.specs.inv.model.defs.declared.call.Call.TheVariants as calls
-use Rattle.law_steps.specs.inv.model.defs.declared.event.Event.{Event}
-use Rattle.law_steps.specs.inv.model.defs.declared.event.Event.TheVariants as events
-use Rattle.law_steps.specs.inv.model.words.declared.config.Config.{Config}
-use Rattle.law_steps.specs.laws.AnswerLaw as letter
-use Rattle.law_steps.specs.laws.HistoryAnswers as reasons
-use Rattle.law_steps.specs.laws.HistoryHolds.{clears_ok, lone_ok}
-use Rattle.law_steps.specs.laws.HistoryScans.{count_ok}
-use Rattle.law_steps.specs.laws.HistorySteps as strong
-use Rattle.law_steps.specs.laws.Standing.{open_ok}
-use Rattle.law_steps.specs.laws.Lists.{list_of}
-use Rattle.law_steps.specs.laws.StateAt.{backs_by, backs_of, began_of, is_back, seen, times}
-use Rattle.law_steps.specs.laws.StepLaw.{began_steps, end_ok, steps_right}
+use Rattle.law_held.proofs.inv.model.Facts.{number_is, rest_of}
+use Rattle.law_held.specs.inv.model.Desks.{Notes}
+use Rattle.law_held.specs.inv.model.Locals.{Group}
+use Rattle.law_held.specs.inv.model.defs.declared.call.Answer.{Answer}
+use Rattle.law_held.specs.inv.model.defs.declared.call.Answer.TheVariants as answers
+use Rattle.law_held.specs.inv.model.defs.declared.call.Call.{Call}
+use Rattle.law_held.specs.inv.model.defs.declared.call.Call.TheVariants as calls
+use Rattle.law_held.specs.inv.model.defs.declared.event.Event.{Event}
+use Rattle.law_held.specs.inv.model.defs.declared.event.Event.TheVariants as events
+use Rattle.law_held.specs.inv.model.words.declared.config.Config.{Config}
+use Rattle.law_held.specs.laws.AnswerLaw as letter
+use Rattle.law_held.specs.laws.HistoryAnswers as reasons
+use Rattle.law_held.specs.laws.HistoryHolds.{clears_ok, lone_ok}
+use Rattle.law_held.specs.laws.HistoryScans.{count_ok}
+use Rattle.law_held.specs.laws.HistorySteps as strong
+use Rattle.law_held.specs.laws.Standing.{open_ok}
+use Rattle.law_held.specs.laws.Lists.{list_of}
+use Rattle.law_held.specs.laws.StateAt.{backs_by, backs_of, began_of, is_back, seen, times}
+use Rattle.law_held.specs.laws.StepLaw.{began_steps, end_ok, steps_right}
 use Rattle.law_logs.proofs.letter.Answers.{reasons_kept}
 use Rattle.law_logs.proofs.letter.Each.{counted_by, times_seen}
 use Rattle.law_logs.proofs.letter.Steps.{ends_kept}
 use Rattle.law_held.proofs.Indexes.Alone.{records_hold_alone}
 use Rattle.law_held.proofs.Indexes.Clears.{records_clear_rows}
-use Rattle.law_eras.proofs.reuse.OpenCalls.{records_open_calls}
-use Rattle.law_eras.proofs.reuse.Blocks.Counts.{records_count_scans}
+use Rattle.law_reasons.proofs.reuse.OpenCalls.{records_open_calls}
+use Rattle.law_reasons.proofs.reuse.Blocks.Counts.{records_count_scans}
 use Rattle.law_reasons.proofs.Reasons.Keeps.{records_keep_reasons}
-use Rattle.law_steps.proofs.CallCounts.Ends.{records_keep_ends}
-use Rattle.law_steps.proofs.inv.history.Entries.{each_of_entries, entries_of_each}
-use Rattle.law_steps.specs.inv.history.History.{record_of}
-use Rattle.law_steps.specs.inv.history.Record.{EachEntry, Past}
-use Rattle.law_steps.specs.inv.history.Record.Past.{Start, Then}
+use Rattle.law_held.proofs.Steps.CallCounts.Ends.{records_keep_ends}
+use Rattle.law_held.proofs.inv.history.Entries.{each_of_entries, entries_of_each}
+use Rattle.law_held.specs.inv.history.History.{record_of}
+use Rattle.law_held.specs.inv.history.Record.{EachEntry, Past}
+use Rattle.law_held.specs.inv.history.Record.Past.{Start, Then}
 use Rattle.law_logs.specs.Ledgers.{Ledger, ledger_by, ledger_of, notes_of}
 use Rattle.law_logs.specs.Records.{IsEnded}
 use Rattle.law_logs.proofs.Cuts.{logs_are_cut}

@@ -2,33 +2,33 @@
 use Rattle.std.proofs.Common.{ℕ, ◌≡◌, ◌<◌, arith, Bool, true, false, Option, Some, None, refl, ap, ◌∙◌, subst}
 use Rattle.std.proofs.lemmas.Bool.Decides.{nat_tests}
 use Rattle.std.specs.Prelude.{◌==◌, ◌&&◌, ◌||◌, is_some, nat_lt, if◌then◌else◌}
-use Rattle.law_eras.specs.laws.words.Schemes.{is_he, is_wfe}
-use Rattle.law_eras.specs.laws.words.declared.config.Config.{Config}
-use Rattle.law_eras.specs.laws.words.declared.config.SchemeKind.{SchemeKind}
-use Rattle.law_eras.specs.laws.words.declared.config.SchemeKind.TheVariants.{He, Hp, Ibr, Wfe}
-use Rattle.law_eras.specs.laws.defs.Entry.{Entry}
-use Rattle.law_eras.specs.laws.defs.declared.event.Event.{Event}
-use Rattle.law_eras.specs.laws.defs.declared.event.Event.TheVariants as events
-use Rattle.law_eras.specs.laws.defs.declared.event.Guard.TheVariants.{Helper, Index, Whole}
-use Rattle.law_eras.specs.laws.defs.declared.lifetime.Interval.{Interval}
-use Rattle.law_eras.proofs.inv.model.Facts.{both, first_of, number_is, rest_of}
-use Rattle.law_held.proofs.turns.inv.history.Entries.{each_before, each_of_entries}
-use Rattle.law_held.specs.turns.inv.history.History.{record_of}
-use Rattle.law_held.specs.turns.inv.history.Record.{Past, Each}
-use Rattle.law_held.specs.turns.inv.history.Record.Past.{Start, Then}
-use Rattle.law_eras.proofs.EraLaw.Guards.{records_name_guards}
+use Rattle.law_reasons.specs.laws.words.Schemes.{is_he, is_wfe}
+use Rattle.law_reasons.specs.laws.words.declared.config.Config.{Config}
+use Rattle.law_reasons.specs.laws.words.declared.config.SchemeKind.{SchemeKind}
+use Rattle.law_reasons.specs.laws.words.declared.config.SchemeKind.TheVariants.{He, Hp, Ibr, Wfe}
+use Rattle.law_reasons.specs.laws.defs.Entry.{Entry}
+use Rattle.law_reasons.specs.laws.defs.declared.event.Event.{Event}
+use Rattle.law_reasons.specs.laws.defs.declared.event.Event.TheVariants as events
+use Rattle.law_reasons.specs.laws.defs.declared.event.Guard.TheVariants.{Helper, Index, Whole}
+use Rattle.law_reasons.specs.laws.defs.declared.lifetime.Interval.{Interval}
+use Rattle.law_reasons.proofs.inv.model.Facts.{both, first_of, number_is, rest_of}
+use Rattle.law_held.proofs.inv.history.Entries.{each_before, each_of_entries}
+use Rattle.law_held.specs.inv.history.History.{record_of}
+use Rattle.law_held.specs.inv.history.Record.{Past, Each}
+use Rattle.law_held.specs.inv.history.Record.Past.{Start, Then}
+use Rattle.law_reasons.proofs.Eras.EraLaw.Guards.{records_name_guards}
 use Rattle.law_held.proofs.turns.TryEntries.{entries_tried}
-use Rattle.law_eras.specs.laws.StateAt.{began_of, is_index_word, reserves_of, value_of}
-use Rattle.law_eras.specs.laws.HistoryHolds.{indexes_ok}
+use Rattle.law_reasons.specs.laws.StateAt.{began_of, is_index_word, reserves_of, value_of}
+use Rattle.law_reasons.specs.laws.HistoryHolds.{indexes_ok}
 use Rattle.law_held.proofs.Indexes.Indexing.{protects_below, records_use_indexes}
-use Rattle.law_eras.specs.laws.HistorySteps.{era_rises}
-use Rattle.law_eras.specs.laws.StateAt.{era_grows}
-use Rattle.law_eras.specs.laws.StepLaw.{event_tried}
-use Rattle.law_eras.specs.laws.HistoryTable.{guards_ok}
-use Rattle.law_eras.specs.laws.HistorySteps.{try_rises}
-use Rattle.law_eras.specs.laws.StateAt.{rises_on, rising_of}
-use Rattle.law_eras.specs.laws.StepLaw.{found_rising}
-use Rattle.law_steps.specs.Records.{RecordsCountTries, RecordsRaiseTries}
+use Rattle.law_reasons.specs.laws.HistorySteps.{era_rises}
+use Rattle.law_reasons.specs.laws.StateAt.{era_grows}
+use Rattle.law_reasons.specs.laws.StepLaw.{event_tried}
+use Rattle.law_reasons.specs.laws.HistoryTable.{guards_ok}
+use Rattle.law_reasons.specs.laws.HistorySteps.{try_rises}
+use Rattle.law_reasons.specs.laws.StateAt.{rises_on, rising_of}
+use Rattle.law_reasons.specs.laws.StepLaw.{found_rising}
+use Rattle.law_held.specs.Steps.Records.{RecordsCountTries, RecordsRaiseTries}
 use Rattle.law_all.proofs.Rising.RiseKeeps.{records_raise_eras}
 
 -- helper words publish under Wait-Free Eras alone

@@ -6,7 +6,7 @@
 ghost use Rattle.law_all.specs.Answers.{CallsAnswer, ChangesAreRead, GetsAgree, HoldsSeeNothing, LogsAnswer, LogsGrow, LogsMeet, LogsRise, LogsTakeFewSteps, ScansTellBacks};
 ghost use Rattle.law_all.specs.Runs.{RunsAddUp, RunsAgree, RunsAreLawful, RunsKeep, RunsList, RunsTick};
 ghost use Rattle.law_all.specs.Whole.{HistoriesLawful};
-ghost use Rattle.law_steps.specs.Records.{RecordsCountTries, RecordsRaiseEras, RecordsRaiseSpans, RecordsRaiseTries};
+ghost use Rattle.law_held.specs.Steps.Records.{RecordsCountTries, RecordsRaiseEras, RecordsRaiseSpans, RecordsRaiseTries};
 
 /// Each history of a table with a valid setting is lawful, whatever calls begin and whichever seats
 /// make their steps. The list of items is any: an item that does not fit does nothing, and the first

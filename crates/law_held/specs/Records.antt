@@ -1,11 +1,11 @@
 -- What the record and the turns of each history keep, whatever calls begin and whichever seats make their steps.
 use Rattle.std.specs.Prelude.{List, true, ◌≡◌}
-use Rattle.law_turns.specs.inv.model.words.Place.{is_valid}
-use Rattle.law_turns.specs.inv.model.words.declared.layout.Layout.{Layout}
+use Rattle.law_scans.specs.inv.model.words.Place.{is_valid}
+use Rattle.law_scans.specs.inv.model.words.declared.layout.Layout.{Layout}
 use Rattle.law_scans.specs.inv.history.History.{Item, record_of}
-use Rattle.law_turns.specs.laws.HistoryHolds.{StoodThroughout, SourceLaw, FindLaw, GotLaw, LinkLaw, FollowLaw, BehindLaw, RestLaw}
-use Rattle.law_turns.specs.laws.HistoryHolds.{LoneLaw}
-use Rattle.law_turns.specs.laws.HistoryHolds.{ClearLaw, CopyLaw, IndexLaw}
+use Rattle.law_scans.specs.laws.HistoryHolds.{StoodThroughout, SourceLaw, FindLaw, GotLaw, LinkLaw, FollowLaw, BehindLaw, RestLaw}
+use Rattle.law_scans.specs.laws.HistoryHolds.{LoneLaw}
+use Rattle.law_scans.specs.laws.HistoryHolds.{ClearLaw, CopyLaw, IndexLaw}
 
 -- each history's record keeps it, whatever calls begin and whichever seats make their steps
 abbrev pub RecordsClearRows : Type 0

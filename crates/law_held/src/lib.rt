@@ -1,8 +1,15 @@
-//! What stands, where it was found, what guards publish then (`Records.antt`). Each function here does nothing, and carries a
-//! theorem.
+//! What stands, where it was found, what guards publish then (`Records.antt`); what numbers of steps count. Each function here
+//! does nothing, and carries a theorem.
 #![tactic(auto)]
 
+mod counts;
+
 ghost use Rattle.law_held.specs.Records.{RecordsClearRows, RecordsCopyRows, RecordsFindRoots, RecordsFindSources, RecordsFollowHead, RecordsFollowNexts, RecordsHoldAlone, RecordsHoldThroughout, RecordsLinkHeld, RecordsRestGuards, RecordsTellRows, RecordsUseIndexes};
+
+pub use counts::{
+    records_ask_late, records_keep_ends, records_keep_helpers, records_keep_raises,
+    records_show_late, records_take_late,
+};
 
 /// Where a seat links a row at a root, the row that the root had stands at its index 0; where it links
 /// one behind a row of the queue, that row does. What the head is linked to stands at its index 1, and

@@ -1,6 +1,6 @@
 pub use Rattle.law_scans.proofs.laws as laws
 pub use Rattle.law_scans.proofs.inv as inv
-pub use Rattle.law_letter.proofs as letter
+pub use Rattle.law_reuse.proofs.Letter as letter
 pub mod Along
 pub mod Answered
 pub mod Begins

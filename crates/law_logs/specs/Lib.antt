@@ -1,6 +1,6 @@
 pub use Rattle.law_scans.specs.laws as laws
 pub use Rattle.law_scans.specs.inv as inv
-pub use Rattle.law_letter.specs as letter
+pub use Rattle.law_reuse.specs.Letter as letter
 pub mod Answered
 pub mod Ledgers
 pub mod Records

@@ -1,18 +1,18 @@
 -- The record of lines begins the calls of these lines and no others, since no step tells the beginning of a call.
 use Rattle.std.proofs.Common.{ℕ, ◌≡◌, ◌++◌, Bool, true, false, zero, suc, List, [], ◌∷◌}
-use Rattle.law_versions.specs.Versions.{BeginsAll, HasCall}
-use Rattle.law_versions.specs.laws.defs.declared.call.Call.{Call}
-use Rattle.law_versions.specs.laws.defs.declared.call.Call.TheVariants as calls
+use Rattle.law_printed.specs.OfVersion.{BeginsAll, HasCall}
+use Rattle.law_printed.specs.laws.defs.declared.call.Call.{Call}
+use Rattle.law_printed.specs.laws.defs.declared.call.Call.TheVariants as calls
 use Rattle.wfe_trace.specs.Body.{IsCommandWithin, fits_indexes, fits_seats}
 use Rattle.wfe_trace.specs.words.declared.config.Config.{Config}
 use Rattle.std.proofs.Common.{arith}
 use Rattle.std.proofs.lemmas.Bool.Decides.{nat_tests}
-use Rattle.law_versions.specs.laws.defs.declared.command.Command.{Command}
-use Rattle.law_versions.specs.laws.defs.declared.command.Command.TheVariants as commands
-use Rattle.law_versions.specs.laws.defs.declared.event.Event.{Event}
-use Rattle.law_versions.specs.laws.defs.declared.event.Event.TheVariants as events
-use Rattle.law_versions.specs.laws.records.Record.{Past, tells_of}
-use Rattle.law_versions.specs.laws.records.Record.Past.{Then}
+use Rattle.law_printed.specs.laws.defs.declared.command.Command.{Command}
+use Rattle.law_printed.specs.laws.defs.declared.command.Command.TheVariants as commands
+use Rattle.law_printed.specs.laws.defs.declared.event.Event.{Event}
+use Rattle.law_printed.specs.laws.defs.declared.event.Event.TheVariants as events
+use Rattle.law_printed.specs.laws.records.Record.{Past, tells_of}
+use Rattle.law_printed.specs.laws.records.Record.Past.{Then}
 use Rattle.wfe_server_replay.proofs.drive.history.AllOf.{all_of}
 use Rattle.wfe_server_replay.proofs.drive.inv.Machines.{is_within, within_of}
 use Rattle.wfe_server_replay.proofs.drive.inv.model.Facts.{first_of, rest_of}

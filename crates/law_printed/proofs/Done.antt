@@ -2,21 +2,21 @@
 use Rattle.std.proofs.Common.{◌≡◌, ◌≤◌, ◌++◌, ◌∙◌, Bool, List, [], ◌∷◌, ℕ, None, ap, append-nil, append_assoc, arith, codes, length, refl, subst, sym}
 use Rattle.std.proofs.lemmas.Bool.Decides.{nat_tests}
 use Rattle.laws.proofs.records.Entries.{each_of_entries}
-use Rattle.laws_good.specs.Good.{Good}
-use Rattle.wfe_check_printed.proofs.Verdicts.{lawful_read}
-use Rattle.wfe_check_printed.specs.Printed.{ArePrinted, IsWhole, past_of}
-use Rattle.wfe_check_printed.specs.lines.Verdicts.{IsLawful}
-use Rattle.wfe_check_printed.specs.lines.out.Heard.{Seen}
-use Rattle.wfe_check_printed.specs.lines.out.Pieces.{Piece, Text, Told, heard_of, text_of}
-use Rattle.wfe_check_printed.specs.lines.out.Sizes.{AreSized}
+use Rattle.laws.specs.Good.{Good}
+use Rattle.law_printed.proofs.ReadBack.Verdicts.{lawful_read}
+use Rattle.law_printed.specs.ReadBack.Printed.{ArePrinted, IsWhole, past_of}
+use Rattle.law_printed.specs.lines.Verdicts.{IsLawful}
+use Rattle.law_printed.specs.lines.out.Heard.{Seen}
+use Rattle.law_printed.specs.lines.out.Pieces.{Piece, Text, Told, heard_of, text_of}
+use Rattle.law_printed.specs.lines.out.Sizes.{AreSized}
 use Rattle.law_printed.proofs.Begins.{records_begin}
 use Rattle.law_printed.proofs.Kept.{given_of_version}
-use Rattle.law_versions.proofs.Told.{records_are_of}
+use Rattle.law_printed.proofs.Told.{records_are_of}
 use Rattle.wfe_server_replay.specs.Given.{Given, given_out, given_record, lines_out, no_lines, past_entries}
 use Rattle.wfe_server_replay.specs.Replay.{IsReplayed}
 use Rattle.wfe_server_replay.specs.Sunk.{Outside}
 use Rattle.wfe_server_replay.specs.Watched.{WatchersFit, watch_text}
-use Rattle.law_versions.specs.Versions.{AreOf, HasScheme}
+use Rattle.law_printed.specs.OfVersion.{AreOf, HasScheme}
 use Rattle.laws.specs.HistoryTable.{guards_ok, ranges_ok}
 use Rattle.wfe_defs.specs.Entry.{Entry, entry}
 use Rattle.wfe_defs.specs.declared.call.Call.{Call}

@@ -3,13 +3,13 @@
 use Rattle.std.proofs.Common.{◌≡◌, ℕ, true, Option, None, Some, arith, nat_le}
 use Rattle.std.proofs.lemmas.Bool.Decides.{nat_tests}
 use Rattle.wfe_defs.proofs.Facts.{first_of}
-use Rattle.wfe_check_printed.specs.lines.out.Sizes.{AnswerSized, CallSized, ClockSized, EventSized, SpanSized}
-use Rattle.wfe_check_printed.specs.lines.records.Entry.{IsEvent}
-use Rattle.wfe_check_printed.specs.lines.records.record_answers.Answers.{IsAnswer, IsClock}
-use Rattle.wfe_check_printed.specs.lines.records.record_calls.Calls.{IsCall}
-use Rattle.wfe_check_printed.specs.lines.records.record_words.Within.{IsGuard, IsRoot, IsShown, IsSpan}
+use Rattle.law_printed.specs.lines.out.Sizes.{AnswerSized, CallSized, ClockSized, EventSized, SpanSized}
+use Rattle.law_printed.specs.lines.records.Entry.{IsEvent}
+use Rattle.law_printed.specs.lines.records.record_calls.Answers.{IsAnswer, IsClock}
+use Rattle.law_printed.specs.lines.records.record_calls.Calls.{IsCall}
+use Rattle.law_printed.specs.lines.records.record_words.Within.{IsGuard, IsRoot, IsShown, IsSpan}
 use Rattle.law_printed.specs.Versions.{CallNames}
-use Rattle.law_versions.specs.Versions.{HasAnswer, HasCall, HasEvent}
+use Rattle.law_printed.specs.OfVersion.{HasAnswer, HasCall, HasEvent}
 use Rattle.laws.specs.HistoryTable.{is_answer, is_guard, is_guarded, is_in_range, is_root, is_row_or_none}
 use Rattle.wfe_defs.specs.declared.call.Answer.{Answer}
 use Rattle.wfe_defs.specs.declared.call.Answer.TheVariants as answers

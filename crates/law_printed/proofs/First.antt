@@ -3,9 +3,9 @@ use Rattle.std.proofs.Common.{◌≡◌, ◌≤◌, ◌&&◌, ◌||◌, ◌==◌
 use Rattle.std.proofs.lemmas.Bool.{cases_lt}
 use Rattle.std.proofs.lemmas.Bool.Decides.{nat_tests}
 use Rattle.wfe_defs.proofs.Facts.{rest_of}
-use Rattle.laws_good.proofs.Lawful.{lawful_good}
-use Rattle.laws_good.specs.Good.{Good, rests_of}
-use Rattle.law_versions.specs.Versions.{AreOf}
+use Rattle.laws.proofs.Lawful.{lawful_good}
+use Rattle.laws.specs.Good.{Good, rests_of}
+use Rattle.law_printed.specs.OfVersion.{AreOf}
 use Rattle.laws.specs.HistoryHolds.{IndexLaw, indexes_ok, protects_at}
 use Rattle.laws.specs.HoldLaw.{guards_rest, indexes_rest, index_rests, is_alike, keeps_none, rests_ok, words_rest}
 use Rattle.laws.specs.Laws.{Laws}

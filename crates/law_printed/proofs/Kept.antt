@@ -2,12 +2,12 @@
 use Rattle.std.proofs.Common.{ℕ, ◌≡◌, ◌≤◌, ◌==◌, ◌++◌, ◌∙◌, if◌then◌else◌, nat_le, Bool, true, false, true≢false, List, [], ◌∷◌, length, Option, Some, None, Result, Ok, Err, refl, sym, ap, subst, arith}
 use Rattle.std.specs.Prelude.{codes}
 use Rattle.std.specs.Str.{bytes_eq}
-use Rattle.law_versions.specs.Versions.{HasCall}
-use Rattle.law_versions.specs.laws.defs.declared.call.Call.{Call}
-use Rattle.law_versions.specs.laws.defs.declared.call.Call.TheVariants as calls
-use Rattle.law_versions.specs.laws.defs.declared.command.Command.{Command}
-use Rattle.law_versions.specs.laws.defs.declared.command.Command.TheVariants as commands
-use Rattle.law_versions.specs.laws.words.declared.config.Config.{Config}
+use Rattle.law_printed.specs.OfVersion.{HasCall}
+use Rattle.law_printed.specs.laws.defs.declared.call.Call.{Call}
+use Rattle.law_printed.specs.laws.defs.declared.call.Call.TheVariants as calls
+use Rattle.law_printed.specs.laws.defs.declared.command.Command.{Command}
+use Rattle.law_printed.specs.laws.defs.declared.command.Command.TheVariants as commands
+use Rattle.law_printed.specs.laws.words.declared.config.Config.{Config}
 use Rattle.wfe_trace.specs.declared.item.Item.{Item}
 use Rattle.wfe_trace.specs.declared.item.Item.TheVariants as items
 use Rattle.wfe_trace.specs.declared.item.Mode.{Mode}

@@ -2,12 +2,12 @@
 use Rattle.std.proofs.Common.{◌≡◌, ◌<◌, ◌++◌, List, [], ◌∷◌, ℕ, true, arith, nat_lt}
 use Rattle.std.proofs.lemmas.Bool.Decides.{nat_tests}
 use Rattle.wfe_defs.proofs.Facts.{rest_of}
-use Rattle.wfe_check_printed.specs.Printed.{ArePrinted, IsPrinted}
-use Rattle.wfe_check_printed.specs.lines.out.Pieces.{Piece, Text, Told, heard_of}
-use Rattle.wfe_check_printed.specs.lines.out.Sizes.{AreSized}
+use Rattle.law_printed.specs.ReadBack.Printed.{ArePrinted, IsPrinted}
+use Rattle.law_printed.specs.lines.out.Pieces.{Piece, Text, Told, heard_of}
+use Rattle.law_printed.specs.lines.out.Sizes.{AreSized}
 use Rattle.law_printed.specs.Versions.{CallNames}
 use Rattle.wfe_server_replay.specs.Given.{past_entries}
-use Rattle.law_versions.specs.Versions.{AreOf, BeginsAll, HasEvent}
+use Rattle.law_printed.specs.OfVersion.{AreOf, BeginsAll, HasEvent}
 use Rattle.laws.specs.HistoryTable.{guards_ok, is_guarded, is_in_range, ranges_ok}
 use Rattle.wfe_defs.specs.Entry.{Entry, entry}
 use Rattle.wfe_defs.specs.declared.event.Event.{Event}

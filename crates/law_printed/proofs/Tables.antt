@@ -1,8 +1,8 @@
 -- The lines of counts among what a replay puts out are lines of a record.
 use Rattle.std.proofs.Common.{◌≡◌, ◌≤◌, ◌+◌, ◌-◌, ◌++◌, ◌∙◌, List, [], ◌∷◌, ℕ, zero, suc, Bool, true, false, Option, None, Some, append-nil, arith, codes, get_or, inl, length, refl, slice_set, sym}
-use Rattle.wfe_check_printed.specs.Printed.{IsPrinted, lines_text}
-use Rattle.wfe_check_printed.specs.lines.Texts.{IsCounted}
-use Rattle.wfe_check_printed.specs.lines.out.Pieces.{Text, told_pieces}
+use Rattle.law_printed.specs.ReadBack.Printed.{IsPrinted, lines_text}
+use Rattle.law_printed.specs.lines.Texts.{IsCounted}
+use Rattle.law_printed.specs.lines.out.Pieces.{Text, told_pieces}
 use Rattle.wfe_server_replay.specs.Counts.{seat_lines, table_pieces, total_line}
 use Rattle.wfe_server_replay.specs.Given.{Given, fit_pieces, given_garbage, given_made, given_record, given_waiting, items_of, line_pieces, lines_out, made_pieces, past_entries, with_line}
 use Rattle.wfe_server_replay.specs.history.History.{Begins, Item, Made, Steps, did, fits}

@@ -2,13 +2,13 @@
 use Rattle.std.proofs.Common.{◌≡◌, ◌++◌, ◌∙◌, List, [], ◌∷◌, ℕ, Option, None, Some, ap, append-nil, append_assoc, inl, inr, refl, subst, sym}
 use Rattle.std.specs.Io.KnownBytes.{Consumes, IsAtEnd}
 use Rattle.std.specs.Prelude.{◌⊎◌}
-use Rattle.wfe_check_printed.proofs.Verdicts.{lawful_only}
-use Rattle.wfe_check_printed.specs.lines.Verdicts.{IsCut, IsEnd, IsJudged, IsLawful, IsNext, IsSpent, IsStopped, IsVerdict, Prints}
-use Rattle.wfe_check_printed.specs.lines.Reading.{Reading}
-use Rattle.wfe_check_printed.specs.lines.declared.stops.Stop.{Stop}
-use Rattle.wfe_check_printed.specs.lines.declared.stops.Stop.TheVariants as stops
-use Rattle.wfe_check_printed.specs.lines.declared.verdict.Verdict.{Verdict}
-use Rattle.wfe_check_printed.specs.lines.declared.verdict.Verdict.TheVariants as verdicts
+use Rattle.law_printed.proofs.ReadBack.Verdicts.{lawful_only}
+use Rattle.law_printed.specs.lines.Verdicts.{IsCut, IsEnd, IsJudged, IsLawful, IsNext, IsSpent, IsStopped, IsVerdict, Prints}
+use Rattle.law_printed.specs.lines.Reading.{Reading}
+use Rattle.law_printed.specs.lines.declared.stops.Stop.{Stop}
+use Rattle.law_printed.specs.lines.declared.stops.Stop.TheVariants as stops
+use Rattle.law_printed.specs.lines.declared.verdict.Verdict.{Verdict}
+use Rattle.law_printed.specs.lines.declared.verdict.Verdict.TheVariants as verdicts
 use Rattle.wfe_trace.specs.declared.reason.Status.{Status}
 use Rattle.wfe_trace.specs.declared.reason.Status.TheVariants as statuses
 use Rattle.law_printed.specs.Printed.{IsFoundLawful}

@@ -2,8 +2,8 @@
 use Rattle.std.proofs.Common.{◌≡◌, ◌<◌, ◌+◌, ◌++◌, ◌∙◌, List, [], ◌∷◌, ℕ, zero, suc, Some, ap, append_assoc, arith, codes, inr, map, refl, slice_get, sym}
 use Rattle.std.specs.List.{range_with_len}
 use Rattle.std.specs.Fmt.{decimal}
-use Rattle.wfe_check_printed.specs.Printed.{AreShown, IsPrinted, lines_text}
-use Rattle.wfe_check_printed.specs.lines.out.Pieces.{Text}
+use Rattle.law_printed.specs.ReadBack.Printed.{AreShown, IsPrinted, lines_text}
+use Rattle.law_printed.specs.lines.out.Pieces.{Text}
 use Rattle.wfe_server_replay.specs.Watched.{RowFits, RowsFit, WatchersFit, rows_of, rows_text, watch_from, watch_text}
 use Rattle.laws.specs.words.declared.config.Config.{Config}
 use Rattle.wfe_trace.specs.Fits.{NumberFits}

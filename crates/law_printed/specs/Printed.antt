@@ -1,12 +1,12 @@
 -- What is said of the text that a replay prints: a check finds it lawful.
 use Rattle.std.specs.Prelude.{List, None, Option, Some, [], codes, length, ℕ, ◌++◌, ◌≡◌, ◌≤◌, ◌⊎◌, ◌∷◌}
 use Rattle.std.specs.Io.KnownBytes.{Appends, Consumes, IsAtEnd}
-use Rattle.wfe_check_printed.specs.Printed.{IsPrinted}
-use Rattle.wfe_check_printed.specs.lines.Verdicts.{Checks, IsVerdict, Prints}
-use Rattle.wfe_check_printed.specs.lines.declared.verdict.Verdict.{Verdict}
-use Rattle.wfe_check_printed.specs.lines.declared.verdict.Verdict.TheVariants as verdicts
-use Rattle.wfe_check_printed.specs.lines.out.Pieces.{Text, heard_of, text_of}
-use Rattle.wfe_check_printed.specs.lines.out.Sizes.{AreSized}
+use Rattle.law_printed.specs.ReadBack.Printed.{IsPrinted}
+use Rattle.law_printed.specs.lines.Verdicts.{Checks, IsVerdict, Prints}
+use Rattle.law_printed.specs.lines.declared.verdict.Verdict.{Verdict}
+use Rattle.law_printed.specs.lines.declared.verdict.Verdict.TheVariants as verdicts
+use Rattle.law_printed.specs.lines.out.Pieces.{Text, heard_of, text_of}
+use Rattle.law_printed.specs.lines.out.Sizes.{AreSized}
 use Rattle.law_printed.specs.Versions.{BeginsIn, IsOfVersion}
 use Rattle.wfe_server_replay.specs.Given.{Given, given_out, given_record, past_entries}
 use Rattle.laws.specs.HistoryHolds.{IndexLaw}

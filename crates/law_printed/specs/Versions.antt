@@ -1,10 +1,10 @@
 -- The version of the lines that a trace gives, its pairs, and the schemes and the calls that it has.
 use Rattle.std.specs.Prelude.{ℕ, ◌<◌, ◌≤◌, ◌≡◌, Bool, List, [], ◌∷◌, Ok, Some}
-use Rattle.law_versions.specs.Versions.{BeginsAll, BeginsOf, HasCall}
-use Rattle.law_versions.specs.laws.defs.declared.call.Call.{Call}
-use Rattle.law_versions.specs.laws.defs.declared.call.Call.TheVariants as calls
-use Rattle.law_versions.specs.laws.defs.declared.command.Command.{Command}
-use Rattle.law_versions.specs.laws.defs.declared.command.Command.TheVariants as commands
+use Rattle.law_printed.specs.OfVersion.{BeginsAll, BeginsOf, HasCall}
+use Rattle.law_printed.specs.laws.defs.declared.call.Call.{Call}
+use Rattle.law_printed.specs.laws.defs.declared.call.Call.TheVariants as calls
+use Rattle.law_printed.specs.laws.defs.declared.command.Command.{Command}
+use Rattle.law_printed.specs.laws.defs.declared.command.Command.TheVariants as commands
 use Rattle.wfe_trace.specs.Setting.{pairs_in, scheme_version}
 use Rattle.wfe_trace.specs.words.declared.config.Config.{Config}
 use Rattle.wfe_server_replay.specs.Given.{Given, IsTaken, given_record}

@@ -3,8 +3,16 @@
 //! function here does nothing, and carries a theorem.
 #![tactic(auto)]
 
+mod lists;
+mod read_back;
+mod versions;
+
 ghost use Rattle.law_printed.specs.Printed.{PrintsLawful};
 ghost use Rattle.law_printed.specs.Versions.{GivenOfVersion, RecordsBegin};
+
+pub use lists::records_count_lists;
+pub use read_back::{lawful_is_only, lawful_is_read, printed_is_read};
+pub use versions::records_are_of_their_version;
 
 /// What a replay of a trace prints where its work is done, and where that is no longer than a record may be, is a record
 /// that a check finds lawful.

@@ -1,7 +1,16 @@
-//! Why calls answer what they do, and how often they begin anew. Each function here does nothing, and carries a theorem.
+//! Why calls answer what they do, and how often they begin anew; which eras are told. Each function here does nothing, and
+//! carries a theorem.
 #![tactic(auto)]
 
+mod dates;
+
 ghost use Rattle.law_reasons.specs.Records.{RecordsKeepFull, RecordsKeepLacks, RecordsKeepReasons, RecordsKeepRepeats, RecordsScanForRoom, RecordsStayInRange};
+
+pub use dates::{
+    clock_between, record_clock, records_advance, records_give_current, records_keep_eras,
+    records_keep_guards, records_keep_kinds, records_keep_times, records_name_guards,
+    records_reserve_current, records_retire_current,
+};
 
 /// Where a call ends, in the record of any history, its answer has its reason in the record: a change
 /// was refused, or made, as the pairs of its bucket at a version current during the call say; the

@@ -8,6 +8,7 @@ pub mod Blocks
 pub mod Holding
 pub mod Lawful
 pub mod Leaving
+pub mod Letter
 pub mod Once
 pub mod OneStep
 pub mod OpenCalls

@@ -4,6 +4,7 @@ pub use Rattle.inv_all.specs.history as history
 pub mod Answers
 pub mod Heard
 pub mod Holds
+pub mod Letter
 pub mod MapKept
 pub mod Records
 pub mod Reuse

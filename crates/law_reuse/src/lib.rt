@@ -1,7 +1,9 @@
-//! No reuse, rows once, scans, map, queue, answers (`Records.antt`). No row is used again while it stands, rows are given and
-//! go back once, and scans keep just what they have to; what the record says of the map, the queue and of answers; and that
-//! histories are schedules. Each function here does nothing, and carries a theorem.
+//! No reuse, rows once, scans, map, queue, answers (`Records.antt`); that the laws follow (`Letter/Letters.antt`). No row is
+//! used again while it stands, rows are given and go back once, and scans keep just what they have to; what the record says of
+//! the map, the queue and of answers; and that histories are schedules. Each function here does nothing, and carries a theorem.
 #![tactic(auto)]
+
+mod letters;
 
 ghost use Rattle.law_reuse.specs.Heard.{HistoriesCount};
 ghost use Rattle.law_reuse.specs.MapKept.{RecordsKeepMap};
@@ -10,6 +12,8 @@ ghost use Rattle.law_reuse.specs.Holds.{AlwaysShown, StandsShown};
 ghost use Rattle.law_reuse.specs.Records.{RecordHazards, RecordPublishes, RecordStands, RecordValues, RecordsCountScans, RecordsEndBare, RecordsGoBackOnce, RecordsHold, RecordsKeepBirths, RecordsKeepLists, RecordsKeepOnce, RecordsKeepReuse, RecordsKeepScans, RecordsReadGuards};
 ghost use Rattle.law_reuse.specs.Reuse.{NeverReused, NoReuse};
 ghost use Rattle.law_reuse.specs.Rows.{RecordShows};
+
+pub use letters::laws_follow;
 
 /// Where a row stands at an index of a seat, no step of any seat gives it, gives it up or gives it
 /// back.

@@ -7,3 +7,4 @@ pub mod FewRetired
 pub mod Leaving
 pub mod Ordering
 pub mod Placing
+pub mod Turns

@@ -6,3 +6,4 @@ pub mod Places
 pub mod Plain
 pub mod Records
 pub mod Scans
+pub mod Turns

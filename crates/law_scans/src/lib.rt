@@ -1,9 +1,16 @@
-//! Which rows calls are given, link, cut, retire; which scan (`Records.antt`). In which order they do; which calls move the
-//! clock, and what they answer of it. Each function here does nothing, and carries a theorem.
+//! Which rows calls are given, link, cut, retire; which scan (`Records.antt`); turns of protections. In which order they do;
+//! which calls move the clock, and what they answer of it. Each function here does nothing, and carries a theorem.
 #![tactic(auto)]
+
+mod tries;
 
 ghost use Rattle.law_scans.specs.Places.{RecordsCountRetires, RecordsKeepOrder, RecordsLinkNexts, RecordsPlaceRows, RecordsRefuse, RecordsRetireCuts, RecordsRetireOne};
 ghost use Rattle.law_scans.specs.Records.{RecordsAnswerPlainly, RecordsCountPlainly, RecordsKeepOutcomes, RecordsMovePlainly, RecordsMoveWhereDue, RecordsRetireFew, RecordsScanPlainly, RecordsScanWhereDue};
+
+pub use tries::{
+    handovers_meet, hazards_count, loads_count, protections_count, protections_end,
+    protections_last, records_withdraw_next, tries_count, turns_find_last, withdrawals_follow,
+};
 
 /// A call that only scans reads each guard once. A call in which the number of its seat's
 /// retirements became a multiple of `every` does so once after that. A put, a remove or an enqueue

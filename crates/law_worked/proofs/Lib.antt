@@ -1,1 +1,5 @@
+pub mod Copies
+pub mod Hazards
+pub mod Leaves
+pub mod RunRecords
 pub mod Worked

@@ -1,6 +1,11 @@
-//! Worked records that all laws take, and wrong ones (`Judges.antt`). Of each wrong one it says which laws refuse it: a file
-//! `Wrong..` for each kind of law. Each function here does nothing, and carries a theorem.
+//! Worked records that all laws take, and wrong ones (`Judges.antt`); worked runs. Of each wrong one it says which laws refuse
+//! it: a file `Wrong..` for each kind of law. Each function here does nothing, and carries a theorem.
 #![tactic(auto)]
+
+pub mod copied;
+pub mod left;
+pub mod runs;
+pub mod seen;
 
 ghost use Rattle.law_worked.specs.Full.{FullWorked};
 ghost use Rattle.law_worked.specs.Helped.{HelpedWorked};

@@ -3,6 +3,8 @@ pub use Rattle.model_record.specs.defs as defs
 pub use Rattle.wfe_words.specs as words
 pub mod AnswerLaw
 pub mod EraLaw
+pub mod Fits
+pub mod Good
 pub mod Histories
 pub mod HistoryAnswers
 pub mod HistoryEras
@@ -19,6 +21,7 @@ pub mod MapLaw
 pub mod NoReuse
 pub mod Once
 pub mod QueueLaw
+pub mod Ranges
 pub mod ScanLaw
 pub mod Standing
 pub mod StateAt

@@ -1,3 +1,8 @@
-//! The text of the laws, a file each, and what is read off records (`StateAt.antt`). A law says what may be told where, as a
-//! test of an entry at its position in a record. What each history keeps beyond the laws stands in the files `History..`.
+//! The text of the laws, a file each; what is read off records (`StateAt.antt`); which are good (`Good.antt`). A law says what
+//! may be told where, as a test of an entry at its position in a record. What each history keeps beyond the laws stands in the
+//! files `History..`.
 #![tactic(auto)]
+
+mod good;
+
+pub use good::{blank_is_good, cuts_are_good, good_grows, lawful_is_good};

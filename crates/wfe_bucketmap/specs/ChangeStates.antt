@@ -8,8 +8,8 @@ use Rattle.wfe_slots.specs.Phases.{allocate_phase, give_up_phase}
 use Rattle.wfe_slots.specs.Writes.{write_phase}
 use Rattle.wfe_bucketmap_read.specs.call_rounds.iface.Schemes.{RoundPhases}
 use Rattle.wfe_bucketmap_read.specs.call_rounds.Rounds.{opening_of, closing_of, close_phase}
-use Rattle.wfe_call_tidy.specs.Reclaims.{reclaim_phase}
-use Rattle.wfe_call_tidy.specs.Tidies.{tidy_phase}
+use Rattle.wfe_call_rounds.specs.Reclaims.{reclaim_phase}
+use Rattle.wfe_call_rounds.specs.Tidies.{tidy_phase}
 use Rattle.wfe_bucketmap.specs.declared.change_state.State.{State}
 use Rattle.wfe_bucketmap.specs.declared.change_state.State.TheVariants as states
 use Rattle.wfe_bucketmap.specs.Changes.{at_of, next_of}

@@ -20,7 +20,7 @@ ghost use Rattle.wfe_bucketmap.specs.ChangeStates.{change_phase};
 use super::change_at::{ChangeAt, ChangeEnd, Changed, Kept};
 use super::change_state::State;
 use wfe_bucketmap_read::{Rounds, Scheme, close, open, take_close, take_open};
-use wfe_call_tidy::{Reclaim, Tidy};
+use wfe_call_rounds::{Reclaim, Tidy};
 use wfe_core::{
     AllocateEnd, Answer, CallMachine, Change, Desk, Machine, Op, Post, ProtectEnd, Root, Told,
 };

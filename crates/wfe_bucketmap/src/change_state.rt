@@ -1,7 +1,7 @@
 // Where a change stands.
 use super::change_at::{ChangeAt, ChangeEnd};
 use wfe_bucketmap_read::{Closing, Opening};
-use wfe_call_tidy::{Reclaim, Tidy};
+use wfe_call_rounds::{Reclaim, Tidy};
 use wfe_core::{Answer, Machine, ProtectEnd};
 use wfe_slots::{Allocate, GiveUp, WriteRow};
 

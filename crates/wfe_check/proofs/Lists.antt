@@ -4,7 +4,7 @@ use Rattle.laws.specs.Lists.{has_left, is_adopted}
 use Rattle.laws.specs.records.Record.{Past}
 use Rattle.wfe_defs.specs.declared.event.Event.{Event}
 use Rattle.wfe_defs.specs.declared.event.Event.TheVariants as events
-use Rattle.wfe_check_lists.specs.Standing.{AdoptedIs, LeftIs}
+use Rattle.wfe_check_map.specs.ListStanding.{AdoptedIs, LeftIs}
 
 pub left_is : (left : Bool) (event : Event) (place count : ℕ) (p : Past) → event ≡ events.Adopted place count → left ≡ has_left place p → LeftIs left event p
 left_is left event place count p e same = subst (λ x. LeftIs left x p) (sym e) same

@@ -2,7 +2,7 @@
 use Rattle.std.proofs.Common.{ℕ, ◌≡◌, sym, subst}
 use Rattle.laws.specs.records.Record.{Past}
 use Rattle.laws.specs.records.Record.Past.{Then}
-use Rattle.laws_good.specs.Fits.{Fits, IsCovered}
+use Rattle.laws.specs.Fits.{Fits, IsCovered}
 use Rattle.wfe_words.specs.declared.config.Config.{Config}
 use Rattle.wfe_defs.specs.declared.event.Event.{Event}
 use Rattle.wfe_check.specs.Groups.{FitsParts}

@@ -1,7 +1,7 @@
 -- An entry that may come is in the ranges of the setting that each part has.
 use Rattle.std.proofs.Common.{ℕ, ◌≡◌, ◌∙◌, sym, subst}
 use Rattle.laws.specs.records.Record.{Past}
-use Rattle.laws_good.specs.Ranges.{EntryIn}
+use Rattle.laws.specs.Ranges.{EntryIn}
 use Rattle.wfe_words.specs.declared.config.Config.{Config}
 use Rattle.wfe_defs.specs.declared.event.Event.{Event}
 use Rattle.wfe_check.specs.Checked.{MayCome, Shows}

@@ -4,7 +4,7 @@ use Rattle.std.specs.Prelude.{if◌then◌else◌}
 use Rattle.laws.specs.records.Record.{Past}
 use Rattle.laws.specs.records.Record.Past.{Then}
 use Rattle.laws.specs.StateAt.{began_by, began_of, bucket_at}
-use Rattle.laws_good.specs.Ranges.{CallIn, EntryIn}
+use Rattle.laws.specs.Ranges.{CallIn, EntryIn}
 use Rattle.wfe_words.specs.declared.config.Config.{Config}
 use Rattle.wfe_defs.specs.declared.call.Call.{Call}
 use Rattle.wfe_defs.specs.declared.call.Call.TheVariants as calls

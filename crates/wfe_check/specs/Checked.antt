@@ -1,7 +1,7 @@
 -- When the checker stands for a record.
 use Rattle.std.specs.Prelude.{ℕ, ◌≡◌, ◌<◌, ◌≤◌, Some}
-use Rattle.laws_good.specs.Good.{Good}
-use Rattle.laws_good.specs.Ranges.{EntryIn}
+use Rattle.laws.specs.Good.{Good}
+use Rattle.laws.specs.Ranges.{EntryIn}
 use Rattle.laws.specs.records.Record.{Past}
 use Rattle.laws.specs.StateAt.{began_of, bucket_at}
 use Rattle.wfe_words.specs.declared.config.Config.{Config}
@@ -9,10 +9,10 @@ use Rattle.wfe_defs.specs.declared.call.Call.TheVariants as names
 use Rattle.wfe_defs.specs.declared.event.Event.{Event}
 use Rattle.wfe_check_calls.specs.Calls.{IsCalls}
 use Rattle.wfe_check_guards.specs.Protections.{IsProtections}
-use Rattle.wfe_check_lists.specs.Standing.{IsLists}
+use Rattle.wfe_check_map.specs.ListStanding.{IsLists}
 use Rattle.wfe_check_map.specs.Standing.{IsContents}
 use Rattle.wfe_check_rows.specs.Rows.{IsRows}
-use Rattle.wfe_check_steps.specs.Steps.{IsSteps}
+use Rattle.wfe_check_calls.specs.CallSteps.{IsSteps}
 use Rattle.wfe_check_times.specs.Times.{IsTimes}
 use Rattle.wfe_check.specs.declared.checker.Checker.{Checker}
 

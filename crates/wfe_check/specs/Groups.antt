@@ -1,6 +1,6 @@
 -- What one entry has to meet, by the part of the checker that tells it.
 use Rattle.std.specs.Prelude.{ℕ, ◌≡◌, ◌≤◌, false, true}
-use Rattle.laws_good.specs.Good.{rests_of}
+use Rattle.laws.specs.Good.{rests_of}
 use Rattle.laws.specs.records.Record.{Past}
 use Rattle.laws.specs.EraLaw.{advances_ok, birth_ok, current_ok, era_ok, guard_ok, kind_ok, moves_ok, retire_ok, rising_ok, single_ok}
 use Rattle.laws.specs.HoldLaw.{bare_ok, behind_ok, finds_ok, gots_ok, links_ok, sources_ok}
@@ -10,7 +10,7 @@ use Rattle.laws.specs.Once.{backs_ok, free_ok, lists_ok, nexts_ok, order_ok, pla
 use Rattle.laws.specs.QueueLaw.{empty_ok, queue_ok}
 use Rattle.laws.specs.ScanLaw.{blocks_ok, read_ok, room_ok, scan_ok}
 use Rattle.laws.specs.Standing.{open_ok}
-use Rattle.wfe_check_steps.specs.Right.{IsRight}
+use Rattle.wfe_check_calls.specs.Right.{IsRight}
 use Rattle.wfe_words.specs.Schemes.{moves as moves_clock}
 use Rattle.wfe_words.specs.declared.config.Config.{Config}
 use Rattle.wfe_defs.specs.declared.event.Event.{Event}

@@ -1,6 +1,6 @@
 -- What the checker stands for is good.
 use Rattle.std.specs.Prelude.{ℕ}
-use Rattle.laws_good.specs.Good.{Good}
+use Rattle.laws.specs.Good.{Good}
 use Rattle.laws.specs.records.Record.{Past}
 use Rattle.wfe_words.specs.declared.config.Config.{Config}
 use Rattle.wfe_check.specs.Checked.{IsChecked}

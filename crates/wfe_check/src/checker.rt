@@ -8,12 +8,10 @@ ghost use Rattle.wfe_words.specs.Config.{bad_field};
 ghost use Rattle.wfe_words.specs.declared.config.Config.{Config as Setting};
 
 use std::alloc::Global;
-use wfe_check_calls::Calls;
+use wfe_check_calls::{Calls, Steps};
 use wfe_check_guards::Protections;
-use wfe_check_lists::Lists;
-use wfe_check_map::Contents;
+use wfe_check_map::{Contents, Lists};
 use wfe_check_rows::Rows;
-use wfe_check_steps::Steps;
 use wfe_check_times::Times;
 use wfe_defs::{Event, NoMemory};
 use wfe_words::Config;

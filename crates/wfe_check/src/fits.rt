@@ -1,6 +1,6 @@
 // Whether an entry keeps the laws, part by part.
 ghost use Rattle.std.specs.Prelude.{◌≡◌, ◌<◌, ◌&&◌, ℕ, true};
-ghost use Rattle.laws_good.specs.Fits.{Fits};
+ghost use Rattle.laws.specs.Fits.{Fits};
 ghost use Rattle.laws.specs.records.Record.{Past};
 ghost use Rattle.laws.specs.HoldLaw.{behind_ok, gots_ok};
 ghost use Rattle.laws.specs.Once.{lists_ok};
@@ -8,7 +8,7 @@ ghost use Rattle.wfe_check.specs.Checked.{IsChecked, MayCome, Shows};
 ghost use Rattle.wfe_check.specs.Groups.{FitsCalls, FitsContents, FitsGuards, FitsParts, FitsRows, FitsStanding, FitsTimes};
 ghost use Rattle.wfe_check_times.specs.Roots.{last_row as last_of};
 ghost use Rattle.wfe_check_times.specs.Tests.{IsBirth, IsSource};
-ghost use Rattle.wfe_check_steps.specs.Right.{IsRight};
+ghost use Rattle.wfe_check_calls.specs.Right.{IsRight};
 ghost use Rattle.wfe_words.specs.declared.config.Config.{Config as Setting};
 
 use crate::Checker;

@@ -1,2 +1,5 @@
 pub mod Cuts
-pub mod Steps
+pub mod Right
+pub mod SeatsAfter
+pub mod Tables
+pub mod Words

@@ -5,7 +5,7 @@ ghost use Rattle.laws.specs.ScanLaw.{blocks_by, blocks_right, begun_block, is_gi
 ghost use Rattle.wfe_check_calls.specs.Seats.{shown_blocks};
 ghost use Rattle.wfe_check_calls.specs.Sought.{seeks_by};
 
-use wfe_check_counts::raised;
+use wfe_check_rows::raised;
 use wfe_defs::{Call, Event, NoMemory};
 
 #[derive(Clone, Copy, Drop)]

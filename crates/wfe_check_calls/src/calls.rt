@@ -5,7 +5,7 @@ ghost use Rattle.wfe_words.specs.Config.{bad_field};
 
 use crate::seat::{Seat, new_seats};
 use std::alloc::Global;
-use wfe_check_counts::{guard_count, moves_clock};
+use wfe_check_rows::{guard_count, moves_clock};
 use wfe_defs::{Call, Event, NoMemory};
 use wfe_words::Config;
 
@@ -39,7 +39,7 @@ impl Calls {
     ghost use Rattle.laws.specs.Standing.{open_ok};
     ghost use Rattle.laws.specs.StateAt.{began_of, has_told, is_open, rooted_of};
     ghost use Rattle.laws.specs.defs.Events.{is_null};
-    ghost use Rattle.laws_good.specs.Ranges.{EntryIn};
+    ghost use Rattle.laws.specs.Ranges.{EntryIn};
     ghost use Rattle.wfe_check_calls.specs.Calls.{IsCalls};
     ghost use Rattle.wfe_check_calls.specs.Sought.{seeks_by};
 

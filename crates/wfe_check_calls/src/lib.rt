@@ -1,11 +1,16 @@
-//! Checker: calls, their rows, cuts and blocks of scans (`seat.rt`). That is of each seat's calls whether one is under way,
-//! which it is, what it has done with its row, which rows it has cut, and how its scans come to blocks. An entry is judged by
-//! this alone, at a cost that does not grow with the record.
+//! Checker: calls, cuts, blocks of scans (`seat.rt`), steps of protections (`step_count.rt`). That is of each seat's calls
+//! whether one is under way, which it is, what it has done with its row, which rows it has cut, and how its scans come to
+//! blocks. An entry is judged by this alone, at a cost that does not grow with the record.
 #![tactic(auto)]
 
 mod blocks;
 mod calls;
+mod counts;
 mod grant;
 mod seat;
+mod seat_steps;
+mod step_count;
+mod word;
 
 pub use calls::Calls;
+pub use step_count::Steps;

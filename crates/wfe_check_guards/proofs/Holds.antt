@@ -18,7 +18,7 @@ use Rattle.laws.specs.records.Record.{Past}
 use Rattle.laws.specs.records.Record.Past.{Then}
 use Rattle.laws.specs.HoldLaw.{is_held, own_guard}
 use Rattle.laws.specs.StateAt.{birth_of, is_one_of, life_at, published_at, same_guard, seat_of, stands, standing_of, taken_at}
-use Rattle.laws_good.specs.Ranges.{EntryIn, GuardIn}
+use Rattle.laws.specs.Ranges.{EntryIn, GuardIn}
 use Rattle.wfe_check_rows.specs.declared.rows.Rows.{Rows}
 use Rattle.wfe_check_rows.specs.Rows.{IsRows}
 use Rattle.wfe_check_rows.specs.Shown.{life_of, row}

@@ -20,8 +20,8 @@ use Rattle.laws.specs.HoldLaw.{bare_ok, behind_ok, guards_rest, index_rests, ind
 use Rattle.laws.specs.Once.{is_slot}
 use Rattle.laws.specs.ScanLaw.{read_ok}
 use Rattle.laws.specs.StateAt.{began_of, hazard_of, head_at, is_bare, is_dequeue, is_index, next_at, published_at, same_span, same_value, seat_of, standing_of, stands, tail_at, value_of}
-use Rattle.laws_good.specs.Good.{named_indexes, rests_of}
-use Rattle.laws_good.specs.Ranges.{EntryIn, GuardIn}
+use Rattle.laws.specs.Good.{named_indexes, rests_of}
+use Rattle.laws.specs.Ranges.{EntryIn, GuardIn}
 use Rattle.wfe_check_rows.specs.declared.rows.Rows.{Rows}
 use Rattle.wfe_check_rows.specs.Rows.{IsRows}
 use Rattle.wfe_check_rows.specs.Shown.{root, row}

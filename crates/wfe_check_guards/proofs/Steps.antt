@@ -15,7 +15,7 @@ use Rattle.laws.specs.defs.declared.lifetime.Interval.{Interval}
 use Rattle.laws.specs.records.Record.{Past}
 use Rattle.laws.specs.records.Record.Past.{Start, Then}
 use Rattle.laws.specs.StateAt.{hazard_of, hazard_by, is_one_of, reserved_by, same_guard, standing_by, standing_of, stands, value_of, without_row}
-use Rattle.laws_good.specs.Ranges.{EntryIn, GuardIn}
+use Rattle.laws.specs.Ranges.{EntryIn, GuardIn}
 use Rattle.wfe_check_guards.specs.declared.protections.Protections.{Protections}
 use Rattle.wfe_check_guards.specs.Protections.{IsPlace, IsProtections}
 use Rattle.wfe_check_guards.specs.Shown.{hazard_in, hazards_after, helpers_after, place_of, rows_in, set_after, sets_after, sets_at, told_index, told_row, value_in, wholes_after, words_after}

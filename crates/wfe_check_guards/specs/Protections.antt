@@ -8,7 +8,7 @@ use Rattle.laws.specs.records.Record.{Past}
 use Rattle.laws.specs.HoldLaw.{is_held}
 use Rattle.laws.specs.NoReuse.{reuse_ok}
 use Rattle.laws.specs.StateAt.{hazard_of, is_one_of, stands, value_of}
-use Rattle.laws_good.specs.Ranges.{GuardIn}
+use Rattle.laws.specs.Ranges.{GuardIn}
 use Rattle.wfe_check_guards.specs.declared.protections.Protections.{Protections}
 use Rattle.wfe_check_guards.specs.Shown.{hazard_in, rows_in, value_in}
 

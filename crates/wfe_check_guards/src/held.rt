@@ -5,7 +5,7 @@ ghost use Rattle.laws.specs.words.declared.config.Config.{Config as Setting};
 ghost use Rattle.laws.specs.defs.Shown.{keeps as keeps_life};
 ghost use Rattle.laws.specs.records.Record.{Past};
 ghost use Rattle.laws.specs.records.Record.Past.{Then};
-ghost use Rattle.laws_good.specs.Ranges.{EntryIn};
+ghost use Rattle.laws.specs.Ranges.{EntryIn};
 ghost use Rattle.wfe_check_rows.specs.Rows.{IsRows};
 ghost use Rattle.wfe_check_rows.specs.Shown.{life_of};
 ghost use Rattle.wfe_check_guards.specs.Protections.{AllHeld, IsProtections, NoneReused};
@@ -14,8 +14,7 @@ ghost use Rattle.laws.specs.HoldLaw.{HeldThroughout, own_guard as guard_of};
 
 use crate::Protections;
 use crate::spans::{own_guard, same_guard, seat_of};
-use wfe_check_counts::{is_of_rows, keeps, of_row, of_span};
-use wfe_check_rows::Rows;
+use wfe_check_rows::{Rows, is_of_rows, keeps, of_row, of_span};
 use wfe_defs::{Event, Guard, Lifetime, Shown};
 
 // What is published keeps the lives of these rows.

@@ -7,8 +7,8 @@ ghost use Rattle.laws.specs.EraLaw.{guard_ok, kind_ok, rising_ok, single_ok};
 ghost use Rattle.laws.specs.HoldLaw.{bare_ok, behind_ok, links_ok};
 ghost use Rattle.laws.specs.ScanLaw.{read_ok};
 ghost use Rattle.laws.specs.StateAt.{began_of};
-ghost use Rattle.laws_good.specs.Good.{rests_of};
-ghost use Rattle.laws_good.specs.Ranges.{EntryIn};
+ghost use Rattle.laws.specs.Good.{rests_of};
+ghost use Rattle.laws.specs.Ranges.{EntryIn};
 ghost use Rattle.wfe_check_rows.specs.Rows.{IsRows};
 ghost use Rattle.wfe_check_guards.specs.All.{all_below};
 ghost use Rattle.wfe_check_guards.specs.Protections.{IsProtections, NoneReused};
@@ -19,8 +19,7 @@ use crate::spans::{
     is_alike, is_blank, is_index, is_one_era, is_one_interval, rises, same_interval, same_row,
     same_span, seat_of,
 };
-use wfe_check_counts::{is_of_rows, of_span};
-use wfe_check_rows::Rows;
+use wfe_check_rows::{Rows, is_of_rows, of_span};
 use wfe_defs::{Call, Event, Guard, Interval, Root};
 use wfe_words::SchemeKind;
 

@@ -5,14 +5,14 @@ ghost use Rattle.laws.specs.records.Record.{Past};
 ghost use Rattle.laws.specs.records.Record.Past.{Start, Then};
 ghost use Rattle.laws.specs.defs.declared.event.Guard.TheVariants.{Helper};
 ghost use Rattle.laws.specs.StateAt.{is_bare as is_bare_at, is_one_of, stands as stands_at, value_of};
-ghost use Rattle.laws_good.specs.Ranges.{EntryIn, GuardIn};
+ghost use Rattle.laws.specs.Ranges.{EntryIn, GuardIn};
 ghost use Rattle.wfe_words.specs.Config.{bad_field};
 ghost use Rattle.wfe_check_guards.specs.Protections.{IsProtections};
 ghost use Rattle.wfe_check_guards.specs.Shown.{bare_in, hazard_in, hazards_after, helpers_after, place as place_of, published_in, rows_in, set_after, sets_after, stands_in, told_index as index_of, told_row, value_in, wholes_after, words_after};
 
 use crate::row_set::RowSet;
 use std::alloc::Global;
-use wfe_check_counts::{is_of_rows, of_row, of_span};
+use wfe_check_rows::{is_of_rows, of_row, of_span};
 use wfe_defs::{Event, Guard, Interval, NoMemory, Shown};
 use wfe_words::Config;
 

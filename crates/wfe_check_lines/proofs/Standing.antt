@@ -3,7 +3,7 @@ use Rattle.std.proofs.Common.{ℕ, ◌≡◌, List, [], ◌++◌, Option, Some, 
 use Rattle.std.proofs.KnownBytes.{Consumes-nil, Consumes-trans}
 use Rattle.std.specs.Io.KnownBytes.{Consumes, IsAtEnd, Keeps}
 use Rattle.laws.specs.records.Record.{Past}
-use Rattle.laws_good.specs.Good.{Good}
+use Rattle.laws.specs.Good.{Good}
 use Rattle.wfe_words.specs.declared.config.Config.{Config}
 use Rattle.wfe_check_lines.specs.Ends.{Ends, Finishes, Gives, Goes, Reads, verdict_by}
 use Rattle.wfe_check_lines.specs.Progress.{IsAt}

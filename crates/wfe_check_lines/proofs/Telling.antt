@@ -5,7 +5,7 @@ use Rattle.laws.specs.records.Record.Past.{Start}
 use Rattle.wfe_words.specs.declared.config.Config.{Config}
 use Rattle.wfe_trace.specs.Words.{words}
 use Rattle.wfe_trace.specs.declared.reason.RecordReason.TheVariants as reasons
-use Rattle.wfe_record.specs.record_header.Reader.{header_in}
+use Rattle.wfe_record.specs.record_words.HeaderReader.{header_in}
 use Rattle.wfe_check_lines.specs.Kinds.{kind_in}
 use Rattle.wfe_check_lines.specs.Progress.{IsAt}
 use Rattle.wfe_check_lines.specs.Reading.{Stage, Told, told_after, told_at, with_header, with_kind}

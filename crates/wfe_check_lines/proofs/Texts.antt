@@ -19,7 +19,7 @@ use Rattle.wfe_record_words.proofs.Joined.{given-some, same_found, then_sound}
 use Rattle.wfe_record_words.proofs.Lines.{line_by_words, words_by_line}
 use Rattle.wfe_record_words.proofs.Parts.{below-read, below-word, chosen, long_reads, same_some}
 use Rattle.wfe_record_words.proofs.Plain.{long_plain, seat_plain}
-use Rattle.wfe_record_header.specs.Reader.{exactly}
+use Rattle.wfe_record_words.specs.HeaderReader.{exactly}
 use Rattle.wfe_record.specs.Entry.{IsEntry}
 use Rattle.wfe_record.specs.Reader.{entry_in}
 use Rattle.wfe_record.proofs.Entries.{entry_known, entry_read}

@@ -9,7 +9,7 @@ use Rattle.wfe_defs.specs.declared.event.Guard.{Guard}
 use Rattle.wfe_defs.specs.declared.event.Guard.TheVariants as guards
 use Rattle.wfe_defs.specs.declared.event.Root.{Root}
 use Rattle.wfe_defs.specs.declared.event.Root.TheVariants as roots
-use Rattle.laws_good.specs.Ranges.{CallIn, EntryIn, EventIn, GuardIn, RootIn, RowIn}
+use Rattle.laws.specs.Ranges.{CallIn, EntryIn, EventIn, GuardIn, RootIn, RowIn}
 use Rattle.wfe_record.specs.Entry.{IsEntry, IsEvent}
 use Rattle.wfe_record.specs.record_calls.Calls.{IsCall}
 use Rattle.wfe_record.specs.record_words.Within.{IsGuard, IsRoot, IsShown}

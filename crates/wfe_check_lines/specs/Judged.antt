@@ -1,6 +1,6 @@
 -- What a judge of entries answers of one entry more.
 use Rattle.std.specs.Prelude.{ℕ, Bool, true, false, ◌≡◌}
-use Rattle.laws_good.specs.Good.{Good}
+use Rattle.laws.specs.Good.{Good}
 use Rattle.laws.specs.records.Record.{Past}
 use Rattle.laws.specs.records.Record.Past.{Then}
 use Rattle.wfe_words.specs.declared.config.Config.{Config}

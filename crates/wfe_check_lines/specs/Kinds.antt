@@ -4,9 +4,9 @@ use Rattle.std.specs.Str.{bytes_eq}
 use Rattle.wfe_words.specs.declared.config.Config.{Config}
 use Rattle.wfe_defs.specs.declared.event.Event.{Event}
 use Rattle.wfe_record.specs.record_words.Reader.{Read, given, ◌>>=◌, done, first, whole, word, long, number_below}
-use Rattle.wfe_record.specs.record_header.Reader.{exactly}
+use Rattle.wfe_record.specs.record_words.HeaderReader.{exactly}
 use Rattle.wfe_record.specs.Reader.{entry_in}
-use Rattle.laws_good.specs.Ranges.{EntryIn}
+use Rattle.laws.specs.Ranges.{EntryIn}
 use Rattle.wfe_check_lines.specs.declared.kind.Kind.{Kind}
 use Rattle.wfe_check_lines.specs.declared.kind.Kind.TheVariants as kinds
 

@@ -1,4 +1,4 @@
-pub use Rattle.laws_good.specs as good
+pub use Rattle.laws.specs as good
 pub use Rattle.wfe_record.specs as records
 pub use Rattle.wfe_server_out.specs as out
 pub mod Ends

@@ -3,7 +3,7 @@ use Rattle.std.specs.Prelude.{ℕ, ◌≡◌, ◌+◌, Bool, if◌then◌else◌
 use Rattle.laws.specs.records.Record.{Past}
 use Rattle.laws.specs.records.Record.Past.{Start}
 use Rattle.wfe_words.specs.declared.config.Config.{Config}
-use Rattle.laws_good.specs.Good.{Good}
+use Rattle.laws.specs.Good.{Good}
 use Rattle.wfe_trace.specs.declared.reason.RecordReason.{RecordReason}
 use Rattle.wfe_check_lines.specs.Reading.{GoodAt, Stage, Told}
 use Rattle.wfe_check_lines.specs.Reading.Stage.{First, Body, Over}

@@ -1,13 +1,13 @@
 -- A record's text as its bytes come: its lines, and the entries that they tell.
 use Rattle.std.specs.Prelude.{ℕ, ◌+◌, ◌==◌, ◌++◌, nat_le, if◌then◌else◌, List, [], ◌∷◌, length, Option, Some, None, Result, Ok, Err}
-use Rattle.laws_good.specs.Good.{Good}
+use Rattle.laws.specs.Good.{Good}
 use Rattle.laws.specs.records.Record.{Past}
 use Rattle.laws.specs.records.Record.Past.{Start, Then}
 use Rattle.wfe_words.specs.declared.config.Config.{Config}
 use Rattle.wfe_trace.specs.Words.{words}
 use Rattle.wfe_trace.specs.declared.reason.RecordReason.{RecordReason}
 use Rattle.wfe_trace.specs.declared.reason.RecordReason.TheVariants as reasons
-use Rattle.wfe_record.specs.record_header.Reader.{header_in}
+use Rattle.wfe_record.specs.record_words.HeaderReader.{header_in}
 use Rattle.wfe_check_lines.specs.Kinds.{kind_in}
 use Rattle.wfe_check_lines.specs.declared.kind.Kind.{Kind}
 use Rattle.wfe_check_lines.specs.declared.kind.Kind.TheVariants as kinds

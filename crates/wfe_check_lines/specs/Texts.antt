@@ -7,8 +7,8 @@ use Rattle.wfe_trace.specs.Record.{bad_line, table_line, watch_line}
 use Rattle.wfe_trace.specs.Words.{words}
 use Rattle.wfe_record.specs.Entry.{IsEntry}
 use Rattle.wfe_record.specs.record_words.Within.{IsSeat, Small}
-use Rattle.wfe_record.specs.record_header.Header.{IsHeader}
-use Rattle.wfe_record.specs.record_header.Reader.{header_in}
+use Rattle.wfe_record.specs.record_words.Header.{IsHeader}
+use Rattle.wfe_record.specs.record_words.HeaderReader.{header_in}
 use Rattle.wfe_check_lines.specs.Kinds.{kind_in}
 use Rattle.wfe_check_lines.specs.declared.kind.Kind.{Kind}
 use Rattle.wfe_check_lines.specs.declared.kind.Kind.TheVariants as kinds

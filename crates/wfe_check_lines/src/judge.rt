@@ -1,7 +1,7 @@
 // Who judges a record's entries, one after another.
 ghost use Rattle.std.specs.Prelude.{◌≡◌, ℕ, IfOk, None};
-ghost use Rattle.laws_good.specs.Good.{Good};
-ghost use Rattle.laws_good.specs.Ranges.{EntryIn};
+ghost use Rattle.laws.specs.Good.{Good};
+ghost use Rattle.laws.specs.Ranges.{EntryIn};
 ghost use Rattle.laws.specs.records.Record.{Past};
 ghost use Rattle.laws.specs.records.Record.Past.{Start};
 ghost use Rattle.wfe_check_lines.specs.Judged.{Judged};

@@ -6,8 +6,7 @@ ghost use Rattle.wfe_check_lines.specs.Kinds.{KindIn, counted_in, counts as coun
 
 use wfe_defs::Event;
 use wfe_record::read_event;
-use wfe_record_header::exactly;
-use wfe_record_words::{Words, number_below};
+use wfe_record_words::{Words, exactly, number_below};
 use wfe_words::Config;
 
 /// What a line of a record after its first one is.

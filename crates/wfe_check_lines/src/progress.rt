@@ -3,7 +3,7 @@ ghost use Rattle.std.specs.Prelude.{◌≡◌, ℕ, IfOk, MatchResult};
 ghost use Rattle.laws.specs.records.Record.{Past};
 ghost use Rattle.laws.specs.records.Record.Past.{Start};
 ghost use Rattle.wfe_trace.specs.Words.{words};
-ghost use Rattle.wfe_record.specs.record_header.Reader.{header_in};
+ghost use Rattle.wfe_record.specs.record_words.HeaderReader.{header_in};
 ghost use Rattle.wfe_check_lines.specs.Kinds.{kind_in};
 ghost use Rattle.wfe_check_lines.specs.Reading.{Stage, Told, told_after, with_header, with_kind};
 ghost use Rattle.wfe_check_lines.specs.Progress.{IsAt, Opens, Tells};

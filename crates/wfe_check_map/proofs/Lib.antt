@@ -1,3 +1,6 @@
+pub mod ListStepsLemmas
+pub mod MarksLemmas
+pub mod SeatsLemmas
+pub mod SpansLemmas
 pub mod StepsLemmas
 pub mod ValuesLemmas
-pub mod MarksLemmas

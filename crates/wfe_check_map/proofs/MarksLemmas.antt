@@ -14,9 +14,9 @@ use Rattle.wfe_defs.specs.declared.fold.Change.{Change}
 use Rattle.wfe_defs.specs.Pairs.{pairs_after, value_in}
 use Rattle.wfe_check_map.specs.declared.bucket.Mark.{Mark}
 use Rattle.wfe_check_map.specs.Marks.{change_in, changes_in}
-use Rattle.wfe_check_counts.specs.Positions.{entries, since}
+use Rattle.wfe_check_rows.specs.Positions.{entries, since}
 use Rattle.wfe_check_map.specs.Told.{current_in, marks_of, numbered_in, row_in, value_of_key, with_mark}
-use Rattle.wfe_check_counts.proofs.Positions.{since-at_most}
+use Rattle.wfe_check_rows.proofs.Positions.{since-at_most}
 
 pushed_if : (put : Bool) (marks : List Mark) (mark : Mark) → changes_in (if put then marks ++ mark ∷ [] else marks) ≡ (if put then changes_in marks ++ change_in mark ∷ [] else changes_in marks)
 pushed_if true marks mark = map_push change_in marks mark

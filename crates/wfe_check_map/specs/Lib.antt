@@ -1,5 +1,8 @@
-pub mod Marks
-pub mod Steps
 pub mod Linked
-pub mod Told
+pub mod ListStanding
+pub mod Marks
+pub mod Scanning
+pub mod Seats
 pub mod Standing
+pub mod Steps
+pub mod Told

@@ -4,7 +4,7 @@ use Rattle.laws.specs.words.declared.config.Config.{Config}
 use Rattle.laws.specs.records.Record.{Past, begins}
 use Rattle.laws.specs.StateAt.{queued_of, taken_of, all_taken}
 use Rattle.wfe_check_map.specs.declared.contents.Contents.{Contents}
-use Rattle.wfe_check_counts.specs.Positions.{entries, since, ceased}
+use Rattle.wfe_check_rows.specs.Positions.{entries, since, ceased}
 use Rattle.wfe_check_map.specs.Told.{Waiting, marks_of}
 
 pub record IsQueue (queue : Waiting) (p : Past) : Type 0 where

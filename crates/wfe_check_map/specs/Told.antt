@@ -8,7 +8,7 @@ use Rattle.laws.specs.StateAt.{bucket_at, same_value}
 use Rattle.wfe_defs.specs.Pairs.{pairs_after, value_in}
 use Rattle.wfe_check_map.specs.declared.bucket.Mark.{Mark}
 use Rattle.wfe_check_map.specs.Marks.{changes_in}
-use Rattle.wfe_check_counts.specs.Positions.{entries}
+use Rattle.wfe_check_rows.specs.Positions.{entries}
 
 -- the change that an event tells of a bucket, after those before
 abbrev pub with_mark : (bucket : ℕ) → Event → (row : Option ℕ) → (stamp : ℕ) → List Mark → List Mark

@@ -6,7 +6,7 @@ ghost use Rattle.laws.specs.QueueLaw.{queue_ok, empty_ok};
 ghost use Rattle.laws.specs.StateAt.{began_of, bucket_of, count_of, row_at, same_value as is_same, value_at, was_current, was_empty as is_empty_since};
 ghost use Rattle.laws.specs.records.Record.{Past};
 ghost use Rattle.laws.specs.records.Record.Past.{Start, Then};
-ghost use Rattle.laws_good.specs.Ranges.{EntryIn};
+ghost use Rattle.laws.specs.Ranges.{EntryIn};
 ghost use Rattle.wfe_words.specs.Config.{bad_field};
 ghost use Rattle.wfe_check_map.specs.Standing.{IsContents};
 ghost use Rattle.wfe_check_map.specs.Told.{RootIs, begun_after, buckets_after, changed_at};
@@ -14,7 +14,7 @@ ghost use Rattle.wfe_check_map.specs.Told.{RootIs, begun_after, buckets_after, c
 use crate::bucket::{Bucket, Mark};
 use crate::queue::Queue;
 use std::alloc::Global;
-use wfe_check_counts::raised;
+use wfe_check_rows::raised;
 use wfe_defs::{Answer, Call, Event, NoMemory};
 use wfe_words::Config;
 

@@ -5,7 +5,7 @@ ghost use Rattle.wfe_check_map.specs.Told.{is_first, queue_after, queue_fits, qu
 use std::alloc::Global;
 use std::collections::VecDeque;
 use std::marker::Model;
-use wfe_check_counts::raised;
+use wfe_check_rows::raised;
 use wfe_defs::{Event, NoMemory};
 
 /// The values that wait, how many were queued and taken, and the stamp at which it ceased last that none

@@ -9,7 +9,7 @@ use Rattle.laws.specs.records.Record.{Past}
 use Rattle.laws.specs.EraLaw.{era_ok}
 use Rattle.laws.specs.Once.{free_ok, nexts_ok, order_ok, is_slot}
 use Rattle.laws.specs.StateAt.{next_at}
-use Rattle.laws_good.specs.Ranges.{EntryIn}
+use Rattle.laws.specs.Ranges.{EntryIn}
 use Rattle.wfe_check_rows.specs.declared.rows.Rows.{Rows}
 use Rattle.wfe_check_rows.specs.Rows.{IsRows}
 use Rattle.wfe_check_rows.specs.Shown.{frees, goes_on, right, ticks}

@@ -12,7 +12,7 @@ use Rattle.laws.specs.records.Record.{Past}
 use Rattle.laws.specs.records.Record.Past.{Start, Then}
 use Rattle.laws.specs.StateAt.{bucket_at, ticked_by, head_by, tail_by}
 use Rattle.laws.specs.Once.{due_by, due_cut, due_linked, CutDue}
-use Rattle.laws_good.specs.Ranges.{EntryIn}
+use Rattle.laws.specs.Ranges.{EntryIn}
 use Rattle.wfe_check_rows.specs.declared.row.Row.{Row}
 use Rattle.wfe_check_rows.specs.declared.rows.Rows.{Rows}
 use Rattle.wfe_check_rows.specs.Due.{due_of, due_left, link_after}

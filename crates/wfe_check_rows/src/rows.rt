@@ -6,7 +6,7 @@ ghost use Rattle.laws.specs.records.Record.Past.{Start, Then};
 ghost use Rattle.laws.specs.EraLaw.{era_ok};
 ghost use Rattle.laws.specs.Once.{free_ok, nexts_ok, order_ok};
 ghost use Rattle.laws.specs.StateAt.{birth_of, bucket_at, clock_of, head_at, head_by, life_at, next_at, retire_of, tail_at, tail_by, taken_at, ticked_by};
-ghost use Rattle.laws_good.specs.Ranges.{EntryIn};
+ghost use Rattle.laws.specs.Ranges.{EntryIn};
 ghost use Rattle.wfe_check_rows.specs.Due.{due_of, link_after};
 ghost use Rattle.wfe_check_rows.specs.Row.{free_row, row_after, rows_after, rows_at_start};
 ghost use Rattle.wfe_check_rows.specs.Rows.{IsRows};

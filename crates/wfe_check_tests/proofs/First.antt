@@ -3,8 +3,8 @@ use Rattle.std.proofs.Common.{ℕ, ◌≡◌, true, false, [], refl, sym, subst,
 use Rattle.laws.specs.Standing.{open_ok}
 use Rattle.laws.specs.records.Record.{Past}
 use Rattle.laws.specs.records.Record.Past.{Start, Then}
-use Rattle.laws_good.specs.Good.{Good}
-use Rattle.laws_good.proofs.Grows.{blank_good}
+use Rattle.laws.specs.Good.{Good}
+use Rattle.laws.proofs.Grows.{blank_good}
 use Rattle.wfe_check_lines.specs.Judged.{Judged}
 use Rattle.wfe_check_tests.specs.Blank.{IsBlank}
 use Rattle.wfe_words.specs.declared.config.Config.{Config}

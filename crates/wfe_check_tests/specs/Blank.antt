@@ -2,7 +2,7 @@
 use Rattle.std.specs.Prelude.{ℕ, ◌≡◌}
 use Rattle.laws.specs.records.Record.{Past}
 use Rattle.laws.specs.records.Record.Past.{Start}
-use Rattle.laws_good.specs.Good.{Good}
+use Rattle.laws.specs.Good.{Good}
 use Rattle.wfe_words.specs.declared.config.Config.{Config}
 
 abbrev pub IsBlank : {J : Type 0} → ℕ → Config → J → Past → Type 0

@@ -1,2 +1,2 @@
-pub use Rattle.laws_good.specs as good
+pub use Rattle.laws.specs as good
 pub mod Blank

@@ -6,7 +6,7 @@ use Rattle.laws.specs.records.Record.Past.{Start, Then}
 use Rattle.laws.specs.defs.declared.event.Event.{Event}
 use Rattle.laws.specs.defs.declared.event.Event.TheVariants as events
 use Rattle.laws.specs.StateAt.{clock_of, was_clock, ticked_by}
-use Rattle.wfe_check_counts.specs.Positions.{entries}
+use Rattle.wfe_check_rows.specs.Positions.{entries}
 
 -- an entry moves the clock by one at most
 pub ticks : (event : Event) (clock : ℕ) → (clock ≤ ticked_by event clock) × (ticked_by event clock ≤ clock + 1)

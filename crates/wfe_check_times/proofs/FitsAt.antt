@@ -17,15 +17,15 @@ use Rattle.laws.specs.EraLaw.{birth_ok, current_ok, is_copied, retire_ok, same_i
 use Rattle.laws.specs.HoldLaw.{behind_ok, has_had, is_last, is_of_root, sources_ok, was_last}
 use Rattle.laws.specs.ScanLaw.{blocks_of, room_ok, seeks_room}
 use Rattle.laws.specs.StateAt.{began_of, birth_of, clock_of, cuts, has_cut, is_one_of, is_row, standing_of, taken_at, ticked_by, value_of, was_clock, was_taken}
-use Rattle.laws_good.specs.Ranges.{EntryIn, EventIn}
+use Rattle.laws.specs.Ranges.{EntryIn, EventIn}
 use Rattle.wfe_check_times.specs.Grids.{cell_at}
-use Rattle.wfe_check_counts.specs.Positions.{since}
+use Rattle.wfe_check_rows.specs.Positions.{since}
 use Rattle.wfe_check_times.specs.Roots.{RowIn, last_row, looks, place_of}
 use Rattle.wfe_check_times.specs.Tests.{AreAmong, IsBirth, IsSource, IsSought, clock_at, clock_since, copied_at, cut_at, fits_at, had_at, room_at, upper_at, was_last_at, was_taken_at}
 use Rattle.wfe_check_times.specs.Times.{IsTimes, cut_clock, row_at, seat_at}
 use Rattle.wfe_check_times.specs.declared.rows.Row.{Row}
 use Rattle.wfe_check_times.specs.declared.times.Times.{Times}
-use Rattle.wfe_check_counts.proofs.Positions.{held_by_numbers}
+use Rattle.wfe_check_rows.proofs.Positions.{held_by_numbers}
 use Rattle.wfe_check_times.proofs.Clock.{clock-starts, clock_by_numbers}
 use Rattle.wfe_check_times.proofs.RowsAfter.{last-row}
 

@@ -12,12 +12,12 @@ use Rattle.wfe_defs.specs.declared.event.Root.{Root}
 use Rattle.wfe_defs.specs.declared.event.Root.TheVariants as roots
 use Rattle.laws.specs.HoldLaw.{has_had}
 use Rattle.laws.specs.StateAt.{began_of, bucket_at, bucket_by, head_by, tail_by, head_at, same_value, tail_at}
-use Rattle.wfe_check_counts.specs.Positions.{entries, since}
+use Rattle.wfe_check_rows.specs.Positions.{entries, since}
 use Rattle.wfe_check_times.specs.Roots.{looks, looks_at, place_of, root_row}
 use Rattle.wfe_check_times.specs.Steps.{IsFound, had_after}
 use Rattle.wfe_check_times.specs.Times.{IsHad, IsSeat}
 use Rattle.wfe_check_times.specs.declared.seats.Seat.{Seat}
-use Rattle.wfe_check_counts.proofs.Positions.{since-at_most}
+use Rattle.wfe_check_rows.proofs.Positions.{since-at_most}
 
 pub same_either : {A : Type 0} (b : Bool) (x : A) → (if b then x else x) ≡ x
 same_either true x = refl

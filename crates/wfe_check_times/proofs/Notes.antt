@@ -7,7 +7,7 @@ use Rattle.wfe_defs.specs.declared.event.Event.{Event}
 use Rattle.wfe_defs.specs.declared.event.Event.TheVariants as events
 use Rattle.laws.specs.StateAt.{ticked_by, began_of, clock_of}
 use Rattle.wfe_check_times.specs.Grids.{cell_at}
-use Rattle.wfe_check_counts.specs.Positions.{entries, since}
+use Rattle.wfe_check_rows.specs.Positions.{entries, since}
 use Rattle.wfe_check_times.specs.Roots.{RowIn, last_row, place_of}
 use Rattle.wfe_check_times.specs.Steps.{IsFound, IsNext, cut_after, had_after, row_after, seat_after}
 use Rattle.wfe_check_times.specs.Times.{IsHad, IsRow, IsSeat, IsSized, IsTimes, row_at, seat_at}

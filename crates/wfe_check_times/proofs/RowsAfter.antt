@@ -8,7 +8,7 @@ use Rattle.wfe_defs.specs.declared.event.Event.TheVariants as events
 use Rattle.wfe_defs.specs.declared.event.Root.TheVariants as roots
 use Rattle.laws.specs.HoldLaw.{is_last}
 use Rattle.laws.specs.StateAt.{clock_of, head_at, is_row, next_at, taken_at}
-use Rattle.wfe_check_counts.specs.Positions.{entries}
+use Rattle.wfe_check_rows.specs.Positions.{entries}
 use Rattle.wfe_check_times.specs.Roots.{last_row}
 use Rattle.wfe_check_times.specs.Steps.{cut_after, row_after}
 use Rattle.wfe_check_times.specs.Times.{IsRow, cut_clock}

@@ -6,7 +6,7 @@ use Rattle.wfe_words.specs.declared.config.Config.{Config}
 use Rattle.laws.specs.HoldLaw.{has_had, is_last}
 use Rattle.laws.specs.StateAt.{began_of, clock_of, cuts, taken_at}
 use Rattle.wfe_check_times.specs.Grids.{IsGrid, cell_at}
-use Rattle.wfe_check_counts.specs.Positions.{entries, since, ceased}
+use Rattle.wfe_check_rows.specs.Positions.{entries, since, ceased}
 use Rattle.wfe_check_times.specs.Roots.{RowIn, looks, place_of}
 use Rattle.wfe_check_times.specs.declared.rows.Row.{Row}
 use Rattle.wfe_check_times.specs.declared.seats.Seat.{Seat}

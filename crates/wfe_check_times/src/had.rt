@@ -1,6 +1,6 @@
 // What the roots of calls have had since these began.
 ghost use Rattle.std.specs.Prelude.{◌≡◌, ◌<◌, ◌≤◌, ◌+◌, ◌==◌, ◌&&◌, ℕ, None, Some, if◌then◌else◌, length};
-ghost use Rattle.laws_good.specs.Ranges.{EventIn};
+ghost use Rattle.laws.specs.Ranges.{EventIn};
 ghost use Rattle.wfe_check_times.specs.Grids.{IsGrid, cell_at};
 ghost use Rattle.wfe_check_times.specs.Roots.{RowIn, looks_at as does_look_at, place_of as place};
 ghost use Rattle.wfe_check_times.specs.Steps.{had_after};

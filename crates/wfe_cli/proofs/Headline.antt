@@ -19,10 +19,10 @@ use Rattle.wfe_server_run.proofs.all.Whole.{histories_are_lawful}
 use Rattle.wfe_server.specs.server_replay.history.Record.{Past}
 use Rattle.wfe_server.specs.server_replay.history.Record.Past.{Start, Then}
 use Rattle.wfe_trace.specs.words.Place.{is_valid}
-use Rattle.law_lists.specs.Counted.{waiting_of}
-use Rattle.law_lists.specs.watch.Lists.{lists_after, no_lists, waiting_at, waiting_in}
-use Rattle.law_lists.proofs.Fitting.{records_count_lists}
-use Rattle.law_lists.proofs.watch.ListsLemmas.{lists_told-append}
+use Rattle.law_printed.specs.ListCounts.Counted.{waiting_of}
+use Rattle.law_printed.specs.watch.Lists.{lists_after, no_lists, waiting_at, waiting_in}
+use Rattle.law_printed.proofs.ListCounts.Fitting.{records_count_lists}
+use Rattle.law_printed.proofs.watch.ListsLemmas.{lists_told-append}
 use Rattle.wfe_cli.specs.Headline.{AreLawful, GivenLawful, HasLaws, IsBroken, Keeps, Promises, Summarizes, entries_in}
 use Rattle.wfe_core.specs.Locals.{stays}
 use Rattle.wfe_defs.specs.declared.call.Call.{Call}

@@ -15,8 +15,8 @@ use Rattle.wfe_server.specs.server_replay.Replay.{IsCutOff, IsRefused, IsReplaye
 use Rattle.wfe_server.specs.server_replay.Sunk.{Outside}
 use Rattle.wfe_server.specs.server_replay.Trace.{Progress}
 use Rattle.wfe_server_run.specs.all.Whole.{IsLawful}
-use Rattle.law_lists.specs.laws.Lists.{list_of}
-use Rattle.law_lists.specs.watch.Lists.{waiting_at}
+use Rattle.law_printed.specs.laws.Lists.{list_of}
+use Rattle.law_printed.specs.watch.Lists.{waiting_at}
 use Rattle.wfe_defs.specs.declared.call.Call.{Call}
 
 -- the history of the lines is lawful, and what is put out of it tells the entries of its record, in order; and of each seat a line of

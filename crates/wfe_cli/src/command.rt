@@ -15,7 +15,7 @@ use std::alloc::Global;
 use std::thread::Threads;
 use wfe_check::check;
 use wfe_cli_job::{Job, job_of};
-use wfe_drive_table::TableCells;
+use wfe_drive_cells::TableCells;
 use wfe_leave::LeaveRig;
 use wfe_outside::{Sink, Source, Watcher};
 use wfe_server::{generate, replay};

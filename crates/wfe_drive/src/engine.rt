@@ -3,7 +3,7 @@ ghost use Rattle.std.specs.Prelude.{◌≡◌, ◌<◌, [], IfOk, false, true};
 ghost use Rattle.wfe_core.specs.words.Place.{is_valid};
 ghost use Rattle.wfe_drive_cells.specs.Unit.{IsUnit, after_start, is_gone, seat_at};
 ghost use Rattle.wfe_core.specs.Locals.{busy_in, may_begin, stays};
-ghost use Rattle.wfe_drive_reached.specs.Reached.{first_table, units_left};
+ghost use Rattle.wfe_drive.specs.Reached.{first_table, units_left};
 
 use crate::Rig;
 use std::alloc::Global;
@@ -65,7 +65,7 @@ pub trait Engine: Sized + Drop {
 
 impl<C: MakeCells> Engine for Rig<C> {
     ghost use Rattle.wfe_core.specs.Locals.{stays};
-    ghost use Rattle.wfe_drive_reached.specs.Bare.{bare};
+    ghost use Rattle.wfe_drive.specs.Bare.{bare};
 
     ghost table = { λ rig. bare rig };
 

@@ -7,9 +7,9 @@ ghost use Rattle.wfe_drive_cells.specs.Unit.{IsUnit, after_start, may_adopt, sea
 ghost use Rattle.wfe_core.specs.Locals.{busy_in, may_begin, stays};
 ghost use Rattle.wfe_core.specs.Steps.{first_phase};
 ghost use Rattle.wfe_core.specs.declared.post.Post.{Post};
-ghost use Rattle.wfe_drive_reached.specs.Bare.{bare, is_place};
-ghost use Rattle.wfe_drive_reached.specs.Reached.{first_table, units_left};
-ghost use Rattle.wfe_drive_reached.specs.Leaving.{after_clear, after_join, after_place};
+ghost use Rattle.wfe_drive.specs.Bare.{bare, is_place};
+ghost use Rattle.wfe_drive.specs.Reached.{first_table, units_left};
+ghost use Rattle.wfe_drive.specs.Leaving.{after_clear, after_join, after_place};
 ghost use Rattle.wfe_drive_seat.specs.Leaving.{lets_go, told_let};
 ghost use Rattle.wfe_drive_seat.specs.Seats.{Suits, engaged_phase, is_engaged};
 
@@ -51,8 +51,8 @@ pub struct Rig<C: Cells> {
 
 impl<C: Cells> Model for Rig<C> {
     ghost use Rattle.wfe_drive_cells.specs.Unit.{TableView};
-    ghost use Rattle.wfe_drive_reached.specs.Bare.{bare};
-    ghost use Rattle.wfe_drive_reached.specs.Reached.{IsReached};
+    ghost use Rattle.wfe_drive.specs.Bare.{bare};
+    ghost use Rattle.wfe_drive.specs.Reached.{IsReached};
 
     ghost Value = { TableView };
 

@@ -10,8 +10,7 @@ use std::alloc::Global;
 use std::process::Abort;
 use std::test::Fail;
 use wfe_core::{Layout, NoMemory, Op};
-use wfe_drive_cells::{Cells, MakeCells, PlainCells};
-use wfe_drive_table::TableCells;
+use wfe_drive_cells::{Cells, MakeCells, PlainCells, TableCells};
 
 fn made<C: MakeCells>(alloc: Global, layout: Layout) -> Result<C, NoMemory>
     requires { IsTrue (is_valid layout) }

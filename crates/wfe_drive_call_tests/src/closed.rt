@@ -2,7 +2,7 @@
 // start words of a small table, and of the words that puts leave.
 ghost use Rattle.std.specs.Prelude.{◌≡◌, IfOk, length};
 ghost use Rattle.wfe_core.specs.words.Place.{words};
-ghost use Rattle.wfe_drive_closed.specs.Closing.{IsReached};
+ghost use Rattle.wfe_table.specs.ClosedTable.{IsReached};
 
 use crate::atomic::load;
 use crate::calls::{done, make, moved};
@@ -12,7 +12,7 @@ use std::process::Abort;
 use std::test::Fail;
 use wfe_core::{Answer, Call, ClockMove, Layout, NoMemory};
 use wfe_drive_cells::{MakeCells, PlainCells};
-use wfe_drive_closed::{Closed, ClosedRoom};
+use wfe_table::{Closed, ClosedRoom};
 
 // What a table that is closed with these words holds.
 fn read(alloc: Global, layout: Layout, cells: &mut PlainCells) -> Result<Closed, NoMemory>

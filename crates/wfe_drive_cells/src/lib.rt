@@ -1,9 +1,11 @@
-//! Words by number, and that they are the model's memory (`Bridge.antt`). With the operations on them; the model has its words
-//! by place.
+//! Words by number, and that they are the model's memory (`Bridge.antt`); a replay's, atomic (`table.rt`). With the operations
+//! on them; the model has its words by place.
 #![tactic(auto)]
 
 mod cells;
 mod laws;
+mod table;
 
 pub use cells::{Cells, MakeCells, PlainCells, start_words};
 pub use laws::{calls_make_units, operations_make_steps, units_are_steps, words_lie_by_place};
+pub use table::TableCells;

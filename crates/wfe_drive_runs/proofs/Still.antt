@@ -1,8 +1,8 @@
 -- A walk over the rows, a move of the clock and a scan change nothing of what stands.
 use Rattle.std.proofs.Common.{Bool, List, None, Option, Some, ap, false, refl, subst, sym, true, ℕ, ◌+◌, ◌∙◌, ◌∷◌, ◌≡◌, [], ◌==◌, if◌then◌else◌, nat_lt}
-use Rattle.wfe_call_tidy.specs.declared.tidy.Tidy.{Tidy}
-use Rattle.wfe_call_tidy.specs.declared.tidy.Tidy.TheVariants as ats
-use Rattle.wfe_call_tidy.specs.Tidies.{tidy_phase, tidy_turn}
+use Rattle.wfe_call_rounds.specs.declared.tidy.Tidy.{Tidy}
+use Rattle.wfe_call_rounds.specs.declared.tidy.Tidy.TheVariants as ats
+use Rattle.wfe_call_rounds.specs.Tidies.{tidy_phase, tidy_turn}
 use Rattle.wfe_core.specs.defs.declared.call.ClockMove.{ClockMove}
 use Rattle.wfe_core.specs.defs.declared.event.Event.{Event}
 use Rattle.wfe_core.specs.defs.declared.event.Event.TheVariants as events

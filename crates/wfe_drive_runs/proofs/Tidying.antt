@@ -1,8 +1,8 @@
 -- Where a tidying stands, whatever comes after it.
 use Rattle.std.proofs.Common.{Bool, List, None, Option, Some, ap, false, refl, true, ℕ, ◌∙◌, ◌≡◌}
-use Rattle.wfe_call_tidy.specs.declared.tidy.Tidy.{Tidy}
-use Rattle.wfe_call_tidy.specs.declared.tidy.Tidy.TheVariants as ats
-use Rattle.wfe_call_tidy.specs.Tidies.{IsTidyPlausible, IsTidyReady, tidy_op_ready, tidy_phase, tidy_turn}
+use Rattle.wfe_call_rounds.specs.declared.tidy.Tidy.{Tidy}
+use Rattle.wfe_call_rounds.specs.declared.tidy.Tidy.TheVariants as ats
+use Rattle.wfe_call_rounds.specs.Tidies.{IsTidyPlausible, IsTidyReady, tidy_op_ready, tidy_phase, tidy_turn}
 use Rattle.wfe_core.specs.CallReady.{IsCallPlausible, IsCallReady, scan_plausible, scan_ready}
 use Rattle.wfe_core.specs.defs.declared.call.ClockMove.{ClockMove}
 use Rattle.wfe_core.specs.defs.declared.call.ClockMove.TheVariants.{Still}

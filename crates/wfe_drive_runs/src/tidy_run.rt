@@ -9,7 +9,7 @@ ghost use Rattle.wfe_core.specs.words.Schemes.{moves as do_move};
 ghost use Rattle.wfe_drive_words.specs.Called.{Here, at_phase};
 ghost use Rattle.wfe_drive_runs.specs.Pieces.{ScansSo};
 
-use wfe_call_tidy::Tidy;
+use wfe_call_rounds::Tidy;
 use wfe_core::{ClockMove, Desk, Post, SchemeKind, Told};
 use wfe_drive_words::{Words, step};
 

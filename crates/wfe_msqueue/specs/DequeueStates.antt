@@ -7,7 +7,7 @@ use Rattle.wfe_core.specs.Calls.{Dequeues, Opens, FollowsHead, ClearsNext, Phase
 use Rattle.wfe_core.specs.Rounds.{round}
 use Rattle.wfe_call_rounds.specs.iface.Schemes.{RoundPhases}
 use Rattle.wfe_call_rounds.specs.Rounds.{opening_of, closing_of, close_phase}
-use Rattle.wfe_call_tidy.specs.Reclaims.{reclaim_phase}
+use Rattle.wfe_call_rounds.specs.Reclaims.{reclaim_phase}
 use Rattle.wfe_msqueue.specs.declared.dequeue_at.Kept.{Kept}
 use Rattle.wfe_msqueue.specs.declared.dequeue_state.State.{State}
 use Rattle.wfe_msqueue.specs.declared.dequeue_state.State.TheVariants as states

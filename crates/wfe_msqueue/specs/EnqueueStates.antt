@@ -7,7 +7,7 @@ use Rattle.wfe_slots.specs.Phases.{allocate_phase, give_up_phase}
 use Rattle.wfe_slots.specs.Writes.{write_phase}
 use Rattle.wfe_call_rounds.specs.iface.Schemes.{RoundPhases}
 use Rattle.wfe_call_rounds.specs.Rounds.{opening_of, closing_of, close_phase}
-use Rattle.wfe_call_tidy.specs.Tidies.{tidy_phase}
+use Rattle.wfe_call_rounds.specs.Tidies.{tidy_phase}
 use Rattle.wfe_msqueue.specs.declared.enqueue_state.State.{State}
 use Rattle.wfe_msqueue.specs.declared.enqueue_state.State.TheVariants as states
 use Rattle.wfe_msqueue.specs.declared.enqueue_state.Fill.{Fill}

@@ -17,8 +17,7 @@ ghost use Rattle.wfe_msqueue.specs.Turns.{Keeps, stood};
 use super::dequeue_at::{DequeueEnd, Dequeued, Item, Kept, followed, reached};
 use super::dequeue_state::{Leave, State};
 use super::then::Then;
-use wfe_call_rounds::{Follow, Rounds, Scheme, close, open, take_close, take_open};
-use wfe_call_tidy::Reclaim;
+use wfe_call_rounds::{Follow, Reclaim, Rounds, Scheme, close, open, take_close, take_open};
 use wfe_core::{Answer, CallMachine, Desk, Machine, Op, Post, Root, Told};
 
 /// Takes the item at the queue's front (Michael and Scott 1996): it protects the head's row and the

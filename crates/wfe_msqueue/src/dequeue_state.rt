@@ -1,7 +1,6 @@
 // Where a dequeue stands.
 use super::dequeue_at::DequeueAt;
-use wfe_call_rounds::{Closing, Opening};
-use wfe_call_tidy::Reclaim;
+use wfe_call_rounds::{Closing, Opening, Reclaim};
 use wfe_core::{FollowEnd, Machine, ProtectEnd};
 
 // Before its first step, or before another round; the beginning of a round; the work on the rows; the

@@ -18,8 +18,7 @@ ghost use Rattle.wfe_msqueue.specs.Turns.{Keeps, stood};
 use super::enqueue_at::{EnqueueEnd, Enqueued, Kept};
 use super::enqueue_state::{Fill, Leave, State};
 use super::then::Then;
-use wfe_call_rounds::{Rounds, Scheme, close, open, take_close, take_open};
-use wfe_call_tidy::Tidy;
+use wfe_call_rounds::{Rounds, Scheme, Tidy, close, open, take_close, take_open};
 use wfe_core::{Answer, CallMachine, Desk, Machine, Op, Post, Root, Told};
 use wfe_slots::{Allocate, GiveUp};
 

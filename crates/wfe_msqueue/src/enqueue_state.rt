@@ -1,7 +1,6 @@
 // Where an enqueue stands.
 use super::enqueue_at::{EnqueueAt, EnqueueEnd};
-use wfe_call_rounds::{Closing, Opening};
-use wfe_call_tidy::Tidy;
+use wfe_call_rounds::{Closing, Opening, Tidy};
 use wfe_core::{Answer, Machine, ProtectEnd};
 use wfe_slots::{Allocate, GiveUp, WriteRow};
 

@@ -14,7 +14,7 @@ use Rattle.wfe_record_words.proofs.Joined.{Reads, then_sound, step_found, by_val
 use Rattle.wfe_record_words.proofs.Lines.{line_by_words, words_by_line, whole_sound, whole_found}
 use Rattle.wfe_record_words.proofs.Parts.{seat_reads}
 use Rattle.wfe_record_words.proofs.Plain.{long_plain, short_plain, seat_plain, index_plain, slot_plain, bucket_plain, guard-plain, root-plain, shown-plain, span-plain, value-plain}
-use Rattle.wfe_record_answers.proofs.Plain.{answer-plain}
+use Rattle.wfe_record_calls.proofs.PlainAnswers.{answer-plain}
 use Rattle.wfe_record_calls.proofs.Plain.{call-plain}
 use Rattle.wfe_record.specs.Entry.{IsEvent, IsEntry}
 use Rattle.wfe_record.specs.Reader.{entry, entry_in, event}

@@ -7,12 +7,12 @@ use Rattle.wfe_trace.specs.Record.{event_words}
 use Rattle.wfe_record_words.specs.Within.{Small}
 use Rattle.wfe_record.specs.Entry.{IsEvent}
 use Rattle.wfe_record_words.specs.Reader.{unknown}
-use Rattle.wfe_record_contents.specs.Reader.{contents_event_table, leaving_event_table, contents_event_by, leaving_event_by}
+use Rattle.wfe_record_words.specs.ContentsReader.{contents_event_table, leaving_event_table, contents_event_by, leaving_event_by}
 use Rattle.wfe_record.specs.Reader.{event_table, hazard_event_table, row_event_table, standing_event_table, hazard_event_by, row_event_by, standing_event_by, event_by, event}
 use Rattle.wfe_record_words.proofs.Joined.{Reads, Rows, SoundBy, row_one, row_two, row_three, row_four, row_since, by_sound, unknown_sound, named_sound}
 use Rattle.wfe_record_words.proofs.Found.{one_found, two_found, three_found, four_found, one_since, two_since, three_since}
 use Rattle.wfe_record_words.proofs.Parts.{long_reads, short_reads, seat_reads, index_reads, slot_reads, bucket_reads, value_reads, shown_reads, span_reads, guard_reads, root_reads}
-use Rattle.wfe_record_answers.proofs.Answers.{answer_reads}
+use Rattle.wfe_record_calls.proofs.Answers.{answer_reads}
 use Rattle.wfe_record_calls.proofs.Calls.{call_reads}
 
 event_rows : (version : ℕ) (config : Config) → Small config → Rows (event_table version config) event_words (IsEvent version config)

@@ -6,7 +6,7 @@ use Rattle.wfe_defs.specs.declared.event.Event.TheVariants as events
 use Rattle.wfe_trace.specs.Fits.{NumberFits, ValueFits}
 use Rattle.wfe_trace.specs.Record.{event_line}
 use Rattle.wfe_record_words.specs.Within.{IsShort, IsSeat, IsIndex, IsSlot, IsBucket, Since, IsGuard, IsShown, IsSpan, IsRoot}
-use Rattle.wfe_record_answers.specs.Answers.{IsAnswer}
+use Rattle.wfe_record_calls.specs.Answers.{IsAnswer}
 use Rattle.wfe_record_calls.specs.Calls.{IsCall}
 
 -- an event that records of the version have, with each number in its range in a record of the setting

@@ -4,9 +4,9 @@ use Rattle.wfe_words.specs.declared.config.Config.{Config}
 use Rattle.wfe_defs.specs.declared.event.Event.{Event}
 use Rattle.wfe_defs.specs.declared.event.Event.TheVariants as events
 use Rattle.wfe_record_words.specs.Reader.{Read, ◌>>=◌, done, one, two, three, first, whole, long, short, seat, index, slot, shown, span, guard, root, Named, by, since}
-use Rattle.wfe_record_answers.specs.Reader.{answer}
+use Rattle.wfe_record_calls.specs.AnswerReader.{answer}
 use Rattle.wfe_record_calls.specs.Reader.{call}
-use Rattle.wfe_record_contents.specs.Reader.{contents_event_by}
+use Rattle.wfe_record_words.specs.ContentsReader.{contents_event_by}
 
 -- the events of calls, of the clock and of guards
 abbrev pub event_table : ℕ → Config → List (Named Event)

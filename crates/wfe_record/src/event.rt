@@ -7,10 +7,8 @@ ghost use Rattle.wfe_record.specs.Entry.{IsEntry};
 ghost use Rattle.wfe_record.specs.Reader.{event as event_of, event_by, entry as entry_of, entry_in as entry_by, hazard_event_by, row_event_by, standing_event_by};
 
 use wfe_defs::Event;
-use wfe_record_answers::read_answer;
-use wfe_record_calls::read_call;
-use wfe_record_contents::read_contents;
-use wfe_record_words::{Words, since};
+use wfe_record_calls::{read_answer, read_call};
+use wfe_record_words::{Words, read_contents, since};
 use wfe_words::Config;
 
 // An event of a protection, or one of those that follow.

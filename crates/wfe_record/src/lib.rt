@@ -5,4 +5,4 @@
 mod event;
 
 pub use event::read_event;
-pub use wfe_record_header::{LAST_VERSION, read_header};
+pub use wfe_record_words::{LAST_VERSION, read_header};

@@ -1,2 +1,4 @@
+pub mod AnswerReader
+pub mod Answers
 pub mod Calls
 pub mod Reader

@@ -1,5 +1,6 @@
 pub mod Cuts
 pub mod Found
+pub mod Headers
 pub mod Joined
 pub mod Lines
 pub mod Parts

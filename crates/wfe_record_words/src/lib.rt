@@ -1,8 +1,12 @@
-//! Reads the words of a record's line (`words.rt`, `Within.antt`). It reads one after the other, and what single words say:
-//! numbers, guards, roots and values, each seat, index, row and bucket in its range. Eras, versions, keys, values and counts
-//! may be any number that their type has. No call here takes memory.
+//! Reads a record's words (`words.rt`), its first line (`header.rt`), events of keys and lists (`contents.rt`). It reads one
+//! after the other, and what single words say: numbers, guards, roots and values, each seat, index, row and bucket in its
+//! range. Eras, versions, keys, values and counts may be any number that their type has. No call here takes memory.
 #![tactic(auto)]
 
+mod contents;
+mod header;
 mod words;
 
+pub use contents::read_contents;
+pub use header::{LAST_VERSION, exactly, read_header};
 pub use words::{Words, number_below, since};

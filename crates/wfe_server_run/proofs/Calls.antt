@@ -2,14 +2,14 @@
 use Rattle.std.proofs.Common.{List, ap, length, min, refl, take, ℕ, ◌++◌, ◌∙◌, ◌≡◌}
 use Rattle.std.proofs.lemmas.List.{drop_min, take_min}
 use Rattle.std.specs.Prelude.{drop}
-use Rattle.wfe_drive_shared.specs.all.RunLaw.{backs, events_of}
+use Rattle.wfe_table.specs.all.RunLaw.{backs, events_of}
 use Rattle.wfe_core.specs.Desks.{Notes}
 use Rattle.wfe_core.specs.defs.declared.call.Answer.{Answer}
 use Rattle.wfe_core.specs.defs.declared.call.Call.{Call}
 use Rattle.wfe_core.specs.defs.declared.event.Event.{Event}
 use Rattle.wfe_core.specs.words.declared.layout.Layout.{Layout}
-use Rattle.wfe_drive_shared.specs.Calls.{IsMade, group_of}
-use Rattle.wfe_drive_shared.specs.Public.{SeatNow}
+use Rattle.wfe_table.specs.Calls.{IsMade, group_of}
+use Rattle.wfe_table.specs.Public.{SeatNow}
 use Rattle.wfe_server_run.specs.Working.{IsCalled}
 
 -- the early ones of the slots that went back, and the others

@@ -5,8 +5,8 @@ use Rattle.std.specs.Fmt.{decimal}
 use Rattle.std.specs.Prelude.{map}
 use Rattle.laws.specs.StateAt.{Filling}
 use Rattle.wfe_core.specs.defs.Pairs.{Pair}
-use Rattle.wfe_drive_shared.specs.closed.declared.closed.BucketRow.{BucketRow}
-use Rattle.wfe_drive_shared.specs.closed.Contents.{filling_of}
+use Rattle.wfe_table.specs.declared.closed.BucketRow.{BucketRow}
+use Rattle.wfe_table.specs.Contents.{filling_of}
 use Rattle.wfe_server_run.specs.Text.{bucket_lines, bucket_text, pair_words, queue_line, queue_lines, used_line, used_lines}
 use Rattle.wfe_trace.specs.Record.{spaced}
 

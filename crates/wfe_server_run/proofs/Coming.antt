@@ -9,9 +9,9 @@ use Rattle.std.specs.List.{range_with_len}
 use Rattle.std.specs.Prelude.{All, map}
 use Rattle.std.specs.declared.alloc.Global.{Global}
 use Rattle.std.specs.declared.vec.Vec.{Vec}
-use Rattle.wfe_drive_shared.specs.all.RunLaw.{AtClose, call_made, events_of_all}
+use Rattle.wfe_table.specs.all.RunLaw.{AtClose, call_made, events_of_all}
 use Rattle.laws.specs.StateAt.{Filling}
-use Rattle.wfe_drive_shared.specs.all.Runs.{logs_of}
+use Rattle.wfe_table.specs.all.Runs.{logs_of}
 use Rattle.wfe_core.proofs.Ranges.{bounds_of}
 use Rattle.wfe_core.specs.Locals.{Group}
 use Rattle.wfe_core.specs.defs.declared.call.Call.{Call}
@@ -21,16 +21,16 @@ use Rattle.wfe_core.specs.words.Place.{Place, layout_of}
 use Rattle.wfe_core.specs.words.Place.Place.{Bucket as BucketPlace, Row}
 use Rattle.wfe_core.specs.words.declared.config.Config.{Config}
 use Rattle.wfe_core.specs.words.declared.layout.Layout.{Layout}
-use Rattle.wfe_drive_shared.specs.closed.Contents.{IsReadable, filling_by, filling_in, filling_of, pair_in}
-use Rattle.wfe_drive_shared.specs.closed.declared.closed.BucketRow.{BucketRow}
-use Rattle.wfe_drive_shared.specs.closed.declared.closed.Closed.{Closed}
-use Rattle.wfe_drive_shared.proofs.closed.Closing.{reached_readable}
-use Rattle.wfe_drive_shared.specs.rule.drive_cells.Memory.{memory}
-use Rattle.wfe_drive_shared.specs.rule.Rule.{Follows}
-use Rattle.wfe_drive_shared.specs.rule.Views.{Track, seat_of}
-use Rattle.wfe_drive_shared.specs.Closing.{IsLeft, closing_of, track_of}
-use Rattle.wfe_drive_shared.proofs.LeftWords.{closing_is}
-use Rattle.wfe_drive_shared.specs.Public.{IsOf, SeatNow, TableNow, new_seat}
+use Rattle.wfe_table.specs.Contents.{IsReadable, filling_by, filling_in, filling_of, pair_in}
+use Rattle.wfe_table.specs.declared.closed.BucketRow.{BucketRow}
+use Rattle.wfe_table.specs.declared.closed.Closed.{Closed}
+use Rattle.wfe_table.proofs.ClosedTable.{reached_readable}
+use Rattle.wfe_table.specs.rule.drive_cells.Memory.{memory}
+use Rattle.wfe_table.specs.rule.Rule.{Follows}
+use Rattle.wfe_table.specs.rule.Views.{Track, seat_of}
+use Rattle.wfe_table.specs.Closing.{IsLeft, closing_of, track_of}
+use Rattle.wfe_table.proofs.LeftWords.{closing_is}
+use Rattle.wfe_table.specs.Public.{IsOf, SeatNow, TableNow, new_seat}
 use Rattle.wfe_server_run.specs.history.History.{Item, record_of, world_of}
 use Rattle.wfe_server_run.specs.history.Record.{Past}
 use Rattle.wfe_server_run.specs.Comes.{Comes, layout_by, lists_in}

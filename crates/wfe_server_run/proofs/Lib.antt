@@ -1,4 +1,4 @@
-pub use Rattle.wfe_drive_shared.proofs.all as all
+pub use Rattle.wfe_table.proofs.all as all
 pub mod Begun
 pub mod Calls
 pub mod ClosedLines

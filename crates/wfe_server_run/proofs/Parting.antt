@@ -9,7 +9,7 @@ use Rattle.std.specs.declared.vec.Vec.{Vec}
 use Rattle.wfe_core.specs.defs.declared.call.Call.{Call}
 use Rattle.wfe_core.specs.defs.declared.event.Event.{Event}
 use Rattle.wfe_core.specs.words.declared.config.Config.{Config}
-use Rattle.wfe_drive_shared.specs.Public.{SeatNow, TableNow, new_seat, new_seats}
+use Rattle.wfe_table.specs.Public.{SeatNow, TableNow, new_seat, new_seats}
 use Rattle.wfe_server_run.specs.Comes.{lists_in}
 use Rattle.wfe_server_run.specs.Fitting.{AllBegin, MayBegin}
 use Rattle.wfe_server_run.specs.Parted.{IsParted, IsReady}

@@ -1,6 +1,6 @@
 -- What a status says of a run, by how its parts ended.
 use Rattle.std.proofs.Common.{List, None, Option, drop, inl, inr, length, refl, subst, sym, take, ℕ, ◌++◌, ◌≡◌, ◌⊎◌}
-use Rattle.wfe_drive_shared.specs.all.RunLaw.{AtClose}
+use Rattle.wfe_table.specs.all.RunLaw.{AtClose}
 use Rattle.wfe_outside.specs.declared.watcher.WatchRow.{WatchRow}
 use Rattle.wfe_outside.specs.defs.declared.call.Call.{Call}
 use Rattle.wfe_outside.specs.defs.declared.event.Event.{Event}

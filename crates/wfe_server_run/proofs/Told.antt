@@ -1,12 +1,12 @@
 -- The events of a call, added one after another; and those of calls.
 use Rattle.std.proofs.Common.{Err, List, Ok, OnOk, Result, [], ap, get_or, length, refl, sym, take, ℕ, ◌++◌, ◌+◌, ◌<◌, ◌∙◌, ◌∷◌, ◌≡◌}
 use Rattle.std.proofs.lemmas.List.{append-nil, append_assoc, map-append, take_more}
-use Rattle.wfe_drive_shared.specs.all.RunLaw.{backs, call_made, events_of, events_of_all}
+use Rattle.wfe_table.specs.all.RunLaw.{backs, call_made, events_of, events_of_all}
 use Rattle.wfe_core.specs.Locals.{Group}
 use Rattle.wfe_core.specs.defs.declared.call.Call.{Call}
 use Rattle.wfe_core.specs.defs.declared.event.Event.{Event}
 use Rattle.wfe_core.specs.defs.declared.event.Event.TheVariants as events
-use Rattle.wfe_drive_shared.specs.rule.Views.{Track}
+use Rattle.wfe_table.specs.rule.Views.{Track}
 use Rattle.wfe_server_run.specs.Working.{IsCalled, IsWorked}
 
 backs-append : (xs ys : List ℕ) → backs (xs ++ ys) ≡ backs xs ++ backs ys

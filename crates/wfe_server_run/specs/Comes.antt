@@ -1,8 +1,8 @@
 -- What a run comes to: a history of the table in which each seat has made its script, the events of those calls, and the table's end.
 use Rattle.std.specs.Prelude.{List, map, ◌≡◌}
 use Rattle.std.specs.declared.vec.Vec.{Vec}
-use Rattle.wfe_drive_shared.specs.all.RunLaw.{AtClose, IsRun}
-use Rattle.wfe_drive_shared.specs.all.Runs.{AtRest, at_close, logs_of}
+use Rattle.wfe_table.specs.all.RunLaw.{AtClose, IsRun}
+use Rattle.wfe_table.specs.all.Runs.{AtRest, at_close, logs_of}
 use Rattle.wfe_core.specs.defs.declared.call.Call.{Call}
 use Rattle.wfe_core.specs.defs.declared.event.Event.{Event}
 use Rattle.wfe_core.specs.words.declared.config.Config.{Config}

@@ -1,5 +1,5 @@
-pub use Rattle.wfe_drive_shared.specs.history as history
-pub use Rattle.wfe_drive_shared.specs.all as all
+pub use Rattle.wfe_table.specs.history as history
+pub use Rattle.wfe_table.specs.all as all
 pub mod Collecting
 pub mod Comes
 pub mod Fitting

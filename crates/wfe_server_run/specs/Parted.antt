@@ -4,8 +4,8 @@ use Rattle.std.specs.declared.alloc.Global.{Global}
 use Rattle.std.specs.declared.vec.Vec.{Vec}
 use Rattle.wfe_core.specs.defs.declared.call.Call.{Call}
 use Rattle.wfe_core.specs.defs.declared.event.Event.{Event}
-use Rattle.wfe_drive_shared.specs.rule.Views.{seat_of}
-use Rattle.wfe_drive_shared.specs.Public.{IsOf, SeatNow, TableNow}
+use Rattle.wfe_table.specs.rule.Views.{seat_of}
+use Rattle.wfe_table.specs.Public.{IsOf, SeatNow, TableNow}
 use Rattle.wfe_server_run.specs.Comes.{lists_in}
 use Rattle.wfe_server_run.specs.Fitting.{MayBegin}
 use Rattle.wfe_server_run.specs.Working.{IsWorked}

@@ -1,7 +1,7 @@
 -- What a run of a trace puts out, and when it ends how.
 use Rattle.std.specs.Prelude.{List, None, Ok, Option, Some, [], length, ℕ, ◌≡◌, ◌∷◌, ◌⊎◌}
 use Rattle.std.specs.Io.KnownBytes.{Appends, Consumes}
-use Rattle.wfe_drive_shared.specs.all.RunLaw.{AtClose}
+use Rattle.wfe_table.specs.all.RunLaw.{AtClose}
 use Rattle.wfe_outside.specs.defs.declared.event.Event.{Event}
 use Rattle.wfe_server_out.specs.Heard.{Seen}
 use Rattle.wfe_server_out.specs.Pieces.{Text}

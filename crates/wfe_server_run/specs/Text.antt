@@ -2,7 +2,7 @@
 use Rattle.std.specs.Prelude.{List, [], codes, if◌then◌else◌, ℕ, ◌+◌, ◌++◌, ◌==◌, ◌∷◌}
 use Rattle.std.specs.Fmt.{decimal}
 use Rattle.laws.specs.StateAt.{Filling}
-use Rattle.wfe_drive_shared.specs.all.RunLaw.{AtClose}
+use Rattle.wfe_table.specs.all.RunLaw.{AtClose}
 use Rattle.wfe_core.specs.defs.Pairs.{Pair}
 use Rattle.wfe_core.specs.defs.declared.event.Event.{Event}
 use Rattle.wfe_core.specs.words.declared.config.Config.{Config}

@@ -1,10 +1,10 @@
 -- What a worker makes of its seat: the calls of its script in their order, and their events.
 use Rattle.std.specs.Prelude.{List, [], map, ℕ, ◌++◌, ◌≡◌, ◌∷◌}
-use Rattle.wfe_drive_shared.specs.all.RunLaw.{call_made, events_of, events_of_all}
+use Rattle.wfe_table.specs.all.RunLaw.{call_made, events_of, events_of_all}
 use Rattle.wfe_core.specs.Locals.{Group}
 use Rattle.wfe_core.specs.defs.declared.call.Call.{Call}
 use Rattle.wfe_core.specs.defs.declared.event.Event.{Event}
-use Rattle.wfe_drive_shared.specs.rule.Views.{Track, seat_of}
+use Rattle.wfe_table.specs.rule.Views.{Track, seat_of}
 
 -- the seat made one call, and the events of that call were added
 pub record IsCalled (buckets : ℕ) (old : Track) (call : Call) (new : Track) (before after : List Event) : Type 0 where

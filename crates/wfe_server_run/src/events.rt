@@ -1,6 +1,6 @@
 // The events of a call, as the text of a run prints them: what is known of it once it was answered.
 ghost use Rattle.std.specs.Prelude.{◌≡◌, ◌<◌, ◌%◌, ◌++◌, ◌∷◌, [], OnOk};
-ghost use Rattle.wfe_drive_shared.specs.all.RunLaw.{backs, change_told, events_of, give_told, one_told, retire_told, unused_told};
+ghost use Rattle.wfe_table.specs.all.RunLaw.{backs, change_told, events_of, give_told, one_told, retire_told, unused_told};
 ghost use Rattle.wfe_core.specs.Held.{notes_of};
 
 use wfe_core::{Answer, Call, Event, NoMemory, Notes};

@@ -7,7 +7,7 @@ ghost use Rattle.wfe_trace.specs.Record.{spaced};
 use wfe_trace::Line;
 
 // A number after a space.
-#[tactic(auto, using(wfe_trace::proofs::Digits::digit_counts))]
+#[tactic(auto, using(wfe_text::proofs::Digits::digit_counts))]
 fn number(line: &mut Line, number: u64)
     requires { length line.old ≤ 1000 }
     ensures text { line.new ≡ line.old ++ (32 ∷ decimal number) }

@@ -7,8 +7,8 @@ ghost use Rattle.wfe_server_out.specs.Pieces.{told_pieces};
 ghost use Rattle.wfe_outside.specs.Faults.{Rose};
 ghost use Rattle.wfe_server_replay.specs.Sunk.{outside};
 ghost use Rattle.wfe_server_replay.specs.Watched.{watch_text};
-ghost use Rattle.wfe_drive_shared.specs.closed.Contents.{filling_of};
-ghost use Rattle.wfe_drive_shared.specs.Closing.{closing_of};
+ghost use Rattle.wfe_table.specs.Contents.{filling_of};
+ghost use Rattle.wfe_table.specs.Closing.{closing_of};
 ghost use Rattle.wfe_server_run.specs.Comes.{lists_in};
 ghost use Rattle.wfe_server_run.specs.Prints.{Prints};
 ghost use Rattle.wfe_server_run.specs.Text.{bucket_lines, bucket_text, closed_text, queue_line, queue_lines, run_pieces, seat_pieces, used_line, used_lines};
@@ -17,10 +17,10 @@ ghost use Rattle.wfe_trace.specs.Record.{header_line};
 use crate::RunRecord;
 use crate::lines::{print_bucket, print_queue, print_used};
 use wfe_core::Event;
-use wfe_drive_shared::{BucketRow, Closed};
 use wfe_outside::{Failed, Sink, Watcher};
 use wfe_server_out::{Fault, put_line, tell, write_all};
 use wfe_server_replay::put_watched;
+use wfe_table::{BucketRow, Closed};
 use wfe_trace::{Config, Line, Status, print_header};
 
 // Writes the line of a bucket, if it was ever changed.

@@ -1,8 +1,8 @@
 // One worker for each seat of a table that they share, from its making to its end.
 ghost use Rattle.std.specs.Prelude.{◌≡◌, ◌<◌, ◌≤◌, ℕ, [], All, IfOk, None, length, map, slice_index_or};
-ghost use Rattle.wfe_drive_shared.specs.rule.Views.{seat_of};
-ghost use Rattle.wfe_drive_shared.specs.Public.{new_seat, new_seats};
-ghost use Rattle.wfe_drive_shared.specs.Closing.{closing_of};
+ghost use Rattle.wfe_table.specs.rule.Views.{seat_of};
+ghost use Rattle.wfe_table.specs.Public.{new_seat, new_seats};
+ghost use Rattle.wfe_table.specs.Closing.{closing_of};
 ghost use Rattle.wfe_server_run.specs.Comes.{Comes, lists_in};
 ghost use Rattle.wfe_server_run.specs.Fitting.{AllBegin};
 ghost use Rattle.wfe_server_run.specs.Parted.{IsOutcome, IsParted, IsReady};
@@ -14,7 +14,7 @@ use std::alloc::Global;
 use std::thread;
 use std::thread::Threads;
 use wfe_core::{Call, Config, Event, NoMemory};
-use wfe_drive_shared::{Closed, Seat, Shared};
+use wfe_table::{Closed, Seat, Shared};
 
 /// What the workers of a run made: the events of each seat's calls, and the table that they left.
 #[derive(Drop)]

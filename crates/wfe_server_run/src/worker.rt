@@ -1,7 +1,7 @@
 // A worker: one seat with its script.
 ghost use Rattle.std.specs.Prelude.{◌≡◌, ◌<◌, IfOk, OnOk, length, slice_index_or, true};
 ghost use Rattle.wfe_core.specs.Locals.{may_begin, stays};
-ghost use Rattle.wfe_drive_shared.specs.Public.{IsOf};
+ghost use Rattle.wfe_table.specs.Public.{IsOf};
 ghost use Rattle.wfe_server_run.specs.Fitting.{MayBegin};
 ghost use Rattle.wfe_server_run.specs.Working.{IsCalled, IsWorked};
 
@@ -9,7 +9,7 @@ use crate::Gate;
 use crate::events::push_events;
 use std::alloc::Global;
 use wfe_core::{Call, Event, NoMemory};
-use wfe_drive_shared::{Seat, Shared};
+use wfe_table::{Seat, Shared};
 
 /// A seat whose script was made, and the events of its calls.
 #[derive(Drop)]

@@ -1,7 +1,7 @@
 // Replays on the words of an atomic table, whatever the source and the sink. Watchers are made here, and what a test
 // wants of them is handed out.
 use std::alloc::Global;
-use wfe_drive_table::TableCells;
+use wfe_drive_cells::TableCells;
 use wfe_outside::{Sink, Source, WatchRow, Watcher};
 use wfe_row_rules::Reading;
 use wfe_server::{Rig, replay};

@@ -1,7 +1,7 @@
 // A whole replay with deleters: objects of the test that belong to rows, each called once its row went
 // back.
 use std::test::Fail;
-use wfe_drive_table::TableCells;
+use wfe_drive_cells::TableCells;
 use wfe_final::{Deleter, FinalWatcher, Ledger};
 use wfe_outside::{MemSink, MemSource, Watcher};
 use wfe_server::{Rig, replay};

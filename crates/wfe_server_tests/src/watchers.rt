@@ -1,6 +1,6 @@
 // A whole replay with the watchers that count.
 use std::test::Fail;
-use wfe_drive_table::TableCells;
+use wfe_drive_cells::TableCells;
 use wfe_outside::{MemSink, MemSource, Watcher};
 use wfe_server::{Rig, replay};
 use wfe_trace::Status;

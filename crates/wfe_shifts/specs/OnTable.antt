@@ -1,6 +1,6 @@
 -- Who works on a table.
 use Rattle.std.specs.Prelude.{All}
-use Rattle.wfe_leave_shared.specs.drive_shared.Public.{IsOf, TableNow}
+use Rattle.wfe_table.specs.Public.{IsOf, TableNow}
 use Rattle.wfe_shifts.specs.declared.staff.Staff.{Staff}
 
 -- all seats are the table's: the steady worker's, those for newcomers, and those that have left

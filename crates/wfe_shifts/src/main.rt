@@ -11,7 +11,7 @@ mod tally;
 mod worker;
 
 ghost use Rattle.std.specs.Prelude.{IfOk};
-ghost use Rattle.wfe_leave_shared.specs.drive_shared.Public.{IsOf};
+ghost use Rattle.wfe_table.specs.Public.{IsOf};
 ghost use Rattle.wfe_shifts.specs.OnTable.{IsStaffOf};
 
 use marks::Marks;
@@ -21,7 +21,7 @@ use std::alloc::Global;
 use std::process::ExitCode;
 use std::thread;
 use std::thread::Threads;
-use wfe_leave_shared::{Config, SchemeKind, Shared};
+use wfe_table::{Config, SchemeKind, Shared};
 use worker::{BUCKETS, Gone, Handed, Worker};
 
 const NO_MEMORY: &str = "memory ran out";

@@ -3,7 +3,7 @@
 use crate::marks::Marks;
 use crate::tally::Tally;
 use std::io;
-use wfe_leave_shared::{Closed, SchemeKind};
+use wfe_table::{Closed, SchemeKind};
 
 /// Retired rows that did not go back.
 #[derive(Clone, Copy)]

@@ -4,7 +4,7 @@ ghost use Rattle.std.specs.Prelude.{◌≡◌, []};
 use crate::tally::Tally;
 use crate::worker::{Handed, Worker};
 use std::alloc::Global;
-use wfe_leave_shared::{LeftSeat, Seat};
+use wfe_table::{LeftSeat, Seat};
 
 /// The steady worker, the seats for newcomers, and the seats of those that have left.
 #[derive(Drop)]

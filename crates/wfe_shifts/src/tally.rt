@@ -1,5 +1,5 @@
 // What a worker counts of its calls, and what is added up of all workers.
-use wfe_leave_shared::Seat;
+use wfe_table::Seat;
 
 /// What a worker counts.
 #[derive(Clone, Copy)]

@@ -1,9 +1,9 @@
 // What one thread does with its seat: puts, and where it comes and goes, a list taken over and one left.
 ghost use Rattle.std.specs.Prelude.{◌≡◌};
-ghost use Rattle.wfe_leave_shared.specs.drive_shared.Public.{IsOf};
+ghost use Rattle.wfe_table.specs.Public.{IsOf};
 
 use crate::tally::Tally;
-use wfe_leave_shared::{AdoptEnd, LeftSeat, Seat, Shared, adopt, leave};
+use wfe_table::{AdoptEnd, LeftSeat, Seat, Shared, adopt, leave};
 
 /// Buckets of the map.
 pub const BUCKETS: u64 = 4;

@@ -1,8 +1,8 @@
 // The calls of one thread.
 ghost use Rattle.std.specs.Prelude.{◌≡◌};
-ghost use Rattle.wfe_drive_shared.specs.Public.{IsOf};
+ghost use Rattle.wfe_table.specs.Public.{IsOf};
 
-use wfe_drive_shared::{Seat, Shared};
+use wfe_table::{Seat, Shared};
 
 // Keys of the map, which are all there from the start.
 const KEYS: u64 = 128;

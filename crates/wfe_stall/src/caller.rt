@@ -1,12 +1,12 @@
 // The calls of one thread.
 ghost use Rattle.std.specs.Prelude.{◌≡◌, ◌≤◌, ◌+◌, ◌*◌};
 ghost use Rattle.wfe_core.specs.words.declared.config.SchemeKind.TheVariants as schemes;
-ghost use Rattle.wfe_drive_shared.specs.Public.{IsOf};
+ghost use Rattle.wfe_table.specs.Public.{IsOf};
 
 use std::rt::Clock;
 use std::thread;
 use std::time::{Duration, Instant};
-use wfe_drive_shared::{Seat, Shared};
+use wfe_table::{Seat, Shared};
 
 /// Failed tries before a reader asks for help.
 pub const TRIES: u32 = 1;

@@ -10,14 +10,14 @@
 mod caller;
 
 ghost use Rattle.std.specs.Prelude.{All};
-ghost use Rattle.wfe_drive_shared.specs.Public.{IsOf};
+ghost use Rattle.wfe_table.specs.Public.{IsOf};
 
 use caller::{Caller, GET_STEPS, HOLD_STEPS, Most, PAIRS, TRIES};
 use std::process::ExitCode;
 use std::rt::{Clock, Env};
 use std::thread::Threads;
 use std::{env, thread};
-use wfe_drive_shared::{Config, MakeError, SchemeKind, Seat, Shared};
+use wfe_table::{Config, MakeError, SchemeKind, Seat, Shared};
 
 const NO_MEMORY: &str = "memory ran out";
 

@@ -1,6 +1,6 @@
 -- When a worker may make calls on a table.
 use Rattle.std.specs.Prelude.{◌<◌, ◌≡◌}
-use Rattle.wfe_drive_shared.specs.Public.{IsOf, TableNow}
+use Rattle.wfe_table.specs.Public.{IsOf, TableNow}
 use Rattle.wfe_threads.specs.declared.worker.Worker.{Worker}
 
 -- its seat is one of the table, which has an index for a version that is kept, and it has a place for a box at each of the table's rows

@@ -3,8 +3,8 @@
 ghost use Rattle.std.specs.Prelude.{◌≡◌, ◌≤◌, ◌+◌, All, IfOk, length};
 
 use std::alloc::Global;
-use wfe_drive_shared::Seat;
 use wfe_final::{Deleter, Finals, Ledger, NoMemory};
+use wfe_table::Seat;
 
 /// The greatest number of boxes that a worker frees.
 const MOST: usize = 4_096;

@@ -9,7 +9,7 @@ mod tally;
 mod worker;
 
 ghost use Rattle.std.specs.Prelude.{◌<◌, All, IfOk};
-ghost use Rattle.wfe_drive_shared.specs.Public.{IsOf};
+ghost use Rattle.wfe_table.specs.Public.{IsOf};
 ghost use Rattle.wfe_threads.specs.Works.{WorksOn};
 
 use boxes::Boxes;
@@ -19,7 +19,7 @@ use std::process::ExitCode;
 use std::thread;
 use std::thread::Threads;
 use tally::{BUCKETS, Tally};
-use wfe_drive_shared::{Config, SchemeKind, Seat, Shared};
+use wfe_table::{Config, SchemeKind, Seat, Shared};
 use worker::{KEPT, PAIRS, TRIES, Worker};
 
 const NO_MEMORY: &str = "memory ran out";

@@ -3,7 +3,7 @@
 use crate::tally::{BUCKETS, COUNTER, Tally, Values};
 use crate::worker::{COPY_STEPS, GET_STEPS, HOLD_STEPS, LOOK_STEPS};
 use std::io;
-use wfe_drive_shared::{Closed, SchemeKind};
+use wfe_table::{Closed, SchemeKind};
 
 /// What the workers counted beside what the closed table holds.
 #[derive(Clone, Copy)]

@@ -4,7 +4,7 @@ ghost use Rattle.wfe_threads.specs.Works.{WorksOn};
 
 use crate::boxes::Boxes;
 use crate::tally::{BUCKETS, COUNTER, SPAN, Tally, WORKERS};
-use wfe_drive_shared::{Got, Looked, PutIfRefusal, Seat, Shared};
+use wfe_table::{Got, Looked, PutIfRefusal, Seat, Shared};
 
 /// Rounds of each worker, of thirty calls.
 pub const ROUNDS: u32 = 500;

@@ -77,7 +77,9 @@ impl Places {
             Places::Seat(seat) => all_numbers(seat, Some(0), Some(0), Some(0)),
             Places::SeatOne(seat, first) => all_numbers(seat, first, Some(0), Some(0)),
             Places::SeatTwo(seat, first, second) => all_numbers(seat, first, second, Some(0)),
-            Places::SeatThree(seat, first, second, third) => all_numbers(seat, first, second, third),
+            Places::SeatThree(seat, first, second, third) => all_numbers(
+                seat, first, second, third,
+            ),
         }
     }
 }

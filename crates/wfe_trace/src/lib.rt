@@ -18,7 +18,7 @@ pub use read::{TraceState, read_line};
 pub use reason::{BadLine, Reason, RecordReason, Status};
 pub use setting::scheme_version;
 pub use wfe_text::{
-    Line, event_line_is_of_one_event, number_of, print_count, print_event, print_header, print_table,
-    print_watch,
+    Line, event_line_is_of_one_event, number_of, print_count, print_event, print_header,
+    print_table, print_watch,
 };
 pub use wfe_words::{Config, Layout, SchemeKind};

@@ -9,8 +9,8 @@ use Rattle.inv_ends.specs.model.World.{World, start, begin, is_busy, is_here, ma
 use Rattle.inv_ends.specs.requests.Standing.{Requests}
 use Rattle.inv_ends.specs.requests.Views.{Deal, View as Asked}
 use Rattle.inv_ends.specs.requests.Views.Deal.{Quiet}
-use Rattle.inv_steps_left.specs.rows.Queue.{Line}
-use Rattle.inv_steps_left.specs.rows.Rows.{View}
+use Rattle.inv_ends.specs.rows.Queue.{Line}
+use Rattle.inv_ends.specs.rows.Rows.{View}
 use Rattle.inv_ends.specs.covers.Rests.{SpanRests}
 use Rattle.inv_ends.specs.Helped.{Helped}
 use Rattle.inv_ends.proofs.shapes.Decode.{eras_start, eras_begin}
@@ -21,9 +21,9 @@ use Rattle.inv_ends.proofs.requests.Hazards.{hazards_start, hazards_begin}
 use Rattle.inv_ends.proofs.requests.Kept.{requests_start, requests_begin}
 use Rattle.inv_ends.proofs.requests.Paced.{paces_start, paces_begin}
 use Rattle.inv_ends.proofs.requests.Parents.{parents_start, parents_begin}
-use Rattle.inv_steps_left.specs.rows.Agree.{first_rows}
-use Rattle.inv_steps_left.specs.rows.Chain.{first_line}
-use Rattle.inv_steps_left.proofs.rows.Whole.{whole_start, whole_begin}
+use Rattle.inv_ends.specs.rows.Agree.{first_rows}
+use Rattle.inv_ends.specs.rows.Chain.{first_line}
+use Rattle.inv_ends.proofs.rows.Whole.{whole_start, whole_begin}
 use Rattle.inv_ends.proofs.covers.Begun.{held_start, held_begin}
 use Rattle.inv_ends.proofs.covers.Kept.{scans_start, scans_begin}
 use Rattle.inv_ends.proofs.covers.Resting.{rests_start, rests_begin, spans_rest}
@@ -32,8 +32,8 @@ use Rattle.inv_contents.proofs.Stands.Kept.{stands_start, stands_begin}
 use Rattle.inv_contents.proofs.Items.Begun.{items_start, items_begin}
 use Rattle.inv_contents.proofs.Items.Bounds.{bounded_start, bounded_begin}
 use Rattle.inv_ends.proofs.Handover.Begun.{handover_start, handover_begin}
-use Rattle.inv_links.proofs.Links.Kept.{links_start, links_begin}
-use Rattle.inv_steps_left.proofs.Rest.Lasting.{losses_start, losses_begin}
+use Rattle.inv_ends.proofs.Links.Kept.{links_start, links_begin}
+use Rattle.inv_ends.proofs.Rest.Lasting.{losses_start, losses_begin}
 use Rattle.inv_all.proofs.Rounds.Ending.{rounds_start, rounds_begin}
 use Rattle.inv_all.specs.Known.{Known}
 use Rattle.inv_all.specs.Inv.{InvStart, InvBegin}

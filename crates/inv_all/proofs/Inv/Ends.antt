@@ -1,7 +1,7 @@
 -- That each call ends: what the count of its steps left takes of other parts.
 use Rattle.inv_ends.proofs.shapes.Decode.{clock_next}
-use Rattle.inv_steps_left.proofs.Rest.Kept.{rest_falls}
-use Rattle.inv_steps_left.proofs.Rest.Small.{rest_small, rest_stays}
+use Rattle.inv_ends.proofs.Rest.Kept.{rest_falls}
+use Rattle.inv_ends.proofs.Rest.Small.{rest_small, rest_stays}
 use Rattle.inv_all.specs.Ends.{InvEnds}
 use Rattle.inv_all.proofs.Inv.Kept.{rest_need}
 use Rattle.inv_all.proofs.Inv.Ready.{listed_few}
@@ -16,8 +16,8 @@ use Rattle.inv_ends.specs.model.words.Place.Place.{Clock}
 use Rattle.inv_ends.proofs.model.Ranges.{bounds_of}
 use Rattle.inv_ends.specs.shapes.Seats.{Seats, task_root}
 use Rattle.inv_ends.specs.shapes.Slots.{Slots}
-use Rattle.inv_steps_left.specs.rows.Agree.{Agree}
-use Rattle.inv_steps_left.specs.rows.Rows.{View}
+use Rattle.inv_ends.specs.rows.Agree.{Agree}
+use Rattle.inv_ends.specs.rows.Rows.{View}
 
 idle_phase : (phase : Phase) → busy_in phase ≡ false → phase ≡ Idle
 idle_phase Idle h = refl

@@ -10,13 +10,13 @@ use Rattle.inv_ends.specs.model.Phases.Base.{Protect}
 use Rattle.inv_ends.specs.model.Calls.{Task, Gets, Changes, Holds, Enqueues, Dequeues, Opens, AfterScan, GiveBack, Phase, Scans}
 use Rattle.inv_ends.specs.model.World.{World, finds}
 use Rattle.inv_ends.specs.shapes.Seats.{task_root, Run}
-use Rattle.inv_steps_left.specs.rows.Hands.{row_move}
-use Rattle.inv_steps_left.specs.rows.Rows.{Status, View, is_settled}
-use Rattle.inv_steps_left.specs.rows.Tries.{at_tries, base_tries}
+use Rattle.inv_ends.specs.rows.Hands.{row_move}
+use Rattle.inv_ends.specs.rows.Rows.{Status, View, is_settled}
+use Rattle.inv_ends.specs.rows.Tries.{at_tries, base_tries}
 use Rattle.inv_ends.specs.covers.Covers.{takes_or_frees, CoversNeeds, Scanning}
 use Rattle.inv_ends.specs.covers.Held.{under, Held}
 use Rattle.inv_ends.proofs.covers.Begun.{standing_stays}
-use Rattle.inv_links.specs.Tracked.{carries_at, carries_base, root_base}
+use Rattle.inv_ends.specs.Tracked.{carries_at, carries_base, root_base}
 use Rattle.inv_ends.proofs.model.Facts.{true_not_false, same_number}
 
 -- the row that a scan gives back is made free

@@ -28,11 +28,11 @@ use Rattle.inv_ends.specs.requests.Roles.{publishes}
 use Rattle.inv_ends.specs.requests.Standing.{Requests, role_of, has_failed}
 use Rattle.inv_ends.specs.requests.Views.{Role, View as Asked}
 use Rattle.inv_ends.specs.requests.Views.Role.{Attempts}
-use Rattle.inv_steps_left.specs.rows.Agree.{Agree}
-use Rattle.inv_steps_left.specs.rows.Chain.{Both}
-use Rattle.inv_steps_left.specs.rows.Hands.{is_right, runs_right}
-use Rattle.inv_steps_left.specs.rows.Queue.{Line}
-use Rattle.inv_steps_left.specs.rows.Rows.{View}
+use Rattle.inv_ends.specs.rows.Agree.{Agree}
+use Rattle.inv_ends.specs.rows.Chain.{Both}
+use Rattle.inv_ends.specs.rows.Hands.{is_right, runs_right}
+use Rattle.inv_ends.specs.rows.Queue.{Line}
+use Rattle.inv_ends.specs.rows.Rows.{View}
 use Rattle.inv_ends.specs.covers.Covers.{Scanning, eras_shown, number_shown}
 use Rattle.inv_ends.specs.covers.Held.{index_base, follows_row, BaseNeeds, CopyNeeds, HeldNeeds, StoreNeeds}
 use Rattle.inv_ends.specs.covers.Parents.{has_parent, has_parent_why, has_parent_dequeue, Parents, ParentsNeeds}

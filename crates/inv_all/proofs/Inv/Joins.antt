@@ -34,24 +34,24 @@ use Rattle.inv_ends.specs.shapes.Slots.{PhaseIn, SeatSlots, Slots}
 use Rattle.inv_ends.specs.requests.Standing.{Requests}
 use Rattle.inv_ends.specs.requests.Views.{Deal, View as Asked}
 use Rattle.inv_ends.specs.requests.Views.Deal.{Answered, Open, Passed, Quiet, Taken}
-use Rattle.inv_steps_left.specs.rows.Agree.{Agree, Plays}
-use Rattle.inv_steps_left.specs.rows.Chain.{queue_of}
-use Rattle.inv_steps_left.specs.rows.Facts.{Listing, SeatShows}
-use Rattle.inv_steps_left.specs.rows.Hands.{is_right}
-use Rattle.inv_steps_left.specs.rows.Queue.{Line}
-use Rattle.inv_steps_left.specs.rows.Rows.{Status, View, made, passed}
-use Rattle.inv_steps_left.specs.rows.Rows as rows
-use Rattle.inv_steps_left.specs.rows.Rows.RowMove.{Adopts}
-use Rattle.inv_steps_left.specs.rows.Rows.Status.{Born, Claimed, Cut, Free, InQueue, Linked, Listed, Sealed}
-use Rattle.inv_steps_left.specs.rows.Tries.{PhaseTries, TaskTries, Whole, WhyTries}
-use Rattle.inv_steps_left.proofs.rows.Facts.{rows_show}
-use Rattle.inv_steps_left.proofs.rows.Fits.{Calm, calm_made, passed_queue}
-use Rattle.inv_steps_left.proofs.rows.Kept.{list_here}
-use Rattle.inv_steps_left.proofs.rows.Lists.{in_list_joined, once_joined}
-use Rattle.inv_steps_left.proofs.rows.Made.{adopts_good, passed_linked, passed_settled}
-use Rattle.inv_steps_left.proofs.rows.Phases.{gift_apart}
-use Rattle.inv_steps_left.proofs.rows.Went.{went_same}
-use Rattle.inv_steps_left.proofs.rows.Words.{words_adopts}
+use Rattle.inv_ends.specs.rows.Agree.{Agree, Plays}
+use Rattle.inv_ends.specs.rows.Chain.{queue_of}
+use Rattle.inv_ends.specs.rows.Facts.{Listing, SeatShows}
+use Rattle.inv_ends.specs.rows.Hands.{is_right}
+use Rattle.inv_ends.specs.rows.Queue.{Line}
+use Rattle.inv_ends.specs.rows.Rows.{Status, View, made, passed}
+use Rattle.inv_ends.specs.rows.Rows as rows
+use Rattle.inv_ends.specs.rows.Rows.RowMove.{Adopts}
+use Rattle.inv_ends.specs.rows.Rows.Status.{Born, Claimed, Cut, Free, InQueue, Linked, Listed, Sealed}
+use Rattle.inv_ends.specs.rows.Tries.{PhaseTries, TaskTries, Whole, WhyTries}
+use Rattle.inv_ends.proofs.rows.Facts.{rows_show}
+use Rattle.inv_ends.proofs.rows.Fits.{Calm, calm_made, passed_queue}
+use Rattle.inv_ends.proofs.rows.Kept.{list_here}
+use Rattle.inv_ends.proofs.rows.Lists.{in_list_joined, once_joined}
+use Rattle.inv_ends.proofs.rows.Made.{adopts_good, passed_linked, passed_settled}
+use Rattle.inv_ends.proofs.rows.Phases.{gift_apart}
+use Rattle.inv_ends.proofs.rows.Went.{went_same}
+use Rattle.inv_ends.proofs.rows.Words.{words_adopts}
 use Rattle.inv_ends.specs.covers.Covers.{Covers, Scanning, has_met, is_unmet, life_of, number_of, retired_at, shown}
 use Rattle.inv_ends.specs.covers.Held.{Held, tries_base, tries_protect, under}
 use Rattle.inv_ends.specs.covers.Held as held
@@ -59,9 +59,9 @@ use Rattle.inv_ends.proofs.covers.Rows.{listed_other}
 use Rattle.inv_ends.specs.Helped.{Helped, answered_from, helper_holds, move_holds, passed_to, turn_holds}
 use Rattle.inv_contents.specs.Contents.{Contents}
 use Rattle.inv_contents.specs.Items.{Items}
-use Rattle.inv_links.specs.Links.{Links, links_to}
-use Rattle.inv_links.specs.Tracked.{Tracked, root_in}
-use Rattle.inv_links.specs.Tracked as tracked
+use Rattle.inv_ends.specs.Links.{Links, links_to}
+use Rattle.inv_ends.specs.Tracked.{Tracked, root_in}
+use Rattle.inv_ends.specs.Tracked as tracked
 use Rattle.inv_all.specs.Rounds.{Rounds}
 use Rattle.inv_all.specs.Joins.{InvJoins, JoinsFit, ListingAdds, joined, joined_desk}
 use Rattle.inv_all.specs.Known.{Known}

@@ -15,7 +15,7 @@ use Rattle.inv_ends.specs.model.Phases.ProtectAt.{ByHazard}
 use Rattle.inv_ends.specs.shapes.Seats.{PhaseFits, Run}
 use Rattle.inv_ends.proofs.shapes.Frame.{finds_at}
 use Rattle.inv_ends.proofs.model.Facts.{same_number}
-use Rattle.inv_steps_left.specs.rows.Follow.{Loads}
+use Rattle.inv_ends.specs.rows.Follow.{Loads}
 use Rattle.inv_ends.specs.shapes.Eras.{Eras}
 use Rattle.inv_ends.specs.model.words.Schemes.{is_wfe}
 use Rattle.inv_ends.specs.shapes.Slots.{BaseIn, PhaseIn, Slots, SlotsNeeds, WhyIn}
@@ -33,11 +33,11 @@ use Rattle.inv_ends.proofs.requests.Hazards.{hazards_step}
 use Rattle.inv_ends.proofs.requests.Kept.{requests_step}
 use Rattle.inv_ends.proofs.requests.Paced.{paces_step}
 use Rattle.inv_ends.proofs.requests.Parents.{parents_step}
-use Rattle.inv_steps_left.specs.rows.Agree.{rows_after}
-use Rattle.inv_steps_left.specs.rows.Chain.{line_after}
-use Rattle.inv_steps_left.specs.rows.Queue.{Line}
-use Rattle.inv_steps_left.specs.rows.Rows.{View}
-use Rattle.inv_steps_left.proofs.rows.Whole.{whole_kept}
+use Rattle.inv_ends.specs.rows.Agree.{rows_after}
+use Rattle.inv_ends.specs.rows.Chain.{line_after}
+use Rattle.inv_ends.specs.rows.Queue.{Line}
+use Rattle.inv_ends.specs.rows.Rows.{View}
+use Rattle.inv_ends.proofs.rows.Whole.{whole_kept}
 use Rattle.inv_ends.specs.covers.Held.{Held}
 use Rattle.inv_ends.proofs.covers.Held.{held_kept}
 use Rattle.inv_ends.proofs.covers.Kept.{scans_kept}
@@ -48,9 +48,9 @@ use Rattle.inv_contents.proofs.Stands.Kept.{stands_kept}
 use Rattle.inv_contents.proofs.Items.Kept.{items_kept}
 use Rattle.inv_contents.proofs.Items.Bounds.{bounded_kept}
 use Rattle.inv_ends.proofs.Handover.Kept.{handover_kept}
-use Rattle.inv_links.proofs.Links.Kept.{links_kept}
-use Rattle.inv_steps_left.specs.Falls.{RestNeeds}
-use Rattle.inv_steps_left.proofs.Rest.Lasting.{losses_kept}
+use Rattle.inv_ends.proofs.Links.Kept.{links_kept}
+use Rattle.inv_ends.specs.Falls.{RestNeeds}
+use Rattle.inv_ends.proofs.Rest.Lasting.{losses_kept}
 use Rattle.inv_all.specs.Rounds.{RoundsNeeds}
 use Rattle.inv_all.proofs.Rounds.Ending.{rounds_kept, rounds_give}
 use Rattle.inv_all.specs.Known.{Known}

@@ -39,11 +39,11 @@ use Rattle.inv_ends.specs.model.World.{World, finds, list_in, offered, step}
 use Rattle.inv_ends.proofs.model.Facts.{number_is, or_false}
 use Rattle.inv_ends.proofs.shapes.Frame.{seat_stays}
 use Rattle.inv_ends.specs.Told.{move_of}
-use Rattle.inv_steps_left.specs.rows.Agree.{Agree}
-use Rattle.inv_steps_left.specs.rows.Rows.{RowMove}
-use Rattle.inv_steps_left.specs.rows.Rows.RowMove.{Adopts}
-use Rattle.inv_steps_left.proofs.rows.Facts.{rows_show}
-use Rattle.inv_steps_left.proofs.rows.Places.{Placed, adopts, is_placing, phase_placed, unplaced}
+use Rattle.inv_ends.specs.rows.Agree.{Agree}
+use Rattle.inv_ends.specs.rows.Rows.{RowMove}
+use Rattle.inv_ends.specs.rows.Rows.RowMove.{Adopts}
+use Rattle.inv_ends.proofs.rows.Facts.{rows_show}
+use Rattle.inv_ends.proofs.rows.Places.{Placed, adopts, is_placing, phase_placed, unplaced}
 use Rattle.inv_all.specs.Places.{InvPlaceMoves, InvPlaces, is_leaving, placed, takes_over}
 use Rattle.inv_all.proofs.Inv.Shapes.{keep_in}
 

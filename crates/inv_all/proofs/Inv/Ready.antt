@@ -22,9 +22,9 @@ use Rattle.inv_ends.proofs.shapes.Takes.{takes_life, takes_lists, takes_reads, f
 use Rattle.inv_ends.specs.requests.Standing.{Requests}
 use Rattle.inv_ends.specs.requests.Views.{View as Asked}
 use Rattle.inv_ends.proofs.requests.Known.{known}
-use Rattle.inv_steps_left.specs.rows.Agree.{Agree}
-use Rattle.inv_steps_left.specs.rows.Rows.{View}
-use Rattle.inv_steps_left.proofs.rows.Facts.{rows_show}
+use Rattle.inv_ends.specs.rows.Agree.{Agree}
+use Rattle.inv_ends.specs.rows.Rows.{View}
+use Rattle.inv_ends.proofs.rows.Facts.{rows_show}
 
 -- the list of a seat that is busy, or has not left, is no longer than the rows
 pub listed_few : (w : World) (k : ℕ) (v : View) → Agree w v → is_busy w k ≡ true → length (w.seat k).desk.list ≤ w.layout.config.slots + 1

@@ -11,13 +11,13 @@ use Rattle.inv_ends.specs.model.World.{World}
 use Rattle.inv_ends.specs.shapes.Eras.{LifeIn, NoLife, Lives, Eras}
 use Rattle.inv_ends.specs.shapes.Seats.{Seats}
 use Rattle.inv_ends.proofs.shapes.Gives.{gives_walks, gives_births}
-use Rattle.inv_steps_left.specs.rows.Agree.{RowsNeeds}
-use Rattle.inv_steps_left.specs.rows.Chain.{Both, PhaseNeeds}
-use Rattle.inv_steps_left.specs.rows.Follow.{AnswersFit}
-use Rattle.inv_steps_left.specs.rows.Queue.{Line, in_queue}
-use Rattle.inv_steps_left.specs.rows.Rows.{Status, View, is_settled, has_life, retire_in}
-use Rattle.inv_steps_left.specs.rows.Rows.Status.{Free, Claimed, Born, Linked, InQueue, Cut, Sealed, Listed}
-use Rattle.inv_steps_left.proofs.rows.Queued.{queue_needs, queue_is}
+use Rattle.inv_ends.specs.rows.Agree.{RowsNeeds}
+use Rattle.inv_ends.specs.rows.Chain.{Both, PhaseNeeds}
+use Rattle.inv_ends.specs.rows.Follow.{AnswersFit}
+use Rattle.inv_ends.specs.rows.Queue.{Line, in_queue}
+use Rattle.inv_ends.specs.rows.Rows.{Status, View, is_settled, has_life, retire_in}
+use Rattle.inv_ends.specs.rows.Rows.Status.{Free, Claimed, Born, Linked, InQueue, Cut, Sealed, Listed}
+use Rattle.inv_ends.proofs.rows.Queued.{queue_needs, queue_is}
 use Rattle.inv_ends.specs.covers.Covers.{CoversNeeds}
 use Rattle.inv_ends.specs.covers.Held.{RootsNeeds}
 use Rattle.inv_all.proofs.Inv.Shown.{clock_small, none_after}

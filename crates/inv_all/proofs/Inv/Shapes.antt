@@ -19,7 +19,7 @@ use Rattle.inv_ends.specs.shapes.Frame.{KeepFits}
 use Rattle.inv_ends.specs.shapes.Seats.{aim_by, root_by, PhaseFits, Run, Seats}
 use Rattle.inv_ends.specs.shapes.Slots.{KeepIn, PhaseIn, Slots, WhyIn}
 use Rattle.inv_ends.proofs.shapes.There.{index_below}
-use Rattle.inv_steps_left.specs.rows.Tries as tries
+use Rattle.inv_ends.specs.rows.Tries as tries
 use Rattle.inv_ends.specs.covers.Held.{index_base, Followed, SpanGrows, era_protect, era_base}
 use Rattle.inv_ends.proofs.shapes.Steps.{upper_in}
 

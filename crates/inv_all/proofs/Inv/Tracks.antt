@@ -26,12 +26,12 @@ use Rattle.inv_ends.proofs.requests.Turns.{each_work_role}
 use Rattle.inv_ends.specs.requests.Standing.{Requests, role_of, protect_role, move_role, base_role, work_role}
 use Rattle.inv_ends.specs.requests.Views.{Deal, Role, View as Asked}
 use Rattle.inv_ends.specs.requests.Views.Deal.{Quiet, Open, Answered, Passed, Taken}
-use Rattle.inv_steps_left.specs.rows.Queue.{in_queue}
-use Rattle.inv_steps_left.specs.rows.Rows.{Status, View}
+use Rattle.inv_ends.specs.rows.Queue.{in_queue}
+use Rattle.inv_ends.specs.rows.Rows.{Status, View}
 use Rattle.inv_ends.specs.covers.Held.{under, tries_base}
 use Rattle.inv_ends.specs.Helped.{open_by, helper_holds, answered_from, passed_to}
 use Rattle.inv_ends.specs.Handover.{IsLeft, RowsLeft}
-use Rattle.inv_links.specs.Tracked.{carries_at, carries_in, has_link, opened_by, helps_at, helps_in, root_for, root_in, Tracked, Carried, Given, Helped}
+use Rattle.inv_ends.specs.Tracked.{carries_at, carries_in, has_link, opened_by, helps_at, helps_in, root_for, root_in, Tracked, Carried, Given, Helped}
 use Rattle.inv_all.proofs.Inv.Shapes.{eras_of}
 
 -- a request that is open, answered or handed over asks for this word

@@ -11,26 +11,26 @@ use Rattle.inv_ends.proofs.shapes.Decode.{clock_next}
 use Rattle.inv_ends.proofs.shapes.Gives.{gives_walks, gives_births}
 use Rattle.inv_ends.specs.requests.Views.{View as Asked}
 use Rattle.inv_ends.proofs.requests.Falling.{needs_of}
-use Rattle.inv_steps_left.specs.rows.Chain.{QueueNeeds}
-use Rattle.inv_steps_left.specs.rows.Hands.{row_move}
-use Rattle.inv_steps_left.specs.rows.Queue.{Line, stands_on}
-use Rattle.inv_steps_left.specs.rows.Rows.{View}
-use Rattle.inv_steps_left.specs.rows.Tries.{base_tries, WholeNeeds}
-use Rattle.inv_steps_left.proofs.rows.Whole.{whole_needs}
+use Rattle.inv_ends.specs.rows.Chain.{QueueNeeds}
+use Rattle.inv_ends.specs.rows.Hands.{row_move}
+use Rattle.inv_ends.specs.rows.Queue.{Line, stands_on}
+use Rattle.inv_ends.specs.rows.Rows.{View}
+use Rattle.inv_ends.specs.rows.Tries.{base_tries, WholeNeeds}
+use Rattle.inv_ends.proofs.rows.Whole.{whole_needs}
 use Rattle.inv_ends.specs.covers.Covers.{takes_or_frees, CoversNeeds}
 use Rattle.inv_ends.specs.covers.Held.{under}
 use Rattle.inv_contents.specs.Contents.{ContentsNeeds}
 use Rattle.inv_ends.specs.Handover.{HandoverNeeds, IsLeft, RowsLeft}
-use Rattle.inv_links.specs.Origins.{OriginsNeeds}
-use Rattle.inv_links.specs.Tracked.{carries_in, root_for, root_in, Tracked, Carried}
-use Rattle.inv_links.specs.Links.{LinksNeeds, LinksShow}
+use Rattle.inv_ends.specs.Origins.{OriginsNeeds}
+use Rattle.inv_ends.specs.Tracked.{carries_in, root_for, root_in, Tracked, Carried}
+use Rattle.inv_ends.specs.Links.{LinksNeeds, LinksShow}
 use Rattle.inv_contents.specs.Stands.{nexts_in, read_index}
 use Rattle.inv_contents.specs.Items.{ItemsNeeds}
 use Rattle.inv_contents.proofs.Items.Gives.{last_number}
 use Rattle.inv_contents.proofs.Items.Finds.{work_finds_fit}
 use Rattle.inv_ends.proofs.Handover.Kept.{rows_stay}
-use Rattle.inv_links.proofs.Links.Given.{links_give}
-use Rattle.inv_links.proofs.Links.Tried.{held_links_stay}
+use Rattle.inv_ends.proofs.Links.Given.{links_give}
+use Rattle.inv_ends.proofs.Links.Tried.{held_links_stay}
 use Rattle.inv_all.specs.Known.{Known}
 use Rattle.inv_all.proofs.Inv.Frees.{back_frees, back_apart, stands_settled, tried_under, tried_carried}
 use Rattle.inv_all.proofs.Inv.Rows.{covers_need, roots_need}

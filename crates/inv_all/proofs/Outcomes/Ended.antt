@@ -1,7 +1,7 @@
 -- How machines end, from what a history keeps.
 use Rattle.std.proofs.Common.{rules, ◌<◌, sym, subst}
 use Rattle.inv_ends.specs.model.words.declared.layout.Layout.{Layout}
-use Rattle.inv_steps_left.specs.rows.Agree.{rows_after}
+use Rattle.inv_ends.specs.rows.Agree.{rows_after}
 use Rattle.inv_ends.specs.history.History.{made_of, world_of}
 use Rattle.inv_all.proofs.Inv.Kept.{known_kept, asked_next}
 use Rattle.inv_all.proofs.Inv.Rows.{rows_need}

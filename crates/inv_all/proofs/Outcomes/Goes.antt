@@ -7,10 +7,10 @@ use Rattle.inv_ends.specs.model.World.{begin, is_busy, may_start, step}
 use Rattle.inv_ends.specs.requests.Views.{Deal, View as Asked}
 use Rattle.inv_ends.proofs.requests.Falling.{needs_of}
 use Rattle.inv_ends.proofs.requests.Kept.{requests_start, requests_begin}
-use Rattle.inv_steps_left.specs.rows.Agree.{first_rows, rows_after}
-use Rattle.inv_steps_left.specs.rows.Chain.{first_line, line_after}
-use Rattle.inv_steps_left.specs.rows.Queue.{Line}
-use Rattle.inv_steps_left.specs.rows.Rows.{View}
+use Rattle.inv_ends.specs.rows.Agree.{first_rows, rows_after}
+use Rattle.inv_ends.specs.rows.Chain.{first_line, line_after}
+use Rattle.inv_ends.specs.rows.Queue.{Line}
+use Rattle.inv_ends.specs.rows.Rows.{View}
 use Rattle.inv_ends.specs.history.History.{Item, Begins, Steps, Made, fits, done, done_if, did, made_from, made_of, first_made}
 use Rattle.inv_ends.proofs.history.Along.{begins_right, begins_within, low_seat}
 use Rattle.inv_all.specs.Known.{Known}

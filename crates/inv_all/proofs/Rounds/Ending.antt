@@ -9,9 +9,9 @@ use Rattle.inv_contents.specs.model.Memory.{bump}
 use Rattle.inv_contents.specs.model.Steps as steps
 use Rattle.inv_contents.specs.model.Machine as machine
 use Rattle.inv_contents.specs.rows.Rows.{View}
-use Rattle.inv_links.specs.requests.Views.{View as Asking}
-use Rattle.inv_links.specs.shapes.Frame.{phase_left as stands_at}
-use Rattle.inv_links.proofs.shapes.Kept.{one_moves}
+use Rattle.inv_ends.specs.requests.Views.{View as Asking}
+use Rattle.inv_ends.specs.shapes.Frame.{phase_left as stands_at}
+use Rattle.inv_ends.proofs.shapes.Kept.{one_moves}
 use Rattle.inv_contents.specs.defs.declared.event.Root.TheVariants as roots
 use Rattle.inv_contents.specs.defs.declared.fold.Change.TheVariants as changes
 use Rattle.inv_contents.specs.defs.declared.call.Call.TheVariants as names
@@ -30,13 +30,13 @@ use Rattle.inv_contents.specs.model.World.{World, begin, finds, is_busy, offered
 use Rattle.inv_contents.specs.model.declared.post.Post.{Post}
 use Rattle.inv_contents.specs.defs.declared.call.Call.{Call}
 use Rattle.inv_contents.specs.defs.declared.event.Root.{Root}
-use Rattle.inv_links.proofs.shapes.Frame.{seat_stays, seat_steps, begin_begins, begin_stays}
-use Rattle.inv_links.specs.shapes.Seats.{PhaseFits, Run, root_by, task_root}
-use Rattle.inv_links.proofs.Origins.Kept.{origins_kept, origins_begin, origins_start}
-use Rattle.inv_links.specs.Origins.{loads_asked, loads_at, loads_link}
-use Rattle.inv_links.specs.Tracked.{Tracked, root_for, root_in}
-use Rattle.inv_links.specs.requests.Roles.{shows}
-use Rattle.inv_links.specs.requests.Standing.{Requests}
+use Rattle.inv_ends.proofs.shapes.Frame.{seat_stays, seat_steps, begin_begins, begin_stays}
+use Rattle.inv_ends.specs.shapes.Seats.{PhaseFits, Run, root_by, task_root}
+use Rattle.inv_ends.proofs.Origins.Kept.{origins_kept, origins_begin, origins_start}
+use Rattle.inv_ends.specs.Origins.{loads_asked, loads_at, loads_link}
+use Rattle.inv_ends.specs.Tracked.{Tracked, root_for, root_in}
+use Rattle.inv_ends.specs.requests.Roles.{shows}
+use Rattle.inv_ends.specs.requests.Standing.{Requests}
 use Rattle.inv_all.proofs.Rounds.Fresh.{Loads, goes_loaded, has_loaded, loads_at_step, phase_fresh, seat_own}
 use Rattle.inv_all.proofs.Rounds.Grows.{phase_grows}
 use Rattle.inv_all.proofs.Rounds.Kept.{step_counts, lost_now, own_bucket, swung}
@@ -60,15 +60,15 @@ use Rattle.inv_contents.specs.model.Phases.Ending.{Protected}
 use Rattle.inv_contents.specs.model.Phases.Outcome.{Ends}
 use Rattle.inv_contents.specs.model.Rest.{has_walked, is_told, lost_by, rounds_most}
 use Rattle.inv_contents.proofs.Items.Gives.{items_count}
-use Rattle.inv_steps_left.proofs.Rest.Kept.{turn_rows}
-use Rattle.inv_steps_left.proofs.Rest.Told.{by_rows, lost_after}
+use Rattle.inv_ends.proofs.Rest.Kept.{turn_rows}
+use Rattle.inv_ends.proofs.Rest.Told.{by_rows, lost_after}
 use Rattle.inv_contents.specs.model.Phases.HazardAt.{CheckLink}
 use Rattle.inv_contents.specs.model.Phases.ProtectAt.{ByHazard}
-use Rattle.inv_steps_left.proofs.Rest.Seats.{follows_alone}
-use Rattle.inv_steps_left.specs.Losses.{is_queue}
+use Rattle.inv_ends.proofs.Rest.Seats.{follows_alone}
+use Rattle.inv_ends.specs.Losses.{is_queue}
 use Rattle.inv_all.proofs.Rounds.Machines.{EndGood, never_null, own_opened}
 use Rattle.inv_all.proofs.Rounds.Worlds.{next_number}
-use Rattle.inv_links.proofs.covers.Held.{finds_at}
+use Rattle.inv_ends.proofs.covers.Held.{finds_at}
 use Rattle.inv_contents.proofs.model.Facts.{same_both, if_by}
 use Rattle.inv_contents.specs.defs.declared.lifetime.Interval.{Interval}
 use Rattle.inv_contents.specs.words.Schemes.{has_one_interval, publishes_rows}

@@ -8,7 +8,7 @@ use Rattle.inv_contents.specs.model.Memory.{bump, written}
 use Rattle.inv_contents.specs.model.Steps as steps
 use Rattle.inv_contents.specs.model.Machine as machine
 use Rattle.inv_contents.specs.rows.Rows.{View}
-use Rattle.inv_links.specs.requests.Views.{View as Asking}
+use Rattle.inv_ends.specs.requests.Views.{View as Asking}
 use Rattle.inv_contents.specs.defs.declared.event.Root.TheVariants as roots
 use Rattle.inv_contents.specs.model.Calls.{CallTurn, ChangeKept, Phase, Task, Why}
 use Rattle.inv_contents.specs.model.Calls.CallOutcome.{GoesOn}
@@ -21,17 +21,17 @@ use Rattle.inv_contents.specs.model.Phases.{Aim, Base, MoveAt, ProtectAt}
 use Rattle.inv_contents.specs.model.Phases.MoveAt.{LoadAsked, LoadEra, LoadRequest, ShowEra}
 use Rattle.inv_contents.specs.model.Phases.ProtectAt.{AnswerOwn, ByHazard, CheckClock, CheckOwnClock, CheckUpper, LoadAnswer, LoadClock, LoadLink, LoadOwnClock, LoadOwnLink, LoadWithin, PublishEra, PublishHelper, PublishRequest, RaiseUpper, TakeAnswer, WithdrawHelper, WithdrawRequest}
 use Rattle.inv_contents.specs.model.Phases.HazardAt.{CheckLink, FirstLink, PublishLink}
-use Rattle.inv_steps_left.proofs.Rest.Told.{by_rows}
+use Rattle.inv_ends.proofs.Rest.Told.{by_rows}
 use Rattle.inv_contents.specs.model.Rest.{is_told, lost_by}
 use Rattle.inv_contents.specs.model.Rounds.{key_of}
 use Rattle.inv_contents.specs.model.World.{World, step}
 use Rattle.inv_contents.specs.model.declared.post.Post.{Post}
 use Rattle.inv_contents.proofs.model.Facts.{same_number, or_left_true, both}
 use Rattle.inv_contents.specs.defs.declared.event.Root.{Root}
-use Rattle.inv_links.specs.shapes.Seats.{PhaseFits, Run, Seats}
-use Rattle.inv_links.specs.Origins.{loads_asked, loads_at, loads_link}
-use Rattle.inv_links.specs.Tracked.{root_base, root_for, root_in}
-use Rattle.inv_links.specs.requests.Roles.{shows}
+use Rattle.inv_ends.specs.shapes.Seats.{PhaseFits, Run, Seats}
+use Rattle.inv_ends.specs.Origins.{loads_asked, loads_at, loads_link}
+use Rattle.inv_ends.specs.Tracked.{root_base, root_for, root_in}
+use Rattle.inv_ends.specs.requests.Roles.{shows}
 use Rattle.inv_all.specs.Rounds.{RoundsNeeds}
 use Rattle.inv_all.specs.Tallies.{Tally, changes_so_far, passes_so_far, phase_good, since_test, tally, task_good}
 use Rattle.inv_contents.specs.rows.Chain.{line_after}

@@ -8,7 +8,7 @@ use Rattle.inv_contents.specs.model.Phases.Base.{Move, Allocate, Begin, Clear, F
 use Rattle.inv_contents.specs.model.Steps as steps
 use Rattle.inv_contents.specs.model.Change as alters
 use Rattle.inv_contents.specs.rows.Rows.{View}
-use Rattle.inv_links.specs.requests.Views.{View as Asking}
+use Rattle.inv_ends.specs.requests.Views.{View as Asking}
 use Rattle.inv_contents.specs.model.Calls.{ChangeKept, EnqueueKept, Phase, Why, Work}
 use Rattle.inv_contents.specs.model.Calls.ChangeAt.{ExchangeRoot, LoadCount, LoadKey, LoadValue, LoadVersion}
 use Rattle.inv_contents.specs.model.Calls.DequeueAt.{ExchangeHead, LoadTail, SwingTail, TakeNumber, TakeValue}
@@ -22,7 +22,7 @@ use Rattle.inv_contents.specs.model.Rounds.{key_of}
 use Rattle.inv_contents.specs.model.World.{World, finds, offered, step}
 use Rattle.inv_contents.specs.model.WriteRow.{first_written, last_written, row_word}
 use Rattle.inv_contents.specs.model.declared.post.Post.{Post}
-use Rattle.inv_links.specs.shapes.Seats.{PhaseFits, Run, Seats}
+use Rattle.inv_ends.specs.shapes.Seats.{PhaseFits, Run, Seats}
 use Rattle.inv_all.proofs.Rounds.Grows.{Grows}
 use Rattle.inv_all.proofs.Rounds.Paced.{WorkNow}
 use Rattle.inv_all.proofs.Rounds.Worlds.{next_number, phase_counts, write_right}
@@ -35,7 +35,7 @@ use Rattle.inv_contents.specs.rows.Hands.{hand_in, is_right}
 use Rattle.inv_contents.specs.rows.Queue.{Line, follows_in}
 use Rattle.inv_contents.specs.words.declared.layout.Layout.{Layout}
 use Rattle.std.specs.Prelude.{nat_le, if◌then◌else◌, ◌==◌, ◌||◌, ◌%◌}
-use Rattle.inv_links.proofs.covers.Held.{finds_at}
+use Rattle.inv_ends.proofs.covers.Held.{finds_at}
 use Rattle.inv_contents.proofs.rows.Runs.{taken_slot}
 use Rattle.inv_contents.proofs.model.Facts.{first_of, same_both, number_is, le_of_test}
 use Rattle.inv_contents.proofs.rows.Kept.{busy_plays}

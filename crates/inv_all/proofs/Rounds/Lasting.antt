@@ -8,9 +8,9 @@ use Rattle.inv_contents.specs.model.Steps as steps
 use Rattle.inv_contents.specs.model.Change as alters
 use Rattle.inv_contents.specs.model.Machine as machine
 use Rattle.inv_contents.specs.rows.Rows.{View}
-use Rattle.inv_links.specs.requests.Views.{View as Asking}
-use Rattle.inv_links.specs.shapes.Frame.{phase_left as stands_at}
-use Rattle.inv_steps_left.proofs.Rest.Runs.{EndsWell, ends_well}
+use Rattle.inv_ends.specs.requests.Views.{View as Asking}
+use Rattle.inv_ends.specs.shapes.Frame.{phase_left as stands_at}
+use Rattle.inv_ends.proofs.Rest.Runs.{EndsWell, ends_well}
 use Rattle.inv_contents.specs.defs.declared.event.Event.TheVariants as events
 use Rattle.inv_contents.specs.defs.declared.event.Root.TheVariants as roots
 use Rattle.inv_contents.specs.defs.declared.call.Answer.TheVariants as answers
@@ -34,14 +34,14 @@ use Rattle.inv_contents.specs.model.declared.post.Post.{Post}
 use Rattle.inv_contents.specs.defs.declared.call.Answer.{Answer}
 use Rattle.inv_contents.specs.defs.declared.event.Event.{Event}
 use Rattle.inv_contents.specs.defs.declared.event.Root.{Root}
-use Rattle.inv_links.proofs.shapes.Frame.{seat_steps, seat_stays}
-use Rattle.inv_links.specs.shapes.Seats.{PhaseFits, Run, task_root}
-use Rattle.inv_links.specs.Origins.{loads_at}
-use Rattle.inv_links.specs.Tracked.{Tracked, carries_in, root_base, root_for, root_in}
-use Rattle.inv_links.specs.Tracked.Tracked.{Carried}
-use Rattle.inv_steps_left.proofs.Rest.Closings.{rounds_join}
-use Rattle.inv_steps_left.proofs.Rest.Told.{Tells, by_rows, lost_after}
-use Rattle.inv_steps_left.specs.Losses.{is_queue, phase_fit}
+use Rattle.inv_ends.proofs.shapes.Frame.{seat_steps, seat_stays}
+use Rattle.inv_ends.specs.shapes.Seats.{PhaseFits, Run, task_root}
+use Rattle.inv_ends.specs.Origins.{loads_at}
+use Rattle.inv_ends.specs.Tracked.{Tracked, carries_in, root_base, root_for, root_in}
+use Rattle.inv_ends.specs.Tracked.Tracked.{Carried}
+use Rattle.inv_ends.proofs.Rest.Closings.{rounds_join}
+use Rattle.inv_ends.proofs.Rest.Told.{Tells, by_rows, lost_after}
+use Rattle.inv_ends.specs.Losses.{is_queue, phase_fit}
 use Rattle.inv_all.proofs.Rounds.Grows.{phase_grows, phase_stays}
 use Rattle.inv_all.proofs.Rounds.Kept.{mem_after, reload_now, step_counts, work_now}
 use Rattle.inv_all.proofs.Rounds.Machines.{EndGood, Found, found_good, Steps, never_null, own_opened, own_tells, plain_lost, run_paced, why_finds}
@@ -54,12 +54,12 @@ use Rattle.inv_contents.specs.words.declared.config.SchemeKind.{SchemeKind}
 use Rattle.std.specs.Prelude.{List, ◌++◌, Option, Some, None, ◌==◌, ◌<◌, ◌%◌}
 use Rattle.inv_contents.specs.model.Phases.Aim.{Alone, Follows}
 use Rattle.inv_contents.specs.model.Rest.{is_told, lost_by}
-use Rattle.inv_links.specs.requests.Standing.{Requests}
-use Rattle.inv_steps_left.proofs.Rest.Kept.{linked_of, turn_rows}
-use Rattle.inv_links.proofs.shapes.Inside.{shape_moves}
-use Rattle.inv_links.proofs.shapes.Kept.{counted_fits, run_counted}
-use Rattle.inv_links.specs.shapes.Slots.{PhaseIn}
-use Rattle.inv_links.proofs.covers.Held.{finds_at}
+use Rattle.inv_ends.specs.requests.Standing.{Requests}
+use Rattle.inv_ends.proofs.Rest.Kept.{linked_of, turn_rows}
+use Rattle.inv_ends.proofs.shapes.Inside.{shape_moves}
+use Rattle.inv_ends.proofs.shapes.Kept.{counted_fits, run_counted}
+use Rattle.inv_ends.specs.shapes.Slots.{PhaseIn}
+use Rattle.inv_ends.proofs.covers.Held.{finds_at}
 use Rattle.inv_contents.specs.words.Schemes.{publishes_rows}
 use Rattle.inv_contents.specs.words.Place.{Place}
 use Rattle.inv_contents.specs.words.Place.Place.{Bucket, Head, Tail}
@@ -67,7 +67,7 @@ use Rattle.inv_contents.specs.model.Links.{link_place}
 use Rattle.inv_contents.specs.model.Phases.HazardAt.{CheckLink, FirstLink, PublishLink}
 use Rattle.inv_contents.specs.model.Phases.ProtectAt.{ByHazard}
 use Rattle.inv_contents.proofs.model.Facts.{same_number}
-use Rattle.inv_steps_left.proofs.Rest.Seats.{counts_task, follows_alone}
+use Rattle.inv_ends.proofs.Rest.Seats.{counts_task, follows_alone}
 use Rattle.inv_all.proofs.Rounds.Protects.{is_protecting, none_tracked}
 use Rattle.inv_contents.proofs.model.Schemes.{each_clear, each_finish}
 

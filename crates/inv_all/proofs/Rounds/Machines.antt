@@ -4,14 +4,14 @@ use Rattle.std.proofs.lemmas.Bool.Decides.{nat_tests}
 use Rattle.inv_contents.specs.model.Steps as steps
 use Rattle.inv_contents.specs.model.Phases.Base.{Move, Allocate, Begin, Clear, Finish, GiveUp, Protect, Release, Reload, Retire, Write}
 use Rattle.inv_contents.specs.model.Memory.{bump}
-use Rattle.inv_steps_left.proofs.Rest.Runs.{EndsWell, ends_well, none_lost}
+use Rattle.inv_ends.proofs.Rest.Runs.{EndsWell, ends_well, none_lost}
 use Rattle.inv_contents.specs.words.Place.Place.{Clock}
 use Rattle.inv_contents.specs.defs.declared.event.Event.TheVariants as events
 use Rattle.inv_contents.specs.defs.declared.call.Answer.TheVariants as answers
 use Rattle.inv_contents.specs.model.declared.ends.ProtectEnd.TheVariants as protect_ends
 use Rattle.inv_contents.specs.model.declared.ends.FollowEnd.TheVariants as follow_ends
 use Rattle.inv_contents.specs.model.declared.ends.AllocateEnd.TheVariants as allocate_ends
-use Rattle.inv_steps_left.proofs.Rest.Told.{Tells, base_steady, by_rows, hazard_lost, lost_after, protect_steady, protect_tells, reload_steady}
+use Rattle.inv_ends.proofs.Rest.Told.{Tells, base_steady, by_rows, hazard_lost, lost_after, protect_steady, protect_tells, reload_steady}
 use Rattle.inv_contents.specs.model.Allocate.{is_claimed, next_slot, walk_past, walking}
 use Rattle.inv_contents.specs.model.Calls.{AfterScan, LetGo, Next, Task, Why}
 use Rattle.inv_contents.specs.model.Calls.Next.{Answering}
@@ -48,14 +48,14 @@ use Rattle.inv_contents.specs.model.declared.post.Post.{Post}
 use Rattle.inv_contents.specs.defs.declared.call.Answer.{Answer}
 use Rattle.inv_contents.specs.defs.declared.event.Event.{Event}
 use Rattle.inv_contents.specs.defs.declared.event.Root.{Root}
-use Rattle.inv_links.specs.shapes.Seats.{PhaseFits, Run, base_fits, protect_fits, task_root}
-use Rattle.inv_links.specs.shapes.Frame.{Passed}
-use Rattle.inv_links.specs.Tracked.{carries_at, carries_in, root_base}
-use Rattle.inv_steps_left.proofs.Rest.Falling.{base_linked, fit_clock, fit_rows}
-use Rattle.inv_steps_left.proofs.Rest.Loses.{EndsFollow, ends_follow}
-use Rattle.inv_steps_left.proofs.Rest.Machines.{at_clock}
-use Rattle.inv_steps_left.proofs.Rest.Seats.{counts_task, follows_alone, once_told, one_uncounted, own_root, task_counts}
-use Rattle.inv_steps_left.specs.Losses.{fills_fit, hold_fit, is_queue, opens_fit, tells_fit, why_fit}
+use Rattle.inv_ends.specs.shapes.Seats.{PhaseFits, Run, base_fits, protect_fits, task_root}
+use Rattle.inv_ends.specs.shapes.Frame.{Passed}
+use Rattle.inv_ends.specs.Tracked.{carries_at, carries_in, root_base}
+use Rattle.inv_ends.proofs.Rest.Falling.{base_linked, fit_clock, fit_rows}
+use Rattle.inv_ends.proofs.Rest.Loses.{EndsFollow, ends_follow}
+use Rattle.inv_ends.proofs.Rest.Machines.{at_clock}
+use Rattle.inv_ends.proofs.Rest.Seats.{counts_task, follows_alone, once_told, one_uncounted, own_root, task_counts}
+use Rattle.inv_ends.specs.Losses.{fills_fit, hold_fit, is_queue, opens_fit, tells_fit, why_fit}
 use Rattle.inv_all.proofs.Rounds.Paced.{TurnPaced, advanced_paced, clearing_paced, closed_paced, filled_by_paced, fills_something, finishing_paced, followed_paced, link_since, opened_null_paced, opened_row_paced, opening_paced, released_paced, retired_paced, tidied_paced, written_paced}
 use Rattle.inv_all.specs.Tallies.{Since, Tally, at_paced, changes_so_far, fills_paced, hazard_paced, open_paced, root_test, task_most, head_since, lag_since, later_paced, next_paced, passes_so_far, since_test, task_good, task_paced, why_good, why_paced}
 use Rattle.inv_contents.specs.words.Packed.{read_request}

@@ -46,9 +46,9 @@ use Rattle.inv_contents.specs.defs.declared.call.Answer.{Answer}
 use Rattle.inv_contents.specs.defs.declared.call.ClockMove.{ClockMove}
 use Rattle.inv_contents.specs.defs.declared.event.Event.{Event}
 use Rattle.inv_contents.specs.defs.declared.lifetime.Interval.{Interval}
-use Rattle.inv_steps_left.proofs.Rest.Closings.{cleared_rounds, cleared_told, opened_untold}
-use Rattle.inv_steps_left.proofs.Rest.Works.{link_told}
-use Rattle.inv_steps_left.specs.Losses.{is_queue, work_fit}
+use Rattle.inv_ends.proofs.Rest.Closings.{cleared_rounds, cleared_told, opened_untold}
+use Rattle.inv_ends.proofs.Rest.Works.{link_told}
+use Rattle.inv_ends.specs.Losses.{is_queue, work_fit}
 use Rattle.inv_all.specs.Tallies.{Since, Tally, at_paced, changes_so_far, dequeue_paced, enqueue_paced, fills_paced, head_since, lag_since, later_paced, next_paced, next_since, once, passes_so_far, phase_paced, root_since, tail_since, task_paced, work_paced}
 use Rattle.inv_contents.specs.words.declared.config.SchemeKind.{SchemeKind}
 use Rattle.std.specs.Prelude.{List, ◌++◌, length, Option, Some, None, nat_lt, nat_le, ◌==◌, ◌%◌, drop}

@@ -41,7 +41,7 @@ use Rattle.inv_contents.specs.model.declared.post.Post.{Post}
 use Rattle.inv_contents.specs.defs.declared.event.Event.{Event}
 use Rattle.inv_contents.specs.defs.declared.event.Root.{Root}
 use Rattle.inv_contents.specs.defs.declared.fold.Change.{Change}
-use Rattle.inv_links.specs.requests.Roles.{shows}
+use Rattle.inv_ends.specs.requests.Roles.{shows}
 use Rattle.inv_contents.specs.rows.Rows.{View}
 use Rattle.inv_all.proofs.Rounds.Counts.{book_grows, calm_grows, tally_of, touches}
 use Rattle.inv_all.proofs.Rounds.Exchanges.{exchange_grows, join_grows, swing_grows, write_grows, pop_grows}

@@ -23,10 +23,10 @@ use Rattle.inv_covers.specs.model.SlowPath.{own_request}
 use Rattle.inv_covers.specs.model.Steps.{phase_turn, resumed, work_turn}
 use Rattle.inv_covers.specs.model.WriteRow.{last_written}
 use Rattle.inv_covers.specs.model.Calls.{Gets, Changes, Holds, Enqueues, Dequeues, Why, Opens, FollowsHead, LoadHeld, StoreHeld, Work, Keeping, Phase, Idle, Runs, Scans, Works}
-use Rattle.inv_requests.specs.Parents.{rises_at}
-use Rattle.inv_requests.specs.shapes.Seats.{PostFits, Run, PhaseFits, kind_of, reloads, index_by}
-use Rattle.inv_requests.specs.shapes.Slots.{WorkIn, PhaseIn}
-use Rattle.inv_requests.proofs.shapes.Written.{index_few, reloads_protect}
+use Rattle.inv_covers.specs.Requests.Parents.{rises_at}
+use Rattle.inv_covers.specs.shapes.Seats.{PostFits, Run, PhaseFits, kind_of, reloads, index_by}
+use Rattle.inv_covers.specs.shapes.Slots.{WorkIn, PhaseIn}
+use Rattle.inv_covers.proofs.shapes.Written.{index_few, reloads_protect}
 use Rattle.inv_covers.specs.rows.Rows.{Status}
 use Rattle.inv_covers.specs.rows.Rows.Status.{InQueue}
 use Rattle.inv_covers.proofs.Stands.{withdrawn_shrinks, with_row_apart, with_row_is}

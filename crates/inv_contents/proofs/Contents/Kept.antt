@@ -30,7 +30,7 @@ use Rattle.inv_covers.specs.rows.Hands.{row_move, linked_row}
 use Rattle.inv_covers.specs.rows.Agree.{Agree, Words, Plays, Needs, RowsNeeds, rows_after}
 use Rattle.inv_covers.proofs.rows.Fits.{phase_fits}
 use Rattle.inv_covers.proofs.rows.Steps.{of_taken}
-use Rattle.inv_requests.specs.shapes.Frame.{phase_left, read_slot}
+use Rattle.inv_covers.specs.shapes.Frame.{phase_left, read_slot}
 use Rattle.inv_contents.specs.Shelf.{Shelf, shelf_of, pairs_by, Filled}
 use Rattle.inv_contents.specs.Knows.{Ground, Knows, LookKnows, Ready, get_reads, reads_in}
 use Rattle.inv_contents.specs.Contents.{Shelved, KeptRows, Contents, ContentsNeeds, ContentsKept}
@@ -47,9 +47,9 @@ use Rattle.inv_contents.proofs.Contents.Shelves.{WordsStay, calm_shelved, keeps_
 use Rattle.inv_contents.proofs.Contents.Turns.{GetOwes, Shown, Looked, LookOutcome, look_turns}
 use Rattle.inv_contents.proofs.Contents.Views.{Keeps, keeps_made, unlinks, settled_stays, owned_stays}
 use Rattle.inv_covers.proofs.rows.Runs.{taken_slot}
-use Rattle.inv_requests.proofs.shapes.Frame.{settled_phase, settled_seated, finds_at}
-use Rattle.inv_requests.proofs.shapes.Kept.{counted_fits, run_counted, work_counted}
-use Rattle.inv_requests.specs.shapes.Seats.{PhaseFits}
+use Rattle.inv_covers.proofs.shapes.Frame.{settled_phase, settled_seated, finds_at}
+use Rattle.inv_covers.proofs.shapes.Kept.{counted_fits, run_counted, work_counted}
+use Rattle.inv_covers.specs.shapes.Seats.{PhaseFits}
 use Rattle.inv_covers.specs.words.Schemes.{publishes_rows}
 use Rattle.inv_covers.specs.model.Rounds.{scheme_of}
 

@@ -22,7 +22,7 @@ use Rattle.inv_covers.specs.model.Calls.{ChangeKept, Task, Gets, Changes, Holds,
 use Rattle.inv_covers.specs.rows.Hands.{is_right, runs_right, task_fills}
 use Rattle.inv_contents.specs.Shelf.{Shelf}
 use Rattle.inv_contents.specs.Knows.{Ground, Knows, TaskKnows, WhyKnows, WorkKnows, KeepKnows, ChangeKnows, reads_in, changes_in, looks_in, keep_reads, work_reads}
-use Rattle.inv_requests.specs.shapes.Frame.{phase_left}
+use Rattle.inv_covers.specs.shapes.Frame.{phase_left}
 use Rattle.inv_contents.proofs.Contents.Told.{Claimed}
 use Rattle.inv_contents.proofs.Contents.Lasts.{on}
 use Rattle.inv_contents.proofs.Contents.Rounds.{Turns, scan_turns}

@@ -19,7 +19,7 @@ use Rattle.inv_covers.specs.model.Get as gets
 use Rattle.inv_covers.specs.model.Scan as scan
 use Rattle.inv_covers.specs.model.Steps as steps
 use Rattle.inv_covers.specs.model.Calls.{EnqueueKept, EnqueueAt, LoadNumber, LoadNext, PassTail, ExchangeNext, ExchangeTail, Task, Gets, Changes, Holds, Enqueues, Dequeues, Next, Again, MakeRoom, Answering, Retiring, AfterScan, Answered, Repeated, Counted, Why, Opens, FollowsHead, Fills, ClearsNext, Clears, Finishes, GivesUp, Retires, Tidies, Advances, Releases, ScanAt, ReadGuard, GiveBack, Work, Getting, Changing, Enqueuing, Dequeuing, Phase, Idle, Runs, Scans, Works, CallTurn, KeepAt, Looks, Keeping}
-use Rattle.inv_requests.specs.shapes.Frame.{phase_left}
+use Rattle.inv_covers.specs.shapes.Frame.{phase_left}
 use Rattle.inv_contents.specs.Knows.{Ground, Knows}
 use Rattle.inv_contents.proofs.Contents.Told.{all_calm, calm_append, Claimed, GotFrom, calm_claimed, claimed_append}
 use Rattle.inv_contents.proofs.Contents.Machines.{cleared_calm}

@@ -19,7 +19,7 @@ use Rattle.inv_covers.specs.model.Change as alters
 use Rattle.inv_covers.specs.model.Keep as keeps
 use Rattle.inv_covers.specs.model.Calls.{ChangeKept, Task, Changes, Next, Again, Answering, GetAt, FindVersion, FindCount, FindKey, FindValue, ChangeAt, LoadVersion, LoadCount, LoadKey, LoadValue, ExchangeRoot, CallTurn, CallOutcome, GoesOn, Answers, answers}
 use Rattle.inv_covers.proofs.model.Facts.{same_number, same_test}
-use Rattle.inv_requests.specs.shapes.Frame.{read_slot}
+use Rattle.inv_covers.specs.shapes.Frame.{read_slot}
 use Rattle.inv_contents.specs.Shelf.{Shelf, Shows}
 use Rattle.inv_contents.specs.Knows.{Ground, pair_at, FoundRow, FoundKeys, GetKnows, AtCount, AtValue, Decided, ChangeKnows, FillKnows, changes_in, get_reads}
 use Rattle.inv_contents.proofs.Contents.Told.{all_calm, calm_claimed, FromRow}

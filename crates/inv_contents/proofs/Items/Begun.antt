@@ -6,8 +6,8 @@ use Rattle.inv_covers.specs.words.declared.layout.Layout.{Layout}
 use Rattle.inv_covers.specs.model.Calls.{Idle}
 use Rattle.inv_covers.specs.model.Locals.{Local, begun_post}
 use Rattle.inv_covers.specs.model.World.{start, begin}
-use Rattle.inv_requests.proofs.shapes.Frame.{begin_stays, begin_begins}
-use Rattle.inv_requests.proofs.shapes.Kept.{one_moves}
+use Rattle.inv_covers.proofs.shapes.Frame.{begin_stays, begin_begins}
+use Rattle.inv_covers.proofs.shapes.Kept.{one_moves}
 use Rattle.inv_contents.specs.Reads.{Reads}
 use Rattle.inv_contents.specs.Items.{ItemsStart, ItemsBegin}
 use Rattle.inv_contents.proofs.QueueReads.Turns.{bare_reads, first_reads}

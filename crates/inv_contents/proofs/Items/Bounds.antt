@@ -26,7 +26,7 @@ use Rattle.inv_covers.specs.model.Locals.{told_by, told_end}
 use Rattle.inv_covers.specs.model.World.{World, offered}
 use Rattle.inv_covers.specs.model.Calls.{ChangeKept, EnqueueKept, Changes, Retiring, ChangeAt, LoadVersion, LoadCount, LoadKey, LoadValue, ExchangeRoot, EnqueueAt, LoadNumber, LoadNext, PassTail, ExchangeNext, ExchangeTail, DequeueAt, LoadTail, SwingTail, TakeNumber, TakeValue, ExchangeHead, Getting, Changing, Enqueuing, Dequeuing, Phase, Idle, Runs, Scans, Works, CallTurn, Keeping}
 use Rattle.inv_covers.proofs.model.Facts.{number_is}
-use Rattle.inv_requests.specs.shapes.Slots.{Slots, PhaseIn, ChangeIn, ChangeAtIn}
+use Rattle.inv_covers.specs.shapes.Slots.{Slots, PhaseIn, ChangeIn, ChangeAtIn}
 use Rattle.inv_covers.specs.rows.Rows.{View}
 use Rattle.inv_covers.specs.rows.Agree.{Agree}
 use Rattle.inv_covers.specs.rows.Queue.{Line}

@@ -11,7 +11,7 @@ use Rattle.inv_covers.specs.model.Get.{get_move}
 use Rattle.inv_covers.specs.model.Memory.{found, place_in}
 use Rattle.inv_covers.specs.model.World.{World}
 use Rattle.inv_covers.proofs.model.Facts.{same_number}
-use Rattle.inv_requests.specs.shapes.Slots.{work_finds, get_finds, change_finds, enqueue_finds, dequeue_finds, keep_finds}
+use Rattle.inv_covers.specs.shapes.Slots.{work_finds, get_finds, change_finds, enqueue_finds, dequeue_finds, keep_finds}
 use Rattle.inv_covers.specs.rows.Rows.{View, is_settled}
 use Rattle.inv_covers.specs.rows.Queue.{Line}
 use Rattle.inv_contents.specs.Shelf.{shelf_of, pairs_by}

@@ -11,10 +11,10 @@ use Rattle.inv_covers.specs.model.Locals.{Local, turn, settled}
 use Rattle.inv_covers.specs.model.Calls.{EnqueueKept, ExchangeNext, Enqueuing, AfterScan, GiveBack, Phase, Scans, Works}
 use Rattle.inv_covers.specs.model.World.{World, step, finds, offered, list_in}
 use Rattle.inv_covers.proofs.model.Facts.{number_is}
-use Rattle.inv_requests.specs.shapes.Frame.{phase_left, Seated}
-use Rattle.inv_requests.specs.shapes.Slots.{PhaseIn}
-use Rattle.inv_requests.proofs.shapes.Frame.{seat_stays, seat_steps, settled_seated}
-use Rattle.inv_requests.proofs.shapes.Kept.{one_moves}
+use Rattle.inv_covers.specs.shapes.Frame.{phase_left, Seated}
+use Rattle.inv_covers.specs.shapes.Slots.{PhaseIn}
+use Rattle.inv_covers.proofs.shapes.Frame.{seat_stays, seat_steps, settled_seated}
+use Rattle.inv_covers.proofs.shapes.Kept.{one_moves}
 use Rattle.inv_covers.specs.rows.Rows.{Status, View, made}
 use Rattle.inv_covers.specs.rows.Rows.Status.{Free, Claimed, Born, Linked, InQueue, Cut, Sealed, Listed}
 use Rattle.inv_covers.specs.rows.Rows.RowMove.{Returns}
@@ -34,7 +34,7 @@ use Rattle.inv_contents.specs.Items.{Items, ItemsNeeds, ItemsKept}
 use Rattle.inv_contents.proofs.Items.Rows.{returned_queue}
 use Rattle.inv_contents.proofs.Items.Shown.{Kept, reads_grown}
 use Rattle.inv_contents.proofs.Items.Steps.{Did, Rests, phase_did}
-use Rattle.inv_requests.proofs.Paces.{Any}
+use Rattle.inv_covers.proofs.Requests.Paces.{Any}
 use Rattle.inv_covers.proofs.rows.Lists.{apart_by}
 
 past_unborn : (x : Status) (i : ℕ) → is_past x ≡ true → is_born_by i x ≡ false

@@ -25,8 +25,8 @@ use Rattle.inv_covers.specs.model.Steps.{phase_move, phase_turn}
 use Rattle.inv_covers.specs.model.Locals.{told_by, told_end}
 use Rattle.inv_covers.specs.model.Calls.{ChangeKept, EnqueueKept, Changes, Retiring, ChangeAt, LoadVersion, LoadCount, LoadKey, LoadValue, ExchangeRoot, EnqueueAt, LoadNumber, LoadNext, PassTail, ExchangeNext, ExchangeTail, DequeueAt, LoadTail, SwingTail, TakeNumber, TakeValue, ExchangeHead, Work, Getting, Changing, Enqueuing, Dequeuing, Phase, Idle, Runs, Scans, Works, CallTurn, Keeping}
 use Rattle.inv_covers.proofs.model.Facts.{same_number, number_is}
-use Rattle.inv_requests.specs.shapes.Frame.{phase_left}
-use Rattle.inv_requests.proofs.shapes.Frame.{written_own}
+use Rattle.inv_covers.specs.shapes.Frame.{phase_left}
+use Rattle.inv_covers.proofs.shapes.Frame.{written_own}
 use Rattle.inv_covers.specs.rows.Rows.{View, Good, made}
 use Rattle.inv_covers.specs.rows.Rows.Status.{Born}
 use Rattle.inv_covers.specs.rows.Rows.RowMove.{Stays, Appends, Pops}

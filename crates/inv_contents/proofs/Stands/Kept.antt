@@ -10,16 +10,16 @@ use Rattle.inv_covers.specs.model.Steps.{phase_turn, first_phase}
 use Rattle.inv_covers.specs.model.Scan.{scan_turn}
 use Rattle.inv_covers.specs.model.Locals.{Local, begun_post, turn}
 use Rattle.inv_covers.specs.model.World.{begin, step, finds, offered}
-use Rattle.inv_requests.specs.shapes.Seats.{PostFits, PhaseFits}
-use Rattle.inv_requests.proofs.shapes.Frame.{seat_stays, seat_steps, begin_stays, begin_begins, settled_seated}
-use Rattle.inv_requests.proofs.shapes.Kept.{counted_fits, run_counted, one_moves}
-use Rattle.inv_requests.specs.Parents.{phase_stands}
-use Rattle.inv_requests.proofs.Paces.{Any}
+use Rattle.inv_covers.specs.shapes.Seats.{PostFits, PhaseFits}
+use Rattle.inv_covers.proofs.shapes.Frame.{seat_stays, seat_steps, begin_stays, begin_begins, settled_seated}
+use Rattle.inv_covers.proofs.shapes.Kept.{counted_fits, run_counted, one_moves}
+use Rattle.inv_covers.specs.Requests.Parents.{phase_stands}
+use Rattle.inv_covers.proofs.Requests.Paces.{Any}
 use Rattle.inv_contents.specs.Stands.{Stood, StandsStart, StandsBegin, StandsKept}
 use Rattle.inv_contents.proofs.Stands.Rounds.{TurnStood, free_stood, adds_stood, scan_told, scan_adds, each_first}
 use Rattle.inv_contents.proofs.Stands.Works.{same_row, work_stood}
 use Rattle.inv_contents.proofs.Stands.Machines.{run_stood}
-use Rattle.inv_requests.proofs.Parents.{why_counted}
+use Rattle.inv_covers.proofs.Requests.Parents.{why_counted}
 
 stood_counted : (phase : Phase) (post : Post) → Stood phase post → Stood phase (counted post)
 stood_counted phase post h = record { reads = λ s e. h.reads s e; queue = λ s e. h.queue s e; nexts = λ s e. h.nexts s e }

@@ -28,9 +28,9 @@ use Rattle.inv_covers.specs.model.Phases.Ending.{Done, Protected, Followed, Allo
 use Rattle.inv_covers.specs.model.Machine.{protect_turn, allocate_turn, after}
 use Rattle.inv_covers.specs.model.Steps.{resumed, run_turn}
 use Rattle.inv_covers.specs.model.Calls.{Task, Gets, Changes, Holds, Enqueues, Dequeues, Why, Opens, FollowsHead, Fills, ClearsNext, Clears, Finishes, GivesUp, Retires, Tidies, Advances, Releases, Runs}
-use Rattle.inv_requests.specs.shapes.Seats.{PostFits, Run, suits, ToFill}
-use Rattle.inv_requests.specs.Parents.{why_stands, OutcomeStands}
-use Rattle.inv_requests.proofs.Standings.{machine_stands}
+use Rattle.inv_covers.specs.shapes.Seats.{PostFits, Run, suits, ToFill}
+use Rattle.inv_covers.specs.Requests.Parents.{why_stands, OutcomeStands}
+use Rattle.inv_covers.proofs.Requests.Standings.{machine_stands}
 use Rattle.inv_contents.specs.Stands.{Stood}
 use Rattle.inv_contents.proofs.Stands.Rounds.{TurnStood, free_stood, adds_stood, why_ends, ends_free, resume_adds}
 use Rattle.inv_contents.proofs.Stands.Works.{opened_stood, ending_nexts, followed_by_stood, task_stays, filled_stood}

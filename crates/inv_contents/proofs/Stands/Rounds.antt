@@ -22,7 +22,7 @@ use Rattle.inv_covers.specs.model.Keep as keeps
 use Rattle.inv_covers.specs.model.Scan as scan
 use Rattle.inv_covers.specs.model.Steps as steps
 use Rattle.inv_covers.specs.model.Calls.{Task, Gets, Changes, Holds, Enqueues, Dequeues, Next, Again, MakeRoom, Answering, Retiring, AfterScan, Answered, Repeated, Counted, Why, Opens, FollowsHead, Fills, ClearsNext, Clears, Finishes, GivesUp, Retires, Tidies, Advances, Releases, ScanAt, ReadGuard, GiveBack, Phase, Idle, Runs, Scans, Works, CallTurn, LetGo, Released, Rehold, Dropped, Parting, KeepAt, Looks, FindVersion, Work, Keeping}
-use Rattle.inv_requests.specs.shapes.Frame.{phase_left}
+use Rattle.inv_covers.specs.shapes.Frame.{phase_left}
 use Rattle.inv_contents.specs.Stands.{Stood}
 use Rattle.inv_contents.proofs.Contents.Rounds.{task_plain}
 use Rattle.inv_covers.proofs.model.Facts.{first_of, rest_of, both, if_by}

@@ -27,7 +27,7 @@ use Rattle.inv_covers.specs.model.Dequeue as dequeues
 use Rattle.inv_covers.specs.model.Keep as keeps
 use Rattle.inv_covers.specs.model.Steps as steps
 use Rattle.inv_covers.specs.model.Calls.{ChangeKept, EnqueueKept, Task, Gets, Changes, Holds, Enqueues, Dequeues, Next, Again, Answering, Retiring, GetAt, FindVersion, FindCount, FindKey, FindValue, ChangeAt, LoadVersion, LoadCount, LoadKey, LoadValue, ExchangeRoot, EnqueueAt, LoadNumber, LoadNext, PassTail, ExchangeNext, ExchangeTail, DequeueAt, LoadTail, SwingTail, TakeNumber, TakeValue, ExchangeHead, Work, Getting, Changing, Enqueuing, Dequeuing, Works, KeepAt, Loosens, LoadHeld, StoreHeld, Looks, Misses, HideSpan, MarkLeft, TakeList, MarkTaken, Keeping, Idle}
-use Rattle.inv_requests.specs.Parents.{ended}
+use Rattle.inv_covers.specs.Requests.Parents.{ended}
 use Rattle.inv_contents.specs.Stands.{Stood}
 use Rattle.inv_contents.proofs.Stands.Rounds.{TurnStood, free_stood, adds_stood, clearing_adds, clearing_next_adds, closed_adds, released_adds}
 

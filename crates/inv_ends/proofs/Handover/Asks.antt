@@ -15,18 +15,18 @@ use Rattle.inv_covers.specs.model.Rounds.{index_of}
 use Rattle.inv_covers.specs.model.Calls.{Task, Why, Opens, FollowsHead, Fills, ClearsNext, Clears, Finishes, GivesUp, Retires, Tidies, Advances, Releases, Phase, Idle, Runs, Scans, Works}
 use Rattle.inv_covers.specs.model.World.{World}
 use Rattle.inv_covers.specs.shapes.Seats.{Run, PhaseFits, Seats}
-use Rattle.inv_requests.specs.Deals.{is_quiet, is_open, asked_at, answered_with, taken_with, fits}
-use Rattle.inv_requests.specs.Standing.{protect_role, move_role, role_of, Requests}
-use Rattle.inv_requests.specs.Views.{Deal, Role, View as Asked}
-use Rattle.inv_requests.specs.Views.Deal.{Quiet, Open, Answered, Passed, Taken}
+use Rattle.inv_covers.specs.Requests.Deals.{is_quiet, is_open, asked_at, answered_with, taken_with, fits}
+use Rattle.inv_covers.specs.Requests.Standing.{protect_role, move_role, role_of, Requests}
+use Rattle.inv_covers.specs.Requests.Views.{Deal, Role, View as Asked}
+use Rattle.inv_covers.specs.Requests.Views.Deal.{Quiet, Open, Answered, Passed, Taken}
 use Rattle.inv_covers.specs.rows.Rows.{Status, View}
 use Rattle.inv_covers.specs.Held.{tries_protect, tries_base}
 use Rattle.inv_covers.specs.Rests.{has_taken, vacant_opening, vacant_why, vacant, Vacant, Rests}
 use Rattle.inv_covers.proofs.Held.{same_run}
 use Rattle.inv_covers.proofs.Resting.{bare_own}
 use Rattle.inv_covers.proofs.model.Facts.{first_of, no_truth}
-pub use Rattle.inv_requests.proofs.Known.{fits_at}
-use Rattle.inv_requests.proofs.Turns.{each_work_role}
+pub use Rattle.inv_covers.proofs.Requests.Known.{fits_at}
+use Rattle.inv_covers.proofs.Requests.Turns.{each_work_role}
 
 -- the own request is published and not taken yet
 abbrev pub in_slow : ProtectAt → Bool

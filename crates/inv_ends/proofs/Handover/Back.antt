@@ -14,12 +14,12 @@ use Rattle.inv_covers.specs.model.Calls.{Task, Gets, Changes, Holds as ToHold, E
 use Rattle.inv_covers.specs.model.World.{World, finds}
 use Rattle.inv_covers.proofs.model.Roots.{root_at_link}
 use Rattle.inv_covers.specs.shapes.Seats.{task_root, Run}
-use Rattle.inv_requests.specs.Context.{phase_there, guards_there}
-use Rattle.inv_requests.specs.Deals.{asked_at}
-use Rattle.inv_requests.specs.Parents.{phase_stands, why_stands}
-use Rattle.inv_requests.specs.Views.{View as Asked}
-use Rattle.inv_requests.proofs.Falling.{needs_of}
-use Rattle.inv_requests.proofs.Kept.{at_of}
+use Rattle.inv_covers.specs.Requests.Context.{phase_there, guards_there}
+use Rattle.inv_covers.specs.Requests.Deals.{asked_at}
+use Rattle.inv_covers.specs.Requests.Parents.{phase_stands, why_stands}
+use Rattle.inv_covers.specs.Requests.Views.{View as Asked}
+use Rattle.inv_covers.proofs.Requests.Falling.{needs_of}
+use Rattle.inv_covers.proofs.Requests.Kept.{at_of}
 use Rattle.inv_covers.specs.rows.Rows.{View}
 use Rattle.inv_covers.specs.rows.Hands.{row_move}
 use Rattle.inv_covers.specs.rows.Agree.{rows_after}

@@ -8,7 +8,7 @@ use Rattle.inv_covers.specs.model.Phases.{Base}
 use Rattle.inv_covers.specs.model.Calls.{Why, Runs}
 use Rattle.inv_covers.specs.model.Locals.{begun, begun_post}
 use Rattle.inv_covers.specs.model.World.{World}
-use Rattle.inv_requests.specs.Views.{Deal}
+use Rattle.inv_covers.specs.Requests.Views.{Deal}
 use Rattle.inv_covers.specs.rows.Rows.{View}
 use Rattle.inv_covers.specs.Held.{Holds}
 use Rattle.inv_ends.specs.Helped.{helper_holds, Helped}

@@ -20,19 +20,19 @@ use Rattle.inv_covers.specs.model.SlowPath.{asking, own_request}
 use Rattle.inv_covers.specs.model.Calls.{Why, Phase, Idle, Runs, Scans, Works}
 use Rattle.inv_covers.specs.model.World.{World}
 use Rattle.inv_covers.proofs.model.Ranges.{bounds_of}
-use Rattle.inv_requests.specs.Deals.{asked_at, gave_by, ahead}
-use Rattle.inv_requests.specs.NextDeals.{protect_deals, move_deals, phase_deals, next_deals}
-use Rattle.inv_requests.specs.Standing.{request_of}
-use Rattle.inv_requests.specs.Views.{Deal, View as Asked}
-use Rattle.inv_requests.specs.Views.Deal.{Quiet, Open, Answered, Passed, Taken}
+use Rattle.inv_covers.specs.Requests.Deals.{asked_at, gave_by, ahead}
+use Rattle.inv_covers.specs.Requests.NextDeals.{protect_deals, move_deals, phase_deals, next_deals}
+use Rattle.inv_covers.specs.Requests.Standing.{request_of}
+use Rattle.inv_covers.specs.Requests.Views.{Deal, View as Asked}
+use Rattle.inv_covers.specs.Requests.Views.Deal.{Quiet, Open, Answered, Passed, Taken}
 use Rattle.inv_covers.specs.rows.Rows.{View}
 use Rattle.inv_ends.specs.Handover.{HandoverNeeds}
 use Rattle.inv_ends.proofs.Handover.Asks.{asker, run_of}
 use Rattle.inv_ends.proofs.Handover.Back.{inside_of}
 use Rattle.inv_ends.proofs.Handover.Words.{Handed}
-use Rattle.inv_requests.proofs.Known.{stands_as}
+use Rattle.inv_covers.proofs.Requests.Known.{stands_as}
 use Rattle.inv_covers.proofs.model.Facts.{rest_of}
-use Rattle.inv_requests.proofs.Handing.{gave_is}
+use Rattle.inv_covers.proofs.Requests.Handing.{gave_is}
 
 -- a deal stays, or is published, answered, handed over, taken or withdrawn
 pub data DealStep (w : World) (i k : ℕ) (deal : ℕ → Deal) : Type 0 where

@@ -28,11 +28,11 @@ use Rattle.inv_covers.specs.model.World.{World, step, finds, offered}
 use Rattle.inv_covers.proofs.model.Roots.{root_at_link}
 use Rattle.inv_covers.specs.shapes.Frame.{phase_left}
 use Rattle.inv_covers.specs.words.Schemes.{helps}
-use Rattle.inv_requests.specs.Deals.{asked_at, stays}
-use Rattle.inv_requests.specs.NextDeals.{next_deals}
-use Rattle.inv_requests.specs.Standing.{protect_role, move_role, base_role, role_of}
-use Rattle.inv_requests.specs.Views.{Deal, View as Asked}
-use Rattle.inv_requests.specs.Views.Deal.{Quiet, Open, Answered, Passed, Taken}
+use Rattle.inv_covers.specs.Requests.Deals.{asked_at, stays}
+use Rattle.inv_covers.specs.Requests.NextDeals.{next_deals}
+use Rattle.inv_covers.specs.Requests.Standing.{protect_role, move_role, base_role, role_of}
+use Rattle.inv_covers.specs.Requests.Views.{Deal, View as Asked}
+use Rattle.inv_covers.specs.Requests.Views.Deal.{Quiet, Open, Answered, Passed, Taken}
 use Rattle.inv_covers.specs.rows.Rows.{Status, View, made}
 use Rattle.inv_covers.specs.rows.Hands.{row_move}
 use Rattle.inv_covers.specs.rows.Agree.{rows_after}
@@ -52,7 +52,7 @@ use Rattle.inv_ends.proofs.Handover.Shown.{helper_shows, one_from, holds_stay, n
 use Rattle.inv_ends.proofs.Handover.Own.{own_stores}
 use Rattle.inv_ends.proofs.Handover.Loads.{out_holds, turn_from_link, move_from_link, starts_unheld, protect_loads, move_loads, may_load, other_unheld}
 use Rattle.inv_ends.proofs.Handover.Others.{other_index, other_helper, move_root, all_true}
-use Rattle.inv_requests.proofs.Known.{stands_as}
+use Rattle.inv_covers.proofs.Requests.Known.{stands_as}
 use Rattle.inv_covers.proofs.model.Facts.{first_of, rest_of, both, no_truth}
 
 -- a helper word that its own seat leaves

@@ -10,8 +10,8 @@ use Rattle.inv_covers.specs.model.Phases.{Base}
 use Rattle.inv_covers.specs.model.Calls.{Why, Runs}
 use Rattle.inv_covers.specs.model.World.{World, step, finds}
 use Rattle.inv_covers.specs.words.Schemes.{helps}
-use Rattle.inv_requests.specs.NextDeals.{next_deals}
-use Rattle.inv_requests.specs.Views.{View as Asked}
+use Rattle.inv_covers.specs.Requests.NextDeals.{next_deals}
+use Rattle.inv_covers.specs.Requests.Views.{View as Asked}
 use Rattle.inv_covers.specs.rows.Rows.{View}
 use Rattle.inv_covers.specs.rows.Hands.{row_move}
 use Rattle.inv_covers.specs.rows.Agree.{rows_after}

@@ -23,8 +23,8 @@ use Rattle.inv_covers.specs.model.Protect.{held_post, told_held, failed_once, tr
 use Rattle.inv_covers.specs.model.SlowPath.{asking, own_request, answer_in, lost_turn}
 use Rattle.inv_covers.specs.model.Machine.{begin_turn, protect_turn, allocate_turn, retire_turn, move_turn, after}
 use Rattle.inv_covers.specs.model.Calls.{Why, Phase, Runs}
-use Rattle.inv_requests.specs.Roles.{shows}
-use Rattle.inv_requests.specs.Views.{Deal}
+use Rattle.inv_covers.specs.Requests.Roles.{shows}
+use Rattle.inv_covers.specs.Requests.Views.{Deal}
 use Rattle.inv_covers.specs.rows.Rows.{Status}
 use Rattle.inv_covers.specs.Held.{leads, under}
 use Rattle.inv_covers.specs.Tries.{starts_protect, starts_move, starts_base, is_start}

@@ -21,11 +21,11 @@ use Rattle.inv_covers.specs.shapes.Eras.{Eras, protect_eras, PhaseEras}
 use Rattle.inv_covers.specs.words.Schemes.{helps}
 use Rattle.inv_covers.proofs.shapes.Frame.{seat_stays}
 use Rattle.inv_covers.proofs.shapes.Decode.{clock_next}
-use Rattle.inv_requests.specs.Deals.{is_quiet, asked_at, asked_by}
-use Rattle.inv_requests.specs.NextDeals.{next_deals}
-use Rattle.inv_requests.specs.Standing.{asked_there, is_there, Requests}
-use Rattle.inv_requests.specs.Views.{Deal, View as Asked}
-use Rattle.inv_requests.specs.Views.Deal.{Quiet, Open, Answered, Passed, Taken}
+use Rattle.inv_covers.specs.Requests.Deals.{is_quiet, asked_at, asked_by}
+use Rattle.inv_covers.specs.Requests.NextDeals.{next_deals}
+use Rattle.inv_covers.specs.Requests.Standing.{asked_there, is_there, Requests}
+use Rattle.inv_covers.specs.Requests.Views.{Deal, View as Asked}
+use Rattle.inv_covers.specs.Requests.Views.Deal.{Quiet, Open, Answered, Passed, Taken}
 use Rattle.inv_covers.specs.rows.Rows.{View}
 use Rattle.inv_covers.specs.rows.Agree.{rows_after}
 use Rattle.inv_covers.specs.Held.{leads, under, tries_base, index_base, Holds, Held, era_protect, era_base}
@@ -38,7 +38,7 @@ use Rattle.inv_ends.proofs.Handover.Deals.{DealStep, deal_step, SameDeal, NewAsk
 use Rattle.inv_ends.proofs.Handover.Words.{own_index, own_helper, helper_stays}
 use Rattle.inv_ends.proofs.Handover.Shown.{holds_stay}
 use Rattle.inv_ends.proofs.Handover.Own.{stood_stays, tried_stays}
-use Rattle.inv_requests.proofs.Known.{stands_as}
+use Rattle.inv_covers.proofs.Requests.Known.{stands_as}
 use Rattle.inv_covers.proofs.model.Facts.{by_cases, first_of, rest_of, both, no_truth}
 use Rattle.inv_covers.proofs.shapes.Steps.{upper_in}
 

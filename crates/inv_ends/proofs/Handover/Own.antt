@@ -1,6 +1,6 @@
 -- What the index words of the seat that steps hold after its step.
 use Rattle.inv_covers.specs.defs.Shown as values
-use Rattle.inv_requests.specs.Standing.{copy_role}
+use Rattle.inv_covers.specs.Requests.Standing.{copy_role}
 use Rattle.std.proofs.Common.{ℕ, ◌≡◌, ◌<◌, ◌+◌, ◌∙◌, Bool, true, false, length, Option, Some, None, refl, ap, sym, subst, arith, ◌⊎◌, inl, inr, ◌&&◌}
 use Rattle.std.proofs.lemmas.Bool.Decides.{nat_tests}
 use Rattle.std.specs.Prelude.{◌==◌}
@@ -30,7 +30,7 @@ use Rattle.inv_covers.proofs.model.Ranges.{bounds_of}
 use Rattle.inv_covers.specs.shapes.Frame.{phase_left}
 use Rattle.inv_covers.specs.words.Schemes.{helps, publishes_rows}
 use Rattle.inv_covers.specs.shapes.Seats.{Run}
-use Rattle.inv_requests.specs.Views.{View as Asked, Role as role}
+use Rattle.inv_covers.specs.Requests.Views.{View as Asked, Role as role}
 use Rattle.inv_covers.specs.rows.Rows.{Status, View}
 use Rattle.inv_covers.specs.rows.Agree.{rows_after}
 use Rattle.inv_covers.specs.rows.Queue.{in_queue}
@@ -59,7 +59,7 @@ use Rattle.inv_ends.proofs.Handover.Back.{inside_of}
 use Rattle.inv_ends.proofs.Handover.Deals.{handed_deal}
 use Rattle.inv_ends.proofs.Handover.Words.{stores_protect, own_index, Handed, index_stays}
 use Rattle.inv_ends.proofs.Handover.Shown.{index_shows, one_from, helped_guard, index_fits, holds_stay, no_store, taken_holds}
-use Rattle.inv_requests.proofs.Known.{stands_as}
+use Rattle.inv_covers.proofs.Requests.Known.{stands_as}
 use Rattle.inv_covers.proofs.model.Facts.{no_truth}
 
 no_row : (x : Option ℕ) (s : ℕ) → x ≡ None → x ≡ Some s → false ≡ true

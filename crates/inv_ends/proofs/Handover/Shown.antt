@@ -27,11 +27,11 @@ use Rattle.inv_covers.proofs.model.Ranges.{bounds_of}
 use Rattle.inv_covers.proofs.model.Roots.{root_at_link}
 use Rattle.inv_covers.specs.words.Schemes.{helps, publishes_rows}
 use Rattle.inv_covers.proofs.shapes.Frame.{word_steps}
-use Rattle.inv_requests.specs.Deals.{answered_with, stays}
-use Rattle.inv_requests.specs.Roles.{is_away}
-use Rattle.inv_requests.specs.Standing.{Requests}
-use Rattle.inv_requests.specs.Views.{Deal, Role, View as Asked, Role as role}
-use Rattle.inv_requests.specs.Views.Deal.{Quiet, Open, Answered, Passed, Taken}
+use Rattle.inv_covers.specs.Requests.Deals.{answered_with, stays}
+use Rattle.inv_covers.specs.Requests.Roles.{is_away}
+use Rattle.inv_covers.specs.Requests.Standing.{Requests}
+use Rattle.inv_covers.specs.Requests.Views.{Deal, Role, View as Asked, Role as role}
+use Rattle.inv_covers.specs.Requests.Views.Deal.{Quiet, Open, Answered, Passed, Taken}
 use Rattle.inv_covers.specs.rows.Rows.{View}
 use Rattle.inv_covers.specs.rows.Agree.{rows_after}
 use Rattle.inv_covers.specs.Covers.{eras_shown, shown, CoversNeeds, GuardFits, Scanning}
@@ -46,7 +46,7 @@ use Rattle.inv_ends.proofs.Handover.Asks.{fits_at}
 use Rattle.inv_ends.proofs.Handover.Back.{inside_of}
 use Rattle.inv_ends.proofs.Handover.Deals.{mark_few, handed_deal}
 use Rattle.inv_ends.proofs.Handover.Words.{Handed, helper_stays}
-use Rattle.inv_requests.proofs.Known.{stands_as}
+use Rattle.inv_covers.proofs.Requests.Known.{stands_as}
 use Rattle.inv_covers.proofs.model.Facts.{rest_of}
 use Rattle.inv_covers.proofs.model.Schemes.{index_guard}
 use Rattle.inv_covers.proofs.words.Schemes.{helps_not_interval, helps_not_rows}

@@ -28,7 +28,7 @@ use Rattle.inv_covers.specs.model.Keep.{keep_move}
 use Rattle.inv_covers.specs.model.Steps.{work_move}
 use Rattle.inv_covers.specs.model.Calls.{ChangeKept, EnqueueKept, ScanAt, ReadGuard, GiveBack, GetAt, FindVersion, ChangeAt, LoadVersion, EnqueueAt, LoadNumber, DequeueAt, LoadTail, KeepAt, Loosens, LoadHeld, StoreHeld, Looks, Misses, HideSpan, MarkLeft, TakeList, MarkTaken, Work, Getting, Changing, Enqueuing, Dequeuing, Keeping, Why, Phase, Idle, Runs, Scans, Works}
 use Rattle.inv_covers.specs.model.World.{World, step}
-use Rattle.inv_requests.specs.Roles.{shows}
+use Rattle.inv_covers.specs.Requests.Roles.{shows}
 use Rattle.inv_covers.specs.Covers.{eras_shown}
 use Rattle.inv_covers.proofs.Words.{keeps, eras_kept, allocate_index, retire_index, work_stores, work_index, scan_index}
 use Rattle.inv_covers.proofs.Held.{move_is, keeps_at}

@@ -36,14 +36,14 @@ use Rattle.inv_covers.proofs.shapes.Shapes.{shape_grows}
 use Rattle.inv_covers.specs.shapes.Frame.{Grows, Moves, Onward, Owes, Passed, Seated}
 use Rattle.inv_covers.specs.shapes.Seats.{Kind, PhaseFits, PostFits, Run, kind_of, suits}
 use Rattle.inv_covers.specs.shapes.Seats.Kind.{ToClear, ToFill, ToFinish, ToFollow, ToGiveUp, ToMove, ToOpen, ToRelease, ToRetire}
-use Rattle.inv_requests.proofs.Going.{link_few}
-use Rattle.inv_requests.proofs.Helping.{asker_of}
-use Rattle.inv_requests.proofs.Kept.{at_of}
-use Rattle.inv_requests.specs.Context.{At}
-use Rattle.inv_requests.specs.NextDeals.{next_deals}
-use Rattle.inv_requests.specs.Standing.{request_of}
-use Rattle.inv_requests.specs.Views.{Deal, View, Deal as dealing}
-use Rattle.inv_requests.specs.Views.Deal.{Answered, Open, Quiet, Taken}
+use Rattle.inv_covers.proofs.Requests.Going.{link_few}
+use Rattle.inv_covers.proofs.Requests.Helping.{asker_of}
+use Rattle.inv_covers.proofs.Requests.Kept.{at_of}
+use Rattle.inv_covers.specs.Requests.Context.{At}
+use Rattle.inv_covers.specs.Requests.NextDeals.{next_deals}
+use Rattle.inv_covers.specs.Requests.Standing.{request_of}
+use Rattle.inv_covers.specs.Requests.Views.{Deal, View, Deal as dealing}
+use Rattle.inv_covers.specs.Requests.Views.Deal.{Answered, Open, Quiet, Taken}
 use Rattle.inv_ends.proofs.Told.Births.{each_stores}
 use Rattle.inv_ends.proofs.Walks.Over.{hand_over, help_over, over_open, over_stays, read_over}
 use Rattle.inv_ends.specs.Moves.{AtRequest, BaseMet, MeetingBegin, MeetingKept, MeetingNeeds, MeetingStart, MetAnswered, MetOpen, MoveMet, Past, PhaseMet, done_at, met_after, met_at, met_base, met_in, met_of, open_at, over_in}
@@ -53,7 +53,7 @@ use Rattle.inv_covers.specs.words.Place.{Place, is_valid}
 use Rattle.inv_covers.specs.words.Place.Place.{Clock, Head, Index, Request}
 use Rattle.inv_covers.specs.words.declared.layout.Layout.{Layout}
 use Rattle.std.specs.Prelude.{[], ◌∷◌, Option, Some, None, nat_lt, nat_le, if◌then◌else◌, ◌==◌, ◌&&◌, ◌||◌}
-use Rattle.inv_requests.proofs.Serving.{read_idle}
+use Rattle.inv_covers.proofs.Requests.Serving.{read_idle}
 use Rattle.inv_covers.proofs.model.Facts.{no_truth_2}
 
 abbrev pub Known : Type 0

@@ -17,15 +17,15 @@ use Rattle.inv_covers.specs.model.SlowPath.{asking, own_request}
 use Rattle.inv_covers.specs.model.World.{World, step}
 use Rattle.inv_covers.specs.defs.declared.event.Root.{Root}
 use Rattle.inv_covers.specs.shapes.Seats.{Seats, Run, PhaseFits}
-use Rattle.inv_requests.proofs.Answering.{Bits, own_bits}
-use Rattle.inv_requests.proofs.Going.{stands_in}
-use Rattle.inv_requests.proofs.Kept.{at_of}
-use Rattle.inv_requests.specs.Context.{At}
-use Rattle.inv_requests.specs.Deals.{answered_with, asked_by, gave_by, has_tag, is_quiet, taken_with}
-use Rattle.inv_requests.specs.NextDeals.{move_deals, next_deals, phase_deals, protect_deals}
-use Rattle.inv_requests.specs.Standing.{request_of}
-use Rattle.inv_requests.specs.Views.{Deal, View}
-use Rattle.inv_requests.specs.Views.Deal.{Answered, Open, Passed, Quiet, Taken}
+use Rattle.inv_covers.proofs.Requests.Answering.{Bits, own_bits}
+use Rattle.inv_covers.proofs.Requests.Going.{stands_in}
+use Rattle.inv_covers.proofs.Requests.Kept.{at_of}
+use Rattle.inv_covers.specs.Requests.Context.{At}
+use Rattle.inv_covers.specs.Requests.Deals.{answered_with, asked_by, gave_by, has_tag, is_quiet, taken_with}
+use Rattle.inv_covers.specs.Requests.NextDeals.{move_deals, next_deals, phase_deals, protect_deals}
+use Rattle.inv_covers.specs.Requests.Standing.{request_of}
+use Rattle.inv_covers.specs.Requests.Views.{Deal, View}
+use Rattle.inv_covers.specs.Requests.Views.Deal.{Answered, Open, Passed, Quiet, Taken}
 use Rattle.inv_ends.proofs.Walks.Tags.{tag_taken, tags_rise, take_below}
 use Rattle.inv_ends.specs.Moves.{MeetingNeeds, done_at, open_at, over_in}
 use Rattle.inv_covers.proofs.words.Parts.{halves_one, pending≢answered}
@@ -33,7 +33,7 @@ use Rattle.inv_covers.specs.words.Packed.{halves, pending_word}
 use Rattle.inv_covers.specs.words.Place.{is_valid}
 use Rattle.inv_covers.specs.words.Place.Place.{Index, Request}
 use Rattle.std.specs.Prelude.{length, nat_lt, if◌then◌else◌, ◌==◌, ◌&&◌, ◌||◌}
-use Rattle.inv_requests.proofs.Handing.{mark_few, asked_bits}
+use Rattle.inv_covers.proofs.Requests.Handing.{mark_few, asked_bits}
 use Rattle.inv_covers.proofs.model.Facts.{first_of, number_is, same_test, no_truth_2, or_along}
 
 -- a deal that is not pending, and which this tag is no answer of

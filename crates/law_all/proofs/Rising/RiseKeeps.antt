@@ -2,69 +2,69 @@
 use Rattle.std.proofs.Common.{ℕ, ◌≡◌, ◌<◌, Bool, true, false, List, [], ◌∷◌, Option, None, refl, sym, ap, ◌∙◌, subst, arith}
 use Rattle.std.proofs.lemmas.Bool.Decides.{nat_tests}
 use Rattle.std.specs.Prelude.{◌==◌, is_some, not}
-use Rattle.law_eras.specs.laws.words.Place.Place.{Clock}
-use Rattle.law_eras.specs.laws.words.Place.{is_valid}
-use Rattle.law_eras.specs.laws.words.declared.layout.Layout.{Layout}
-use Rattle.law_eras.specs.laws.defs.declared.call.Call.{Call}
-use Rattle.law_eras.specs.laws.defs.declared.event.Event.{Event}
-use Rattle.law_eras.specs.laws.defs.declared.event.Event.TheVariants as events
-use Rattle.law_eras.specs.laws.defs.declared.event.Guard.{Guard}
-use Rattle.law_eras.specs.laws.defs.declared.event.Guard.TheVariants.{Helper, Index, Whole}
-use Rattle.law_eras.specs.laws.defs.declared.event.Root.{Root}
-use Rattle.law_eras.specs.laws.defs.declared.lifetime.Interval.{Interval}
-use Rattle.law_eras.specs.inv.model.declared.post.Post.{Post}
-use Rattle.law_eras.specs.inv.model.Calls.{Why, Phase, Idle, Runs, Scans, Works, ReadGuard, GiveBack}
-use Rattle.law_eras.specs.inv.model.Locals.{Local, after, begun}
-use Rattle.law_eras.specs.inv.model.Phases.{Aim, Tries, ProtectAt, MoveAt, Base}
-use Rattle.law_eras.specs.inv.model.Phases.ProtectAt.{LoadClock, PublishEra, LoadAnswer, TakeAnswer, RaiseUpper}
-use Rattle.law_eras.specs.inv.model.Phases.MoveAt.{HandOver}
-use Rattle.law_eras.specs.inv.model.Phases.Base.{Begin, Protect, Move}
-use Rattle.law_eras.specs.inv.model.Guards.{guard_at}
-use Rattle.law_eras.specs.inv.model.Posts.{counted}
-use Rattle.law_eras.specs.inv.model.World.{World, begin, finds, is_busy, offered, step, told_in, may_start}
-use Rattle.law_held.specs.turns.inv.shapes.Eras.{PhaseEras}
-use Rattle.law_held.proofs.turns.inv.shapes.Frame.{after_seated, begun_seated, seat_stays, seat_steps, begin_stays, begin_begins}
-use Rattle.law_held.proofs.turns.inv.shapes.Kept.{begun_fits}
-use Rattle.law_eras.specs.laws.words.Schemes.{is_ibr, publishes_rows}
-use Rattle.law_eras.specs.laws.words.declared.config.SchemeKind.{SchemeKind}
-use Rattle.law_held.specs.turns.inv.shapes.Frame.{Seated}
-use Rattle.law_held.specs.turns.inv.shapes.Seats.{PostFits, PhaseFits}
-use Rattle.law_held.specs.turns.inv.requests.Roles.{shows}
-use Rattle.law_held.specs.turns.inv.requests.Views.{Role, View as Asked}
-use Rattle.law_held.proofs.turns.inv.requests.Kept.{requests_begin, requests_start}
-use Rattle.law_held.specs.turns.inv.rows.Agree.{first_rows, rows_after}
-use Rattle.law_held.specs.turns.inv.rows.Chain.{first_line, line_after}
-use Rattle.law_held.specs.turns.inv.rows.Queue.{Line}
-use Rattle.law_held.specs.turns.inv.rows.Rows.{View}
-use Rattle.law_held.specs.turns.inv.covers.Covers.{eras_shown}
-use Rattle.law_eras.proofs.inv.ends.Handover.Shown.{helper_shows}
-use Rattle.law_held.specs.turns.inv.links.Origins.{OriginsNeeds}
-use Rattle.law_held.specs.turns.inv.history.Record.{Past, Each, EachEntry}
-use Rattle.law_held.proofs.turns.inv.history.Entries.{entries_of_each}
-use Rattle.law_held.specs.turns.inv.history.History.{Item, Begins, Steps, Made, fits, done, done_if, did, made_from, first_made, record_of}
-use Rattle.law_held.proofs.turns.inv.history.Along.{begins_right, begins_within, low_seat}
-use Rattle.law_held.specs.turns.inv.Known.{Known}
-use Rattle.law_held.proofs.turns.inv.Inv.Begun.{known_start, known_begin}
-use Rattle.law_held.proofs.turns.inv.Inv.Kept.{known_kept, asked_next}
-use Rattle.law_held.proofs.turns.inv.Inv.Shown.{shown_span}
-use Rattle.law_held.proofs.turns.inv.Inv.Whole.{origins_need, handover_need}
-use Rattle.law_held.proofs.turns.inv.history.Passes.{First, step_goes}
-use Rattle.law_held.specs.turns.inv.shapes.Slots.{PhaseIn, Slots}
-use Rattle.law_eras.specs.laws.StateAt.{value_of}
-use Rattle.law_eras.proofs.EraLaw.Kinds.{records_keep_kinds}
-use Rattle.law_eras.proofs.reuse.Holding.Holds.{record_values}
-use Rattle.law_eras.proofs.reuse.ReadGuards.{reads_are}
-use Rattle.law_eras.specs.laws.EraLaw.{kind_ok}
-use Rattle.law_eras.specs.laws.HistoryEras.{span_rises}
-use Rattle.law_eras.specs.laws.HistorySteps.{era_rises}
-use Rattle.law_steps.specs.Records.{RecordsRaiseSpans, RecordsRaiseEras}
-use Rattle.law_steps.proofs.Rising.Free.{free_index}
-use Rattle.law_eras.proofs.Current.Keeps.{OfItems, next_items}
-use Rattle.law_steps.proofs.Rising.Rises.{era_under, protect_risen, PhaseRisen, PhaseRaises, risen_grows, risen_owed}
-use Rattle.law_steps.proofs.Rising.RiseTells.{growth_ok, Leads, leads_each, leads_closed, work_leads, protect_stands, move_shows, base_stands, base_leads}
-use Rattle.law_steps.proofs.Rising.RiseSteps.{some_era, SeatRisen, other_phase, own_protect}
-use Rattle.law_held.proofs.turns.inv.requests.Known.{stands_as}
-use Rattle.law_held.proofs.turns.inv.steps_left.Rest.Falling.{tries_plain}
+use Rattle.law_reasons.specs.laws.words.Place.Place.{Clock}
+use Rattle.law_reasons.specs.laws.words.Place.{is_valid}
+use Rattle.law_reasons.specs.laws.words.declared.layout.Layout.{Layout}
+use Rattle.law_reasons.specs.laws.defs.declared.call.Call.{Call}
+use Rattle.law_reasons.specs.laws.defs.declared.event.Event.{Event}
+use Rattle.law_reasons.specs.laws.defs.declared.event.Event.TheVariants as events
+use Rattle.law_reasons.specs.laws.defs.declared.event.Guard.{Guard}
+use Rattle.law_reasons.specs.laws.defs.declared.event.Guard.TheVariants.{Helper, Index, Whole}
+use Rattle.law_reasons.specs.laws.defs.declared.event.Root.{Root}
+use Rattle.law_reasons.specs.laws.defs.declared.lifetime.Interval.{Interval}
+use Rattle.law_reasons.specs.inv.model.declared.post.Post.{Post}
+use Rattle.law_reasons.specs.inv.model.Calls.{Why, Phase, Idle, Runs, Scans, Works, ReadGuard, GiveBack}
+use Rattle.law_reasons.specs.inv.model.Locals.{Local, after, begun}
+use Rattle.law_reasons.specs.inv.model.Phases.{Aim, Tries, ProtectAt, MoveAt, Base}
+use Rattle.law_reasons.specs.inv.model.Phases.ProtectAt.{LoadClock, PublishEra, LoadAnswer, TakeAnswer, RaiseUpper}
+use Rattle.law_reasons.specs.inv.model.Phases.MoveAt.{HandOver}
+use Rattle.law_reasons.specs.inv.model.Phases.Base.{Begin, Protect, Move}
+use Rattle.law_reasons.specs.inv.model.Guards.{guard_at}
+use Rattle.law_reasons.specs.inv.model.Posts.{counted}
+use Rattle.law_reasons.specs.inv.model.World.{World, begin, finds, is_busy, offered, step, told_in, may_start}
+use Rattle.law_held.specs.inv.shapes.Eras.{PhaseEras}
+use Rattle.law_held.proofs.reuse.shapes.Frame.{after_seated, begun_seated, seat_stays, seat_steps, begin_stays, begin_begins}
+use Rattle.law_held.proofs.reuse.shapes.Kept.{begun_fits}
+use Rattle.law_reasons.specs.laws.words.Schemes.{is_ibr, publishes_rows}
+use Rattle.law_reasons.specs.laws.words.declared.config.SchemeKind.{SchemeKind}
+use Rattle.law_held.specs.inv.shapes.Frame.{Seated}
+use Rattle.law_held.specs.inv.shapes.Seats.{PostFits, PhaseFits}
+use Rattle.law_held.specs.inv.requests.Roles.{shows}
+use Rattle.law_held.specs.inv.requests.Views.{Role, View as Asked}
+use Rattle.law_held.proofs.inv.requests.Kept.{requests_begin, requests_start}
+use Rattle.law_held.specs.inv.rows.Agree.{first_rows, rows_after}
+use Rattle.law_held.specs.inv.rows.Chain.{first_line, line_after}
+use Rattle.law_held.specs.inv.rows.Queue.{Line}
+use Rattle.law_held.specs.inv.rows.Rows.{View}
+use Rattle.law_held.specs.inv.covers.Covers.{eras_shown}
+use Rattle.law_reasons.proofs.inv.ends.Handover.Shown.{helper_shows}
+use Rattle.law_held.specs.inv.ends.Origins.{OriginsNeeds}
+use Rattle.law_held.specs.inv.history.Record.{Past, Each, EachEntry}
+use Rattle.law_held.proofs.inv.history.Entries.{entries_of_each}
+use Rattle.law_held.specs.inv.history.History.{Item, Begins, Steps, Made, fits, done, done_if, did, made_from, first_made, record_of}
+use Rattle.law_held.proofs.inv.history.Along.{begins_right, begins_within, low_seat}
+use Rattle.law_held.specs.inv.Known.{Known}
+use Rattle.law_held.proofs.inv.Inv.Begun.{known_start, known_begin}
+use Rattle.law_held.proofs.inv.Inv.Kept.{known_kept, asked_next}
+use Rattle.law_held.proofs.inv.Inv.Shown.{shown_span}
+use Rattle.law_held.proofs.inv.Inv.Whole.{origins_need, handover_need}
+use Rattle.law_held.proofs.inv.history.Passes.{First, step_goes}
+use Rattle.law_held.specs.inv.shapes.Slots.{PhaseIn, Slots}
+use Rattle.law_reasons.specs.laws.StateAt.{value_of}
+use Rattle.law_reasons.proofs.Eras.EraLaw.Kinds.{records_keep_kinds}
+use Rattle.law_reasons.proofs.reuse.Holding.Holds.{record_values}
+use Rattle.law_reasons.proofs.reuse.ReadGuards.{reads_are}
+use Rattle.law_reasons.specs.laws.EraLaw.{kind_ok}
+use Rattle.law_reasons.specs.laws.HistoryEras.{span_rises}
+use Rattle.law_reasons.specs.laws.HistorySteps.{era_rises}
+use Rattle.law_held.specs.Steps.Records.{RecordsRaiseSpans, RecordsRaiseEras}
+use Rattle.law_held.proofs.Steps.Rising.Free.{free_index}
+use Rattle.law_reasons.proofs.Eras.Current.Keeps.{OfItems, next_items}
+use Rattle.law_held.proofs.Steps.Rising.Rises.{era_under, protect_risen, PhaseRisen, PhaseRaises, risen_grows, risen_owed}
+use Rattle.law_held.proofs.Steps.Rising.RiseTells.{growth_ok, Leads, leads_each, leads_closed, work_leads, protect_stands, move_shows, base_stands, base_leads}
+use Rattle.law_held.proofs.Steps.Rising.RiseSteps.{some_era, SeatRisen, other_phase, own_protect}
+use Rattle.law_held.proofs.inv.requests.Known.{stands_as}
+use Rattle.law_held.proofs.inv.ends.Rest.Falling.{tries_plain}
 
 -- what a history keeps where guards publish intervals
 record Growing (layout : Layout) (made : Made) : Type 0 where

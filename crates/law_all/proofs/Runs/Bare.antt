@@ -32,9 +32,9 @@ use Rattle.law_logs.specs.inv.shapes.Frame.{phase_left}
 use Rattle.law_logs.specs.inv.shapes.Seats.{kind_of, suits}
 use Rattle.law_logs.proofs.inv.Inv.Reached.{inv_reached}
 use Rattle.law_logs.proofs.inv.ends.Told.Rows.{rows_told}
-use Rattle.law_eras.proofs.inv.ends.Handover.Asks.{run_of}
+use Rattle.law_reasons.proofs.inv.ends.Handover.Asks.{run_of}
 use Rattle.law_logs.proofs.inv.history.Along.{paths_keep}
-use Rattle.law_logs.proofs.inv.shapes.Frame.{begin_begins, begin_stays, seat_stays, seat_steps}
+use Rattle.law_held.proofs.reuse.shapes.Frame.{begin_begins, begin_stays, seat_stays, seat_steps}
 use Rattle.law_all.specs.RunLaw.{IsCall, NoRow, is_bare}
 use Rattle.law_all.specs.Runs.{logs_of}
 use Rattle.law_logs.proofs.Notes.{turns_leave_notes}

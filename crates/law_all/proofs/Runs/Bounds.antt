@@ -11,7 +11,7 @@ use Rattle.law_logs.proofs.inv.Finish.{Goes, steady}
 use Rattle.law_logs.proofs.inv.Inv.Begun.{inv_start}
 use Rattle.law_logs.proofs.inv.Inv.Tells.{inv_shows}
 use Rattle.law_logs.proofs.inv.history.Along.{items_keep}
-use Rattle.law_eras.proofs.reuse.Lawful.Books.{record_books}
+use Rattle.law_reasons.proofs.reuse.Lawful.Books.{record_books}
 use Rattle.law_logs.specs.laws.StateAt.{count_of, queued_of, taken_of}
 
 pub record Bounds (most : ℕ) (p : Past) : Type 0 where

@@ -13,7 +13,7 @@ use Rattle.law_logs.specs.inv.model.defs.declared.event.Event.TheVariants as eve
 use Rattle.law_logs.specs.inv.model.defs.declared.event.Event.{Event}
 use Rattle.law_logs.specs.inv.model.words.Schemes.{moves as moves_clock}
 use Rattle.law_logs.specs.inv.model.words.declared.config.Config.{Config}
-use Rattle.law_eras.proofs.Current.Positions.{ticked_rises}
+use Rattle.law_reasons.proofs.Eras.Current.Positions.{ticked_rises}
 use Rattle.law_logs.specs.inv.history.Record.Past.{Start, Then}
 use Rattle.law_logs.specs.inv.history.Record.{Each, Past, tells}
 use Rattle.law_logs.proofs.inv.history.Entries.{each_before}

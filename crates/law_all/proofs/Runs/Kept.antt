@@ -13,14 +13,14 @@ use Rattle.law_logs.specs.laws.MapLaw.{map_ok}
 use Rattle.law_logs.specs.laws.QueueLaw.{queue_ok}
 use Rattle.law_logs.specs.laws.Standing.{open_ok}
 use Rattle.law_held.proofs.scans.Placing.Keeps.{records_place_rows}
-use Rattle.law_eras.proofs.reuse.AnswersTold.Answering.{records_keep_answers}
-use Rattle.law_eras.proofs.reuse.Lawful.Maps.{records_keep_map}
-use Rattle.law_eras.proofs.reuse.Lawful.Queues.{records_keep_queue}
-use Rattle.law_eras.proofs.reuse.OpenCalls.{records_open_calls}
-use Rattle.law_eras.proofs.reuse.Once.Keeps.{records_keep_once}
+use Rattle.law_reasons.proofs.reuse.AnswersTold.Answering.{records_keep_answers}
+use Rattle.law_reasons.proofs.reuse.Lawful.Maps.{records_keep_map}
+use Rattle.law_reasons.proofs.reuse.Lawful.Queues.{records_keep_queue}
+use Rattle.law_reasons.proofs.reuse.OpenCalls.{records_open_calls}
+use Rattle.law_reasons.proofs.reuse.Once.Keeps.{records_keep_once}
 use Rattle.law_reasons.proofs.Ranges.Records.{records_stay_in_range}
 use Rattle.law_held.proofs.scans.FewRetired.Plain.{records_answer_plainly}
-use Rattle.law_eras.proofs.EraLaw.Keeps.{records_keep_eras}
+use Rattle.law_reasons.proofs.Eras.EraLaw.Keeps.{records_keep_eras}
 use Rattle.law_logs.specs.inv.history.History.{Item, record_of}
 use Rattle.law_logs.specs.inv.history.Record.{Each, Past}
 use Rattle.law_logs.specs.inv.history.Record.Past.{Then}

@@ -2,36 +2,36 @@
 use Rattle.std.proofs.Common.{ℕ, ◌≡◌, ◌-◌, ◌+◌, ◌%◌, Bool, true, false, List, [], ◌∷◌, ◌++◌, Option, Some, None, refl, sym, ap, ◌∙◌, subst, arith}
 use Rattle.std.proofs.lemmas.Bool.Decides.{nat_tests}
 use Rattle.std.specs.Prelude.{◌==◌, ◌||◌, not, if◌then◌else◌}
-use Rattle.law_turns.specs.inv.model.words.Place.{is_valid}
-use Rattle.law_turns.specs.inv.model.words.declared.layout.Layout.{Layout}
-use Rattle.law_turns.specs.inv.model.defs.declared.event.Event.{Event}
-use Rattle.law_turns.specs.inv.model.defs.declared.event.Event.TheVariants as events
-use Rattle.law_turns.specs.inv.model.defs.declared.event.Root.{Root}
-use Rattle.law_turns.specs.inv.model.defs.declared.event.Root.TheVariants as roots
-use Rattle.law_turns.specs.inv.model.defs.declared.fold.Change.{Change}
-use Rattle.law_turns.specs.inv.model.defs.declared.fold.Change.TheVariants as the_changes
-use Rattle.law_turns.specs.inv.model.declared.ends.ProtectEnd.TheVariants as protect_ends
-use Rattle.law_turns.specs.inv.model.declared.post.Post.{Post}
-use Rattle.law_turns.specs.inv.model.Change as alters
-use Rattle.law_turns.specs.inv.model.Enqueue as enqueues
-use Rattle.law_turns.specs.inv.model.Locals.{told_end}
-use Rattle.law_turns.specs.inv.model.Machine as machine
-use Rattle.law_turns.specs.inv.model.Memory.{bump}
-use Rattle.law_turns.specs.inv.model.Posts.{counted}
-use Rattle.law_turns.specs.inv.model.Rounds.{scheme_of, bucket_of, clear_told}
-use Rattle.law_turns.specs.inv.model.World.{World, finds, offered, told_in}
-use Rattle.law_turns.specs.inv.model.Phases.{Base, Ending, Outcome, Goes, Ends}
-use Rattle.law_turns.specs.inv.model.Phases.Base.{Protect}
-use Rattle.law_turns.specs.inv.model.Phases.Ending.{Done, Protected, Followed, Allocated, Retired, Clocked}
-use Rattle.law_turns.specs.inv.model.Calls.{Task, Gets, Changes, Holds, Enqueues, Dequeues, Why, Opens, GetAt, FindVersion, FindCount, FindKey, FindValue, Work, Getting, Changing, Enqueuing, Dequeuing, Keeping, ReadGuard, GiveBack, Phase, Idle, Runs, Scans, Works, CallOutcome, GoesOn, Answers}
-use Rattle.law_turns.proofs.inv.model.Frames.{after_same}
-use Rattle.law_turns.proofs.inv.model.Facts.{same_number, first_of, rest_of, zero_test}
+use Rattle.law_scans.specs.inv.model.words.Place.{is_valid}
+use Rattle.law_scans.specs.inv.model.words.declared.layout.Layout.{Layout}
+use Rattle.law_scans.specs.inv.model.defs.declared.event.Event.{Event}
+use Rattle.law_scans.specs.inv.model.defs.declared.event.Event.TheVariants as events
+use Rattle.law_scans.specs.inv.model.defs.declared.event.Root.{Root}
+use Rattle.law_scans.specs.inv.model.defs.declared.event.Root.TheVariants as roots
+use Rattle.law_scans.specs.inv.model.defs.declared.fold.Change.{Change}
+use Rattle.law_scans.specs.inv.model.defs.declared.fold.Change.TheVariants as the_changes
+use Rattle.law_scans.specs.inv.model.declared.ends.ProtectEnd.TheVariants as protect_ends
+use Rattle.law_scans.specs.inv.model.declared.post.Post.{Post}
+use Rattle.law_scans.specs.inv.model.Change as alters
+use Rattle.law_scans.specs.inv.model.Enqueue as enqueues
+use Rattle.law_scans.specs.inv.model.Locals.{told_end}
+use Rattle.law_scans.specs.inv.model.Machine as machine
+use Rattle.law_scans.specs.inv.model.Memory.{bump}
+use Rattle.law_scans.specs.inv.model.Posts.{counted}
+use Rattle.law_scans.specs.inv.model.Rounds.{scheme_of, bucket_of, clear_told}
+use Rattle.law_scans.specs.inv.model.World.{World, finds, offered, told_in}
+use Rattle.law_scans.specs.inv.model.Phases.{Base, Ending, Outcome, Goes, Ends}
+use Rattle.law_scans.specs.inv.model.Phases.Base.{Protect}
+use Rattle.law_scans.specs.inv.model.Phases.Ending.{Done, Protected, Followed, Allocated, Retired, Clocked}
+use Rattle.law_scans.specs.inv.model.Calls.{Task, Gets, Changes, Holds, Enqueues, Dequeues, Why, Opens, GetAt, FindVersion, FindCount, FindKey, FindValue, Work, Getting, Changing, Enqueuing, Dequeuing, Keeping, ReadGuard, GiveBack, Phase, Idle, Runs, Scans, Works, CallOutcome, GoesOn, Answers}
+use Rattle.law_scans.proofs.inv.model.Frames.{after_same}
+use Rattle.law_scans.proofs.inv.model.Facts.{same_number, first_of, rest_of, zero_test}
 use Rattle.law_scans.specs.inv.contents.Contents.{ground_of}
 use Rattle.law_scans.specs.inv.contents.Knows.{Knows, GetKnows, FoundRow, get_reads, reads_in}
 use Rattle.law_scans.specs.inv.contents.Stands.{read_index}
 use Rattle.law_scans.proofs.reuse.OneStep.Along.{Kept, history_keeps}
-use Rattle.law_scans.proofs.inv.links.Origins.Ends.{ends_with}
-use Rattle.law_scans.specs.inv.links.Origins.{ends_base}
+use Rattle.law_scans.proofs.inv.ends.Origins.Ends.{ends_with}
+use Rattle.law_scans.specs.inv.ends.Origins.{ends_base}
 use Rattle.law_scans.specs.inv.shapes.Seats.{Seats}
 use Rattle.law_scans.specs.inv.history.History.{Item, Made, made_of, record_of, world_of}
 use Rattle.law_scans.specs.inv.Inv.{Inv}
@@ -39,25 +39,25 @@ use Rattle.law_scans.proofs.inv.Inv.Reached.{inv_reached}
 use Rattle.law_scans.specs.laws.records.Record.{Past, Each, tells_of}
 use Rattle.law_scans.specs.laws.records.Record.Past.{Start, Then}
 use Rattle.law_scans.specs.laws.records.Turns as schedule
-use Rattle.law_turns.specs.laws.StateAt.{count_of, bucket_at, stood_at, row_at, null_by, null_of}
+use Rattle.law_scans.specs.laws.StateAt.{count_of, bucket_at, stood_at, row_at, null_by, null_of}
 use Rattle.law_scans.proofs.reuse.history.AllOf.{all_of, of_weaker}
 use Rattle.law_scans.proofs.inv.Machines.{is_machine, base_machine, clear_machine}
-use Rattle.law_turns.proofs.laws.Tells.{seen_tells, tells_both}
+use Rattle.law_scans.proofs.laws.Tells.{seen_tells, tells_both}
 use Rattle.law_scans.proofs.reuse.Reuse.Keeps.{record_stands}
 use Rattle.law_scans.proofs.reuse.history.Passes.{Closing, First, get_allows, ending_allows, why_allows, outcome_allows, work_allows, work_told, phase_allows, step_closes}
 use Rattle.law_held.proofs.Roots.Ways.{record_each}
 use Rattle.law_scans.proofs.inv.ends.Told.Rows.{own_told}
 use Rattle.law_scans.specs.inv.history.Heard.{heard_of}
-use Rattle.law_turns.specs.laws.HistoryHolds.{stands_as, got_right, gots_ok}
+use Rattle.law_scans.specs.laws.HistoryHolds.{stands_as, got_right, gots_ok}
 use Rattle.law_held.specs.Records.{RecordsTellRows}
 use Rattle.law_held.proofs.GotRows.Nulled.{nulled, nulled_at, NulledIn, step_nulled, begin_nulled, ended_null}
 use Rattle.law_held.proofs.GotRows.Rowed.{Rowed, step_rowed, begin_rowed, first_book_rowed}
 use Rattle.law_scans.proofs.inv.ends.Handover.Asks.{run_of}
 use Rattle.law_scans.proofs.reuse.Lawful.Gots.{cleared_table, work_table}
 use Rattle.law_scans.proofs.reuse.history.MayTell.{work_all}
-use Rattle.law_turns.proofs.reuse.ReadGuards.{reads_are}
-use Rattle.law_turns.specs.inv.model.Guards.{guard_at}
-use Rattle.law_turns.specs.inv.model.words.Schemes.{publishes_rows}
+use Rattle.law_scans.proofs.reuse.ReadGuards.{reads_are}
+use Rattle.law_scans.specs.inv.model.Guards.{guard_at}
+use Rattle.law_scans.specs.inv.model.words.Schemes.{publishes_rows}
 
 -- what is told but what a get tells
 abbrev is_gotless : Event → Bool

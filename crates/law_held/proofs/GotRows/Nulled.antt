@@ -3,39 +3,39 @@ use Rattle.std.proofs.Common.{ℕ, ◌≡◌, ◌-◌, ◌+◌, Bool, true, fals
 use Rattle.std.proofs.lemmas.Bool.Decides.{nat_tests}
 use Rattle.std.specs.List.{list_all}
 use Rattle.std.specs.Prelude.{◌==◌, ◌||◌, not, nat_le, if◌then◌else◌}
-use Rattle.law_turns.specs.inv.model.words.Place.{is_valid}
-use Rattle.law_turns.specs.inv.model.words.Packed.{read_request}
-use Rattle.law_turns.specs.inv.model.words.declared.config.Config.{Config}
-use Rattle.law_turns.specs.inv.model.words.declared.config.SchemeKind.{SchemeKind}
-use Rattle.law_turns.specs.inv.model.words.declared.config.SchemeKind.TheVariants.{He, Hp, Ibr, Wfe}
-use Rattle.law_turns.specs.inv.model.words.declared.layout.Layout.{Layout}
-use Rattle.law_turns.specs.inv.model.words.declared.packed.Request.{Request}
-use Rattle.law_turns.specs.inv.model.words.declared.packed.Request.TheVariants as requests
-use Rattle.law_turns.specs.inv.model.defs.declared.call.Call.{Call}
-use Rattle.law_turns.specs.inv.model.defs.declared.event.Event.{Event}
-use Rattle.law_turns.specs.inv.model.defs.declared.event.Event.TheVariants as events
-use Rattle.law_turns.specs.inv.model.defs.declared.event.Root.{Root}
-use Rattle.law_turns.specs.inv.model.defs.declared.event.Root.TheVariants as roots
-use Rattle.law_turns.specs.inv.model.declared.ends.FollowEnd.TheVariants as follow_ends
-use Rattle.law_turns.specs.inv.model.declared.post.Post.{Post}
-use Rattle.law_turns.specs.inv.model.Links.{parent_of}
-use Rattle.law_turns.specs.inv.model.Locals.{Local, turn}
-use Rattle.law_turns.specs.inv.model.Machine.{after, protect_turn}
-use Rattle.law_turns.specs.inv.model.Memory.{bump}
-use Rattle.law_turns.specs.inv.model.Posts.{counted, upper, with_row, reserves_helper}
-use Rattle.law_turns.specs.inv.model.Protect.{held_post, told_held, concluded, protected, failed_once, trying}
-use Rattle.law_turns.specs.inv.model.Rounds.{scheme_of, index_of, protect_at}
-use Rattle.law_turns.specs.inv.model.SlowPath.{own_request, answer_in, lost_turn}
-use Rattle.law_turns.specs.inv.model.World.{World, begin, finds, offered, step, told_in}
-use Rattle.law_turns.specs.inv.model.Phases.BeginAt.{LoadLower, PublishSpan}
-use Rattle.law_turns.specs.inv.model.Phases.{Aim, Alone, Follows, BeginAt, Tries, Endless, Failed, ProtectAt, Base, Outcome, Goes, Ends, Turn, goes, ends}
-use Rattle.law_turns.specs.inv.model.Phases.ProtectAt.{PublishEra, LoadLink, CheckClock, PublishRequest, CheckOwnClock, AnswerOwn, LoadAnswer, TakeAnswer, WithdrawRequest, WithdrawHelper, CheckUpper, RaiseUpper, ByHazard}
-use Rattle.law_turns.specs.inv.model.Phases.Base.{Begin, Protect, Reload, Allocate, Write, Retire, Move}
-use Rattle.law_turns.specs.inv.model.Phases.Ending.{Followed}
-use Rattle.law_turns.specs.inv.model.Calls.{Why, Phase, Idle, Runs, Scans, Works}
-use Rattle.law_turns.proofs.inv.model.Facts.{first_of, rest_of, then_of, or_more}
+use Rattle.law_scans.specs.inv.model.words.Place.{is_valid}
+use Rattle.law_scans.specs.inv.model.words.Packed.{read_request}
+use Rattle.law_scans.specs.inv.model.words.declared.config.Config.{Config}
+use Rattle.law_scans.specs.inv.model.words.declared.config.SchemeKind.{SchemeKind}
+use Rattle.law_scans.specs.inv.model.words.declared.config.SchemeKind.TheVariants.{He, Hp, Ibr, Wfe}
+use Rattle.law_scans.specs.inv.model.words.declared.layout.Layout.{Layout}
+use Rattle.law_scans.specs.inv.model.words.declared.packed.Request.{Request}
+use Rattle.law_scans.specs.inv.model.words.declared.packed.Request.TheVariants as requests
+use Rattle.law_scans.specs.inv.model.defs.declared.call.Call.{Call}
+use Rattle.law_scans.specs.inv.model.defs.declared.event.Event.{Event}
+use Rattle.law_scans.specs.inv.model.defs.declared.event.Event.TheVariants as events
+use Rattle.law_scans.specs.inv.model.defs.declared.event.Root.{Root}
+use Rattle.law_scans.specs.inv.model.defs.declared.event.Root.TheVariants as roots
+use Rattle.law_scans.specs.inv.model.declared.ends.FollowEnd.TheVariants as follow_ends
+use Rattle.law_scans.specs.inv.model.declared.post.Post.{Post}
+use Rattle.law_scans.specs.inv.model.Links.{parent_of}
+use Rattle.law_scans.specs.inv.model.Locals.{Local, turn}
+use Rattle.law_scans.specs.inv.model.Machine.{after, protect_turn}
+use Rattle.law_scans.specs.inv.model.Memory.{bump}
+use Rattle.law_scans.specs.inv.model.Posts.{counted, upper, with_row, reserves_helper}
+use Rattle.law_scans.specs.inv.model.Protect.{held_post, told_held, concluded, protected, failed_once, trying}
+use Rattle.law_scans.specs.inv.model.Rounds.{scheme_of, index_of, protect_at}
+use Rattle.law_scans.specs.inv.model.SlowPath.{own_request, answer_in, lost_turn}
+use Rattle.law_scans.specs.inv.model.World.{World, begin, finds, offered, step, told_in}
+use Rattle.law_scans.specs.inv.model.Phases.BeginAt.{LoadLower, PublishSpan}
+use Rattle.law_scans.specs.inv.model.Phases.{Aim, Alone, Follows, BeginAt, Tries, Endless, Failed, ProtectAt, Base, Outcome, Goes, Ends, Turn, goes, ends}
+use Rattle.law_scans.specs.inv.model.Phases.ProtectAt.{PublishEra, LoadLink, CheckClock, PublishRequest, CheckOwnClock, AnswerOwn, LoadAnswer, TakeAnswer, WithdrawRequest, WithdrawHelper, CheckUpper, RaiseUpper, ByHazard}
+use Rattle.law_scans.specs.inv.model.Phases.Base.{Begin, Protect, Reload, Allocate, Write, Retire, Move}
+use Rattle.law_scans.specs.inv.model.Phases.Ending.{Followed}
+use Rattle.law_scans.specs.inv.model.Calls.{Why, Phase, Idle, Runs, Scans, Works}
+use Rattle.law_scans.proofs.inv.model.Facts.{first_of, rest_of, then_of, or_more}
 use Rattle.law_scans.proofs.reuse.history.MayTell.{concluded_told}
-use Rattle.law_scans.specs.inv.links.Origins.{ends_at}
+use Rattle.law_scans.specs.inv.ends.Origins.{ends_at}
 use Rattle.law_scans.specs.inv.shapes.Frame.{Onward, Grows, Owes, Moves, Passed}
 use Rattle.law_scans.specs.inv.shapes.Seats.{PostFits, PhaseFits, Run, Seats, Kind, ToOpen, ToFollow, kind_of, suits, protects, fills, retires, moves}
 use Rattle.law_scans.proofs.reuse.shapes.Frame.{seat_stays, seat_steps, begin_stays, begin_begins, after_seated, begun_seated, moves_with}
@@ -44,14 +44,14 @@ use Rattle.law_scans.proofs.reuse.shapes.Inside.{shape_moves}
 use Rattle.law_scans.proofs.reuse.shapes.Kept.{counted_fits, run_counted, work_counted, begun_fits, bared_fits}
 use Rattle.law_scans.specs.laws.records.Record.{Past, tells_of}
 use Rattle.law_scans.specs.laws.records.Record.Past.{Then}
-use Rattle.law_turns.proofs.laws.Along.{along}
+use Rattle.law_scans.proofs.laws.Along.{along}
 use Rattle.law_scans.proofs.Placing.Sums.{along_both}
-use Rattle.law_turns.proofs.laws.Tells.{seen_tells, seen_stays, seen_other}
+use Rattle.law_scans.proofs.laws.Tells.{seen_tells, seen_stays, seen_other}
 use Rattle.law_scans.proofs.inv.ends.Told.Rows.{own_told, own_post, step_adds}
 use Rattle.law_scans.proofs.inv.ends.Told.Turns.{Adds, is_later}
 use Rattle.law_scans.proofs.inv.ends.Told.Births.{each_stores}
-use Rattle.law_turns.specs.laws.StateAt.{null_by, null_of}
-use Rattle.law_turns.specs.inv.model.Phases.HazardAt.{FirstLink, PublishLink, CheckLink}
+use Rattle.law_scans.specs.laws.StateAt.{null_by, null_of}
+use Rattle.law_scans.specs.inv.model.Phases.HazardAt.{FirstLink, PublishLink, CheckLink}
 
 -- where an answer was taken whose link is null, index 0 was told null
 abbrev pub nulled_at : ProtectAt → Bool → Bool

@@ -2,31 +2,31 @@
 use Rattle.std.proofs.Common.{ℕ, ◌≡◌, ◌≤◌, ◌+◌, ◌-◌, Bool, true, false, List, [], ◌∷◌, ◌++◌, length, Option, Some, refl, sym, ap, ◌∙◌, subst, arith, length-append}
 use Rattle.std.proofs.lemmas.Bool.Decides.{nat_tests}
 use Rattle.std.specs.Prelude.{◌==◌, if◌then◌else◌}
-use Rattle.law_turns.specs.inv.model.defs.declared.call.Call.{Call}
-use Rattle.law_turns.specs.inv.model.defs.declared.event.Event.{Event}
-use Rattle.law_turns.specs.inv.model.defs.declared.event.Event.TheVariants as events
-use Rattle.law_turns.specs.inv.model.defs.declared.event.Root.TheVariants as roots
-use Rattle.law_turns.specs.inv.model.defs.declared.fold.Change.{Change}
-use Rattle.law_turns.specs.inv.model.defs.declared.fold.Change.TheVariants as changes
-use Rattle.law_turns.specs.inv.model.declared.post.Post.{Post}
-use Rattle.law_turns.specs.inv.model.Book.{Book, RowBook, first_book, booked, booked_all}
-use Rattle.law_turns.specs.inv.model.Change.{told_change, changed_bucket}
-use Rattle.law_turns.specs.inv.model.Enqueue.{told_link}
-use Rattle.law_turns.specs.inv.model.Locals.{told_end, turn}
-use Rattle.law_turns.specs.inv.model.Memory.{upd}
-use Rattle.law_turns.specs.inv.model.Posts.{counted}
-use Rattle.law_turns.specs.inv.model.World.{World, finds, offered, step, told_in}
-use Rattle.law_turns.specs.inv.model.Calls.{ChangeKept, EnqueueKept, LoadVersion, LoadCount, LoadKey, LoadValue, ExchangeRoot, LoadNumber, LoadNext, PassTail, ExchangeNext, ExchangeTail, LoadTail, SwingTail, TakeNumber, TakeValue, ExchangeHead, Getting, Changing, Enqueuing, Dequeuing, Keeping, Phase, Idle, Runs, Scans, Works, CallTurn, CallOutcome, GoesOn, Answers}
-use Rattle.law_turns.proofs.inv.model.Facts.{same_number, first_of, rest_of}
+use Rattle.law_scans.specs.inv.model.defs.declared.call.Call.{Call}
+use Rattle.law_scans.specs.inv.model.defs.declared.event.Event.{Event}
+use Rattle.law_scans.specs.inv.model.defs.declared.event.Event.TheVariants as events
+use Rattle.law_scans.specs.inv.model.defs.declared.event.Root.TheVariants as roots
+use Rattle.law_scans.specs.inv.model.defs.declared.fold.Change.{Change}
+use Rattle.law_scans.specs.inv.model.defs.declared.fold.Change.TheVariants as changes
+use Rattle.law_scans.specs.inv.model.declared.post.Post.{Post}
+use Rattle.law_scans.specs.inv.model.Book.{Book, RowBook, first_book, booked, booked_all}
+use Rattle.law_scans.specs.inv.model.Change.{told_change, changed_bucket}
+use Rattle.law_scans.specs.inv.model.Enqueue.{told_link}
+use Rattle.law_scans.specs.inv.model.Locals.{told_end, turn}
+use Rattle.law_scans.specs.inv.model.Memory.{upd}
+use Rattle.law_scans.specs.inv.model.Posts.{counted}
+use Rattle.law_scans.specs.inv.model.World.{World, finds, offered, step, told_in}
+use Rattle.law_scans.specs.inv.model.Calls.{ChangeKept, EnqueueKept, LoadVersion, LoadCount, LoadKey, LoadValue, ExchangeRoot, LoadNumber, LoadNext, PassTail, ExchangeNext, ExchangeTail, LoadTail, SwingTail, TakeNumber, TakeValue, ExchangeHead, Getting, Changing, Enqueuing, Dequeuing, Keeping, Phase, Idle, Runs, Scans, Works, CallTurn, CallOutcome, GoesOn, Answers}
+use Rattle.law_scans.proofs.inv.model.Facts.{same_number, first_of, rest_of}
 use Rattle.law_scans.proofs.inv.contents.Contents.Told.{booked_append}
 use Rattle.law_scans.specs.laws.records.Record.{Past, tells_of}
 use Rattle.law_scans.specs.laws.records.Record.Past.{Start, Then}
-use Rattle.law_turns.specs.laws.StateAt.{changes_of, count_of, bucket_at, row_at}
+use Rattle.law_scans.specs.laws.StateAt.{changes_of, count_of, bucket_at, row_at}
 use Rattle.law_scans.proofs.reuse.history.AllOf.{all_of, of_weaker}
 use Rattle.law_scans.proofs.reuse.Lawful.Maps.{told_changes}
 use Rattle.law_scans.proofs.Placing.Fronts.{linked_front, queued_front, taken_front}
 use Rattle.law_scans.proofs.Placing.Marks.{is_common, ordered, InOrder, step_order}
-use Rattle.law_turns.proofs.laws.Tells.{tells_both}
+use Rattle.law_scans.proofs.laws.Tells.{tells_both}
 use Rattle.law_scans.proofs.inv.contents.Contents.Shelves.{same_bucket}
 
 -- row s is that of this version of bucket b

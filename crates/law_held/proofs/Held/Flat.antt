@@ -3,16 +3,16 @@ use Rattle.std.proofs.Common.{ℕ, ◌≡◌, Bool, true, false, List, [], ◌�
 use Rattle.std.proofs.lemmas.Bool.Decides.{nat_tests}
 use Rattle.std.specs.List.{list_any}
 use Rattle.std.specs.Prelude.{◌==◌, ◌&&◌, ◌||◌, not, if◌then◌else◌}
-use Rattle.law_turns.specs.inv.model.words.declared.config.Config.{Config}
-use Rattle.law_turns.specs.inv.model.defs.declared.event.Event.{Event}
-use Rattle.law_turns.specs.inv.model.defs.declared.event.Event.TheVariants as events
-use Rattle.law_turns.proofs.inv.model.Facts.{first_of, rest_of, implies_or, or_left_true, or_more}
-use Rattle.law_turns.specs.laws.HoldLaw.{is_held}
+use Rattle.law_scans.specs.inv.model.words.declared.config.Config.{Config}
+use Rattle.law_scans.specs.inv.model.defs.declared.event.Event.{Event}
+use Rattle.law_scans.specs.inv.model.defs.declared.event.Event.TheVariants as events
+use Rattle.law_scans.proofs.inv.model.Facts.{first_of, rest_of, implies_or, or_left_true, or_more}
+use Rattle.law_scans.specs.laws.HoldLaw.{is_held}
 use Rattle.law_scans.specs.laws.records.Record.{Past, Test, Each, tells_of}
 use Rattle.law_scans.specs.laws.records.Record.Past.{Then}
 use Rattle.law_scans.proofs.reuse.history.AllOf.{all_of}
-use Rattle.law_turns.proofs.laws.Tells.{tells_both}
-use Rattle.law_turns.specs.laws.StateAt.{stood_at, is_row}
+use Rattle.law_scans.proofs.laws.Tells.{tells_both}
+use Rattle.law_scans.specs.laws.StateAt.{stood_at, is_row}
 use Rattle.law_scans.proofs.inv.contents.Stands.Rounds.{is_clear}
 
 -- an event that changes nothing of guards, lives and taken rows

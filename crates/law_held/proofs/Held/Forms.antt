@@ -1,39 +1,39 @@
 -- In which order a step tells what changes guards and lives, and what stands.
 use Rattle.std.proofs.Common.{ℕ, ◌≡◌, ◌+◌, ◌%◌, Bool, true, false, List, [], ◌∷◌, ◌++◌, Option, Some, None, refl, sym, ap, ◌∙◌, subst}
 use Rattle.std.specs.Prelude.{◌==◌, not, if◌then◌else◌}
-use Rattle.law_turns.specs.inv.model.words.declared.config.SchemeKind.{SchemeKind}
-use Rattle.law_turns.specs.inv.model.words.declared.config.SchemeKind.TheVariants.{He, Hp, Ibr, Wfe}
-use Rattle.law_turns.specs.inv.model.words.declared.layout.Layout.{Layout}
-use Rattle.law_turns.specs.inv.model.defs.declared.call.Answer.{Answer}
-use Rattle.law_turns.specs.inv.model.defs.declared.event.Event.{Event}
-use Rattle.law_turns.specs.inv.model.defs.declared.event.Event.TheVariants as events
-use Rattle.law_turns.specs.inv.model.defs.declared.event.Root.{Root}
-use Rattle.law_turns.specs.inv.model.declared.post.Post.{Post}
-use Rattle.law_turns.specs.inv.model.Allocate as allocates
-use Rattle.law_turns.specs.inv.model.Desks.{Desk, with_life}
-use Rattle.law_turns.specs.inv.model.Keep as keeps
-use Rattle.law_turns.specs.inv.model.Locals.{told_by, told_end}
-use Rattle.law_turns.specs.inv.model.Machine as machine
-use Rattle.law_turns.specs.inv.model.Memory.{bump}
-use Rattle.law_turns.specs.inv.model.Posts.{upper}
-use Rattle.law_turns.specs.inv.model.Protect as protects
-use Rattle.law_turns.specs.inv.model.Protect.{told_held}
-use Rattle.law_turns.specs.inv.model.Rounds.{scheme_of, taken_of, clear_told, given_up, closed}
-use Rattle.law_turns.specs.inv.model.Scan as scan
-use Rattle.law_turns.specs.inv.model.SlowPath.{own_request}
-use Rattle.law_turns.specs.inv.model.Steps as steps
-use Rattle.law_turns.specs.inv.model.WriteRow.{last_written}
-use Rattle.law_turns.specs.inv.model.Phases.{Aim, BeginAt, ProtectAt, AllocateAt, Walk, Base, Ending, Outcome, Goes, Ends, Turn, goes}
-use Rattle.law_turns.specs.inv.model.Phases.BeginAt.{LoadLower, PublishSpan}
-use Rattle.law_turns.specs.inv.model.Phases.ProtectAt.{PublishEra, CheckClock, PublishHelper, CheckOwnClock, AnswerOwn, TakeAnswer, WithdrawHelper, CheckUpper, RaiseUpper, ByHazard}
-use Rattle.law_turns.specs.inv.model.Phases.AllocateAt.{LoadBirth, ClaimSlot, StoreLife}
-use Rattle.law_turns.specs.inv.model.Phases.Base.{Begin, Protect, Reload, Clear, Allocate, Write}
-use Rattle.law_turns.specs.inv.model.Phases.Ending.{Done, Protected, Followed, Allocated, Retired, Clocked}
-use Rattle.law_turns.specs.inv.model.Calls.{Task, Next, Again, MakeRoom, Answering, Retiring, AfterScan, Answered, Repeated, Counted, Why, Opens, FollowsHead, Fills, ClearsNext, Clears, Finishes, GivesUp, Retires, Tidies, Advances, Releases, LetGo, Released, Rehold, Dropped, Parting, GiveBack, Runs, Scans, CallTurn, CallOutcome, GoesOn, Answers}
-use Rattle.law_turns.proofs.inv.model.Facts.{first_of, rest_of, false_not_true}
+use Rattle.law_scans.specs.inv.model.words.declared.config.SchemeKind.{SchemeKind}
+use Rattle.law_scans.specs.inv.model.words.declared.config.SchemeKind.TheVariants.{He, Hp, Ibr, Wfe}
+use Rattle.law_scans.specs.inv.model.words.declared.layout.Layout.{Layout}
+use Rattle.law_scans.specs.inv.model.defs.declared.call.Answer.{Answer}
+use Rattle.law_scans.specs.inv.model.defs.declared.event.Event.{Event}
+use Rattle.law_scans.specs.inv.model.defs.declared.event.Event.TheVariants as events
+use Rattle.law_scans.specs.inv.model.defs.declared.event.Root.{Root}
+use Rattle.law_scans.specs.inv.model.declared.post.Post.{Post}
+use Rattle.law_scans.specs.inv.model.Allocate as allocates
+use Rattle.law_scans.specs.inv.model.Desks.{Desk, with_life}
+use Rattle.law_scans.specs.inv.model.Keep as keeps
+use Rattle.law_scans.specs.inv.model.Locals.{told_by, told_end}
+use Rattle.law_scans.specs.inv.model.Machine as machine
+use Rattle.law_scans.specs.inv.model.Memory.{bump}
+use Rattle.law_scans.specs.inv.model.Posts.{upper}
+use Rattle.law_scans.specs.inv.model.Protect as protects
+use Rattle.law_scans.specs.inv.model.Protect.{told_held}
+use Rattle.law_scans.specs.inv.model.Rounds.{scheme_of, taken_of, clear_told, given_up, closed}
+use Rattle.law_scans.specs.inv.model.Scan as scan
+use Rattle.law_scans.specs.inv.model.SlowPath.{own_request}
+use Rattle.law_scans.specs.inv.model.Steps as steps
+use Rattle.law_scans.specs.inv.model.WriteRow.{last_written}
+use Rattle.law_scans.specs.inv.model.Phases.{Aim, BeginAt, ProtectAt, AllocateAt, Walk, Base, Ending, Outcome, Goes, Ends, Turn, goes}
+use Rattle.law_scans.specs.inv.model.Phases.BeginAt.{LoadLower, PublishSpan}
+use Rattle.law_scans.specs.inv.model.Phases.ProtectAt.{PublishEra, CheckClock, PublishHelper, CheckOwnClock, AnswerOwn, TakeAnswer, WithdrawHelper, CheckUpper, RaiseUpper, ByHazard}
+use Rattle.law_scans.specs.inv.model.Phases.AllocateAt.{LoadBirth, ClaimSlot, StoreLife}
+use Rattle.law_scans.specs.inv.model.Phases.Base.{Begin, Protect, Reload, Clear, Allocate, Write}
+use Rattle.law_scans.specs.inv.model.Phases.Ending.{Done, Protected, Followed, Allocated, Retired, Clocked}
+use Rattle.law_scans.specs.inv.model.Calls.{Task, Next, Again, MakeRoom, Answering, Retiring, AfterScan, Answered, Repeated, Counted, Why, Opens, FollowsHead, Fills, ClearsNext, Clears, Finishes, GivesUp, Retires, Tidies, Advances, Releases, LetGo, Released, Rehold, Dropped, Parting, GiveBack, Runs, Scans, CallTurn, CallOutcome, GoesOn, Answers}
+use Rattle.law_scans.proofs.inv.model.Facts.{first_of, rest_of, false_not_true}
 use Rattle.law_scans.proofs.reuse.history.MayTell as may
 use Rattle.law_scans.proofs.reuse.history.MayTell.{concluded_told, Silent, Single, Takes, takes, shape_of, held_any}
-use Rattle.law_turns.specs.inv.model.words.Schemes.{is_ibr, publishes_rows}
+use Rattle.law_scans.specs.inv.model.words.Schemes.{is_ibr, publishes_rows}
 use Rattle.law_scans.specs.inv.shapes.Seats.{Run, ToClear, suits, protect_fits, agree}
 use Rattle.law_scans.proofs.reuse.history.AllOf.{all_of, of_along}
 use Rattle.law_scans.proofs.reuse.history.Passes.{is_quiet, all_quiet, Closed, step_goes}
@@ -41,7 +41,7 @@ use Rattle.law_held.proofs.Held.Flat.{is_flat, is_settled}
 use Rattle.law_scans.proofs.inv.contents.Stands.Rounds.{is_clear}
 use Rattle.law_scans.proofs.reuse.Lawful.Gots.{cleared_table}
 use Rattle.law_scans.proofs.inv.requests.Paced.{wfe_not_ibr}
-use Rattle.law_turns.proofs.inv.model.words.Schemes.{interval_not_rows}
+use Rattle.law_scans.proofs.inv.model.words.Schemes.{interval_not_rows}
 
 -- rows are cleared, and last comes one event
 pub record Last (own : List Event) : Type 0 where

@@ -3,38 +3,38 @@ use Rattle.std.proofs.Common.{ℕ, ◌≡◌, ◌-◌, ◌⊎◌, inl, inr, Bool
 use Rattle.std.proofs.lemmas.Bool.Decides.{nat_tests}
 use Rattle.std.specs.List.{list_any, list_all}
 use Rattle.std.specs.Prelude.{◌==◌, ◌&&◌, ◌||◌, nat_lt, if◌then◌else◌}
-use Rattle.law_turns.specs.inv.model.words.Place.{is_valid}
-use Rattle.law_turns.specs.inv.model.words.declared.config.Config.{Config}
-use Rattle.law_turns.specs.inv.model.words.declared.layout.Layout.{Layout}
-use Rattle.law_turns.specs.inv.model.defs.declared.event.Event.{Event}
-use Rattle.law_turns.specs.inv.model.defs.declared.event.Event.TheVariants as events
-use Rattle.law_turns.specs.inv.model.defs.declared.event.Guard.TheVariants.{Index, Whole}
-use Rattle.law_turns.specs.inv.model.defs.declared.event.Root.{Root}
-use Rattle.law_turns.specs.inv.model.defs.declared.event.Root.TheVariants as roots
-use Rattle.law_turns.specs.inv.model.declared.post.Post.{Post}
-use Rattle.law_turns.proofs.inv.model.Frames.{after_same}
-use Rattle.law_turns.specs.inv.model.Guards.{one_era, guard_at, linked_row}
-use Rattle.law_turns.specs.inv.model.Locals.{told_by, told_end, turn}
-use Rattle.law_turns.specs.inv.model.Memory.{bump}
-use Rattle.law_turns.specs.inv.model.Posts.{stands, counted, cleared, cleared_from, publishes_index}
-use Rattle.law_turns.specs.inv.model.Protect.{told_held}
-use Rattle.law_turns.specs.inv.model.Steps as steps
-use Rattle.law_turns.specs.inv.model.World.{World, finds, is_busy, offered, step, told_in}
-use Rattle.law_turns.specs.inv.model.Phases.{Aim, Base}
-use Rattle.law_turns.specs.inv.model.Phases.ProtectAt.{TakeAnswer}
-use Rattle.law_turns.specs.inv.model.Phases.Base.{Protect}
-use Rattle.law_turns.specs.inv.model.Calls.{ReadGuard, GiveBack, Why, Phase, Idle, Runs, Scans, Works, CallTurn, KeepAt, Loosens, LoadHeld, StoreHeld, Looks, Misses, HideSpan, MarkLeft, TakeList, MarkTaken, Work, Getting, Changing, Enqueuing, Dequeuing, Keeping}
-use Rattle.law_turns.specs.inv.model.Keep as keeps
-use Rattle.law_turns.specs.inv.model.Rounds.{let_index, scheme_of}
-use Rattle.law_turns.specs.inv.model.words.Schemes.{has_one_interval, publishes_rows}
+use Rattle.law_scans.specs.inv.model.words.Place.{is_valid}
+use Rattle.law_scans.specs.inv.model.words.declared.config.Config.{Config}
+use Rattle.law_scans.specs.inv.model.words.declared.layout.Layout.{Layout}
+use Rattle.law_scans.specs.inv.model.defs.declared.event.Event.{Event}
+use Rattle.law_scans.specs.inv.model.defs.declared.event.Event.TheVariants as events
+use Rattle.law_scans.specs.inv.model.defs.declared.event.Guard.TheVariants.{Index, Whole}
+use Rattle.law_scans.specs.inv.model.defs.declared.event.Root.{Root}
+use Rattle.law_scans.specs.inv.model.defs.declared.event.Root.TheVariants as roots
+use Rattle.law_scans.specs.inv.model.declared.post.Post.{Post}
+use Rattle.law_scans.proofs.inv.model.Frames.{after_same}
+use Rattle.law_scans.specs.inv.model.Guards.{one_era, guard_at, linked_row}
+use Rattle.law_scans.specs.inv.model.Locals.{told_by, told_end, turn}
+use Rattle.law_scans.specs.inv.model.Memory.{bump}
+use Rattle.law_scans.specs.inv.model.Posts.{stands, counted, cleared, cleared_from, publishes_index}
+use Rattle.law_scans.specs.inv.model.Protect.{told_held}
+use Rattle.law_scans.specs.inv.model.Steps as steps
+use Rattle.law_scans.specs.inv.model.World.{World, finds, is_busy, offered, step, told_in}
+use Rattle.law_scans.specs.inv.model.Phases.{Aim, Base}
+use Rattle.law_scans.specs.inv.model.Phases.ProtectAt.{TakeAnswer}
+use Rattle.law_scans.specs.inv.model.Phases.Base.{Protect}
+use Rattle.law_scans.specs.inv.model.Calls.{ReadGuard, GiveBack, Why, Phase, Idle, Runs, Scans, Works, CallTurn, KeepAt, Loosens, LoadHeld, StoreHeld, Looks, Misses, HideSpan, MarkLeft, TakeList, MarkTaken, Work, Getting, Changing, Enqueuing, Dequeuing, Keeping}
+use Rattle.law_scans.specs.inv.model.Keep as keeps
+use Rattle.law_scans.specs.inv.model.Rounds.{let_index, scheme_of}
+use Rattle.law_scans.specs.inv.model.words.Schemes.{has_one_interval, publishes_rows}
 use Rattle.law_scans.proofs.inv.contents.Stands.Rounds.{is_clear}
-use Rattle.law_turns.proofs.inv.model.Facts.{both, same_number, first_of, rest_of, implies_or, or_left_true, or_more, then_of}
+use Rattle.law_scans.proofs.inv.model.Facts.{both, same_number, first_of, rest_of, implies_or, or_left_true, or_more, then_of}
 use Rattle.law_scans.proofs.inv.covers.Resting.{rests_give}
 use Rattle.law_scans.proofs.inv.ends.Ends.Held.{held_stands}
 use Rattle.law_scans.specs.inv.shapes.Seats.{Seats}
 use Rattle.law_scans.specs.inv.history.History.{Item, Begins, Steps, Made, fits, done, done_if, made_of, record_of, world_of}
 use Rattle.law_scans.proofs.reuse.history.Along.{low_seat, paths_keep}
-use Rattle.law_turns.specs.laws.HoldLaw.{is_held}
+use Rattle.law_scans.specs.laws.HoldLaw.{is_held}
 use Rattle.law_scans.proofs.reuse.Holding.Holds.{records_hold}
 use Rattle.law_scans.specs.inv.Inv.{Inv}
 use Rattle.law_scans.proofs.inv.Inv.Guards.{rests_need}
@@ -42,9 +42,9 @@ use Rattle.law_scans.proofs.inv.Inv.Reached.{inv_reached}
 use Rattle.law_scans.specs.laws.records.Record.{Past, Each, EachEntry, tells_of}
 use Rattle.law_scans.proofs.laws.records.Entries.{entries_of_each}
 use Rattle.law_scans.proofs.reuse.history.AllOf.{all_of, of_along}
-use Rattle.law_turns.specs.laws.StateAt.{stood_at, is_row}
+use Rattle.law_scans.specs.laws.StateAt.{stood_at, is_row}
 use Rattle.law_scans.proofs.reuse.Reuse.Keeps.{record_stands}
-use Rattle.law_turns.proofs.laws.Along.{row_of}
+use Rattle.law_scans.proofs.laws.Along.{row_of}
 use Rattle.law_held.proofs.Roots.Ways.{Turning}
 use Rattle.law_scans.proofs.inv.ends.Told.Rows.{own_told, own_post, step_adds}
 use Rattle.law_scans.proofs.inv.ends.Told.Turns.{Adds, is_later}
@@ -52,7 +52,7 @@ use Rattle.law_held.specs.Records.{RecordsHoldThroughout}
 use Rattle.law_held.proofs.Held.Flat.{is_flat, is_settled, is_at, comes, settled_flat, all_flat, holds_ok, Good, late_each, take_each, copy_each, plain_each, is_still}
 use Rattle.law_held.proofs.Held.Forms.{Shape, Even, Late, end_settled, run_shape, back_shape, turn_settled}
 use Rattle.law_held.proofs.Resting.Resting.{next_made}
-use Rattle.law_turns.specs.inv.model.defs.Events.{is_held as event_is_held}
+use Rattle.law_scans.specs.inv.model.defs.Events.{is_held as event_is_held}
 use Rattle.law_scans.specs.inv.ends.Stands.{is_copied}
 use Rattle.law_scans.proofs.inv.ends.Ends.Copied.{copy_stands}
 use Rattle.law_scans.proofs.reuse.history.Passes.{copied_told, keep_told}
@@ -60,8 +60,8 @@ use Rattle.law_scans.proofs.inv.ends.Handover.Asks.{run_of}
 use Rattle.law_scans.proofs.reuse.AnswersTold.Owed.{append_none}
 use Rattle.law_scans.proofs.reuse.AnswersTold.Answering.{append_one}
 use Rattle.law_scans.proofs.reuse.history.MayTell.{takes, cleared_from_all}
-use Rattle.law_turns.specs.inv.model.Desks.{Desk}
-use Rattle.law_turns.proofs.reuse.ReadGuards.{reads_are}
+use Rattle.law_scans.specs.inv.model.Desks.{Desk}
+use Rattle.law_scans.proofs.reuse.ReadGuards.{reads_are}
 
 -- the ends of a step
 good_at : (layout : Layout) (path : List Item) (k j s : ℕ) → is_valid layout ≡ true → Good layout.config k j s (record_of layout path)

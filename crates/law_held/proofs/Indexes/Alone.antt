@@ -1,23 +1,23 @@
 -- A protection ends only where nothing stands at its index, and so a copy is made.
 use Rattle.std.proofs.Common.{ℕ, ◌≡◌, Bool, true, false, List, [], ◌∷◌, ◌++◌, Option, None, refl, sym, ap, ◌∙◌, subst, drop, ◌+◌}
 use Rattle.std.specs.Prelude.{◌==◌, ◌&&◌, ◌||◌, not, is_none, if◌then◌else◌, Some}
-use Rattle.law_turns.specs.inv.model.words.Place.{is_valid}
-use Rattle.law_turns.specs.inv.model.words.declared.config.SchemeKind.{SchemeKind}
-use Rattle.law_turns.specs.inv.model.words.declared.layout.Layout.{Layout}
-use Rattle.law_turns.specs.inv.model.defs.declared.event.Event.{Event}
-use Rattle.law_turns.specs.inv.model.defs.declared.event.Event.TheVariants as events
-use Rattle.law_turns.specs.inv.model.declared.post.Post.{Post}
-use Rattle.law_turns.specs.inv.model.Calls.{Task, Gets, Changes, Holds, Enqueues, Dequeues, ReadGuard, GiveBack, Why, Opens, FollowsHead, Phase, Idle, Runs, Scans, Works, Work, Getting, Changing, Enqueuing, Dequeuing, Keeping, Loosens, LoadHeld, StoreHeld, Looks, Misses, HideSpan, MarkLeft, TakeList, MarkTaken}
-use Rattle.law_turns.specs.inv.model.Machine as machine
-use Rattle.law_turns.specs.inv.model.Memory.{bump}
-use Rattle.law_turns.specs.inv.model.Phases.{ProtectAt, Base}
-use Rattle.law_turns.specs.inv.model.Phases.ProtectAt.{CheckClock, TakeAnswer, CheckUpper, ByHazard}
-use Rattle.law_turns.specs.inv.model.Phases.Base.{Protect, Reload}
-use Rattle.law_turns.specs.inv.model.Posts.{stands, counted, cleared, publishes_index, cleared_from, reserves_span}
-use Rattle.law_turns.specs.inv.model.Rounds.{index_of, scheme_of, clear_told, let_index}
-use Rattle.law_turns.specs.inv.model.words.Schemes.{has_one_interval, publishes_rows}
-use Rattle.law_turns.specs.inv.model.World.{World, finds, offered, told_in}
-use Rattle.law_turns.proofs.inv.model.Facts.{same_number, first_of, rest_of, number_is}
+use Rattle.law_scans.specs.inv.model.words.Place.{is_valid}
+use Rattle.law_scans.specs.inv.model.words.declared.config.SchemeKind.{SchemeKind}
+use Rattle.law_scans.specs.inv.model.words.declared.layout.Layout.{Layout}
+use Rattle.law_scans.specs.inv.model.defs.declared.event.Event.{Event}
+use Rattle.law_scans.specs.inv.model.defs.declared.event.Event.TheVariants as events
+use Rattle.law_scans.specs.inv.model.declared.post.Post.{Post}
+use Rattle.law_scans.specs.inv.model.Calls.{Task, Gets, Changes, Holds, Enqueues, Dequeues, ReadGuard, GiveBack, Why, Opens, FollowsHead, Phase, Idle, Runs, Scans, Works, Work, Getting, Changing, Enqueuing, Dequeuing, Keeping, Loosens, LoadHeld, StoreHeld, Looks, Misses, HideSpan, MarkLeft, TakeList, MarkTaken}
+use Rattle.law_scans.specs.inv.model.Machine as machine
+use Rattle.law_scans.specs.inv.model.Memory.{bump}
+use Rattle.law_scans.specs.inv.model.Phases.{ProtectAt, Base}
+use Rattle.law_scans.specs.inv.model.Phases.ProtectAt.{CheckClock, TakeAnswer, CheckUpper, ByHazard}
+use Rattle.law_scans.specs.inv.model.Phases.Base.{Protect, Reload}
+use Rattle.law_scans.specs.inv.model.Posts.{stands, counted, cleared, publishes_index, cleared_from, reserves_span}
+use Rattle.law_scans.specs.inv.model.Rounds.{index_of, scheme_of, clear_told, let_index}
+use Rattle.law_scans.specs.inv.model.words.Schemes.{has_one_interval, publishes_rows}
+use Rattle.law_scans.specs.inv.model.World.{World, finds, offered, told_in}
+use Rattle.law_scans.proofs.inv.model.Facts.{same_number, first_of, rest_of, number_is}
 use Rattle.law_scans.specs.inv.covers.Rests.{Vacant, bare, vacant, vacant_why}
 use Rattle.law_scans.specs.inv.shapes.Seats.{Run, Seats, kind_of, suits, index_by}
 use Rattle.law_scans.specs.inv.history.History.{record_of, world_of}
@@ -28,14 +28,14 @@ use Rattle.law_scans.proofs.reuse.history.Passes.{is_quiet, all_quiet, Closed, F
 use Rattle.law_scans.proofs.inv.ends.Handover.Asks.{run_of}
 use Rattle.law_scans.proofs.reuse.Reuse.Follows.{stood, stood_along}
 use Rattle.law_scans.proofs.reuse.Reuse.Keeps.{record_stands}
-use Rattle.law_turns.proofs.laws.Tells.{AllRight}
-use Rattle.law_turns.specs.laws.StateAt.{stood_by, stood_at}
+use Rattle.law_scans.proofs.laws.Tells.{AllRight}
+use Rattle.law_scans.specs.laws.StateAt.{stood_by, stood_at}
 use Rattle.law_held.specs.Records.{RecordsHoldAlone}
 use Rattle.law_held.proofs.Indexes.Clears.{own_stood}
 use Rattle.law_held.proofs.Roots.Ways.{Along, record_each, answers_of}
-use Rattle.law_turns.specs.inv.model.Phases.HazardAt.{FirstLink, CheckLink}
-use Rattle.law_turns.proofs.reuse.ReadGuards.{reads_are}
-use Rattle.law_turns.specs.inv.model.Guards.{guard_at}
+use Rattle.law_scans.specs.inv.model.Phases.HazardAt.{FirstLink, CheckLink}
+use Rattle.law_scans.proofs.reuse.ReadGuards.{reads_are}
+use Rattle.law_scans.specs.inv.model.Guards.{guard_at}
 
 -- at one index: where a protection is told to end there, or a row to be copied there, nothing stood there
 abbrev alone_right : ℕ → Event → Option ℕ → Bool

@@ -3,29 +3,29 @@ use Rattle.std.proofs.Common.{ℕ, ◌≡◌, ◌<◌, ◌+◌, ◌-◌, Bool, t
 use Rattle.std.proofs.lemmas.Bool.Decides.{nat_tests}
 use Rattle.std.specs.List.{list_any}
 use Rattle.std.specs.Prelude.{◌==◌, ◌&&◌, ◌||◌, not, if◌then◌else◌}
-use Rattle.law_turns.proofs.inv.model.Ranges.{bounds_of}
-use Rattle.law_turns.specs.inv.model.words.Place.{is_valid}
-use Rattle.law_turns.specs.inv.model.words.Schemes.{has_one_interval, publishes_rows}
-use Rattle.law_turns.specs.inv.model.words.declared.config.Config.{Config}
-use Rattle.law_turns.specs.inv.model.words.declared.config.SchemeKind.{SchemeKind}
-use Rattle.law_turns.specs.inv.model.words.declared.config.SchemeKind.TheVariants.{He, Hp, Ibr, Wfe}
-use Rattle.law_turns.specs.inv.model.words.declared.layout.Layout.{Layout}
-use Rattle.law_turns.specs.inv.model.defs.declared.event.Event.{Event}
-use Rattle.law_turns.specs.inv.model.defs.declared.event.Event.TheVariants as events
-use Rattle.law_turns.specs.inv.model.defs.declared.event.Root.{Root}
-use Rattle.law_turns.specs.inv.model.defs.declared.event.Root.TheVariants as roots
-use Rattle.law_turns.specs.inv.model.declared.post.Post.{Post}
-use Rattle.law_turns.specs.inv.model.Calls.{Why, Phase, Idle, Runs, Scans, Works, ScanAt, ReadGuard, GiveBack, Work, Getting, Changing, Enqueuing, Dequeuing, Keeping, Loosens, LoadHeld, StoreHeld, Looks, Misses, HideSpan, MarkLeft, TakeList, MarkTaken}
-use Rattle.law_turns.specs.inv.model.Machine as machine
-use Rattle.law_turns.specs.inv.model.Memory.{bump}
-use Rattle.law_turns.specs.inv.model.Phases.{ProtectAt, Base}
-use Rattle.law_turns.specs.inv.model.Phases.ProtectAt.{CheckClock, TakeAnswer, CheckUpper, ByHazard}
-use Rattle.law_turns.specs.inv.model.Phases.Base.{Begin, Protect, Reload, Clear, Finish, Release, Allocate, Write, GiveUp, Retire, Move}
-use Rattle.law_turns.specs.inv.model.Posts.{stands, counted, cleared, upper, publishes_index, reserves_span, cleared_from}
-use Rattle.law_turns.specs.inv.model.Protect.{told_held}
-use Rattle.law_turns.specs.inv.model.Rounds.{scheme_of, clear_told, let_index}
-use Rattle.law_turns.specs.inv.model.World.{World, finds, offered, told_in}
-use Rattle.law_turns.proofs.inv.model.Facts.{same_number, first_of, rest_of, and_right_false, below_length}
+use Rattle.law_scans.proofs.inv.model.Ranges.{bounds_of}
+use Rattle.law_scans.specs.inv.model.words.Place.{is_valid}
+use Rattle.law_scans.specs.inv.model.words.Schemes.{has_one_interval, publishes_rows}
+use Rattle.law_scans.specs.inv.model.words.declared.config.Config.{Config}
+use Rattle.law_scans.specs.inv.model.words.declared.config.SchemeKind.{SchemeKind}
+use Rattle.law_scans.specs.inv.model.words.declared.config.SchemeKind.TheVariants.{He, Hp, Ibr, Wfe}
+use Rattle.law_scans.specs.inv.model.words.declared.layout.Layout.{Layout}
+use Rattle.law_scans.specs.inv.model.defs.declared.event.Event.{Event}
+use Rattle.law_scans.specs.inv.model.defs.declared.event.Event.TheVariants as events
+use Rattle.law_scans.specs.inv.model.defs.declared.event.Root.{Root}
+use Rattle.law_scans.specs.inv.model.defs.declared.event.Root.TheVariants as roots
+use Rattle.law_scans.specs.inv.model.declared.post.Post.{Post}
+use Rattle.law_scans.specs.inv.model.Calls.{Why, Phase, Idle, Runs, Scans, Works, ScanAt, ReadGuard, GiveBack, Work, Getting, Changing, Enqueuing, Dequeuing, Keeping, Loosens, LoadHeld, StoreHeld, Looks, Misses, HideSpan, MarkLeft, TakeList, MarkTaken}
+use Rattle.law_scans.specs.inv.model.Machine as machine
+use Rattle.law_scans.specs.inv.model.Memory.{bump}
+use Rattle.law_scans.specs.inv.model.Phases.{ProtectAt, Base}
+use Rattle.law_scans.specs.inv.model.Phases.ProtectAt.{CheckClock, TakeAnswer, CheckUpper, ByHazard}
+use Rattle.law_scans.specs.inv.model.Phases.Base.{Begin, Protect, Reload, Clear, Finish, Release, Allocate, Write, GiveUp, Retire, Move}
+use Rattle.law_scans.specs.inv.model.Posts.{stands, counted, cleared, upper, publishes_index, reserves_span, cleared_from}
+use Rattle.law_scans.specs.inv.model.Protect.{told_held}
+use Rattle.law_scans.specs.inv.model.Rounds.{scheme_of, clear_told, let_index}
+use Rattle.law_scans.specs.inv.model.World.{World, finds, offered, told_in}
+use Rattle.law_scans.proofs.inv.model.Facts.{same_number, first_of, rest_of, and_right_false, below_length}
 use Rattle.law_scans.specs.inv.covers.Held.{index_base}
 use Rattle.law_scans.proofs.inv.ends.Ends.Tests.{Calm, at_shows, base_shows, base_any}
 use Rattle.law_scans.specs.inv.shapes.Seats.{Seats}
@@ -33,19 +33,19 @@ use Rattle.law_scans.specs.inv.shapes.Slots.{PhaseIn, Slots, WorkIn}
 use Rattle.law_scans.specs.inv.history.History.{Item, record_of, world_of}
 use Rattle.law_scans.specs.laws.records.Record.{Past, Each, EachEntry, tells_of}
 use Rattle.law_scans.specs.laws.records.Record.Past.{Then}
-use Rattle.law_turns.proofs.laws.Tells.{AllRight}
-use Rattle.law_turns.specs.laws.StateAt.{stood_by, stood_at, is_row}
+use Rattle.law_scans.proofs.laws.Tells.{AllRight}
+use Rattle.law_scans.specs.laws.StateAt.{stood_by, stood_at, is_row}
 use Rattle.law_scans.proofs.reuse.Reuse.Follows.{stood, stood_along, Follow, follow_closed, base_follows, copy_index, work_follows}
 use Rattle.law_scans.proofs.reuse.Reuse.Keeps.{record_stands, room_of}
 use Rattle.law_scans.proofs.reuse.history.Passes.{is_quiet, all_quiet, Closed, First, copied_told, scan_told, step_goes, work_told}
 use Rattle.law_held.specs.Records.{RecordsClearRows}
 use Rattle.law_held.proofs.Roots.Ways.{Along, record_each, answers_of}
-use Rattle.law_turns.proofs.inv.model.Lists.{or_left, or_right}
+use Rattle.law_scans.proofs.inv.model.Lists.{or_left, or_right}
 use Rattle.law_scans.specs.inv.covers.Rests.{Rests, Vacant, spare, vacant}
 use Rattle.std.proofs.lemmas.List.{get_or-drop}
-use Rattle.law_turns.specs.inv.model.Phases.HazardAt.{FirstLink, CheckLink}
-use Rattle.law_turns.proofs.reuse.ReadGuards.{reads_are}
-use Rattle.law_turns.specs.inv.model.Guards.{guard_at}
+use Rattle.law_scans.specs.inv.model.Phases.HazardAt.{FirstLink, CheckLink}
+use Rattle.law_scans.proofs.reuse.ReadGuards.{reads_are}
+use Rattle.law_scans.specs.inv.model.Guards.{guard_at}
 
 -- at one index: what is cleared there stood there, and what is copied from there stands there
 abbrev pub clear_right : ℕ → Event → Option ℕ → Bool

@@ -3,50 +3,50 @@ use Rattle.std.proofs.Common.{ℕ, ◌≡◌, ◌≤◌, ◌<◌, arith, ◌+◌
 use Rattle.std.proofs.lemmas.Bool.Decides.{nat_tests}
 use Rattle.std.specs.Prelude.{◌==◌, ◌&&◌, nat_le, nat_lt, if◌then◌else◌}
 use Rattle.std.specs.List.{list_all, list_any}
-use Rattle.law_turns.specs.inv.model.words.declared.config.SchemeKind.{SchemeKind}
-use Rattle.law_turns.specs.inv.model.words.declared.config.SchemeKind.TheVariants.{He, Hp, Ibr, Wfe}
-use Rattle.law_turns.specs.inv.model.defs.declared.call.Answer.{Answer}
-use Rattle.law_turns.specs.inv.model.defs.declared.call.Answer.TheVariants as the_answers
-use Rattle.law_turns.specs.inv.model.defs.declared.call.Call.{Call}
-use Rattle.law_turns.specs.inv.model.defs.declared.call.Call.TheVariants as names
-use Rattle.law_turns.specs.inv.model.defs.declared.call.ClockMove.TheVariants as moves
-use Rattle.law_turns.specs.inv.model.defs.declared.event.Event.{Event}
-use Rattle.law_turns.specs.inv.model.defs.declared.event.Event.TheVariants as events
-use Rattle.law_turns.specs.inv.model.defs.declared.event.Root.{Root}
-use Rattle.law_turns.specs.inv.model.defs.declared.event.Root.TheVariants as roots
-use Rattle.law_turns.specs.inv.model.defs.declared.fold.Change.{Change}
-use Rattle.law_turns.specs.inv.model.defs.declared.fold.Change.TheVariants as changes
-use Rattle.law_turns.specs.inv.model.declared.ends.AllocateEnd.{AllocateEnd}
-use Rattle.law_turns.specs.inv.model.declared.ends.AllocateEnd.TheVariants as allocate_ends
-use Rattle.law_turns.specs.inv.model.declared.ends.FollowEnd.{FollowEnd}
-use Rattle.law_turns.specs.inv.model.declared.ends.FollowEnd.TheVariants as follow_ends
-use Rattle.law_turns.specs.inv.model.declared.ends.ProtectEnd.TheVariants as protect_ends
-use Rattle.law_turns.specs.inv.model.declared.post.Post.{Post}
-use Rattle.law_turns.specs.inv.model.Change as alters
-use Rattle.law_turns.specs.inv.model.Dequeue as dequeues
-use Rattle.law_turns.specs.inv.model.Desks.{Desk, with_life}
-use Rattle.law_turns.specs.inv.model.Enqueue as enqueues
-use Rattle.law_turns.specs.inv.model.Get as gets
-use Rattle.law_turns.specs.inv.model.Keep as keeps
-use Rattle.law_turns.specs.inv.model.Posts.{stands, cleared, publishes_index, cleared_from, reserves_span}
-use Rattle.law_turns.specs.inv.model.Steps as steps
-use Rattle.law_turns.specs.inv.model.Rounds.{scheme_of, bucket_of, index_of, taken_of, finish_base, clear_base, clear_post, clear_told, given_up, closed, finishing_by, finishing, clearing_by, clearing, clearing_next_by, clearing_next, let_index}
-use Rattle.law_turns.specs.inv.model.Phases.{Base, Ending, Outcome, Goes, Ends}
-use Rattle.law_turns.specs.inv.model.Phases.Ending.{Protected, Followed, Allocated, Retired, Clocked}
-use Rattle.law_turns.specs.inv.model.Calls.{Task, Gets, Changes, Holds, Enqueues, Dequeues, Next, Again, MakeRoom, Answering, Retiring, AfterScan, ChangeKept, EnqueueKept, GetAt, FindVersion, FindCount, FindKey, FindValue, ChangeAt, LoadVersion, LoadCount, LoadKey, LoadValue, ExchangeRoot, EnqueueAt, LoadNumber, LoadNext, PassTail, ExchangeNext, ExchangeTail, DequeueAt, SwingTail, ExchangeHead, Work, Getting, Changing, Enqueuing, Dequeuing, Keeping, KeepAt, Loosens, LoadHeld, StoreHeld, Looks, Misses, HideSpan, MarkLeft, TakeList, MarkTaken, LetGo, Released, Rehold, Dropped, Parting, Why, Opens, FollowsHead, Fills, ClearsNext, Clears, Finishes, GivesUp, Retires, Tidies, Advances, Releases, CallTurn}
-use Rattle.law_turns.specs.inv.model.words.Schemes.{has_one_interval, publishes_rows}
-use Rattle.law_turns.specs.inv.model.words.declared.config.Config.{Config}
-use Rattle.law_turns.proofs.inv.model.Facts.{both, same_both, same_number, false_not_true, first_of, rest_of}
+use Rattle.law_scans.specs.inv.model.words.declared.config.SchemeKind.{SchemeKind}
+use Rattle.law_scans.specs.inv.model.words.declared.config.SchemeKind.TheVariants.{He, Hp, Ibr, Wfe}
+use Rattle.law_scans.specs.inv.model.defs.declared.call.Answer.{Answer}
+use Rattle.law_scans.specs.inv.model.defs.declared.call.Answer.TheVariants as the_answers
+use Rattle.law_scans.specs.inv.model.defs.declared.call.Call.{Call}
+use Rattle.law_scans.specs.inv.model.defs.declared.call.Call.TheVariants as names
+use Rattle.law_scans.specs.inv.model.defs.declared.call.ClockMove.TheVariants as moves
+use Rattle.law_scans.specs.inv.model.defs.declared.event.Event.{Event}
+use Rattle.law_scans.specs.inv.model.defs.declared.event.Event.TheVariants as events
+use Rattle.law_scans.specs.inv.model.defs.declared.event.Root.{Root}
+use Rattle.law_scans.specs.inv.model.defs.declared.event.Root.TheVariants as roots
+use Rattle.law_scans.specs.inv.model.defs.declared.fold.Change.{Change}
+use Rattle.law_scans.specs.inv.model.defs.declared.fold.Change.TheVariants as changes
+use Rattle.law_scans.specs.inv.model.declared.ends.AllocateEnd.{AllocateEnd}
+use Rattle.law_scans.specs.inv.model.declared.ends.AllocateEnd.TheVariants as allocate_ends
+use Rattle.law_scans.specs.inv.model.declared.ends.FollowEnd.{FollowEnd}
+use Rattle.law_scans.specs.inv.model.declared.ends.FollowEnd.TheVariants as follow_ends
+use Rattle.law_scans.specs.inv.model.declared.ends.ProtectEnd.TheVariants as protect_ends
+use Rattle.law_scans.specs.inv.model.declared.post.Post.{Post}
+use Rattle.law_scans.specs.inv.model.Change as alters
+use Rattle.law_scans.specs.inv.model.Dequeue as dequeues
+use Rattle.law_scans.specs.inv.model.Desks.{Desk, with_life}
+use Rattle.law_scans.specs.inv.model.Enqueue as enqueues
+use Rattle.law_scans.specs.inv.model.Get as gets
+use Rattle.law_scans.specs.inv.model.Keep as keeps
+use Rattle.law_scans.specs.inv.model.Posts.{stands, cleared, publishes_index, cleared_from, reserves_span}
+use Rattle.law_scans.specs.inv.model.Steps as steps
+use Rattle.law_scans.specs.inv.model.Rounds.{scheme_of, bucket_of, index_of, taken_of, finish_base, clear_base, clear_post, clear_told, given_up, closed, finishing_by, finishing, clearing_by, clearing, clearing_next_by, clearing_next, let_index}
+use Rattle.law_scans.specs.inv.model.Phases.{Base, Ending, Outcome, Goes, Ends}
+use Rattle.law_scans.specs.inv.model.Phases.Ending.{Protected, Followed, Allocated, Retired, Clocked}
+use Rattle.law_scans.specs.inv.model.Calls.{Task, Gets, Changes, Holds, Enqueues, Dequeues, Next, Again, MakeRoom, Answering, Retiring, AfterScan, ChangeKept, EnqueueKept, GetAt, FindVersion, FindCount, FindKey, FindValue, ChangeAt, LoadVersion, LoadCount, LoadKey, LoadValue, ExchangeRoot, EnqueueAt, LoadNumber, LoadNext, PassTail, ExchangeNext, ExchangeTail, DequeueAt, SwingTail, ExchangeHead, Work, Getting, Changing, Enqueuing, Dequeuing, Keeping, KeepAt, Loosens, LoadHeld, StoreHeld, Looks, Misses, HideSpan, MarkLeft, TakeList, MarkTaken, LetGo, Released, Rehold, Dropped, Parting, Why, Opens, FollowsHead, Fills, ClearsNext, Clears, Finishes, GivesUp, Retires, Tidies, Advances, Releases, CallTurn}
+use Rattle.law_scans.specs.inv.model.words.Schemes.{has_one_interval, publishes_rows}
+use Rattle.law_scans.specs.inv.model.words.declared.config.Config.{Config}
+use Rattle.law_scans.proofs.inv.model.Facts.{both, same_both, same_number, false_not_true, first_of, rest_of}
 use Rattle.law_scans.specs.inv.shapes.Slots.{CopyIn, KeepIn, KeptIn, WorkIn}
 use Rattle.law_scans.specs.inv.ends.Stands.{is_clear}
 use Rattle.law_scans.proofs.inv.ends.Told.Turns.{keep_just, is_later}
 use Rattle.law_scans.proofs.reuse.history.Passes.{copied_told, keep_told}
 use Rattle.law_scans.proofs.reuse.AnswersTold.Owed.{call_for, TaskServes, FreeServes, KeepServes, WhyServes, WorkServes}
 use Rattle.law_scans.proofs.reuse.history.AllOf.{all_of, of_along}
-use Rattle.law_turns.specs.laws.HistoryHolds.{protects_at, clears_at}
-use Rattle.law_turns.specs.laws.Standing.{is_copy}
-use Rattle.law_turns.proofs.inv.model.Lists.{or_left, or_right}
-use Rattle.law_turns.specs.inv.model.Locals.{told_end}
+use Rattle.law_scans.specs.laws.HistoryHolds.{protects_at, clears_at}
+use Rattle.law_scans.specs.laws.Standing.{is_copy}
+use Rattle.law_scans.proofs.inv.model.Lists.{or_left, or_right}
+use Rattle.law_scans.specs.inv.model.Locals.{told_end}
 
 -- a copy from this index to that goes upwards, from an index from 2 on, to one of the table
 abbrev pub rises_to : (indexes from index : ℕ) → Bool

@@ -2,34 +2,34 @@
 use Rattle.std.proofs.Common.{ℕ, ◌≡◌, ◌≤◌, ◌<◌, arith, ◌-◌, ◌+◌, Bool, true, false, List, [], ◌∷◌, Option, Some, None, refl, sym, ap, ◌∙◌, subst}
 use Rattle.std.specs.List.{list_any}
 use Rattle.std.specs.Prelude.{◌==◌, ◌&&◌, not, nat_le, nat_lt, if◌then◌else◌, ◌||◌}
-use Rattle.law_turns.specs.inv.model.words.Place.{is_valid}
-use Rattle.law_turns.specs.inv.model.words.declared.config.Config.{Config}
-use Rattle.law_turns.specs.inv.model.words.declared.layout.Layout.{Layout}
-use Rattle.law_turns.specs.inv.model.defs.Shown.{Seen}
-use Rattle.law_turns.specs.inv.model.defs.declared.call.Call.{Call}
-use Rattle.law_turns.specs.inv.model.defs.declared.event.Event.{Event}
-use Rattle.law_turns.specs.inv.model.defs.declared.event.Event.TheVariants as events
-use Rattle.law_turns.specs.inv.model.defs.declared.event.Root.{Root}
-use Rattle.law_turns.specs.inv.model.defs.declared.event.Root.TheVariants as roots
-use Rattle.law_turns.specs.inv.model.defs.declared.fold.Change.{Change}
-use Rattle.law_turns.specs.inv.model.defs.declared.fold.Change.TheVariants as changes
-use Rattle.law_turns.specs.inv.model.declared.post.Post.{Post}
-use Rattle.law_turns.specs.inv.model.Calls.{Task, Gets, Changes, Holds, Enqueues, Dequeues, AfterScan, Answered, Repeated, Counted, ScanAt, ReadGuard, GiveBack, Why, Opens, FollowsHead, ClearsNext, Clears, Releases, Phase, Idle, Runs, Scans, Works, CallTurn, CallOutcome, GoesOn, Answers}
-use Rattle.law_turns.specs.inv.model.Desks.{Desk}
-use Rattle.law_turns.specs.inv.model.Guards.{guards, guard_at, published}
-use Rattle.law_turns.specs.inv.model.Locals.{told_end, turn}
-use Rattle.law_turns.specs.inv.model.Machine as machine
-use Rattle.law_turns.specs.inv.model.Memory.{bump}
-use Rattle.law_turns.specs.inv.model.Phases.{ProtectAt, Base}
-use Rattle.law_turns.specs.inv.model.Phases.ProtectAt.{CheckClock, TakeAnswer, CheckUpper, ByHazard}
-use Rattle.law_turns.specs.inv.model.Phases.Base.{Protect, Reload, Clear, Release}
-use Rattle.law_turns.specs.inv.model.Posts.{stands, counted, cleared, upper}
-use Rattle.law_turns.specs.inv.model.Protect.{told_held}
-use Rattle.law_turns.specs.inv.model.Rounds.{index_of}
-use Rattle.law_turns.specs.inv.model.Scan as scan
-use Rattle.law_turns.specs.inv.model.Steps as steps
-use Rattle.law_turns.specs.inv.model.World.{World, finds, offered, told_in}
-use Rattle.law_turns.proofs.inv.model.Facts.{both, first_of, rest_of, not_or_false, and_right_false}
+use Rattle.law_scans.specs.inv.model.words.Place.{is_valid}
+use Rattle.law_scans.specs.inv.model.words.declared.config.Config.{Config}
+use Rattle.law_scans.specs.inv.model.words.declared.layout.Layout.{Layout}
+use Rattle.law_scans.specs.inv.model.defs.Shown.{Seen}
+use Rattle.law_scans.specs.inv.model.defs.declared.call.Call.{Call}
+use Rattle.law_scans.specs.inv.model.defs.declared.event.Event.{Event}
+use Rattle.law_scans.specs.inv.model.defs.declared.event.Event.TheVariants as events
+use Rattle.law_scans.specs.inv.model.defs.declared.event.Root.{Root}
+use Rattle.law_scans.specs.inv.model.defs.declared.event.Root.TheVariants as roots
+use Rattle.law_scans.specs.inv.model.defs.declared.fold.Change.{Change}
+use Rattle.law_scans.specs.inv.model.defs.declared.fold.Change.TheVariants as changes
+use Rattle.law_scans.specs.inv.model.declared.post.Post.{Post}
+use Rattle.law_scans.specs.inv.model.Calls.{Task, Gets, Changes, Holds, Enqueues, Dequeues, AfterScan, Answered, Repeated, Counted, ScanAt, ReadGuard, GiveBack, Why, Opens, FollowsHead, ClearsNext, Clears, Releases, Phase, Idle, Runs, Scans, Works, CallTurn, CallOutcome, GoesOn, Answers}
+use Rattle.law_scans.specs.inv.model.Desks.{Desk}
+use Rattle.law_scans.specs.inv.model.Guards.{guards, guard_at, published}
+use Rattle.law_scans.specs.inv.model.Locals.{told_end, turn}
+use Rattle.law_scans.specs.inv.model.Machine as machine
+use Rattle.law_scans.specs.inv.model.Memory.{bump}
+use Rattle.law_scans.specs.inv.model.Phases.{ProtectAt, Base}
+use Rattle.law_scans.specs.inv.model.Phases.ProtectAt.{CheckClock, TakeAnswer, CheckUpper, ByHazard}
+use Rattle.law_scans.specs.inv.model.Phases.Base.{Protect, Reload, Clear, Release}
+use Rattle.law_scans.specs.inv.model.Posts.{stands, counted, cleared, upper}
+use Rattle.law_scans.specs.inv.model.Protect.{told_held}
+use Rattle.law_scans.specs.inv.model.Rounds.{index_of}
+use Rattle.law_scans.specs.inv.model.Scan as scan
+use Rattle.law_scans.specs.inv.model.Steps as steps
+use Rattle.law_scans.specs.inv.model.World.{World, finds, offered, told_in}
+use Rattle.law_scans.proofs.inv.model.Facts.{both, first_of, rest_of, not_or_false, and_right_false}
 use Rattle.law_scans.proofs.inv.ends.Ends.Tests.{Calm, at_shows, base_shows, base_any}
 use Rattle.law_scans.specs.inv.shapes.Seats.{Seats, Shaped, suits, kind_of, protects, reloads, clears, releases, index_by}
 use Rattle.law_scans.specs.inv.shapes.Slots.{PhaseIn, Slots, WhyIn}
@@ -38,23 +38,23 @@ use Rattle.law_scans.specs.laws.records.Record.{Past, Test, Each, tells_of}
 use Rattle.law_scans.specs.laws.records.Record.Past.{Start, Then}
 use Rattle.law_scans.proofs.reuse.history.AllOf.{all_of, of_along}
 use Rattle.law_scans.proofs.inv.Machines.{is_within, within_of}
-use Rattle.law_turns.specs.laws.StateAt.{began_of, is_row, stood_at}
+use Rattle.law_scans.specs.laws.StateAt.{began_of, is_row, stood_at}
 use Rattle.law_scans.proofs.reuse.AnswersTold.Answering.{one_began, own_began}
 use Rattle.law_scans.proofs.reuse.AnswersTold.Owed.{call_for, TaskServes, WhyServes, Serves}
-use Rattle.law_turns.specs.laws.HistoryHolds.{protects_at, clears_at, indexes_ok}
-use Rattle.law_turns.specs.laws.Standing.{is_copy}
+use Rattle.law_scans.specs.laws.HistoryHolds.{protects_at, clears_at, indexes_ok}
+use Rattle.law_scans.specs.laws.Standing.{is_copy}
 use Rattle.law_held.specs.Records.{RecordsCopyRows, RecordsUseIndexes}
 use Rattle.law_held.proofs.Indexes.Clears.{copied_row, copied_rows}
 use Rattle.law_held.proofs.Indexes.Fitting.{fits, Fit, copies_up, rises_to, May, task_may, dequeue_may, free_may, work_fit, resumed_fit}
 use Rattle.law_held.proofs.Roots.Ways.{Along, record_all, record_each, answers_of}
 use Rattle.law_scans.proofs.reuse.Holding.Holds.{history_held}
-use Rattle.law_turns.proofs.inv.model.Ranges.{bounds_of}
+use Rattle.law_scans.proofs.inv.model.Ranges.{bounds_of}
 use Rattle.std.proofs.lemmas.Bool.Decides.{nat_tests}
-use Rattle.law_turns.specs.inv.model.defs.declared.call.Call.TheVariants as names
+use Rattle.law_scans.specs.inv.model.defs.declared.call.Call.TheVariants as names
 use Rattle.law_scans.proofs.inv.ends.Handover.Asks.{run_of}
-use Rattle.law_turns.specs.inv.model.Phases.HazardAt.{FirstLink, CheckLink}
-use Rattle.law_turns.proofs.reuse.ReadGuards.{reads_are}
-use Rattle.law_turns.specs.inv.model.words.Schemes.{publishes_rows}
+use Rattle.law_scans.specs.inv.model.Phases.HazardAt.{FirstLink, CheckLink}
+use Rattle.law_scans.proofs.reuse.ReadGuards.{reads_are}
+use Rattle.law_scans.specs.inv.model.words.Schemes.{publishes_rows}
 
 -- an event that does not fit the call
 abbrev is_odd : (indexes : ℕ) → Call → Event → Bool

@@ -2,22 +2,22 @@
 use Rattle.std.proofs.Common.{ℕ, ◌≡◌, ◌+◌, Bool, true, false, List, [], ◌∷◌, Some, None, refl, sym, ap, ◌∙◌, subst, arith}
 use Rattle.std.proofs.lemmas.Bool.Decides.{nat_tests}
 use Rattle.std.specs.Prelude.{◌==◌, ◌&&◌, ◌||◌, not, if◌then◌else◌}
-use Rattle.law_turns.specs.inv.model.words.Place.{is_valid}
-use Rattle.law_turns.specs.inv.model.words.Place.Place.{Clock, Head, Row}
-use Rattle.law_turns.specs.inv.model.words.declared.layout.Layout.{Layout}
-use Rattle.law_turns.specs.inv.model.defs.declared.call.Call.{Call}
-use Rattle.law_turns.specs.inv.model.defs.declared.event.Event.{Event}
-use Rattle.law_turns.specs.inv.model.defs.declared.event.Event.TheVariants as events
-use Rattle.law_turns.specs.inv.model.defs.declared.event.Root.{Root}
-use Rattle.law_turns.specs.inv.model.defs.declared.event.Root.TheVariants as roots
-use Rattle.law_turns.specs.inv.model.declared.post.Post.{Post}
-use Rattle.law_turns.specs.inv.model.Links.{link_place, parent_of}
-use Rattle.law_turns.specs.inv.model.Posts.{upper}
-use Rattle.law_turns.specs.inv.model.Phases.{Aim, ProtectAt, Base}
-use Rattle.law_turns.specs.inv.model.Phases.Base.{Protect, Reload}
-use Rattle.law_turns.specs.inv.model.Calls.{Gets, Changes, Holds, Enqueues, Dequeues, Why, Opens, FollowsHead, Phase, Idle, Runs, Scans, Works}
-use Rattle.law_turns.specs.inv.model.World.{World, finds, is_busy, told_in, may_start}
-use Rattle.law_turns.proofs.inv.model.Facts.{same_number, first_of, rest_of, or_more}
+use Rattle.law_scans.specs.inv.model.words.Place.{is_valid}
+use Rattle.law_scans.specs.inv.model.words.Place.Place.{Clock, Head, Row}
+use Rattle.law_scans.specs.inv.model.words.declared.layout.Layout.{Layout}
+use Rattle.law_scans.specs.inv.model.defs.declared.call.Call.{Call}
+use Rattle.law_scans.specs.inv.model.defs.declared.event.Event.{Event}
+use Rattle.law_scans.specs.inv.model.defs.declared.event.Event.TheVariants as events
+use Rattle.law_scans.specs.inv.model.defs.declared.event.Root.{Root}
+use Rattle.law_scans.specs.inv.model.defs.declared.event.Root.TheVariants as roots
+use Rattle.law_scans.specs.inv.model.declared.post.Post.{Post}
+use Rattle.law_scans.specs.inv.model.Links.{link_place, parent_of}
+use Rattle.law_scans.specs.inv.model.Posts.{upper}
+use Rattle.law_scans.specs.inv.model.Phases.{Aim, ProtectAt, Base}
+use Rattle.law_scans.specs.inv.model.Phases.Base.{Protect, Reload}
+use Rattle.law_scans.specs.inv.model.Calls.{Gets, Changes, Holds, Enqueues, Dequeues, Why, Opens, FollowsHead, Phase, Idle, Runs, Scans, Works}
+use Rattle.law_scans.specs.inv.model.World.{World, finds, is_busy, told_in, may_start}
+use Rattle.law_scans.proofs.inv.model.Facts.{same_number, first_of, rest_of, or_more}
 use Rattle.law_scans.specs.inv.shapes.Seats.{Seats, Run, root_by}
 use Rattle.law_scans.specs.inv.history.History.{Item, Begins, Steps, Made, fits, done_if, made_of, first_made}
 use Rattle.law_scans.proofs.reuse.history.Along.{begins_right, begins_within, low_seat, paths_keep}
@@ -30,10 +30,10 @@ use Rattle.law_scans.specs.laws.records.Record.Past.{Start, Then}
 use Rattle.law_scans.proofs.reuse.Lawful.Current.{idle_untracked}
 use Rattle.law_scans.proofs.reuse.history.AllOf.{all_of}
 use Rattle.law_scans.proofs.inv.Machines.{is_within, within_of, within_begins}
-use Rattle.law_scans.specs.inv.links.Origins.{Origins}
-use Rattle.law_scans.specs.inv.links.Tracked.{carries_at, carries_in, root_for, root_in, Tracked, Carried}
-use Rattle.law_scans.proofs.inv.links.Origins.Kept.{origins_kept, origins_start, origins_begin}
-use Rattle.law_turns.specs.laws.StateAt.{next_at, head_at}
+use Rattle.law_scans.specs.inv.ends.Origins.{Origins}
+use Rattle.law_scans.specs.inv.ends.Tracked.{carries_at, carries_in, root_for, root_in, Tracked, Carried}
+use Rattle.law_scans.proofs.inv.ends.Origins.Kept.{origins_kept, origins_start, origins_begin}
+use Rattle.law_scans.specs.laws.StateAt.{next_at, head_at}
 use Rattle.law_scans.proofs.Ordering.Ordered.{no_row, one_row}
 use Rattle.law_scans.specs.inv.requests.Standing.{Requests}
 use Rattle.law_scans.specs.inv.requests.Views.{Deal, View as Asked}
@@ -42,14 +42,14 @@ use Rattle.law_scans.specs.inv.rows.Agree.{first_rows, rows_after}
 use Rattle.law_scans.specs.inv.rows.Chain.{first_line, line_after, queue_of}
 use Rattle.law_scans.specs.inv.rows.Queue.{Line, heads_on, stands_on}
 use Rattle.law_scans.specs.inv.rows.Rows.{View}
-use Rattle.law_scans.specs.inv.links.Links.{links_to}
+use Rattle.law_scans.specs.inv.ends.Links.{links_to}
 use Rattle.law_held.proofs.Roots.Leads.{Leads, leads_of}
-use Rattle.law_turns.specs.laws.HoldLaw.{is_last}
+use Rattle.law_scans.specs.laws.HoldLaw.{is_last}
 use Rattle.law_held.proofs.NextRows.Nexts.{Nexts, nexts_step, nexts_first}
-use Rattle.law_scans.proofs.inv.links.Origins.Ends.{found_clock}
+use Rattle.law_scans.proofs.inv.ends.Origins.Ends.{found_clock}
 use Rattle.law_scans.proofs.inv.ends.Handover.Asks.{run_of}
-use Rattle.law_turns.specs.inv.model.Phases.ProtectAt.{ByHazard}
-use Rattle.law_turns.specs.inv.model.Phases.HazardAt.{FirstLink, PublishLink, CheckLink}
+use Rattle.law_scans.specs.inv.model.Phases.ProtectAt.{ByHazard}
+use Rattle.law_scans.specs.inv.model.Phases.HazardAt.{FirstLink, PublishLink, CheckLink}
 use Rattle.law_scans.proofs.inv.covers.Held.{finds_at}
 
 -- where a next link is null, the head had its row and no row was next to it, at a position of the seat's call

@@ -3,30 +3,30 @@ use Rattle.std.proofs.Common.{ℕ, ◌≡◌, ◌-◌, ◌+◌, Bool, true, fals
 use Rattle.std.proofs.lemmas.Bool.Decides.{nat_tests}
 use Rattle.std.specs.List.{list_any, list_all}
 use Rattle.std.specs.Prelude.{◌==◌, not, if◌then◌else◌, ◌||◌}
-use Rattle.law_turns.specs.inv.model.words.Place.Place.{Head}
-use Rattle.law_turns.specs.inv.model.words.declared.layout.Layout.{Layout}
-use Rattle.law_turns.specs.inv.model.defs.declared.event.Event.{Event}
-use Rattle.law_turns.specs.inv.model.defs.declared.event.Event.TheVariants as events
-use Rattle.law_turns.specs.inv.model.defs.declared.event.Guard.{Guard}
-use Rattle.law_turns.specs.inv.model.defs.declared.event.Guard.TheVariants.{Index}
-use Rattle.law_turns.specs.inv.model.defs.declared.event.Root.{Root}
-use Rattle.law_turns.specs.inv.model.defs.declared.event.Root.TheVariants as roots
-use Rattle.law_turns.specs.inv.model.defs.declared.lifetime.Interval.{Interval}
-use Rattle.law_turns.specs.inv.model.declared.post.Post.{Post}
-use Rattle.law_turns.specs.inv.model.Follow.{after_reload}
-use Rattle.law_turns.specs.inv.model.Guards.{one_era, guard_at}
-use Rattle.law_turns.specs.inv.model.Locals.{turn}
-use Rattle.law_turns.specs.inv.model.Machine as machine
-use Rattle.law_turns.specs.inv.model.Memory.{bump}
-use Rattle.law_turns.specs.inv.model.Posts.{stands, counted, cleared, upper, reserves_helper}
-use Rattle.law_turns.specs.inv.model.Protect.{held_post, told_held, concluded, protected, failed_once}
-use Rattle.law_turns.specs.inv.model.SlowPath.{own_request}
-use Rattle.law_turns.specs.inv.model.World.{World, finds, offered, told_in}
-use Rattle.law_turns.specs.inv.model.Phases.{Aim, ProtectAt, Base, Turn, goes}
-use Rattle.law_turns.specs.inv.model.Phases.ProtectAt.{PublishEra, CheckClock, PublishHelper, CheckOwnClock, AnswerOwn, TakeAnswer, WithdrawHelper, CheckUpper, RaiseUpper, ByHazard}
-use Rattle.law_turns.specs.inv.model.Phases.Base.{Protect, Reload, Clear, Release}
-use Rattle.law_turns.specs.inv.model.Calls.{Work, Task, Gets, Changes, Holds, Enqueues, Dequeues, ReadGuard, GiveBack, Why, Opens, FollowsHead, Phase, Idle, Runs, Scans, Works}
-use Rattle.law_turns.proofs.inv.model.Facts.{same_number, both, and_right_false, number_is, or_more, first_of, rest_of, false_of_not}
+use Rattle.law_scans.specs.inv.model.words.Place.Place.{Head}
+use Rattle.law_scans.specs.inv.model.words.declared.layout.Layout.{Layout}
+use Rattle.law_scans.specs.inv.model.defs.declared.event.Event.{Event}
+use Rattle.law_scans.specs.inv.model.defs.declared.event.Event.TheVariants as events
+use Rattle.law_scans.specs.inv.model.defs.declared.event.Guard.{Guard}
+use Rattle.law_scans.specs.inv.model.defs.declared.event.Guard.TheVariants.{Index}
+use Rattle.law_scans.specs.inv.model.defs.declared.event.Root.{Root}
+use Rattle.law_scans.specs.inv.model.defs.declared.event.Root.TheVariants as roots
+use Rattle.law_scans.specs.inv.model.defs.declared.lifetime.Interval.{Interval}
+use Rattle.law_scans.specs.inv.model.declared.post.Post.{Post}
+use Rattle.law_scans.specs.inv.model.Follow.{after_reload}
+use Rattle.law_scans.specs.inv.model.Guards.{one_era, guard_at}
+use Rattle.law_scans.specs.inv.model.Locals.{turn}
+use Rattle.law_scans.specs.inv.model.Machine as machine
+use Rattle.law_scans.specs.inv.model.Memory.{bump}
+use Rattle.law_scans.specs.inv.model.Posts.{stands, counted, cleared, upper, reserves_helper}
+use Rattle.law_scans.specs.inv.model.Protect.{held_post, told_held, concluded, protected, failed_once}
+use Rattle.law_scans.specs.inv.model.SlowPath.{own_request}
+use Rattle.law_scans.specs.inv.model.World.{World, finds, offered, told_in}
+use Rattle.law_scans.specs.inv.model.Phases.{Aim, ProtectAt, Base, Turn, goes}
+use Rattle.law_scans.specs.inv.model.Phases.ProtectAt.{PublishEra, CheckClock, PublishHelper, CheckOwnClock, AnswerOwn, TakeAnswer, WithdrawHelper, CheckUpper, RaiseUpper, ByHazard}
+use Rattle.law_scans.specs.inv.model.Phases.Base.{Protect, Reload, Clear, Release}
+use Rattle.law_scans.specs.inv.model.Calls.{Work, Task, Gets, Changes, Holds, Enqueues, Dequeues, ReadGuard, GiveBack, Why, Opens, FollowsHead, Phase, Idle, Runs, Scans, Works}
+use Rattle.law_scans.proofs.inv.model.Facts.{same_number, both, and_right_false, number_is, or_more, first_of, rest_of, false_of_not}
 use Rattle.law_scans.proofs.reuse.history.AllOf.{all_of}
 use Rattle.law_scans.proofs.reuse.history.Passes.{work_told}
 use Rattle.law_scans.proofs.reuse.history.MayTell.{concluded_told, work_all}
@@ -37,12 +37,12 @@ use Rattle.law_scans.specs.inv.history.History.{record_of, world_of}
 use Rattle.law_scans.specs.inv.Known.{Known}
 use Rattle.law_scans.specs.laws.records.Record.{Past, Each, tells_of, begins, held_since}
 use Rattle.law_scans.specs.laws.records.Record.Past.{Then}
-use Rattle.law_scans.specs.inv.links.Origins.{Origins}
-use Rattle.law_scans.specs.inv.links.Tracked.{carries_at}
-use Rattle.law_turns.specs.laws.Once.{is_slot}
-use Rattle.law_turns.specs.laws.StateAt.{next_at, head_at, stood_at}
+use Rattle.law_scans.specs.inv.ends.Origins.{Origins}
+use Rattle.law_scans.specs.inv.ends.Tracked.{carries_at}
+use Rattle.law_scans.specs.laws.Once.{is_slot}
+use Rattle.law_scans.specs.laws.StateAt.{next_at, head_at, stood_at}
 use Rattle.law_scans.proofs.Ordering.Ordered.{head_is}
-use Rattle.law_turns.proofs.laws.Tells.{tells_both}
+use Rattle.law_scans.proofs.laws.Tells.{tells_both}
 use Rattle.law_scans.specs.inv.requests.Views.{View as Asked}
 use Rattle.law_scans.proofs.reuse.Reuse.Keeps.{record_stands}
 use Rattle.law_scans.specs.inv.rows.Queue.{Line, stands_on}
@@ -51,18 +51,18 @@ use Rattle.law_scans.proofs.inv.ends.Told.Rows.{own_told, own_post, step_adds}
 use Rattle.law_scans.proofs.inv.ends.Told.Turns.{Adds, is_later}
 use Rattle.law_held.proofs.Roots.Leads.{Leads, leads_of}
 use Rattle.law_held.proofs.Roots.Ways.{record_each}
-use Rattle.law_turns.specs.laws.HistoryHolds.{was_last, behind_ok}
-use Rattle.law_turns.specs.laws.HoldLaw.{is_last}
+use Rattle.law_scans.specs.laws.HistoryHolds.{was_last, behind_ok}
+use Rattle.law_scans.specs.laws.HoldLaw.{is_last}
 use Rattle.law_held.specs.Records.{RecordsFollowNexts}
 use Rattle.law_held.proofs.NextRows.Behind.{had_none, within_none, carried_none, reloaded_next, behind_of, loaded_none, loads_found}
 use Rattle.law_held.proofs.NextRows.Nexts.{Nexts}
-use Rattle.law_turns.proofs.TurnCounts.Tried.{is_follow}
+use Rattle.law_scans.proofs.Turns.TurnCounts.Tried.{is_follow}
 use Rattle.law_scans.proofs.inv.ends.Handover.Asks.{run_of}
 use Rattle.law_scans.proofs.Ordering.Linked.{row_is}
-use Rattle.law_turns.proofs.inv.model.Lists.{or_left, or_right}
-use Rattle.law_turns.specs.inv.model.Phases.HazardAt.{FirstLink, PublishLink, CheckLink}
-use Rattle.law_turns.proofs.reuse.ReadGuards.{reads_are}
-use Rattle.law_turns.specs.inv.model.words.Schemes.{publishes_rows}
+use Rattle.law_scans.proofs.inv.model.Lists.{or_left, or_right}
+use Rattle.law_scans.specs.inv.model.Phases.HazardAt.{FirstLink, PublishLink, CheckLink}
+use Rattle.law_scans.proofs.reuse.ReadGuards.{reads_are}
+use Rattle.law_scans.specs.inv.model.words.Schemes.{publishes_rows}
 
 -- what is told of protections at index 1
 abbrev pub is_one : Event → Bool

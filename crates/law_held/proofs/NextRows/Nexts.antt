@@ -1,10 +1,10 @@
 -- Where the next links of the queue's rows lead by the record is where their words lead.
 use Rattle.std.proofs.Common.{ℕ, ◌≡◌, true, None, refl, sym, ap, ◌∙◌, ◌⊎◌, inl, inr}
-use Rattle.law_turns.specs.inv.model.words.Place.{has}
-use Rattle.law_turns.specs.inv.model.words.Place.Place.{Row}
-use Rattle.law_turns.specs.inv.model.words.declared.layout.Layout.{Layout}
-use Rattle.law_turns.specs.inv.model.World.{World, start, step, finds, told_in, list_in}
-use Rattle.law_turns.proofs.inv.model.Facts.{if_same}
+use Rattle.law_scans.specs.inv.model.words.Place.{has}
+use Rattle.law_scans.specs.inv.model.words.Place.Place.{Row}
+use Rattle.law_scans.specs.inv.model.words.declared.layout.Layout.{Layout}
+use Rattle.law_scans.specs.inv.model.World.{World, start, step, finds, told_in, list_in}
+use Rattle.law_scans.proofs.inv.model.Facts.{if_same}
 use Rattle.law_scans.specs.inv.requests.Views.{View as Asked}
 use Rattle.law_scans.specs.inv.rows.Agree.{first_rows, rows_after}
 use Rattle.law_scans.specs.inv.rows.Chain.{first_line, line_after}
@@ -14,7 +14,7 @@ use Rattle.law_scans.specs.laws.records.Record.{Past, tells_of}
 use Rattle.law_scans.specs.laws.records.Record.Past.{Start}
 use Rattle.law_scans.specs.inv.Known.{Known}
 use Rattle.law_scans.specs.inv.ends.Told.{move_of}
-use Rattle.law_turns.specs.laws.StateAt.{next_at}
+use Rattle.law_scans.specs.laws.StateAt.{next_at}
 use Rattle.law_scans.proofs.Ordering.Nexts.{next_moved}
 use Rattle.law_scans.proofs.Ordering.Ordered.{word_of}
 use Rattle.law_scans.proofs.Ordering.Linked.{is_new, Joining, lined_by, joins_new, here_of, next_comes, joins_null, join_moved, fresh_step, new_before}

@@ -2,34 +2,34 @@
 use Rattle.std.proofs.Common.{ℕ, zero, suc, ◌≡◌, ◌≤◌, ◌<◌, ◌⊎◌, inl, inr, Bool, true, false, List, [], ◌∷◌, ◌++◌, Option, Some, None, refl, sym, ap, ◌∙◌, subst, arith}
 use Rattle.std.proofs.lemmas.Bool.Decides.{nat_tests}
 use Rattle.std.specs.Prelude.{◌==◌, nat_lt, is_none, is_some, if◌then◌else◌}
-use Rattle.law_turns.specs.inv.model.words.Place.{is_valid}
-use Rattle.law_turns.specs.inv.model.words.declared.config.SchemeKind.{SchemeKind}
-use Rattle.law_turns.specs.inv.model.words.declared.config.SchemeKind.TheVariants.{He, Hp, Ibr, Wfe}
-use Rattle.law_turns.specs.inv.model.words.declared.layout.Layout.{Layout}
-use Rattle.law_turns.specs.inv.model.defs.declared.call.Answer.{Answer}
-use Rattle.law_turns.specs.inv.model.defs.declared.event.Event.{Event}
-use Rattle.law_turns.specs.inv.model.defs.declared.event.Event.TheVariants as events
-use Rattle.law_turns.specs.inv.model.defs.declared.event.Guard.{Guard}
-use Rattle.law_turns.specs.inv.model.defs.declared.event.Guard.TheVariants.{Helper, Index, Whole}
-use Rattle.law_turns.specs.inv.model.defs.declared.lifetime.Interval.{Interval}
-use Rattle.law_turns.specs.inv.model.defs.declared.lifetime.Lifetime.{Lifetime}
-use Rattle.law_turns.specs.inv.model.defs.Shown as values
-use Rattle.law_turns.specs.inv.model.defs.Shown.{keeps}
-use Rattle.law_turns.specs.inv.model.declared.post.Post.{Post}
-use Rattle.law_turns.specs.inv.model.Guards.{own_guard}
-use Rattle.law_turns.specs.inv.model.Calls.{Phase, Idle, CallTurn, CallOutcome, GoesOn, Answers}
-use Rattle.law_turns.specs.inv.model.Locals.{busy_in, told_by, told_end, turn}
-use Rattle.law_turns.specs.inv.model.Posts.{stands}
-use Rattle.law_turns.specs.inv.model.Rounds.{kept_row}
-use Rattle.law_turns.proofs.inv.model.Standing.{some_kept}
-use Rattle.law_turns.specs.inv.model.words.declared.config.Config.{Config}
-use Rattle.law_turns.specs.inv.model.defs.declared.call.Call.{Call}
+use Rattle.law_scans.specs.inv.model.words.Place.{is_valid}
+use Rattle.law_scans.specs.inv.model.words.declared.config.SchemeKind.{SchemeKind}
+use Rattle.law_scans.specs.inv.model.words.declared.config.SchemeKind.TheVariants.{He, Hp, Ibr, Wfe}
+use Rattle.law_scans.specs.inv.model.words.declared.layout.Layout.{Layout}
+use Rattle.law_scans.specs.inv.model.defs.declared.call.Answer.{Answer}
+use Rattle.law_scans.specs.inv.model.defs.declared.event.Event.{Event}
+use Rattle.law_scans.specs.inv.model.defs.declared.event.Event.TheVariants as events
+use Rattle.law_scans.specs.inv.model.defs.declared.event.Guard.{Guard}
+use Rattle.law_scans.specs.inv.model.defs.declared.event.Guard.TheVariants.{Helper, Index, Whole}
+use Rattle.law_scans.specs.inv.model.defs.declared.lifetime.Interval.{Interval}
+use Rattle.law_scans.specs.inv.model.defs.declared.lifetime.Lifetime.{Lifetime}
+use Rattle.law_scans.specs.inv.model.defs.Shown as values
+use Rattle.law_scans.specs.inv.model.defs.Shown.{keeps}
+use Rattle.law_scans.specs.inv.model.declared.post.Post.{Post}
+use Rattle.law_scans.specs.inv.model.Guards.{own_guard}
+use Rattle.law_scans.specs.inv.model.Calls.{Phase, Idle, CallTurn, CallOutcome, GoesOn, Answers}
+use Rattle.law_scans.specs.inv.model.Locals.{busy_in, told_by, told_end, turn}
+use Rattle.law_scans.specs.inv.model.Posts.{stands}
+use Rattle.law_scans.specs.inv.model.Rounds.{kept_row}
+use Rattle.law_scans.proofs.inv.model.Standing.{some_kept}
+use Rattle.law_scans.specs.inv.model.words.declared.config.Config.{Config}
+use Rattle.law_scans.specs.inv.model.defs.declared.call.Call.{Call}
 use Rattle.law_held.proofs.Indexes.Indexing.{record_high}
-use Rattle.law_turns.specs.inv.model.World.{World, finds, is_busy, offered, told_in}
-use Rattle.law_turns.proofs.inv.model.Facts.{first_of, rest_of}
+use Rattle.law_scans.specs.inv.model.World.{World, finds, is_busy, offered, told_in}
+use Rattle.law_scans.proofs.inv.model.Facts.{first_of, rest_of}
 use Rattle.law_scans.specs.inv.covers.Covers.{life_in, shown}
 use Rattle.law_scans.proofs.inv.covers.Held.{stepped_phase}
-use Rattle.law_turns.specs.inv.model.words.Schemes.{is_ibr, publishes_rows}
+use Rattle.law_scans.specs.inv.model.words.Schemes.{is_ibr, publishes_rows}
 use Rattle.law_scans.specs.inv.shapes.Frame.{phase_left}
 use Rattle.law_scans.proofs.inv.requests.Kept.{idle_of}
 use Rattle.law_scans.specs.inv.Inv.{Inv}
@@ -40,34 +40,34 @@ use Rattle.law_scans.specs.laws.records.Record.Past.{Then}
 use Rattle.law_scans.specs.laws.records.Turns as schedule
 use Rattle.law_scans.specs.inv.history.History.{Item, Steps, Made, fits, done, done_if, made_of, first_made, record_of, world_of}
 use Rattle.law_scans.proofs.reuse.history.Along.{made_snoc}
-use Rattle.law_turns.specs.laws.StateAt.{hazard_of, published_at, stood_at, value_of}
+use Rattle.law_scans.specs.laws.StateAt.{hazard_of, published_at, stood_at, value_of}
 use Rattle.law_scans.proofs.reuse.Reuse.Keeps.{record_stands}
 use Rattle.law_scans.proofs.reuse.history.AllOf.{all_of}
 use Rattle.law_scans.proofs.reuse.AnswersTold.Owed.{is_open, Owes, owed}
 use Rattle.law_scans.proofs.reuse.AnswersTold.Answering.{owes_of}
 use Rattle.law_scans.proofs.reuse.BareEnds.{end_stood}
 use Rattle.law_scans.proofs.reuse.OneStep.Along.{history_keeps}
-use Rattle.law_turns.proofs.Counting.Counting.{Keeps, begin_kept, step_kept, first_kept}
-use Rattle.law_turns.proofs.Counting.Fits.{Clean, free, holds}
-use Rattle.law_turns.proofs.Handovers.{handovers_meet}
+use Rattle.law_scans.proofs.Turns.Counting.Counting.{Keeps, begin_kept, step_kept, first_kept}
+use Rattle.law_scans.proofs.Turns.Counting.Fits.{Clean, free, holds}
+use Rattle.law_scans.proofs.Turns.Handovers.{handovers_meet}
 use Rattle.law_scans.proofs.reuse.Holding.Holds.{record_publishes, record_values, history_held}
 use Rattle.law_held.proofs.Roots.Ways.{Turning, record_each, answers_of}
 use Rattle.law_scans.specs.inv.history.Heard.{heard_of}
 use Rattle.law_scans.specs.reuse.Heard.{IsCounted}
 use Rattle.law_scans.proofs.reuse.Turns.Counted.{histories_count}
-use Rattle.law_turns.specs.laws.HistoryHolds.{first_of as first_row_of, helpers_ok, index_rests, is_alike, kept_below, spans_ok, words_ok}
+use Rattle.law_scans.specs.laws.HistoryHolds.{first_of as first_row_of, helpers_ok, index_rests, is_alike, kept_below, spans_ok, words_ok}
 use Rattle.law_held.specs.Records.{RecordsRestGuards}
 use Rattle.law_held.proofs.Resting.Spans.{spent_of}
 use Rattle.law_held.proofs.Resting.Spent.{Spent}
 use Rattle.law_held.proofs.Resting.Valued.{history_empty}
-use Rattle.law_turns.proofs.laws.Tells.{tells_both}
-use Rattle.law_turns.proofs.inv.model.words.Schemes.{interval_not_rows}
-use Rattle.law_turns.proofs.HazardCounts.{hazard_empty}
-use Rattle.law_turns.proofs.Withdrawals.Entries.{helper_rests}
-use Rattle.law_turns.proofs.Counting.Told.{counted_of}
-use Rattle.law_turns.specs.laws.HoldLaw.{is_blank}
-use Rattle.law_turns.specs.inv.model.defs.declared.shown.Shown.{Shown}
-use Rattle.law_turns.specs.inv.model.defs.declared.shown.Shown.TheVariants.{Eras, Nothing, Row}
+use Rattle.law_scans.proofs.laws.Tells.{tells_both}
+use Rattle.law_scans.proofs.inv.model.words.Schemes.{interval_not_rows}
+use Rattle.law_scans.proofs.Turns.HazardCounts.{hazard_empty}
+use Rattle.law_scans.proofs.Turns.Withdrawals.Entries.{helper_rests}
+use Rattle.law_scans.proofs.Turns.Counting.Told.{counted_of}
+use Rattle.law_scans.specs.laws.HoldLaw.{is_blank}
+use Rattle.law_scans.specs.inv.model.defs.declared.shown.Shown.{Shown}
+use Rattle.law_scans.specs.inv.model.defs.declared.shown.Shown.TheVariants.{Eras, Nothing, Row}
 
 -- a seat that has no call under way
 idle_as : (w : World) (i : ℕ) → is_busy w i ≡ false → (w.seat i).phase ≡ Idle

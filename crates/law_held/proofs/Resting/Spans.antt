@@ -2,37 +2,37 @@
 use Rattle.std.proofs.Common.{ℕ, ◌≡◌, ◌-◌, Bool, true, false, List, length, refl, sym, ap, ◌∙◌, subst, arith}
 use Rattle.std.proofs.lemmas.Bool.Decides.{nat_tests}
 use Rattle.std.specs.Prelude.{◌==◌, ◌||◌, ◌%◌, not, if◌then◌else◌}
-use Rattle.law_turns.specs.inv.model.words.Place.{is_valid}
-use Rattle.law_turns.specs.inv.model.words.declared.config.Config.{Config}
-use Rattle.law_turns.specs.inv.model.words.declared.config.SchemeKind.{SchemeKind}
-use Rattle.law_turns.specs.inv.model.words.declared.layout.Layout.{Layout}
-use Rattle.law_turns.specs.inv.model.defs.declared.call.Answer.{Answer}
-use Rattle.law_turns.specs.inv.model.defs.declared.call.Call.{Call}
-use Rattle.law_turns.specs.inv.model.defs.declared.event.Event.{Event}
-use Rattle.law_turns.specs.inv.model.defs.declared.event.Root.{Root}
-use Rattle.law_turns.specs.inv.model.defs.declared.event.Root.TheVariants as roots
-use Rattle.law_turns.specs.inv.model.declared.ends.FollowEnd.TheVariants as follow_ends
-use Rattle.law_turns.specs.inv.model.declared.ends.ProtectEnd.TheVariants as protect_ends
-use Rattle.law_turns.specs.inv.model.declared.post.Post.{Post}
-use Rattle.law_turns.specs.inv.model.Links.{parent_of}
-use Rattle.law_turns.specs.inv.model.Locals.{Local, busy_in, begun_post, turn}
-use Rattle.law_turns.specs.inv.model.Machine.{after, begin_turn, protect_turn, retire_turn, move_turn}
-use Rattle.law_turns.specs.inv.model.Memory.{bump}
-use Rattle.law_turns.specs.inv.model.Posts.{counted, with_row, upper, reserves_helper}
-use Rattle.law_turns.specs.inv.model.Protect.{held_post, told_held, concluded, protected}
-use Rattle.law_turns.specs.inv.model.Rounds.{scheme_of, index_of}
-use Rattle.law_turns.specs.inv.model.SlowPath.{own_request}
-use Rattle.law_turns.specs.inv.model.Steps as steps
-use Rattle.law_turns.specs.inv.model.World.{World, begin, finds, is_busy, offered, step}
-use Rattle.law_turns.specs.inv.model.Phases.{Aim, Alone, Follows, BeginAt, ProtectAt, RetireAt, Base, Ending, Outcome, Goes, Ends, Turn, goes, ends}
-use Rattle.law_turns.specs.inv.model.Phases.BeginAt.{LoadLower, PublishSpan}
-use Rattle.law_turns.specs.inv.model.Phases.ProtectAt.{CheckClock, CheckOwnClock, AnswerOwn, WithdrawHelper, CheckUpper, ByHazard}
-use Rattle.law_turns.specs.inv.model.Phases.RetireAt.{LoadLife, LoadRetire, StoreRetired}
-use Rattle.law_turns.specs.inv.model.Phases.Base.{Begin, Protect, Reload, Clear, Finish, Release, GiveUp, Retire, Move}
-use Rattle.law_turns.specs.inv.model.Phases.Ending.{Protected, Followed}
-use Rattle.law_turns.specs.inv.model.Calls.{Task, Gets, Changes, Holds, Enqueues, Dequeues, AfterScan, Next, Why, Opens, FollowsHead, Fills, ClearsNext, Clears, Finishes, GivesUp, Retires, Tidies, Advances, Releases, LetGo, Phase, Idle, Runs, Scans, Works, CallTurn}
+use Rattle.law_scans.specs.inv.model.words.Place.{is_valid}
+use Rattle.law_scans.specs.inv.model.words.declared.config.Config.{Config}
+use Rattle.law_scans.specs.inv.model.words.declared.config.SchemeKind.{SchemeKind}
+use Rattle.law_scans.specs.inv.model.words.declared.layout.Layout.{Layout}
+use Rattle.law_scans.specs.inv.model.defs.declared.call.Answer.{Answer}
+use Rattle.law_scans.specs.inv.model.defs.declared.call.Call.{Call}
+use Rattle.law_scans.specs.inv.model.defs.declared.event.Event.{Event}
+use Rattle.law_scans.specs.inv.model.defs.declared.event.Root.{Root}
+use Rattle.law_scans.specs.inv.model.defs.declared.event.Root.TheVariants as roots
+use Rattle.law_scans.specs.inv.model.declared.ends.FollowEnd.TheVariants as follow_ends
+use Rattle.law_scans.specs.inv.model.declared.ends.ProtectEnd.TheVariants as protect_ends
+use Rattle.law_scans.specs.inv.model.declared.post.Post.{Post}
+use Rattle.law_scans.specs.inv.model.Links.{parent_of}
+use Rattle.law_scans.specs.inv.model.Locals.{Local, busy_in, begun_post, turn}
+use Rattle.law_scans.specs.inv.model.Machine.{after, begin_turn, protect_turn, retire_turn, move_turn}
+use Rattle.law_scans.specs.inv.model.Memory.{bump}
+use Rattle.law_scans.specs.inv.model.Posts.{counted, with_row, upper, reserves_helper}
+use Rattle.law_scans.specs.inv.model.Protect.{held_post, told_held, concluded, protected}
+use Rattle.law_scans.specs.inv.model.Rounds.{scheme_of, index_of}
+use Rattle.law_scans.specs.inv.model.SlowPath.{own_request}
+use Rattle.law_scans.specs.inv.model.Steps as steps
+use Rattle.law_scans.specs.inv.model.World.{World, begin, finds, is_busy, offered, step}
+use Rattle.law_scans.specs.inv.model.Phases.{Aim, Alone, Follows, BeginAt, ProtectAt, RetireAt, Base, Ending, Outcome, Goes, Ends, Turn, goes, ends}
+use Rattle.law_scans.specs.inv.model.Phases.BeginAt.{LoadLower, PublishSpan}
+use Rattle.law_scans.specs.inv.model.Phases.ProtectAt.{CheckClock, CheckOwnClock, AnswerOwn, WithdrawHelper, CheckUpper, ByHazard}
+use Rattle.law_scans.specs.inv.model.Phases.RetireAt.{LoadLife, LoadRetire, StoreRetired}
+use Rattle.law_scans.specs.inv.model.Phases.Base.{Begin, Protect, Reload, Clear, Finish, Release, GiveUp, Retire, Move}
+use Rattle.law_scans.specs.inv.model.Phases.Ending.{Protected, Followed}
+use Rattle.law_scans.specs.inv.model.Calls.{Task, Gets, Changes, Holds, Enqueues, Dequeues, AfterScan, Next, Why, Opens, FollowsHead, Fills, ClearsNext, Clears, Finishes, GivesUp, Retires, Tidies, Advances, Releases, LetGo, Phase, Idle, Runs, Scans, Works, CallTurn}
 use Rattle.law_scans.proofs.inv.covers.Held.{stepped_post, stepped_phase}
-use Rattle.law_turns.specs.inv.model.words.Schemes.{is_ibr, publishes_rows}
+use Rattle.law_scans.specs.inv.model.words.Schemes.{is_ibr, publishes_rows}
 use Rattle.law_scans.specs.inv.shapes.Frame.{phase_left}
 use Rattle.law_scans.specs.inv.shapes.Slots.{PhaseIn, Slots}
 use Rattle.law_scans.proofs.reuse.shapes.Kept.{work_counted}
@@ -41,15 +41,15 @@ use Rattle.law_scans.proofs.reuse.shapes.Frame.{seat_stays, begin_stays, begin_b
 use Rattle.law_scans.specs.inv.history.History.{Item, Made, made_of, world_of}
 use Rattle.law_scans.specs.laws.records.Turns as schedule
 use Rattle.law_scans.proofs.reuse.OneStep.Along.{Kept, history_keeps}
-use Rattle.law_scans.proofs.inv.steps_left.Rest.Moves.{move_post}
+use Rattle.law_scans.proofs.inv.ends.Rest.Moves.{move_post}
 use Rattle.law_scans.specs.inv.history.Heard.{heard_of}
 use Rattle.law_held.proofs.Resting.Spent.{Ended, over_why, Spent, Opened, Resumes, Out, resumed_spent, work_spent, scan_spent, first_spent, plain_ended, put_ended}
-use Rattle.law_turns.proofs.Counting.Fits.{is_hold}
+use Rattle.law_scans.proofs.Turns.Counting.Fits.{is_hold}
 use Rattle.law_scans.proofs.inv.ends.Handover.Asks.{run_of}
-use Rattle.law_turns.proofs.inv.model.Ranges.{bounds_of}
-use Rattle.law_scans.proofs.inv.steps_left.Rest.Falling.{wfe_plain}
-use Rattle.law_turns.proofs.inv.model.Facts.{false_of_not, first_of}
-use Rattle.law_turns.specs.inv.model.Phases.HazardAt.{FirstLink, CheckLink}
+use Rattle.law_scans.proofs.inv.model.Ranges.{bounds_of}
+use Rattle.law_scans.proofs.inv.ends.Rest.Falling.{wfe_plain}
+use Rattle.law_scans.proofs.inv.model.Facts.{false_of_not, first_of}
+use Rattle.law_scans.specs.inv.model.Phases.HazardAt.{FirstLink, CheckLink}
 
 -- what a row that was found leaves
 row_ended : (post : Post) (link : ℕ) (null : Bool) → (null ≡ false → Ended (with_row post 2 (link - 1))) → null ≡ false → Ended (if null then post else with_row post 2 (link - 1))

@@ -1,44 +1,44 @@
 -- Under 2GE a seat whose round is over has no interval, unless a row stands at an index of it from 2 on.
 use Rattle.std.proofs.Common.{ℕ, ◌≡◌, ◌≤◌, ◌<◌, subst, arith, ◌-◌, ◌+◌, ◌%◌, Bool, true, false, List, [], ◌∷◌, ◌++◌, length, Option, Some, None, refl, ap, drop}
 use Rattle.std.specs.Prelude.{◌==◌, is_some, nat_lt, if◌then◌else◌}
-use Rattle.law_turns.specs.inv.model.words.declared.config.SchemeKind.{SchemeKind}
-use Rattle.law_turns.specs.inv.model.words.declared.config.SchemeKind.TheVariants.{He, Hp, Ibr, Wfe}
-use Rattle.law_turns.specs.inv.model.defs.declared.call.Answer.{Answer}
-use Rattle.law_turns.specs.inv.model.defs.declared.call.Answer.TheVariants as the_answers
-use Rattle.law_turns.specs.inv.model.defs.declared.call.Call.{Call}
-use Rattle.law_turns.specs.inv.model.defs.declared.call.Call.TheVariants as names
-use Rattle.law_turns.specs.inv.model.defs.declared.call.ClockMove.TheVariants as moves
-use Rattle.law_turns.specs.inv.model.defs.declared.event.Event.{Event}
-use Rattle.law_turns.specs.inv.model.defs.declared.event.Event.TheVariants as events
-use Rattle.law_turns.specs.inv.model.defs.declared.event.Root.TheVariants as roots
-use Rattle.law_turns.specs.inv.model.declared.ends.AllocateEnd.{AllocateEnd}
-use Rattle.law_turns.specs.inv.model.declared.ends.AllocateEnd.TheVariants as allocate_ends
-use Rattle.law_turns.specs.inv.model.declared.ends.FollowEnd.{FollowEnd}
-use Rattle.law_turns.specs.inv.model.declared.ends.FollowEnd.TheVariants as follow_ends
-use Rattle.law_turns.specs.inv.model.declared.ends.ProtectEnd.TheVariants as protect_ends
-use Rattle.law_turns.specs.inv.model.declared.post.Post.{Post}
-use Rattle.law_turns.specs.inv.model.Change as alters
-use Rattle.law_turns.specs.inv.model.Dequeue as dequeues
-use Rattle.law_turns.specs.inv.model.Desks.{Desk, with_life}
-use Rattle.law_turns.specs.inv.model.Enqueue as enqueues
-use Rattle.law_turns.specs.inv.model.Get as gets
-use Rattle.law_turns.specs.inv.model.Guards.{guards, guard_at, published}
-use Rattle.law_turns.specs.inv.model.Keep as keeps
-use Rattle.law_turns.specs.inv.model.Posts.{cleared, publishes_index, stands, with_row, withdrawn, standing_from}
-use Rattle.law_turns.proofs.inv.model.Standing.{none_kept, stands-with_row_same}
-use Rattle.law_turns.specs.inv.model.words.Schemes.{has_one_interval, publishes_rows}
-use Rattle.law_turns.specs.inv.model.words.declared.config.Config.{Config}
-use Rattle.law_turns.specs.inv.model.Rounds.{scheme_of, bucket_of, index_of, taken_of, begin_base, kept_row, let_index, letting, letting_by, release_base, clear_base, clear_post, clear_told, finish_base, finish_span, round_by, round, given_up, closed, finishing_by, finishing, clearing_by, clearing, clearing_next_by, clearing_next}
-use Rattle.law_turns.specs.inv.model.Scan as scan
-use Rattle.law_turns.specs.inv.model.Steps as steps
-use Rattle.law_turns.specs.inv.model.Phases.{Base, Ending, Outcome, Goes, Ends}
-use Rattle.law_turns.specs.inv.model.Phases.Ending.{Done, Protected, Followed, Allocated, Retired, Clocked}
-use Rattle.law_turns.specs.inv.model.Calls.{Task, Gets, Changes, Holds, Enqueues, Dequeues, Next, Again, MakeRoom, Answering, Retiring, AfterScan, Answered, Repeated, Counted, ChangeKept, EnqueueKept, GetAt, FindVersion, FindCount, FindKey, FindValue, ChangeAt, LoadVersion, LoadCount, LoadKey, LoadValue, ExchangeRoot, EnqueueAt, LoadNumber, LoadNext, PassTail, ExchangeNext, ExchangeTail, DequeueAt, SwingTail, ExchangeHead, Work, Getting, Changing, Enqueuing, Dequeuing, Keeping, KeepAt, Loosens, LoadHeld, StoreHeld, Looks, Misses, HideSpan, MarkLeft, TakeList, MarkTaken, LetGo, Released, Rehold, Dropped, Parting, ScanAt, ReadGuard, GiveBack, Why, Opens, FollowsHead, Fills, ClearsNext, Clears, Finishes, GivesUp, Retires, Tidies, Advances, Releases, Phase, Idle, Runs, Scans, Works, CallTurn}
-use Rattle.law_turns.specs.inv.model.words.Schemes.{is_ibr}
+use Rattle.law_scans.specs.inv.model.words.declared.config.SchemeKind.{SchemeKind}
+use Rattle.law_scans.specs.inv.model.words.declared.config.SchemeKind.TheVariants.{He, Hp, Ibr, Wfe}
+use Rattle.law_scans.specs.inv.model.defs.declared.call.Answer.{Answer}
+use Rattle.law_scans.specs.inv.model.defs.declared.call.Answer.TheVariants as the_answers
+use Rattle.law_scans.specs.inv.model.defs.declared.call.Call.{Call}
+use Rattle.law_scans.specs.inv.model.defs.declared.call.Call.TheVariants as names
+use Rattle.law_scans.specs.inv.model.defs.declared.call.ClockMove.TheVariants as moves
+use Rattle.law_scans.specs.inv.model.defs.declared.event.Event.{Event}
+use Rattle.law_scans.specs.inv.model.defs.declared.event.Event.TheVariants as events
+use Rattle.law_scans.specs.inv.model.defs.declared.event.Root.TheVariants as roots
+use Rattle.law_scans.specs.inv.model.declared.ends.AllocateEnd.{AllocateEnd}
+use Rattle.law_scans.specs.inv.model.declared.ends.AllocateEnd.TheVariants as allocate_ends
+use Rattle.law_scans.specs.inv.model.declared.ends.FollowEnd.{FollowEnd}
+use Rattle.law_scans.specs.inv.model.declared.ends.FollowEnd.TheVariants as follow_ends
+use Rattle.law_scans.specs.inv.model.declared.ends.ProtectEnd.TheVariants as protect_ends
+use Rattle.law_scans.specs.inv.model.declared.post.Post.{Post}
+use Rattle.law_scans.specs.inv.model.Change as alters
+use Rattle.law_scans.specs.inv.model.Dequeue as dequeues
+use Rattle.law_scans.specs.inv.model.Desks.{Desk, with_life}
+use Rattle.law_scans.specs.inv.model.Enqueue as enqueues
+use Rattle.law_scans.specs.inv.model.Get as gets
+use Rattle.law_scans.specs.inv.model.Guards.{guards, guard_at, published}
+use Rattle.law_scans.specs.inv.model.Keep as keeps
+use Rattle.law_scans.specs.inv.model.Posts.{cleared, publishes_index, stands, with_row, withdrawn, standing_from}
+use Rattle.law_scans.proofs.inv.model.Standing.{none_kept, stands-with_row_same}
+use Rattle.law_scans.specs.inv.model.words.Schemes.{has_one_interval, publishes_rows}
+use Rattle.law_scans.specs.inv.model.words.declared.config.Config.{Config}
+use Rattle.law_scans.specs.inv.model.Rounds.{scheme_of, bucket_of, index_of, taken_of, begin_base, kept_row, let_index, letting, letting_by, release_base, clear_base, clear_post, clear_told, finish_base, finish_span, round_by, round, given_up, closed, finishing_by, finishing, clearing_by, clearing, clearing_next_by, clearing_next}
+use Rattle.law_scans.specs.inv.model.Scan as scan
+use Rattle.law_scans.specs.inv.model.Steps as steps
+use Rattle.law_scans.specs.inv.model.Phases.{Base, Ending, Outcome, Goes, Ends}
+use Rattle.law_scans.specs.inv.model.Phases.Ending.{Done, Protected, Followed, Allocated, Retired, Clocked}
+use Rattle.law_scans.specs.inv.model.Calls.{Task, Gets, Changes, Holds, Enqueues, Dequeues, Next, Again, MakeRoom, Answering, Retiring, AfterScan, Answered, Repeated, Counted, ChangeKept, EnqueueKept, GetAt, FindVersion, FindCount, FindKey, FindValue, ChangeAt, LoadVersion, LoadCount, LoadKey, LoadValue, ExchangeRoot, EnqueueAt, LoadNumber, LoadNext, PassTail, ExchangeNext, ExchangeTail, DequeueAt, SwingTail, ExchangeHead, Work, Getting, Changing, Enqueuing, Dequeuing, Keeping, KeepAt, Loosens, LoadHeld, StoreHeld, Looks, Misses, HideSpan, MarkLeft, TakeList, MarkTaken, LetGo, Released, Rehold, Dropped, Parting, ScanAt, ReadGuard, GiveBack, Why, Opens, FollowsHead, Fills, ClearsNext, Clears, Finishes, GivesUp, Retires, Tidies, Advances, Releases, Phase, Idle, Runs, Scans, Works, CallTurn}
+use Rattle.law_scans.specs.inv.model.words.Schemes.{is_ibr}
 use Rattle.law_scans.specs.inv.shapes.Frame.{KeepFits, WorkFits, phase_left}
 use Rattle.law_scans.specs.inv.shapes.Slots.{KeepIn, WorkIn}
-use Rattle.law_turns.proofs.Counting.Fits.{is_hold}
-use Rattle.law_turns.specs.inv.model.defs.declared.lifetime.Interval.{Interval}
+use Rattle.law_scans.proofs.Turns.Counting.Fits.{is_hold}
+use Rattle.law_scans.specs.inv.model.defs.declared.lifetime.Interval.{Interval}
 
 -- under 2GE no interval stands where no row is kept
 abbrev pub Ended : Post → Type 0

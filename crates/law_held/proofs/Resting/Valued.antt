@@ -2,20 +2,20 @@
 use Rattle.std.proofs.Common.{ℕ, ◌≡◌, Bool, true, false, List, [], ◌∷◌, Option, Some, None, refl, sym, ◌∙◌, subst, arith}
 use Rattle.std.proofs.lemmas.Bool.Decides.{nat_tests}
 use Rattle.std.specs.Prelude.{◌==◌, ◌&&◌, ◌||◌, nat_lt, if◌then◌else◌}
-use Rattle.law_turns.specs.inv.model.defs.declared.call.Call.{Call}
-use Rattle.law_turns.specs.inv.model.defs.declared.event.Event.{Event}
-use Rattle.law_turns.specs.inv.model.defs.declared.event.Event.TheVariants as events
-use Rattle.law_turns.specs.inv.model.defs.declared.event.Guard.TheVariants.{Helper, Index, Whole}
-use Rattle.law_turns.specs.inv.model.defs.declared.lifetime.Interval.{Interval}
-use Rattle.law_turns.proofs.inv.model.Facts.{first_of, rest_of}
-use Rattle.law_turns.specs.laws.StateAt.{is_index_word, one_more, reserves_by, reserves_of, value_of, reserved_by}
-use Rattle.law_turns.specs.laws.HistoryTurns.{event_handed, events_handed, handed_right}
+use Rattle.law_scans.specs.inv.model.defs.declared.call.Call.{Call}
+use Rattle.law_scans.specs.inv.model.defs.declared.event.Event.{Event}
+use Rattle.law_scans.specs.inv.model.defs.declared.event.Event.TheVariants as events
+use Rattle.law_scans.specs.inv.model.defs.declared.event.Guard.TheVariants.{Helper, Index, Whole}
+use Rattle.law_scans.specs.inv.model.defs.declared.lifetime.Interval.{Interval}
+use Rattle.law_scans.proofs.inv.model.Facts.{first_of, rest_of}
+use Rattle.law_scans.specs.laws.StateAt.{is_index_word, one_more, reserves_by, reserves_of, value_of, reserved_by}
+use Rattle.law_scans.specs.laws.HistoryTurns.{event_handed, events_handed, handed_right}
 use Rattle.law_scans.specs.laws.records.Turns.{EachTurn, record_of}
 use Rattle.law_scans.specs.laws.records.Record.{Past, tells_of}
 use Rattle.law_scans.specs.laws.records.Record.Past.{Then}
 use Rattle.law_scans.specs.laws.records.Turns as schedule
 use Rattle.law_scans.specs.laws.records.Turns.History.{Blank, Starts, Turns}
-use Rattle.law_turns.proofs.laws.Along.{index_guard}
+use Rattle.law_scans.proofs.laws.Along.{index_guard}
 
 -- where its seat has published nothing, it publishes nothing
 abbrev pub Empty : ℕ → ℕ → Past → Type 0

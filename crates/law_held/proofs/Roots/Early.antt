@@ -2,42 +2,42 @@
 use Rattle.std.proofs.Common.{ℕ, ◌≡◌, ◌-◌, Bool, true, false, [], ◌∷◌, Option, Some, None, refl, sym, ap, ◌∙◌, subst, ◌⊎◌, inl, inr}
 use Rattle.std.specs.List.{list_any}
 use Rattle.std.specs.Prelude.{◌==◌, ◌&&◌, not, nat_le, if◌then◌else◌, ◌||◌}
-use Rattle.law_turns.specs.inv.model.words.declared.config.Config.{Config}
-use Rattle.law_turns.specs.inv.model.words.declared.config.SchemeKind.{SchemeKind}
-use Rattle.law_turns.specs.inv.model.words.declared.config.SchemeKind.TheVariants.{He, Hp, Ibr, Wfe}
-use Rattle.law_turns.specs.inv.model.words.Packed.{read_request}
-use Rattle.law_turns.specs.inv.model.words.declared.packed.Request.{Request}
-use Rattle.law_turns.specs.inv.model.words.declared.packed.Request.TheVariants as requests
-use Rattle.law_turns.specs.inv.model.defs.declared.call.Call.{Call}
-use Rattle.law_turns.specs.inv.model.defs.declared.call.Call.TheVariants as names
-use Rattle.law_turns.specs.inv.model.defs.declared.event.Event.{Event}
-use Rattle.law_turns.specs.inv.model.defs.declared.event.Event.TheVariants as events
-use Rattle.law_turns.specs.inv.model.defs.declared.event.Root.{Root}
-use Rattle.law_turns.specs.inv.model.defs.declared.event.Root.TheVariants as roots
-use Rattle.law_turns.specs.inv.model.defs.declared.lifetime.Interval.{Interval}
-use Rattle.law_turns.specs.inv.model.declared.post.Post.{Post}
-use Rattle.law_turns.specs.inv.model.Desks.{Desk}
-use Rattle.law_turns.specs.inv.model.Calls.{Task, Gets, Changes, Holds, Enqueues, Dequeues, Opens, Phase, Runs, CallTurn}
-use Rattle.law_turns.specs.inv.model.Machine as machine
-use Rattle.law_turns.specs.inv.model.Memory.{bump}
-use Rattle.law_turns.specs.inv.model.Phases.{Aim, Alone, Tries, Endless, Failed, ProtectAt, Base, goes}
-use Rattle.law_turns.specs.inv.model.Phases.BeginAt.{LoadLower, PublishSpan}
-use Rattle.law_turns.specs.inv.model.Phases.ProtectAt.{PublishEra, LoadLink, CheckClock, PublishRequest, CheckOwnClock, AnswerOwn, LoadAnswer, TakeAnswer, WithdrawRequest, WithdrawHelper, CheckUpper, RaiseUpper, ByHazard}
-use Rattle.law_turns.specs.inv.model.Phases.Base.{Begin, Protect}
-use Rattle.law_turns.specs.inv.model.Posts.{upper}
-use Rattle.law_turns.specs.inv.model.Protect.{told_held, protected, trying, failed_once}
-use Rattle.law_turns.specs.inv.model.Rounds.{scheme_of, index_of, root_of, protect_at, begin_base, begin_span, opening, round_by}
-use Rattle.law_turns.specs.inv.model.SlowPath.{own_request, answer_in, lost_turn}
-use Rattle.law_turns.specs.inv.model.Steps as steps
+use Rattle.law_scans.specs.inv.model.words.declared.config.Config.{Config}
+use Rattle.law_scans.specs.inv.model.words.declared.config.SchemeKind.{SchemeKind}
+use Rattle.law_scans.specs.inv.model.words.declared.config.SchemeKind.TheVariants.{He, Hp, Ibr, Wfe}
+use Rattle.law_scans.specs.inv.model.words.Packed.{read_request}
+use Rattle.law_scans.specs.inv.model.words.declared.packed.Request.{Request}
+use Rattle.law_scans.specs.inv.model.words.declared.packed.Request.TheVariants as requests
+use Rattle.law_scans.specs.inv.model.defs.declared.call.Call.{Call}
+use Rattle.law_scans.specs.inv.model.defs.declared.call.Call.TheVariants as names
+use Rattle.law_scans.specs.inv.model.defs.declared.event.Event.{Event}
+use Rattle.law_scans.specs.inv.model.defs.declared.event.Event.TheVariants as events
+use Rattle.law_scans.specs.inv.model.defs.declared.event.Root.{Root}
+use Rattle.law_scans.specs.inv.model.defs.declared.event.Root.TheVariants as roots
+use Rattle.law_scans.specs.inv.model.defs.declared.lifetime.Interval.{Interval}
+use Rattle.law_scans.specs.inv.model.declared.post.Post.{Post}
+use Rattle.law_scans.specs.inv.model.Desks.{Desk}
+use Rattle.law_scans.specs.inv.model.Calls.{Task, Gets, Changes, Holds, Enqueues, Dequeues, Opens, Phase, Runs, CallTurn}
+use Rattle.law_scans.specs.inv.model.Machine as machine
+use Rattle.law_scans.specs.inv.model.Memory.{bump}
+use Rattle.law_scans.specs.inv.model.Phases.{Aim, Alone, Tries, Endless, Failed, ProtectAt, Base, goes}
+use Rattle.law_scans.specs.inv.model.Phases.BeginAt.{LoadLower, PublishSpan}
+use Rattle.law_scans.specs.inv.model.Phases.ProtectAt.{PublishEra, LoadLink, CheckClock, PublishRequest, CheckOwnClock, AnswerOwn, LoadAnswer, TakeAnswer, WithdrawRequest, WithdrawHelper, CheckUpper, RaiseUpper, ByHazard}
+use Rattle.law_scans.specs.inv.model.Phases.Base.{Begin, Protect}
+use Rattle.law_scans.specs.inv.model.Posts.{upper}
+use Rattle.law_scans.specs.inv.model.Protect.{told_held, protected, trying, failed_once}
+use Rattle.law_scans.specs.inv.model.Rounds.{scheme_of, index_of, root_of, protect_at, begin_base, begin_span, opening, round_by}
+use Rattle.law_scans.specs.inv.model.SlowPath.{own_request, answer_in, lost_turn}
+use Rattle.law_scans.specs.inv.model.Steps as steps
 use Rattle.law_scans.specs.inv.ends.Standing.{is_end}
 use Rattle.law_scans.proofs.inv.ends.Ends.Tests.{base_shows, phase_shows}
 use Rattle.law_scans.specs.inv.shapes.Frame.{phase_left}
 use Rattle.law_scans.specs.inv.shapes.Seats.{ToOpen, suits, kind_of, Shaped}
 use Rattle.law_scans.proofs.reuse.AnswersTold.Owed.{TaskServes, Serves}
-use Rattle.law_turns.specs.laws.StateAt.{has_root}
-use Rattle.law_turns.proofs.inv.model.Facts.{false_of_not}
+use Rattle.law_scans.specs.laws.StateAt.{has_root}
+use Rattle.law_scans.proofs.inv.model.Facts.{false_of_not}
 use Rattle.law_scans.proofs.inv.Inv.Ends.{task_end}
-use Rattle.law_turns.specs.inv.model.Phases.HazardAt.{FirstLink, PublishLink, CheckLink}
+use Rattle.law_scans.specs.inv.model.Phases.HazardAt.{FirstLink, PublishLink, CheckLink}
 
 -- an answer was taken, and with it the root was told
 abbrev pub is_told : Base → Bool

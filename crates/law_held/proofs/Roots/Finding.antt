@@ -3,20 +3,20 @@ use Rattle.std.proofs.Common.{ℕ, ◌≡◌, Bool, true, false, List, [], ◌�
 use Rattle.std.proofs.lemmas.Bool.Decides.{nat_tests}
 use Rattle.std.specs.List.{list_any}
 use Rattle.std.specs.Prelude.{◌==◌, ◌||◌, not}
-use Rattle.law_turns.specs.inv.model.words.Place.{is_valid}
-use Rattle.law_turns.specs.inv.model.words.declared.layout.Layout.{Layout}
-use Rattle.law_turns.specs.inv.model.defs.declared.call.Call.{Call}
-use Rattle.law_turns.specs.inv.model.defs.declared.event.Event.{Event}
-use Rattle.law_turns.specs.inv.model.defs.declared.event.Event.TheVariants as events
-use Rattle.law_turns.specs.inv.model.declared.post.Post.{Post}
-use Rattle.law_turns.specs.inv.model.Calls.{Phase, Idle, Runs, Scans, Works, CallTurn, CallOutcome, GoesOn, Answers}
-use Rattle.law_turns.specs.inv.model.Desks.{Desk, noting}
-use Rattle.law_turns.specs.inv.model.Locals.{Local, busy_in, settled_by, begun, begun_post, told_by, told_end, rounds_told, turn}
-use Rattle.law_turns.specs.inv.model.Rounds.{scheme_of}
-use Rattle.law_turns.specs.inv.model.words.Schemes.{publishes_rows}
-use Rattle.law_turns.specs.inv.model.Posts.{counted}
-use Rattle.law_turns.specs.inv.model.World.{World, begin, finds, is_busy, offered, step, told_in}
-use Rattle.law_turns.proofs.inv.model.Facts.{first_of, rest_of, or_left_true, or_more}
+use Rattle.law_scans.specs.inv.model.words.Place.{is_valid}
+use Rattle.law_scans.specs.inv.model.words.declared.layout.Layout.{Layout}
+use Rattle.law_scans.specs.inv.model.defs.declared.call.Call.{Call}
+use Rattle.law_scans.specs.inv.model.defs.declared.event.Event.{Event}
+use Rattle.law_scans.specs.inv.model.defs.declared.event.Event.TheVariants as events
+use Rattle.law_scans.specs.inv.model.declared.post.Post.{Post}
+use Rattle.law_scans.specs.inv.model.Calls.{Phase, Idle, Runs, Scans, Works, CallTurn, CallOutcome, GoesOn, Answers}
+use Rattle.law_scans.specs.inv.model.Desks.{Desk, noting}
+use Rattle.law_scans.specs.inv.model.Locals.{Local, busy_in, settled_by, begun, begun_post, told_by, told_end, rounds_told, turn}
+use Rattle.law_scans.specs.inv.model.Rounds.{scheme_of}
+use Rattle.law_scans.specs.inv.model.words.Schemes.{publishes_rows}
+use Rattle.law_scans.specs.inv.model.Posts.{counted}
+use Rattle.law_scans.specs.inv.model.World.{World, begin, finds, is_busy, offered, step, told_in}
+use Rattle.law_scans.proofs.inv.model.Facts.{first_of, rest_of, or_left_true, or_more}
 use Rattle.law_scans.proofs.inv.ends.Ends.Tests.{Calm, step_any}
 use Rattle.law_scans.specs.inv.shapes.Frame.{phase_left}
 use Rattle.law_scans.specs.inv.shapes.Seats.{Seats}
@@ -25,17 +25,17 @@ use Rattle.law_scans.specs.inv.history.History.{Item, Made, first_made, record_o
 use Rattle.law_scans.proofs.reuse.history.Along.{Steady, items_keep}
 use Rattle.law_scans.specs.laws.records.Record.{Past, Each, tells_of}
 use Rattle.law_scans.specs.laws.records.Record.Past.{Then}
-use Rattle.law_turns.proofs.laws.Along.{along}
+use Rattle.law_scans.proofs.laws.Along.{along}
 use Rattle.law_scans.proofs.reuse.history.AllOf.{all_of}
 use Rattle.law_scans.proofs.inv.Machines.{is_within, within_of}
-use Rattle.law_turns.specs.laws.StateAt.{began_of, has_root, rooted_by, rooted_of}
+use Rattle.law_scans.specs.laws.StateAt.{began_of, has_root, rooted_by, rooted_of}
 use Rattle.law_scans.proofs.reuse.AnswersTold.Answering as answering
 use Rattle.law_scans.proofs.reuse.AnswersTold.Answering.{first_all, owes_of, began_along}
 use Rattle.law_scans.proofs.reuse.AnswersTold.Owed.{is_open, Serves, Owes, owed}
 use Rattle.law_scans.proofs.Placing.Sums.{along_both}
-use Rattle.law_turns.proofs.laws.Tells.{seen_other, seen_tells, seen_stays, tells_both}
+use Rattle.law_scans.proofs.laws.Tells.{seen_other, seen_tells, seen_stays, tells_both}
 use Rattle.law_scans.proofs.inv.ends.Told.Turns.{is_later}
-use Rattle.law_turns.specs.laws.HoldLaw.{finds_ok}
+use Rattle.law_scans.specs.laws.HoldLaw.{finds_ok}
 use Rattle.law_held.specs.Records.{RecordsFindRoots}
 use Rattle.law_held.proofs.Roots.Early.{is_early, is_rooting, Fate, RunFits, phase_fate, first_early}
 use Rattle.law_held.proofs.Roots.Ways.{record_each, answers_of}

@@ -3,54 +3,54 @@ use Rattle.std.proofs.Common.{ℕ, ◌≡◌, ◌+◌, Bool, true, false, List, 
 use Rattle.std.proofs.lemmas.Bool.Decides.{nat_tests}
 use Rattle.std.specs.List.{list_any, list_all}
 use Rattle.std.specs.Prelude.{◌==◌, not, is_some, if◌then◌else◌, ◌||◌}
-use Rattle.law_turns.specs.inv.model.words.Place.{Place}
-use Rattle.law_turns.specs.inv.model.words.Place.Place.{Head}
-use Rattle.law_turns.specs.inv.model.defs.declared.event.Event.{Event}
-use Rattle.law_turns.specs.inv.model.defs.declared.event.Event.TheVariants as events
-use Rattle.law_turns.specs.inv.model.defs.declared.event.Root.{Root}
-use Rattle.law_turns.specs.inv.model.defs.declared.event.Root.TheVariants as roots
-use Rattle.law_turns.specs.inv.model.declared.post.Post.{Post}
-use Rattle.law_turns.specs.inv.model.Calls.{ReadGuard, GiveBack, Why, FollowsHead, Phase, Idle, Runs, Scans, Works}
-use Rattle.law_turns.specs.inv.model.Follow.{after_reload}
-use Rattle.law_turns.specs.inv.model.Locals.{turn}
-use Rattle.law_turns.specs.inv.model.Machine as machine
-use Rattle.law_turns.specs.inv.model.Memory.{bump}
-use Rattle.law_turns.specs.inv.model.Phases.{ProtectAt, Base}
-use Rattle.law_turns.specs.inv.model.Phases.ProtectAt.{CheckClock, TakeAnswer, CheckUpper, ByHazard}
-use Rattle.law_turns.specs.inv.model.Phases.Base.{Protect, Reload, Clear, Release}
-use Rattle.law_turns.specs.inv.model.Posts.{stands, counted, upper}
-use Rattle.law_turns.specs.inv.model.Protect.{told_held}
-use Rattle.law_turns.specs.inv.model.World.{World, finds, offered, told_in}
-use Rattle.law_turns.proofs.inv.model.Facts.{same_number, and_right_false, number_is, or_more}
+use Rattle.law_scans.specs.inv.model.words.Place.{Place}
+use Rattle.law_scans.specs.inv.model.words.Place.Place.{Head}
+use Rattle.law_scans.specs.inv.model.defs.declared.event.Event.{Event}
+use Rattle.law_scans.specs.inv.model.defs.declared.event.Event.TheVariants as events
+use Rattle.law_scans.specs.inv.model.defs.declared.event.Root.{Root}
+use Rattle.law_scans.specs.inv.model.defs.declared.event.Root.TheVariants as roots
+use Rattle.law_scans.specs.inv.model.declared.post.Post.{Post}
+use Rattle.law_scans.specs.inv.model.Calls.{ReadGuard, GiveBack, Why, FollowsHead, Phase, Idle, Runs, Scans, Works}
+use Rattle.law_scans.specs.inv.model.Follow.{after_reload}
+use Rattle.law_scans.specs.inv.model.Locals.{turn}
+use Rattle.law_scans.specs.inv.model.Machine as machine
+use Rattle.law_scans.specs.inv.model.Memory.{bump}
+use Rattle.law_scans.specs.inv.model.Phases.{ProtectAt, Base}
+use Rattle.law_scans.specs.inv.model.Phases.ProtectAt.{CheckClock, TakeAnswer, CheckUpper, ByHazard}
+use Rattle.law_scans.specs.inv.model.Phases.Base.{Protect, Reload, Clear, Release}
+use Rattle.law_scans.specs.inv.model.Posts.{stands, counted, upper}
+use Rattle.law_scans.specs.inv.model.Protect.{told_held}
+use Rattle.law_scans.specs.inv.model.World.{World, finds, offered, told_in}
+use Rattle.law_scans.proofs.inv.model.Facts.{same_number, and_right_false, number_is, or_more}
 use Rattle.law_scans.proofs.reuse.history.Passes.{work_told}
 use Rattle.law_scans.proofs.inv.ends.Ends.Tests.{at_shows, base_shows, base_any}
 use Rattle.law_scans.specs.inv.shapes.Seats.{ToFollow, Shaped, suits, kind_of}
 use Rattle.law_scans.specs.inv.history.History.{record_of, world_of}
 use Rattle.law_scans.specs.laws.records.Record.{Past, Each, tells_of}
 use Rattle.law_scans.specs.laws.records.Record.Past.{Then}
-use Rattle.law_turns.specs.laws.StateAt.{head_at, stood_at, is_row}
+use Rattle.law_scans.specs.laws.StateAt.{head_at, stood_at, is_row}
 use Rattle.law_scans.proofs.Ordering.Ordered.{head_is}
-use Rattle.law_turns.proofs.laws.Tells.{tells_both}
+use Rattle.law_scans.proofs.laws.Tells.{tells_both}
 use Rattle.law_scans.proofs.reuse.Reuse.Keeps.{record_stands}
 use Rattle.law_scans.specs.inv.rows.Queue.{stands_on}
 use Rattle.law_scans.proofs.inv.ends.Told.Rows.{own_told, own_post, step_adds}
 use Rattle.law_scans.proofs.inv.ends.Told.Turns.{Adds, is_later}
-use Rattle.law_turns.specs.laws.HistoryHolds.{follows_ok}
+use Rattle.law_scans.specs.laws.HistoryHolds.{follows_ok}
 use Rattle.law_held.specs.Records.{RecordsFollowHead}
 use Rattle.law_held.proofs.Roots.Early.{RunFits}
 use Rattle.law_held.proofs.Roots.Finding.{fits_by}
 use Rattle.law_held.proofs.Roots.Leads.{leads_of}
 use Rattle.law_held.proofs.Roots.Ways.{record_each, answers_of}
 use Rattle.law_scans.proofs.inv.rows.Queued.{finds_phase}
-use Rattle.law_turns.proofs.TurnCounts.Tried.{is_follow}
+use Rattle.law_scans.proofs.Turns.TurnCounts.Tried.{is_follow}
 use Rattle.law_scans.proofs.inv.ends.Ends.Stood.{is_standing, standing_calm}
 use Rattle.law_held.proofs.NextRows.Following.{is_one, no_reload, why_one, later_one, at_one, cleared_one, one_calm, work_one}
 use Rattle.law_held.proofs.Indexes.Clears.{row_there}
-use Rattle.law_turns.proofs.inv.model.Lists.{or_left, or_right}
-use Rattle.law_turns.specs.inv.model.Phases.HazardAt.{FirstLink, CheckLink}
-use Rattle.law_turns.proofs.reuse.ReadGuards.{reads_are}
-use Rattle.law_turns.specs.inv.model.words.Schemes.{publishes_rows}
-use Rattle.law_turns.specs.inv.model.Guards.{guard_at}
+use Rattle.law_scans.proofs.inv.model.Lists.{or_left, or_right}
+use Rattle.law_scans.specs.inv.model.Phases.HazardAt.{FirstLink, CheckLink}
+use Rattle.law_scans.proofs.reuse.ReadGuards.{reads_are}
+use Rattle.law_scans.specs.inv.model.words.Schemes.{publishes_rows}
+use Rattle.law_scans.specs.inv.model.Guards.{guard_at}
 
 -- nothing is told at index 1
 other_ok : (slots : ℕ) (p : Past) (i : ℕ) (event : Event) → is_one event ≡ false → follows_ok slots p i event ≡ true

@@ -1,17 +1,17 @@
 -- Where roots lead by the record of a history is where their words lead.
 use Rattle.std.proofs.Common.{ℕ, ◌≡◌, ◌<◌, ◌+◌, true, false, List, refl, sym, ap, ◌∙◌, subst}
-use Rattle.law_turns.specs.inv.model.words.Place.{Place, is_valid}
-use Rattle.law_turns.specs.inv.model.words.Place.Place.{Head, Tail, Bucket}
-use Rattle.law_turns.specs.inv.model.words.declared.layout.Layout.{Layout}
-use Rattle.law_turns.specs.inv.model.defs.declared.call.Call.{Call}
-use Rattle.law_turns.specs.inv.model.World.{World, is_busy, step, told_in, list_in, may_start}
+use Rattle.law_scans.specs.inv.model.words.Place.{Place, is_valid}
+use Rattle.law_scans.specs.inv.model.words.Place.Place.{Head, Tail, Bucket}
+use Rattle.law_scans.specs.inv.model.words.declared.layout.Layout.{Layout}
+use Rattle.law_scans.specs.inv.model.defs.declared.call.Call.{Call}
+use Rattle.law_scans.specs.inv.model.World.{World, is_busy, step, told_in, list_in, may_start}
 use Rattle.law_scans.specs.inv.history.History.{Item, Begins, Steps, Made, done, first_made, record_of, world_of}
 use Rattle.law_scans.proofs.reuse.history.Along.{Steady, items_keep}
 use Rattle.law_scans.specs.inv.Known.{Known}
 use Rattle.law_scans.proofs.inv.Inv.Begun.{known_start, known_begin}
 use Rattle.law_scans.proofs.inv.Inv.Kept.{known_kept, asked_next}
 use Rattle.law_scans.specs.laws.records.Record.{Past, tells_of}
-use Rattle.law_turns.specs.laws.StateAt.{tail_by, tail_at, bucket_at, head_at}
+use Rattle.law_scans.specs.laws.StateAt.{tail_by, tail_at, bucket_at, head_at}
 use Rattle.law_scans.proofs.Placing.Comes.{agree_of}
 use Rattle.law_scans.proofs.Ordering.Nexts.{tail_moved}
 use Rattle.law_scans.proofs.Ordering.Ordered.{word_of, Roots, roots_step, whole_comes}

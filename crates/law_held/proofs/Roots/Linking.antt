@@ -2,28 +2,28 @@
 use Rattle.std.proofs.Common.{ℕ, ◌≡◌, ◌+◌, ◌-◌, Bool, true, false, List, [], ◌∷◌, ◌++◌, Option, Some, None, refl, sym, ap, ◌∙◌, subst, arith}
 use Rattle.std.proofs.lemmas.Bool.Decides.{nat_tests}
 use Rattle.std.specs.Prelude.{◌==◌, ◌||◌, not, if◌then◌else◌}
-use Rattle.law_turns.specs.inv.model.words.Place.{Place, is_valid}
-use Rattle.law_turns.specs.inv.model.words.Place.Place.{Head, Tail, Bucket, Row}
-use Rattle.law_turns.specs.inv.model.words.declared.layout.Layout.{Layout}
-use Rattle.law_turns.specs.inv.model.defs.declared.call.Call.{Call}
-use Rattle.law_turns.specs.inv.model.defs.declared.call.Call.TheVariants as names
-use Rattle.law_turns.specs.inv.model.defs.declared.event.Event.{Event}
-use Rattle.law_turns.specs.inv.model.defs.declared.event.Event.TheVariants as events
-use Rattle.law_turns.specs.inv.model.defs.declared.event.Root.TheVariants as roots
-use Rattle.law_turns.specs.inv.model.defs.declared.fold.Change.{Change}
-use Rattle.law_turns.specs.inv.model.defs.declared.fold.Change.TheVariants as changes
-use Rattle.law_turns.specs.inv.model.declared.post.Post.{Post}
-use Rattle.law_turns.specs.inv.model.Change.{told_change, changed_bucket}
-use Rattle.law_turns.specs.inv.model.Enqueue.{told_link}
-use Rattle.law_turns.specs.inv.model.Locals.{told_end, turn}
-use Rattle.law_turns.specs.inv.model.Posts.{stands, counted}
-use Rattle.law_turns.specs.inv.model.World.{World, finds, offered, told_in}
-use Rattle.law_turns.specs.inv.model.Calls.{ChangeKept, EnqueueKept, LoadVersion, LoadCount, LoadKey, LoadValue, ExchangeRoot, LoadNumber, LoadNext, PassTail, ExchangeNext, ExchangeTail, LoadTail, SwingTail, TakeNumber, TakeValue, ExchangeHead, Getting, Changing, Enqueuing, Dequeuing, Keeping, Phase, Idle, Runs, Scans, Works, CallTurn, CallOutcome, GoesOn, Answers}
-use Rattle.law_turns.proofs.inv.model.Facts.{same_number, both, first_of, rest_of, number_is, or_more}
+use Rattle.law_scans.specs.inv.model.words.Place.{Place, is_valid}
+use Rattle.law_scans.specs.inv.model.words.Place.Place.{Head, Tail, Bucket, Row}
+use Rattle.law_scans.specs.inv.model.words.declared.layout.Layout.{Layout}
+use Rattle.law_scans.specs.inv.model.defs.declared.call.Call.{Call}
+use Rattle.law_scans.specs.inv.model.defs.declared.call.Call.TheVariants as names
+use Rattle.law_scans.specs.inv.model.defs.declared.event.Event.{Event}
+use Rattle.law_scans.specs.inv.model.defs.declared.event.Event.TheVariants as events
+use Rattle.law_scans.specs.inv.model.defs.declared.event.Root.TheVariants as roots
+use Rattle.law_scans.specs.inv.model.defs.declared.fold.Change.{Change}
+use Rattle.law_scans.specs.inv.model.defs.declared.fold.Change.TheVariants as changes
+use Rattle.law_scans.specs.inv.model.declared.post.Post.{Post}
+use Rattle.law_scans.specs.inv.model.Change.{told_change, changed_bucket}
+use Rattle.law_scans.specs.inv.model.Enqueue.{told_link}
+use Rattle.law_scans.specs.inv.model.Locals.{told_end, turn}
+use Rattle.law_scans.specs.inv.model.Posts.{stands, counted}
+use Rattle.law_scans.specs.inv.model.World.{World, finds, offered, told_in}
+use Rattle.law_scans.specs.inv.model.Calls.{ChangeKept, EnqueueKept, LoadVersion, LoadCount, LoadKey, LoadValue, ExchangeRoot, LoadNumber, LoadNext, PassTail, ExchangeNext, ExchangeTail, LoadTail, SwingTail, TakeNumber, TakeValue, ExchangeHead, Getting, Changing, Enqueuing, Dequeuing, Keeping, Phase, Idle, Runs, Scans, Works, CallTurn, CallOutcome, GoesOn, Answers}
+use Rattle.law_scans.proofs.inv.model.Facts.{same_number, both, first_of, rest_of, number_is, or_more}
 use Rattle.law_scans.specs.laws.records.Record.{Past, Each, tells_of}
 use Rattle.law_scans.specs.laws.records.Record.Past.{Then}
 use Rattle.law_scans.specs.inv.history.History.{Item, record_of, world_of}
-use Rattle.law_turns.specs.laws.StateAt.{stood_at, is_dequeue, is_row, began_of, tail_at, bucket_at, head_at}
+use Rattle.law_scans.specs.laws.StateAt.{stood_at, is_dequeue, is_row, began_of, tail_at, bucket_at, head_at}
 use Rattle.law_scans.proofs.reuse.Reuse.Keeps.{record_stands}
 use Rattle.law_scans.specs.inv.contents.Stands.{Stood}
 use Rattle.law_scans.proofs.reuse.history.AllOf.{all_of, of_weaker}
@@ -31,8 +31,8 @@ use Rattle.law_scans.proofs.reuse.AnswersTold.Owed.{Serves}
 use Rattle.law_scans.proofs.Placing.Fronts.{linked_front, queued_front, taken_front}
 use Rattle.law_scans.proofs.Placing.Marks.{is_common, ordered, InOrder, tells, step_order}
 use Rattle.law_scans.proofs.Ordering.Ordered.{word_of, head_is}
-use Rattle.law_turns.proofs.laws.Tells.{tells_both}
-use Rattle.law_turns.specs.laws.HistoryHolds.{stands_for, links_ok}
+use Rattle.law_scans.proofs.laws.Tells.{tells_both}
+use Rattle.law_scans.specs.laws.HistoryHolds.{stands_for, links_ok}
 use Rattle.law_held.specs.Records.{RecordsLinkHeld}
 use Rattle.law_held.proofs.Roots.Leads.{Leads, leads_of}
 use Rattle.law_held.proofs.Roots.Ways.{Turning, record_each, answers_of}

@@ -3,29 +3,29 @@ use Rattle.std.proofs.Common.{ℕ, ◌≡◌, ◌-◌, ◌+◌, ◌%◌, Bool, t
 use Rattle.std.proofs.lemmas.Bool.Decides.{nat_tests}
 use Rattle.std.specs.List.{list_any}
 use Rattle.std.specs.Prelude.{◌==◌, ◌&&◌, ◌||◌, not, if◌then◌else◌}
-use Rattle.law_turns.specs.inv.model.words.Place.{Place, is_valid}
-use Rattle.law_turns.specs.inv.model.words.Place.Place.{Clock, Head, Tail, Bucket}
-use Rattle.law_turns.specs.inv.model.words.declared.config.Config.{Config}
-use Rattle.law_turns.specs.inv.model.words.declared.layout.Layout.{Layout}
-use Rattle.law_turns.specs.inv.model.defs.declared.call.Call.{Call}
-use Rattle.law_turns.specs.inv.model.defs.declared.call.Call.TheVariants as names
-use Rattle.law_turns.specs.inv.model.defs.declared.event.Event.{Event}
-use Rattle.law_turns.specs.inv.model.defs.declared.event.Event.TheVariants as events
-use Rattle.law_turns.specs.inv.model.defs.declared.event.Root.{Root}
-use Rattle.law_turns.specs.inv.model.defs.declared.event.Root.TheVariants as roots
-use Rattle.law_turns.specs.inv.model.defs.declared.fold.Change.{Change}
-use Rattle.law_turns.specs.inv.model.defs.declared.fold.Change.TheVariants as changes
-use Rattle.law_turns.specs.inv.model.declared.post.Post.{Post}
-use Rattle.law_turns.specs.inv.model.Calls.{Task, Gets, Changes, Holds, Enqueues, Dequeues, Why, Opens, FollowsHead, Phase, Idle, Runs, Scans, Works}
-use Rattle.law_turns.specs.inv.model.Links.{link_place}
-use Rattle.law_turns.specs.inv.model.Memory.{bump}
-use Rattle.law_turns.specs.inv.model.Phases.{Aim, ProtectAt, Base}
-use Rattle.law_turns.specs.inv.model.Phases.ProtectAt.{CheckClock, TakeAnswer, CheckUpper, ByHazard}
-use Rattle.law_turns.specs.inv.model.Phases.Base.{Protect, Reload, Clear, Release}
-use Rattle.law_turns.specs.inv.model.Posts.{counted, cleared, stands, upper}
-use Rattle.law_turns.specs.inv.model.Protect.{told_held}
-use Rattle.law_turns.specs.inv.model.World.{World, finds, is_busy, told_in, may_start}
-use Rattle.law_turns.proofs.inv.model.Facts.{same_number, both, first_of, rest_of, true_of_not}
+use Rattle.law_scans.specs.inv.model.words.Place.{Place, is_valid}
+use Rattle.law_scans.specs.inv.model.words.Place.Place.{Clock, Head, Tail, Bucket}
+use Rattle.law_scans.specs.inv.model.words.declared.config.Config.{Config}
+use Rattle.law_scans.specs.inv.model.words.declared.layout.Layout.{Layout}
+use Rattle.law_scans.specs.inv.model.defs.declared.call.Call.{Call}
+use Rattle.law_scans.specs.inv.model.defs.declared.call.Call.TheVariants as names
+use Rattle.law_scans.specs.inv.model.defs.declared.event.Event.{Event}
+use Rattle.law_scans.specs.inv.model.defs.declared.event.Event.TheVariants as events
+use Rattle.law_scans.specs.inv.model.defs.declared.event.Root.{Root}
+use Rattle.law_scans.specs.inv.model.defs.declared.event.Root.TheVariants as roots
+use Rattle.law_scans.specs.inv.model.defs.declared.fold.Change.{Change}
+use Rattle.law_scans.specs.inv.model.defs.declared.fold.Change.TheVariants as changes
+use Rattle.law_scans.specs.inv.model.declared.post.Post.{Post}
+use Rattle.law_scans.specs.inv.model.Calls.{Task, Gets, Changes, Holds, Enqueues, Dequeues, Why, Opens, FollowsHead, Phase, Idle, Runs, Scans, Works}
+use Rattle.law_scans.specs.inv.model.Links.{link_place}
+use Rattle.law_scans.specs.inv.model.Memory.{bump}
+use Rattle.law_scans.specs.inv.model.Phases.{Aim, ProtectAt, Base}
+use Rattle.law_scans.specs.inv.model.Phases.ProtectAt.{CheckClock, TakeAnswer, CheckUpper, ByHazard}
+use Rattle.law_scans.specs.inv.model.Phases.Base.{Protect, Reload, Clear, Release}
+use Rattle.law_scans.specs.inv.model.Posts.{counted, cleared, stands, upper}
+use Rattle.law_scans.specs.inv.model.Protect.{told_held}
+use Rattle.law_scans.specs.inv.model.World.{World, finds, is_busy, told_in, may_start}
+use Rattle.law_scans.proofs.inv.model.Facts.{same_number, both, first_of, rest_of, true_of_not}
 use Rattle.law_scans.proofs.inv.ends.Ends.Tests.{Calm, at_shows, base_shows, none_worked, phase_shows, step_any}
 use Rattle.law_scans.specs.inv.shapes.Seats.{Seats, protects, kind_of, task_root}
 use Rattle.law_scans.specs.inv.history.History.{Item, Begins, Steps, Made, fits, done_if, made_of, first_made, record_of, world_of}
@@ -34,15 +34,15 @@ use Rattle.law_scans.specs.inv.Known.{Known}
 use Rattle.law_scans.proofs.inv.Inv.Begun.{known_start, known_begin}
 use Rattle.law_scans.proofs.inv.Inv.Kept.{known_kept, asked_next}
 use Rattle.law_scans.proofs.inv.Inv.Whole.{origins_need}
-use Rattle.law_turns.specs.laws.StateAt.{same_value, tail_at, bucket_at, head_at, began_of}
+use Rattle.law_scans.specs.laws.StateAt.{same_value, tail_at, bucket_at, head_at, began_of}
 use Rattle.law_scans.specs.laws.records.Record.{Past, Each, tells_of, begins, held_since}
 use Rattle.law_scans.specs.laws.records.Record.Past.{Start, Then}
 use Rattle.law_scans.proofs.reuse.history.AllOf.{all_of}
 use Rattle.law_scans.proofs.inv.Machines.{is_within, within_of, within_begins}
-use Rattle.law_scans.specs.inv.links.Origins.{Origins}
-use Rattle.law_scans.specs.inv.links.Tracked.{carries_at, carries_in, root_for, root_in, Tracked, Carried, Given, Helped}
-use Rattle.law_scans.proofs.inv.links.Origins.Came.{aimed_at, link_busy, helps_busy}
-use Rattle.law_scans.proofs.inv.links.Origins.Kept.{origins_kept, origins_start, origins_begin, idle_deal}
+use Rattle.law_scans.specs.inv.ends.Origins.{Origins}
+use Rattle.law_scans.specs.inv.ends.Tracked.{carries_at, carries_in, root_for, root_in, Tracked, Carried, Given, Helped}
+use Rattle.law_scans.proofs.inv.ends.Origins.Came.{aimed_at, link_busy, helps_busy}
+use Rattle.law_scans.proofs.inv.ends.Origins.Kept.{origins_kept, origins_start, origins_begin, idle_deal}
 use Rattle.law_scans.proofs.Ordering.Ordered.{word_of}
 use Rattle.law_scans.specs.inv.requests.Deals.{is_quiet}
 use Rattle.law_scans.specs.inv.requests.Standing.{Requests}
@@ -55,17 +55,17 @@ use Rattle.law_scans.specs.inv.rows.Rows.{View}
 use Rattle.law_scans.proofs.inv.ends.Told.Turns.{is_later}
 use Rattle.law_scans.proofs.reuse.AnswersTold.Answering.{one_began, own_began}
 use Rattle.law_scans.proofs.reuse.AnswersTold.Owed.{call_for, TaskServes, Serves}
-use Rattle.law_turns.specs.laws.HistoryHolds.{sources_ok}
-use Rattle.law_turns.specs.laws.HoldLaw.{has_had}
+use Rattle.law_scans.specs.laws.HistoryHolds.{sources_ok}
+use Rattle.law_scans.specs.laws.HoldLaw.{has_had}
 use Rattle.law_held.specs.Records.{RecordsFindSources}
 use Rattle.law_held.proofs.Roots.Leads.{Leads, leads_of}
 use Rattle.law_held.proofs.Roots.Ways.{record_each, answers_of}
 use Rattle.law_scans.proofs.reuse.Lawful.Counts.{reload_index}
-use Rattle.law_scans.proofs.inv.links.Origins.Ends.{found_clock}
+use Rattle.law_scans.proofs.inv.ends.Origins.Ends.{found_clock}
 use Rattle.law_scans.proofs.inv.ends.Handover.Asks.{run_of}
 use Rattle.law_held.proofs.NextRows.Behind.{now_held, one_held, found_root, loads_found}
-use Rattle.law_turns.proofs.inv.model.Lists.{or_left, or_right as none_rest}
-use Rattle.law_turns.specs.inv.model.Phases.HazardAt.{FirstLink, CheckLink}
+use Rattle.law_scans.proofs.inv.model.Lists.{or_left, or_right as none_rest}
+use Rattle.law_scans.specs.inv.model.Phases.HazardAt.{FirstLink, CheckLink}
 
 -- the row of a link
 abbrev row_of : ℕ → Option ℕ

@@ -2,12 +2,12 @@
 -- need is known on each way.
 use Rattle.std.proofs.Common.{ℕ, ◌≡◌, ◌<◌, Bool, true, false, List}
 use Rattle.std.specs.Prelude.{nat_lt}
-use Rattle.law_turns.specs.inv.model.words.Place.{is_valid}
-use Rattle.law_turns.specs.inv.model.words.declared.layout.Layout.{Layout}
-use Rattle.law_turns.specs.inv.model.defs.declared.call.Call.{Call}
-use Rattle.law_turns.specs.inv.model.defs.declared.event.Event.TheVariants as events
-use Rattle.law_turns.specs.inv.model.World.{World, is_busy, told_in}
-use Rattle.law_turns.proofs.inv.model.Facts.{rest_of}
+use Rattle.law_scans.specs.inv.model.words.Place.{is_valid}
+use Rattle.law_scans.specs.inv.model.words.declared.layout.Layout.{Layout}
+use Rattle.law_scans.specs.inv.model.defs.declared.call.Call.{Call}
+use Rattle.law_scans.specs.inv.model.defs.declared.event.Event.TheVariants as events
+use Rattle.law_scans.specs.inv.model.World.{World, is_busy, told_in}
+use Rattle.law_scans.proofs.inv.model.Facts.{rest_of}
 use Rattle.law_scans.specs.laws.records.Record.{Past, Test, Each, EachEntry, tells_of}
 use Rattle.law_scans.proofs.laws.records.Entries.{entries_of_each}
 use Rattle.law_scans.specs.inv.history.History.{Item, Begins, Steps, Made, fits, done_if, made_of, first_made, record_of, world_of}

@@ -24,7 +24,7 @@ use Rattle.law_scans.specs.inv.model.World.{World, begin, finds, is_busy, offere
 use Rattle.law_scans.proofs.inv.model.Facts.{both, first_of, rest_of, or_left_true, same_test, or_more}
 use Rattle.law_scans.proofs.inv.covers.Held.{stepped_phase}
 use Rattle.law_scans.specs.inv.shapes.Frame.{phase_left}
-use Rattle.law_scans.proofs.inv.shapes.Frame.{seat_stays, begin_stays, begin_begins}
+use Rattle.law_scans.proofs.reuse.shapes.Frame.{seat_stays, begin_stays, begin_begins}
 use Rattle.law_scans.specs.inv.rows.Rows.{is_taken}
 use Rattle.law_scans.specs.inv.history.Record.{Past, Each, begins, own, held_since, tells_of}
 use Rattle.law_scans.specs.inv.history.Record.Past.{Start, Then}

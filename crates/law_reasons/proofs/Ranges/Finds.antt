@@ -39,12 +39,12 @@ use Rattle.law_scans.proofs.inv.ends.Ends.Left.{left_stood}
 use Rattle.law_scans.proofs.inv.ends.Ends.Tests.{Calm, at_shows, base_shows, base_any}
 use Rattle.law_scans.proofs.inv.history.AllOf.{all_of, of_along, of_weaker}
 use Rattle.law_scans.proofs.inv.history.Passes.{is_quiet, Closed, First, copied_post, copied_told, keep_post, keep_told, step_goes, work_post, work_told}
-use Rattle.law_scans.proofs.inv.shapes.Decode.{told_of}
-use Rattle.law_scans.proofs.inv.shapes.Frame.{finds_counted}
-use Rattle.law_scans.proofs.inv.shapes.Kept.{run_counted}
-use Rattle.law_scans.proofs.inv.shapes.SlotCalls.{link_row}
-use Rattle.law_scans.proofs.inv.shapes.SlotRounds.{row_slots, withdrawn_slots}
-use Rattle.law_scans.proofs.inv.shapes.SlotSteps.{machine_slots}
+use Rattle.law_scans.proofs.reuse.shapes.Decode.{told_of}
+use Rattle.law_scans.proofs.reuse.shapes.Frame.{finds_counted}
+use Rattle.law_scans.proofs.reuse.shapes.Kept.{run_counted}
+use Rattle.law_scans.proofs.reuse.shapes.SlotCalls.{link_row}
+use Rattle.law_scans.proofs.reuse.shapes.SlotRounds.{row_slots, withdrawn_slots}
+use Rattle.law_scans.proofs.reuse.shapes.SlotSteps.{machine_slots}
 
 abbrev pub finds_in : Config → Event → Bool
 finds_in c (events.Held index slot steps) = nat_lt index c.indexes && nat_le slot c.slots

@@ -29,7 +29,7 @@ use Rattle.law_scans.proofs.inv.covers.Held.{finds_at}
 use Rattle.law_scans.proofs.inv.history.AllOf.{all_of, of_along}
 use Rattle.law_scans.proofs.inv.history.MayTell.{Tells, Passes, base_all, base_hazards, base_row, cleared_all, cleared_from_all, row_is, same_row, step_all}
 use Rattle.law_scans.proofs.inv.history.Passes.{is_quiet, First, copied_told, keep_told, work_told}
-use Rattle.law_scans.proofs.inv.shapes.SlotCalls.{link_row}
+use Rattle.law_scans.proofs.reuse.shapes.SlotCalls.{link_row}
 use Rattle.law_scans.specs.laws.HistoryTable.{is_row_or_none}
 
 abbrev pub hazards_in : Config → Event → Bool

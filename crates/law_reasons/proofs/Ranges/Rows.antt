@@ -34,7 +34,7 @@ use Rattle.law_scans.specs.inv.ends.Told.{birth_in, row_events}
 use Rattle.law_scans.specs.inv.shapes.Seats.{PhaseFits, Run}
 use Rattle.law_scans.specs.inv.shapes.Slots.{BaseIn, PhaseIn, WorkIn, ChangeIn}
 use Rattle.law_scans.proofs.inv.history.AllOf.{all_of, of_along}
-use Rattle.law_scans.proofs.inv.shapes.SlotCalls.{link_row}
+use Rattle.law_scans.proofs.reuse.shapes.SlotCalls.{link_row}
 use Rattle.law_scans.proofs.Placing.Fronts.{linked_front, change_front, enqueue_front, dequeue_front, queued_front, taken_front, work_front}
 use Rattle.law_scans.proofs.Placing.Marks.{is_marked, marks, tells, marks_told}
 use Rattle.law_scans.specs.laws.HistoryTable.{is_root}

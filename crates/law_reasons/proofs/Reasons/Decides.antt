@@ -38,7 +38,7 @@ use Rattle.law_scans.specs.inv.model.World.{World, finds, offered}
 use Rattle.law_scans.proofs.inv.model.Facts.{both, none_by, same_number}
 use Rattle.law_scans.proofs.reuse.AnswersTold.Owed.{owed, ChangeServes, FreeServes, KeepServes, MissServes, Serves, WhyServes, WorkServes}
 use Rattle.law_scans.specs.inv.model.defs.Events.{is_null, is_held}
-use Rattle.law_scans.proofs.inv.shapes.Kept.{counted_fits, run_counted}
+use Rattle.law_scans.proofs.reuse.shapes.Kept.{counted_fits, run_counted}
 use Rattle.law_scans.specs.inv.shapes.Seats.{PhaseFits, Run, Seats}
 use Rattle.law_scans.specs.inv.history.Record.{Past, tells_of}
 use Rattle.law_scans.proofs.inv.history.Passes.{keep_post}

@@ -23,9 +23,9 @@ use Rattle.law_scans.proofs.inv.Inv.Whole.{origins_need}
 use Rattle.law_scans.specs.inv.Known.{Known}
 use Rattle.law_scans.proofs.inv.contents.Items.Gives.{empty_right}
 use Rattle.law_scans.proofs.reuse.Lawful.Current.{idle_untracked}
-use Rattle.law_scans.proofs.inv.links.Origins.Kept.{origins_kept, origins_start, origins_begin}
-use Rattle.law_scans.specs.inv.links.Origins.{Origins}
-use Rattle.law_scans.specs.inv.links.Tracked.{root_for, root_in, Tracked}
+use Rattle.law_scans.proofs.inv.ends.Origins.Kept.{origins_kept, origins_start, origins_begin}
+use Rattle.law_scans.specs.inv.ends.Origins.{Origins}
+use Rattle.law_scans.specs.inv.ends.Tracked.{root_for, root_in, Tracked}
 use Rattle.law_scans.specs.inv.requests.NextDeals.{next_deals}
 use Rattle.law_scans.specs.inv.requests.Standing.{Requests}
 use Rattle.law_scans.specs.inv.requests.Views.{View as Asked}
@@ -33,7 +33,7 @@ use Rattle.law_scans.specs.inv.requests.Views.Deal.{Quiet}
 use Rattle.law_scans.specs.inv.rows.Chain.{queue_of}
 use Rattle.law_scans.specs.inv.rows.Queue.{Line, heads_on, stands_on}
 use Rattle.law_scans.specs.inv.rows.Rows.{View}
-use Rattle.law_scans.proofs.inv.links.Origins.Ends.{end_good, end_root}
+use Rattle.law_scans.proofs.inv.ends.Origins.Ends.{end_good, end_root}
 use Rattle.law_scans.proofs.inv.ends.Handover.Asks.{run_of}
 
 -- a null next link shows a queue of which all was taken

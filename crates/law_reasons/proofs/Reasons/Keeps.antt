@@ -21,7 +21,7 @@ use Rattle.law_scans.specs.inv.model.World.{World, begin, finds, is_busy, offere
 use Rattle.law_scans.proofs.inv.model.Facts.{first_of, rest_of}
 use Rattle.law_scans.proofs.inv.covers.Begun.{first_begins}
 use Rattle.law_scans.proofs.inv.covers.Held.{stepped_post}
-use Rattle.law_scans.proofs.inv.shapes.Frame.{begin_begins, begin_stays, seat_stays, seat_steps}
+use Rattle.law_scans.proofs.reuse.shapes.Frame.{begin_begins, begin_stays, seat_stays, seat_steps}
 use Rattle.law_scans.specs.inv.shapes.Frame.{phase_left}
 use Rattle.law_scans.proofs.inv.contents.Items.Gives.{items_count}
 use Rattle.law_scans.proofs.inv.requests.Kept.{requests_start, requests_begin}

@@ -46,7 +46,7 @@ use Rattle.law_scans.specs.inv.model.defs.Events.{is_null, is_held}
 use Rattle.law_scans.specs.inv.ends.Standing.{is_end, holds_base, holds_in}
 use Rattle.law_scans.specs.inv.history.Record.{Past, begins, own, told_since, tells_of}
 use Rattle.law_scans.specs.inv.history.Record.Past.{Then}
-use Rattle.law_scans.proofs.inv.links.Origins.Plain.{is_move, ends_plain, out_moves, out_plain, moves_on, plain_after}
+use Rattle.law_scans.proofs.inv.ends.Origins.Plain.{is_move, ends_plain, out_moves, out_plain, moves_on, plain_after}
 use Rattle.law_scans.proofs.inv.history.AllOf.{all_of}
 use Rattle.law_scans.proofs.inv.Machines.{is_within, within_begins}
 use Rattle.law_scans.specs.laws.StateAt.{has_told}

@@ -26,7 +26,7 @@ use Rattle.law_scans.specs.inv.model.Calls.{Why, Opens, FollowsHead, Fills, Clea
 use Rattle.law_scans.proofs.inv.model.Facts.{first_of, rest_of, number_is}
 use Rattle.law_scans.specs.inv.shapes.Seats.{Run}
 use Rattle.law_scans.proofs.inv.history.AllOf.{all_of, of_weaker}
-use Rattle.law_scans.proofs.inv.steps_left.Rest.Closings.{rounds_join}
+use Rattle.law_scans.proofs.inv.ends.Rest.Closings.{rounds_join}
 use Rattle.law_scans.proofs.inv.history.Passes.{is_quiet, Closed, First, scan_told, step_goes, work_told}
 use Rattle.law_reasons.proofs.Repeats.Shift.{more_told}
 use Rattle.law_scans.proofs.inv.history.MayTell.{Tells, Shape, Silent, Single, Drops, Takes, at_finds, shape_of, clear_all, work_all}

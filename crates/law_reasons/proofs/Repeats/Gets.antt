@@ -19,17 +19,17 @@ use Rattle.law_scans.proofs.inv.ends.Handover.Asks.{run_of}
 use Rattle.law_scans.specs.inv.model.Locals.{Local, begun_post}
 use Rattle.law_scans.specs.inv.model.Steps as steps
 use Rattle.law_scans.specs.inv.model.World.{World, start, begin, step}
-use Rattle.law_scans.proofs.inv.shapes.Frame.{begin_stays, begin_begins}
+use Rattle.law_scans.proofs.reuse.shapes.Frame.{begin_stays, begin_begins}
 use Rattle.law_scans.specs.inv.shapes.Eras.{Eras}
 use Rattle.law_scans.specs.inv.shapes.Slots.{Slots}
 use Rattle.law_scans.proofs.inv.Inv.Kept.{rest_need, rounds_need}
 use Rattle.law_scans.specs.inv.Known.{Known}
 use Rattle.law_scans.proofs.reuse.AnswersTold.Owed.{ChangeServes, Serves, TaskServes}
 use Rattle.law_scans.specs.inv.requests.Views.{View as Asked}
-use Rattle.law_scans.proofs.inv.steps_left.Rest.Fits.{round_fit}
-use Rattle.law_scans.proofs.inv.steps_left.Rest.Lasting.{losses_begin, losses_kept}
-use Rattle.law_scans.specs.inv.steps_left.Falls.{RestNeeds}
-use Rattle.law_scans.specs.inv.steps_left.Losses.{Losses, LossNeeds, fills_fit, phase_fit}
+use Rattle.law_scans.proofs.inv.ends.Rest.Fits.{round_fit}
+use Rattle.law_scans.proofs.inv.ends.Rest.Lasting.{losses_begin, losses_kept}
+use Rattle.law_scans.specs.inv.ends.Falls.{RestNeeds}
+use Rattle.law_scans.specs.inv.ends.Losses.{Losses, LossNeeds, fills_fit, phase_fit}
 use Rattle.law_scans.proofs.inv.Rounds.Ending.{rounds_give}
 use Rattle.law_scans.specs.inv.rows.Queue.{Line}
 use Rattle.law_scans.specs.inv.rows.Rows.{View}

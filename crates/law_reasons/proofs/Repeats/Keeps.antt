@@ -24,7 +24,7 @@ use Rattle.law_scans.specs.inv.model.Locals.{Local, begun_post, rounds_told, set
 use Rattle.law_scans.specs.inv.model.World.{World, begin, finds, is_busy, offered, start, step, told_in, may_start}
 use Rattle.law_scans.proofs.inv.model.Facts.{same_number, first_of, rest_of}
 use Rattle.law_scans.specs.inv.shapes.Seats.{Run, Seats, base_fits}
-use Rattle.law_scans.proofs.inv.shapes.Frame.{seat_stays, seat_steps, begin_stays, begin_begins}
+use Rattle.law_scans.proofs.reuse.shapes.Frame.{seat_stays, seat_steps, begin_stays, begin_begins}
 use Rattle.law_scans.proofs.inv.Inv.Begun.{known_start, known_begin}
 use Rattle.law_scans.proofs.inv.Inv.Kept.{known_kept, asked_next}
 use Rattle.law_scans.specs.inv.Known.{Known}
@@ -59,7 +59,7 @@ use Rattle.law_reasons.proofs.Repeats.Opens.{GetStands, at_pending, base_pending
 use Rattle.law_scans.proofs.inv.Rounds.Grows.{open_task}
 use Rattle.law_scans.proofs.inv.covers.Fresh.{first_begins}
 use Rattle.law_scans.proofs.inv.covers.Held.{stepped_phase}
-use Rattle.law_scans.proofs.inv.steps_left.Rest.Kept.{turn_rows}
+use Rattle.law_scans.proofs.inv.ends.Rest.Kept.{turn_rows}
 use Rattle.law_scans.specs.inv.model.defs.declared.event.Root.{Root}
 use Rattle.law_scans.specs.inv.model.Phases.{Aim, ProtectAt}
 use Rattle.law_scans.specs.inv.model.Phases.Base.{Protect}
@@ -70,8 +70,8 @@ use Rattle.law_scans.specs.inv.model.Steps as steps
 use Rattle.law_scans.specs.inv.model.words.Schemes.{publishes_rows}
 use Rattle.law_scans.specs.inv.shapes.Slots.{Slots}
 use Rattle.law_reasons.proofs.Repeats.Gets.{begun_losses, first_none, gets_begin, gets_step, losses_start, once_more}
-use Rattle.law_scans.proofs.inv.steps_left.Rest.Fits.{round_fit}
-use Rattle.law_scans.specs.inv.steps_left.Losses.{Losses, opens_fit, phase_fit, tells_fit}
+use Rattle.law_scans.proofs.inv.ends.Rest.Fits.{round_fit}
+use Rattle.law_scans.specs.inv.ends.Losses.{Losses, opens_fit, phase_fit, tells_fit}
 use Rattle.law_reasons.proofs.Repeats.Paces.{Few, counted_for, counted_step, few_of, paced_begin, paced_step}
 use Rattle.law_reasons.proofs.Repeats.Records.{is_counted, began_stays, before_stays, before_zero, finds_others, finds_tells, moves_grow, whole_grows, whole_once}
 use Rattle.law_reasons.proofs.Repeats.Shift.{rounds_alike, shifted}

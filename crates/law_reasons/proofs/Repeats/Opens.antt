@@ -31,7 +31,7 @@ use Rattle.law_scans.specs.inv.model.Protect as protects
 use Rattle.law_scans.specs.inv.model.Rounds.{begin_base, clear_base, clear_post, clear_told, clearing_by, finish_base, finishing_by, index_of, round, round_by, scheme_of}
 use Rattle.law_scans.specs.inv.model.Steps as steps
 use Rattle.law_scans.specs.inv.model.World.{World, finds, offered, told_in}
-use Rattle.law_scans.proofs.reuse.shapes.words.Schemes.{rows_not_interval}
+use Rattle.law_scans.proofs.inv.covers.words.Schemes.{rows_not_interval}
 use Rattle.law_scans.specs.inv.shapes.Frame.{phase_left}
 use Rattle.law_scans.specs.inv.shapes.Seats.{PhaseFits, Run, Seats, base_fits, protect_fits}
 use Rattle.law_scans.specs.inv.shapes.Slots.{PhaseIn, Slots}
@@ -43,8 +43,8 @@ use Rattle.law_scans.proofs.inv.ends.Handover.Asks.{run_of}
 use Rattle.law_scans.proofs.inv.history.AllOf.{of_weaker}
 use Rattle.law_scans.proofs.inv.history.MayTell.{concluded_told}
 use Rattle.law_scans.proofs.inv.history.Passes.{Closed, is_quiet, step_goes}
-use Rattle.law_scans.proofs.inv.links.Origins.Plain.{out_moves, out_plain, is_move, moves_on, plain_after}
-use Rattle.law_scans.proofs.inv.steps_left.Rest.Closings.{rounds_join}
+use Rattle.law_scans.proofs.inv.ends.Origins.Plain.{out_moves, out_plain, is_move, moves_on, plain_after}
+use Rattle.law_scans.proofs.inv.ends.Rest.Closings.{rounds_join}
 use Rattle.law_reasons.proofs.Repeats.Finds.{both_finds, clear_plain, finds_in, is_plain, one_at, opens_now, phase_top, plain_finds, quiet_plain, row_none, run_opens, step_finds, told_rounds}
 
 -- a protection that has published its row, and has not loaded the link again

@@ -15,17 +15,17 @@ use Rattle.law_scans.specs.inv.model.Phases.{Base}
 use Rattle.law_scans.specs.inv.model.Rounds.{let_index, letting, letting_by, release_base, scheme_of}
 use Rattle.law_scans.specs.inv.model.Steps as steps
 use Rattle.law_scans.specs.inv.model.World.{World, begin, step, is_busy}
-use Rattle.law_scans.proofs.inv.shapes.Frame.{begin_stays, begin_begins}
+use Rattle.law_scans.proofs.reuse.shapes.Frame.{begin_stays, begin_begins}
 use Rattle.law_scans.specs.inv.Known.{Known}
 use Rattle.law_scans.proofs.inv.contents.Items.Gives.{items_count}
 use Rattle.law_scans.proofs.reuse.Lawful.Current.{idle_untracked}
-use Rattle.law_scans.proofs.inv.links.Origins.Kept.{origins_begin}
-use Rattle.law_scans.specs.inv.links.Origins.{Origins}
-use Rattle.law_scans.specs.inv.links.Tracked.{Tracked, root_in}
+use Rattle.law_scans.proofs.inv.ends.Origins.Kept.{origins_begin}
+use Rattle.law_scans.specs.inv.ends.Origins.{Origins}
+use Rattle.law_scans.specs.inv.ends.Tracked.{Tracked, root_in}
 use Rattle.law_scans.specs.inv.requests.NextDeals.{next_deals}
 use Rattle.law_scans.specs.inv.requests.Standing.{Requests}
 use Rattle.law_scans.specs.inv.requests.Views.{View as Asked}
-use Rattle.law_scans.specs.inv.steps_left.Losses.{Losses}
+use Rattle.law_scans.specs.inv.ends.Losses.{Losses}
 use Rattle.law_scans.proofs.inv.Rounds.Ending.{rounds_give}
 use Rattle.law_scans.proofs.inv.Rounds.Paced.{round_paced}
 use Rattle.law_scans.specs.inv.Rounds.{Rounds}

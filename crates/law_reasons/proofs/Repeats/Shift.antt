@@ -18,15 +18,15 @@ use Rattle.law_scans.specs.inv.model.declared.post.Post.{Post}
 use Rattle.law_scans.specs.inv.model.World.{World, finds, offered, step}
 use Rattle.law_scans.specs.inv.shapes.Eras.{Eras}
 use Rattle.law_scans.specs.inv.shapes.Seats.{Seats}
-use Rattle.law_scans.proofs.inv.shapes.Frame.{seat_stays, seat_steps}
+use Rattle.law_scans.proofs.reuse.shapes.Frame.{seat_stays, seat_steps}
 use Rattle.law_scans.specs.inv.requests.Standing.{Requests}
 use Rattle.law_scans.specs.inv.requests.Views.{View as Asked}
 use Rattle.law_scans.specs.inv.rows.Chain.{Both, line_after}
 use Rattle.law_scans.specs.inv.rows.Queue.{Line}
 use Rattle.law_scans.specs.inv.rows.Rows.{View}
-use Rattle.law_scans.specs.inv.links.Tracked.{Tracked, carries_in, helps_in, root_for}
-use Rattle.law_scans.specs.inv.links.Tracked.Tracked.{Carried, Given, Helped}
-use Rattle.law_scans.specs.inv.steps_left.Losses.{Losses}
+use Rattle.law_scans.specs.inv.ends.Tracked.{Tracked, carries_in, helps_in, root_for}
+use Rattle.law_scans.specs.inv.ends.Tracked.Tracked.{Carried, Given, Helped}
+use Rattle.law_scans.specs.inv.ends.Losses.{Losses}
 use Rattle.law_scans.specs.inv.Rounds.{Rounds, RoundsNeeds}
 use Rattle.law_scans.specs.inv.Tallies.{Tally, tally, phase_paced, phase_good}
 use Rattle.law_scans.proofs.inv.Rounds.Ending.{rounds_kept}

@@ -43,11 +43,11 @@ use Rattle.inv_all.specs.rows.Rows.{View}
 use Rattle.inv_all.specs.rows.Rows.Status.{Linked}
 use Rattle.inv_all.specs.covers.Covers.{takes_or_frees}
 use Rattle.inv_all.specs.covers.Held.{under}
-use Rattle.inv_all.specs.links.Origins.{Origins, link_of, loads_link}
-use Rattle.inv_all.specs.links.Tracked.{carries_in, root_in, Tracked, Carried, Given, Helped}
-use Rattle.inv_all.proofs.links.Origins.Came.{link_busy, helps_busy}
-use Rattle.inv_all.proofs.links.Origins.Ends.{end_good, end_root}
-use Rattle.inv_all.proofs.links.Origins.Kept.{origins_kept, origins_start, origins_begin, idle_deal}
+use Rattle.inv_all.specs.ends.Origins.{Origins, link_of, loads_link}
+use Rattle.inv_all.specs.ends.Tracked.{carries_in, root_in, Tracked, Carried, Given, Helped}
+use Rattle.inv_all.proofs.ends.Origins.Came.{link_busy, helps_busy}
+use Rattle.inv_all.proofs.ends.Origins.Ends.{end_good, end_root}
+use Rattle.inv_all.proofs.ends.Origins.Kept.{origins_kept, origins_start, origins_begin, idle_deal}
 use Rattle.inv_all.specs.contents.Knows.{Ground, Knows, looks_in}
 use Rattle.inv_all.specs.contents.Shelf.{Shelf, shelf_of}
 use Rattle.inv_all.proofs.contents.Contents.Begun.{free_plain}

@@ -30,7 +30,7 @@ use Rattle.inv_all.proofs.model.Facts.{both}
 use Rattle.inv_all.specs.requests.Views.{View as Asked}
 use Rattle.inv_all.specs.rows.Queue.{Line}
 use Rattle.inv_all.specs.rows.Rows.{View}
-use Rattle.inv_all.specs.links.Tracked.{root_in}
+use Rattle.inv_all.specs.ends.Tracked.{root_in}
 use Rattle.inv_all.specs.contents.Knows.{Knows, GetKnows, FoundRow, looks_in}
 use Rattle.inv_all.proofs.contents.Contents.Lasts.{on}
 use Rattle.inv_all.specs.Known.{Known}
@@ -39,7 +39,7 @@ use Rattle.law_reuse.proofs.Lawful.Current.{Current, ended_since, shelf_since, s
 use Rattle.inv_all.proofs.history.AllOf.{all_of, of_along, of_weaker}
 use Rattle.inv_all.proofs.history.MayTell.{work_all}
 use Rattle.inv_all.proofs.Machines.{is_machine, is_still, machine_still, base_machine, scan_machine, clear_machine, cut_still, link_still, end_still}
-use Rattle.inv_all.proofs.links.Origins.Ends.{end_root}
+use Rattle.inv_all.proofs.ends.Origins.Ends.{end_root}
 
 -- among so many buckets, which had been changed so often
 abbrev pub got_new : ℕ → (ℕ → ℕ) → Event → Bool

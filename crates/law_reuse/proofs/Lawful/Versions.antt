@@ -13,8 +13,8 @@ use Rattle.inv_all.specs.model.World.{World, finds, offered, step}
 use Rattle.inv_all.proofs.model.Facts.{first_of, rest_of}
 use Rattle.inv_all.specs.covers.Covers.{takes_or_frees}
 use Rattle.inv_all.specs.rows.Hands.{row_move}
-use Rattle.inv_all.proofs.links.Links.Told.{links_one, links_in, append_in, phase_in}
-use Rattle.inv_all.proofs.links.Links.Booked.{links_of, ended_in}
+use Rattle.inv_all.proofs.ends.Links.Told.{links_one, links_in, append_in, phase_in}
+use Rattle.inv_all.proofs.ends.Links.Booked.{links_of, ended_in}
 
 row_same : (a : Book) (slot : ℕ) (row : RowBook) (s : ℕ) (same : Bool) → (s == slot) ≡ same → row.version ≡ (a.row slot).version → (if same then row else a.row s).version ≡ (a.row s).version
 row_same a slot row s true e h = let q : s ≡ slot = grind (arith, nat_tests) in h ∙ ap (λ (n : ℕ). (a.row n).version) (sym q)

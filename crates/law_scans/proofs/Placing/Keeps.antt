@@ -15,7 +15,7 @@ use Rattle.law_reuse.specs.inv.model.World.{World, begin, finds, is_busy, offere
 use Rattle.law_reuse.proofs.inv.model.Facts.{same_number, first_of, rest_of}
 use Rattle.law_reuse.proofs.inv.covers.Held.{stepped_phase}
 use Rattle.law_reuse.specs.inv.shapes.Frame.{phase_left}
-use Rattle.law_reuse.proofs.inv.shapes.Frame.{seat_stays, begin_stays}
+use Rattle.law_reuse.proofs.shapes.Frame.{seat_stays, begin_stays}
 use Rattle.law_reuse.specs.inv.requests.Views.{View as Asked}
 use Rattle.law_reuse.proofs.inv.requests.Kept.{requests_begin, requests_start}
 use Rattle.law_reuse.specs.inv.rows.Agree.{Agree, first_rows, rows_after}

@@ -1,7 +1,7 @@
 -- The steady worker's seat is put after those that no one has had.
 use Rattle.std.proofs.Common.{rules, [], ◌++◌, ◌≡◌, ◌∷◌}
 use Rattle.std.proofs.lemmas.List.Elements.{All-push, All-same}
-use Rattle.wfe_leave_shared.specs.drive_shared.Public.{IsOf}
+use Rattle.wfe_table.specs.Public.{IsOf}
 use Rattle.wfe_shifts.proofs.close.Goals as goal
 
 pub close_left-requires-clause-of : goal.close_left-requires-clause-of

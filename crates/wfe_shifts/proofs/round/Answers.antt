@@ -1,7 +1,7 @@
 -- A seat that is taken off the end leaves the others, and the one that has left is put after those before it.
 use Rattle.std.proofs.Common.{rules, [], ◌++◌, ◌≡◌, ◌∷◌}
 use Rattle.std.proofs.lemmas.List.Elements.{All-pop, All-push, All-same}
-use Rattle.wfe_leave_shared.specs.drive_shared.Public.{IsOf}
+use Rattle.wfe_table.specs.Public.{IsOf}
 use Rattle.wfe_shifts.proofs.round.Goals as goal
 
 pub returns : goal.returns

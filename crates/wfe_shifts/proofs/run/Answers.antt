@@ -1,7 +1,7 @@
 -- The seat of the steady worker is taken off the end, and leaves the others.
 use Rattle.std.proofs.Common.{rules, All, [], subst, sym, ◌≡◌}
 use Rattle.std.proofs.lemmas.List.Elements.{All-nil, All-pop, All-same}
-use Rattle.wfe_leave_shared.specs.drive_shared.Public.{IsOf, SeatNow}
+use Rattle.wfe_table.specs.Public.{IsOf, SeatNow}
 use Rattle.wfe_shifts.proofs.run.Goals as goal
 
 pub rounds-requires-clause-staff : goal.rounds-requires-clause-staff

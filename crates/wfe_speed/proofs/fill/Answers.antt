@@ -1,7 +1,7 @@
 -- The seat that was taken off the end comes back to the others.
 use Rattle.std.proofs.Common.{rules, [], ◌++◌, ◌≡◌, ◌∷◌}
 use Rattle.std.proofs.lemmas.List.Elements.{All-pop, All-push, All-same}
-use Rattle.wfe_drive_shared.specs.Public.{IsOf}
+use Rattle.wfe_table.specs.Public.{IsOf}
 use Rattle.wfe_speed.proofs.fill.Goals as goal
 
 pub returns-in-Ok : goal.returns-in-Ok

@@ -1,7 +1,7 @@
 -- A worker that is taken off the end leaves the others, and its seat is one of the table after its scan.
 use Rattle.std.proofs.Common.{rules, [], ◌++◌, ◌≡◌, ◌∷◌}
 use Rattle.std.proofs.lemmas.List.Elements.{All-pop, All-push, All-same}
-use Rattle.wfe_drive_shared.specs.Public.{IsOf}
+use Rattle.wfe_table.specs.Public.{IsOf}
 use Rattle.wfe_threads.specs.Works.{WorksOn}
 use Rattle.wfe_threads.proofs.hand_back.Goals as goal
 

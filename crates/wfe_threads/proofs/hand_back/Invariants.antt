@@ -1,6 +1,6 @@
 -- The workers that are left may go on on the table, and the seats that came back are of it.
 use Rattle.std.proofs.Common.{All, vec_len}
-use Rattle.wfe_drive_shared.specs.Public.{IsOf}
+use Rattle.wfe_table.specs.Public.{IsOf}
 use Rattle.wfe_threads.specs.Works.{WorksOn}
 use Rattle.wfe_threads.proofs.hand_back.Given as goal
 

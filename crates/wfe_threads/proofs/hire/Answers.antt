@@ -2,7 +2,7 @@
 use Rattle.std.proofs.Common.{rules, [], ap, subst, sym, ◌++◌, ◌≡◌, ◌∙◌, ◌∷◌}
 use Rattle.std.proofs.lemmas.List.Elements.{All-pop, All-push, All-same}
 use Rattle.std.specs.Prelude.{IfSome, Option}
-use Rattle.wfe_drive_shared.specs.Public.{IsOf, SeatNow}
+use Rattle.wfe_table.specs.Public.{IsOf, SeatNow}
 use Rattle.wfe_threads.specs.Works.{WorksOn}
 use Rattle.wfe_threads.specs.declared.boxes.Boxes.{Boxes}
 use Rattle.wfe_threads.proofs.hire.Goals as goal

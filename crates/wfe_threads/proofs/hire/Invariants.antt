@@ -1,6 +1,6 @@
 -- The seats that are left are of the table, and the workers so far may make calls on it.
 use Rattle.std.proofs.Common.{All, vec_len}
-use Rattle.wfe_drive_shared.specs.Public.{IsOf}
+use Rattle.wfe_table.specs.Public.{IsOf}
 use Rattle.wfe_threads.specs.Works.{WorksOn}
 use Rattle.wfe_threads.proofs.hire.Given as goal
 

@@ -1,5 +1,5 @@
 use Rattle.std.proofs.Common.{◌≡◌, ◌++◌, ◌∷◌, [], true, is_ok, not, ap, ◌∙◌}
-use Rattle.wfe_check_calls.proofs.Steps.{fresh_push}
+use Rattle.wfe_check_calls.proofs.SeatsAfter.{fresh_push}
 use Rattle.wfe_check_calls.proofs.seat.new_seats.Goals as goal
 
 pub loop-preserved : goal.loop-preserved

@@ -1,4 +1,4 @@
-use Rattle.wfe_record_header.proofs.Headers.{header_known, header_read}
+use Rattle.wfe_record_words.proofs.Headers.{header_known, header_read}
 use Rattle.wfe_check_lines.proofs.law.headers_are_texts.Goals as goal
 
 pub returns : goal.returns

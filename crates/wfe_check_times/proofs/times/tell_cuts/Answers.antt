@@ -1,5 +1,5 @@
 use Rattle.std.proofs.Common.{◌≤◌, ◌+◌, subst, arith}
-use Rattle.laws_good.specs.Ranges.{EventIn}
+use Rattle.laws.specs.Ranges.{EventIn}
 use Rattle.wfe_check_times.proofs.Grids.{inside}
 use Rattle.wfe_check_times.proofs.times.tell_cuts.Goals as goal
 

@@ -1,7 +1,7 @@
 -- Each step is the tidying's, whatever comes after it.
 use Rattle.wfe_core.specs.declared.desk.Desk.{Desk as HeldDesk}
 use Rattle.std.proofs.Common.{ap, arith, refl, sym, ◌<◌, ◌^◌, ◌∙◌, ◌≡◌, rules}
-use Rattle.wfe_call_tidy.specs.Tidies.{tidy_phase}
+use Rattle.wfe_call_rounds.specs.Tidies.{tidy_phase}
 use Rattle.wfe_core.specs.Calls.{AfterScan, Phase}
 use Rattle.wfe_core.specs.DeskHeld.{desk_of}
 use Rattle.wfe_core.specs.Desks.{Desk, Notes, noting}

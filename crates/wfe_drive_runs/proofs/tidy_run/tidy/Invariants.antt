@@ -1,6 +1,6 @@
 -- Whatever comes after the tidying, its steps so far were made, and its next one may be.
 use Rattle.std.proofs.Common.{◌≡◌, ◌≤◌}
-use Rattle.wfe_call_tidy.specs.Tidies.{tidy_op_ready, tidy_phase}
+use Rattle.wfe_call_rounds.specs.Tidies.{tidy_op_ready, tidy_phase}
 use Rattle.wfe_core.specs.CallReady.{NotesFit}
 use Rattle.wfe_core.specs.Calls.{AfterScan}
 use Rattle.wfe_core.specs.DeskHeld.{HasRoom, desk_of}

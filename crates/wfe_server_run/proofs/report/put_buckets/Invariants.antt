@@ -1,6 +1,6 @@
 -- The buckets before this one are written.
 use Rattle.std.proofs.Common.{drop, map}
-use Rattle.wfe_drive_shared.specs.closed.Contents.{filling_of}
+use Rattle.wfe_table.specs.Contents.{filling_of}
 use Rattle.wfe_server_run.specs.Text.{bucket_lines}
 use Rattle.wfe_server_out.proofs.Written.{Wrote}
 use Rattle.wfe_server_run.proofs.report.put_buckets.Given as goal

@@ -1,6 +1,6 @@
 use Rattle.std.proofs.Common.{List, ap, map, rules}
 use Rattle.wfe_server_out.proofs.Written.{writes_fault, writes_more, writes_of, writes_then}
-use Rattle.wfe_drive_shared.specs.closed.Contents.{filling_of}
+use Rattle.wfe_table.specs.Contents.{filling_of}
 use Rattle.wfe_server_run.specs.Text.{bucket_lines, queue_lines, used_lines}
 use Rattle.wfe_server_run.proofs.report.put_closed.Goals as goal
 

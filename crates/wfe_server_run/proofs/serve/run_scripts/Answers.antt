@@ -1,6 +1,6 @@
 use Rattle.std.proofs.Common.{arith, inl}
 use Rattle.std.proofs.lemmas.List.{length-map}
-use Rattle.wfe_drive_shared.specs.Closing.{closing_of}
+use Rattle.wfe_table.specs.Closing.{closing_of}
 use Rattle.wfe_server_run.specs.Comes.{lists_in}
 use Rattle.wfe_server_run.proofs.Coming.{run_few}
 use Rattle.wfe_server_run.proofs.Running.{printed_by}

@@ -1,6 +1,6 @@
 use Rattle.std.proofs.Common.{List, [], ap, arith, get_or, length, subst, sym, ◌<◌, ◌∙◌, ◌≡◌}
-use Rattle.wfe_drive_shared.specs.rule.Views.{seat_of}
-use Rattle.wfe_drive_shared.specs.Public.{SeatNow, new_seat}
+use Rattle.wfe_table.specs.rule.Views.{seat_of}
+use Rattle.wfe_table.specs.Public.{SeatNow, new_seat}
 use Rattle.wfe_server_run.specs.Comes.{lists_in}
 use Rattle.wfe_server_run.specs.Parted.{IsOutcome}
 use Rattle.wfe_server_run.proofs.Parting.{count_new, new_at}

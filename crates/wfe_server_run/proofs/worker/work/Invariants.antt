@@ -1,6 +1,6 @@
 -- The calls before this one were made.
 use Rattle.std.proofs.Common.{take}
-use Rattle.wfe_drive_shared.specs.Public.{IsOf}
+use Rattle.wfe_table.specs.Public.{IsOf}
 use Rattle.wfe_server_run.specs.Working.{IsWorked}
 use Rattle.wfe_server_run.proofs.worker.work.Given as goal
 

@@ -1,5 +1,5 @@
 use Rattle.std.proofs.Common.{◌∙◌}
-use Rattle.laws_good.proofs.Grows.{good_grows}
+use Rattle.laws.proofs.Grows.{good_grows}
 use Rattle.wfe_check.proofs.checker.Checker.entry.Goals as goal
 
 pub returns-then-not-fits : goal.returns-then-not-fits

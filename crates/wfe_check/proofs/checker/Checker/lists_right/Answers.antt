@@ -1,6 +1,6 @@
 use Rattle.std.proofs.Common.{◌∙◌, sym, ap}
 use Rattle.laws.specs.Once.{lists_ok}
-use Rattle.wfe_check_lists.specs.Standing.{AdoptedIs, LeftIs}
+use Rattle.wfe_check_map.specs.ListStanding.{AdoptedIs, LeftIs}
 use Rattle.wfe_check.proofs.Lists.{adopted_is, left_is, other_adopted, other_left}
 use Rattle.wfe_check.proofs.checker.Checker.lists_right.Goals as goal
 

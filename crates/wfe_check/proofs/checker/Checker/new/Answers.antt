@@ -1,5 +1,5 @@
 use Rattle.std.proofs.Common.{refl}
-use Rattle.laws_good.proofs.Grows.{blank_good}
+use Rattle.laws.proofs.Grows.{blank_good}
 use Rattle.wfe_check.proofs.checker.Checker.new.Goals as goal
 
 pub returns : goal.returns

@@ -8,7 +8,7 @@ use Rattle.laws.specs.records.Record.Past.{Then}
 use Rattle.laws.specs.words.declared.config.Config.{Config}
 use Rattle.wfe_check_calls.specs.Calls.{IsCalls}
 use Rattle.wfe_check_calls.specs.Seats.{calls_of, seat_by, shown_seat}
-use Rattle.wfe_check_calls.proofs.Steps.{adopted_plain, adopted_set, seats_after}
+use Rattle.wfe_check_calls.proofs.SeatsAfter.{adopted_plain, adopted_set, seats_after}
 use Rattle.wfe_check_calls.proofs.calls.Calls.note.Goals.{in-Adopted, in_default}
 use Rattle.wfe_check_calls.proofs.calls.Calls.note.Goals as goal
 

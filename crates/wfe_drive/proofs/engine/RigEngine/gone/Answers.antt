@@ -1,6 +1,6 @@
 -- No place word says that a seat has left.
 use Rattle.std.proofs.Common.{sym}
-use Rattle.wfe_drive_reached.proofs.Bare.{bare_gone}
+use Rattle.wfe_drive.proofs.Bare.{bare_gone}
 use Rattle.wfe_drive.proofs.engine.RigEngine.gone.Goals as goal
 
 pub returns : goal.returns

@@ -1,5 +1,5 @@
 -- At the start each place word reads 0.
-use Rattle.wfe_drive_reached.proofs.Reached.{made_bare}
+use Rattle.wfe_drive.proofs.Reached.{made_bare}
 use Rattle.wfe_drive.proofs.engine.RigEngine.make.Goals as goal
 
 pub returns : goal.returns

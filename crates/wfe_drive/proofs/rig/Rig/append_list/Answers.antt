@@ -1,9 +1,9 @@
 -- What the table shows gives the list room, and the World in which it went is what the table shows then.
 use Rattle.std.proofs.Common.{List, arith, subst, sym}
 use Rattle.wfe_drive_cells.specs.Unit.{SeatView}
-use Rattle.wfe_drive_reached.specs.Bare.{bare}
-use Rattle.wfe_drive_reached.specs.Reached.{IsReached}
-use Rattle.wfe_drive_reached.proofs.Joining.{join_from}
+use Rattle.wfe_drive.specs.Bare.{bare}
+use Rattle.wfe_drive.specs.Reached.{IsReached}
+use Rattle.wfe_drive.proofs.Joining.{join_from}
 use Rattle.wfe_drive.proofs.rig.Rig.append_list.Goals as goal
 
 pub move_list-requires-clause-fits : goal.move_list-requires-clause-fits

@@ -1,7 +1,7 @@
 -- The seats are made one after another, and no call has begun.
 use Rattle.std.proofs.Common.{ap, rules}
 use Rattle.wfe_core.specs.words.declared.config.Config.{Config}
-use Rattle.wfe_drive_reached.proofs.Reached.{seats_more, table_first, table_reached}
+use Rattle.wfe_drive.proofs.Reached.{seats_more, table_first, table_reached}
 use Rattle.wfe_drive.proofs.rig.Rig.new.Goals as goal
 
 pub loop-seat-preserved : goal.loop-seat-preserved

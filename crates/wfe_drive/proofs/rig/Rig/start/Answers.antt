@@ -4,7 +4,7 @@ use Rattle.wfe_core.specs.words.declared.layout.Layout.{Layout}
 use Rattle.wfe_core.specs.Locals.{begun_post, busy_in}
 use Rattle.wfe_drive_cells.specs.Unit.{TableView, after_start}
 use Rattle.wfe_drive_seat.specs.Seats.{Suits}
-use Rattle.wfe_drive_reached.proofs.Reached.{began_from, begun_busy, layout_from, seat_begun}
+use Rattle.wfe_drive.proofs.Reached.{began_from, begun_busy, layout_from, seat_begun}
 use Rattle.wfe_drive.proofs.rig.Rig.start.Goals as goal
 
 pub engage-requires-clause-suits : goal.engage-requires-clause-suits

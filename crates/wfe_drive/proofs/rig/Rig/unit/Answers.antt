@@ -1,9 +1,9 @@
 -- The history that the table has come to gives the seat's code what it needs, and goes on with a step.
 use Rattle.std.proofs.Common.{false, slice_set, subst, ◌<◌, ◌≡◌}
 use Rattle.wfe_drive_cells.specs.Unit.{IsUnit, TableView, may_adopt, seat_at}
-use Rattle.wfe_drive_reached.specs.Bare.{bare}
-use Rattle.wfe_drive_reached.specs.Reached.{units_left}
-use Rattle.wfe_drive_reached.proofs.Reached.{after_from, ready_from}
+use Rattle.wfe_drive.specs.Bare.{bare}
+use Rattle.wfe_drive.specs.Reached.{units_left}
+use Rattle.wfe_drive.proofs.Reached.{after_from, ready_from}
 use Rattle.wfe_drive.proofs.rig.Rig.unit.Goals as goal
 
 pub unit-requires-clause-there : goal.unit-requires-clause-there

@@ -1,5 +1,5 @@
 -- The seat is the table's.
-use Rattle.wfe_leave_shared.specs.drive_shared.Public.{IsOf}
+use Rattle.wfe_table.specs.Public.{IsOf}
 use Rattle.wfe_shifts.proofs.worker.Worker.open.Given as goal
 
 abbrev pub invariant-loop-key : goal.invariant-loop-key

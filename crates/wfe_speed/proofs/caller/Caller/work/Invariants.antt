@@ -1,5 +1,5 @@
 -- The seat stays one of the table.
-use Rattle.wfe_drive_shared.specs.Public.{IsOf}
+use Rattle.wfe_table.specs.Public.{IsOf}
 use Rattle.wfe_speed.proofs.caller.Caller.work.Given as goal
 
 abbrev pub invariant-loop-turn : goal.invariant-loop-turn

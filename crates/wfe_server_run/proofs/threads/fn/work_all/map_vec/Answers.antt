@@ -1,5 +1,5 @@
 use Rattle.std.proofs.Common.{rules}
-use Rattle.wfe_drive_shared.specs.rule.Views.{seat_of}
+use Rattle.wfe_table.specs.rule.Views.{seat_of}
 use Rattle.wfe_server_run.proofs.Parting.{script_fits}
 use Rattle.wfe_server_run.proofs.threads.fn.work_all.map_vec.Goals as goal
 

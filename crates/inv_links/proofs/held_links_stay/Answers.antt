@@ -1,8 +1,0 @@
-use Rattle.inv_links.proofs.Links.Tried.{tracked_tried, held_links_stay}
-use Rattle.inv_links.proofs.held_links_stay.Goals as goal
-
-pub returns-clause-tried : goal.returns-clause-tried
-returns-clause-tried c = tracked_tried
-
-pub returns-clause-stay : goal.returns-clause-stay
-returns-clause-stay c = held_links_stay

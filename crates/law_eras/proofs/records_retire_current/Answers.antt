@@ -1,5 +1,0 @@
-use Rattle.law_eras.proofs.Current.Keeps as keeps
-use Rattle.law_eras.proofs.records_retire_current.Goals as goal
-
-pub returns : goal.returns
-returns c = keeps.records_retire_current

@@ -1,0 +1,4 @@
+pub mod Asking
+pub mod CallCounts
+pub mod Raises
+pub mod Rising

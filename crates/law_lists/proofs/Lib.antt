@@ -1,3 +1,0 @@
-pub use Rattle.wfe_watch.proofs as watch
-pub mod Counting
-pub mod Fitting

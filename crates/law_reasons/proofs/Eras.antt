@@ -1,0 +1,3 @@
+pub mod ClockTimes
+pub mod Current
+pub mod EraLaw

@@ -1,0 +1,5 @@
+use Rattle.law_reasons.proofs.Eras.Current.Keeps as keeps
+use Rattle.law_reasons.proofs.dates.records_reserve_current.Goals as goal
+
+pub returns : goal.returns
+returns c = keeps.records_reserve_current

@@ -1,5 +1,0 @@
-use Rattle.law_run_worked.proofs.Wrong as wrong
-use Rattle.law_run_worked.proofs.wrong_rows_are_refused.Goals as goal
-
-pub returns : goal.returns
-returns c = wrong.wrong_rows_refused

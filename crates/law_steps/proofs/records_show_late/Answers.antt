@@ -1,5 +1,0 @@
-use Rattle.law_steps.proofs.Asking.Kept as kept
-use Rattle.law_steps.proofs.records_show_late.Goals as goal
-
-pub returns : goal.returns
-returns c = kept.records_show_late

@@ -1,4 +1,0 @@
-pub use Rattle.law_reuse.specs.laws as laws
-pub use Rattle.law_reuse.specs.inv as inv
-pub use Rattle.law_reuse.specs as reuse
-pub mod Records

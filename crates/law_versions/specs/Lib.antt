@@ -1,2 +1,0 @@
-pub use Rattle.laws.specs as laws
-pub mod Versions

@@ -1,0 +1,5 @@
+use Rattle.law_worked.proofs.RunRecords.Worked as worked
+use Rattle.law_worked.proofs.runs.kept_rows_are_worked.Goals as goal
+
+pub returns : goal.returns
+returns c = worked.kept_worked

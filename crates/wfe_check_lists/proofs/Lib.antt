@@ -1,3 +1,0 @@
-pub mod SpansLemmas
-pub mod SeatsLemmas
-pub mod StepsLemmas

@@ -1,3 +1,0 @@
-pub mod Scanning
-pub mod Seats
-pub mod Standing

@@ -1,2 +1,0 @@
-pub use Rattle.wfe_check_lines.specs as lines
-pub mod Printed

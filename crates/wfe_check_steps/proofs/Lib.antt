@@ -1,3 +1,0 @@
-pub mod Right
-pub mod Tables
-pub mod Words

@@ -1,0 +1,74 @@
+// The events of keys and values, and of lists, that a line's words tell.
+ghost use Rattle.std.specs.Prelude.{◌≡◌, option_map};
+ghost use Rattle.wfe_record_words.specs.ContentsReader.{contents_event_by, leaving_event_by};
+
+use crate::{Words, since};
+use wfe_defs::Event;
+use wfe_words::Config;
+
+// An event of a seat that leaves, or that takes over a list.
+#[tactic(auto, unfolding(crate::specs::ContentsReader::leaving_event_by))]
+fn leaving_event(name: &[u8], line: &mut Words<'_>, version: u32, config: &Config) -> Option<Event>
+    ensures { option_map (λ event. (event, line.new)) result ≡ leaving_event_by version config.now name.now line.old }
+{
+    if name == b"left".as_slice() {
+        since(4, version)?;
+        Some(Event::Left {
+            count: line.short()?,
+        })
+    } else if name == b"adopted".as_slice() {
+        since(4, version)?;
+        Some(Event::Adopted {
+            place: line.seat(config)?,
+            count: line.short()?,
+        })
+    } else {
+        None
+    }
+}
+
+/// An event of keys, values or lists that records of the version have, with each number in its range
+/// in a record of the setting, and what is left of the line.
+#[tactic(auto, unfolding(crate::specs::ContentsReader::contents_event_by))]
+pub fn read_contents(
+    name: &[u8],
+    line: &mut Words<'_>,
+    version: u32,
+    config: &Config,
+) -> Option<Event>
+    ensures { option_map (λ event. (event, line.new)) result ≡ contents_event_by version config.now name.now line.old }
+{
+    if name == b"put".as_slice() {
+        Some(Event::Put {
+            bucket: line.bucket(config)?,
+            version: line.long()?,
+            key: line.long()?,
+            value: line.long()?,
+        })
+    } else if name == b"removed".as_slice() {
+        Some(Event::Removed {
+            bucket: line.bucket(config)?,
+            version: line.long()?,
+            key: line.long()?,
+        })
+    } else if name == b"got".as_slice() {
+        Some(Event::Got {
+            bucket: line.bucket(config)?,
+            version: line.long()?,
+            key: line.long()?,
+            value: line.value()?,
+        })
+    } else if name == b"queued".as_slice() {
+        Some(Event::Queued {
+            number: line.long()?,
+            value: line.long()?,
+        })
+    } else if name == b"taken".as_slice() {
+        Some(Event::Taken {
+            number: line.long()?,
+            value: line.long()?,
+        })
+    } else {
+        leaving_event(name, line, version, config)
+    }
+}

@@ -1,5 +1,0 @@
-//! Tests of the watcher of rows, on entries by hand.
-#![tactic(auto)]
-
-#[cfg(test)]
-mod entries;

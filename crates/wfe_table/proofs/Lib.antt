@@ -1,0 +1,31 @@
+pub use Rattle.law_all.proofs as all
+pub use Rattle.law_all.proofs.logs as logs
+pub use Rattle.law_reasons.proofs.inv
+pub use Rattle.law_reasons.proofs.inv.history
+pub use Rattle.wfe_drive_cells.proofs as drive_cells
+pub mod Adopted
+pub mod Adopts
+pub mod Backs
+pub mod Books
+pub mod Bounded
+pub mod Bounds
+pub mod Buckets
+pub mod ClosedTable
+pub mod Departs
+pub mod Fillings
+pub mod Gathered
+pub mod Items
+pub mod Kept
+pub mod LeftWords
+pub mod Line
+pub mod Listed
+pub mod Made
+pub mod Numbers
+pub mod Parts
+pub mod Ruled
+pub mod Seats
+pub mod TableWords
+pub mod Takes
+pub mod Used
+pub mod Walked
+pub mod WordPlaces

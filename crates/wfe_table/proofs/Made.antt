@@ -1,0 +1,85 @@
+-- A call that a seat has made on the shared table: the seat after it is sound, and what its record says.
+use Rattle.std.proofs.Common.{List, [], ap, false, subst, sym, ℕ, ◌++◌, ◌∙◌, ◌≡◌}
+use Rattle.wfe_core.specs.Locals.{Group, Local, busy_in}
+use Rattle.wfe_core.specs.declared.op.Op.{Op}
+use Rattle.wfe_core.specs.declared.post.Post.{Post}
+use Rattle.wfe_core.specs.defs.declared.call.Answer.{Answer}
+use Rattle.wfe_core.specs.defs.declared.call.Call.{Call}
+use Rattle.wfe_core.specs.words.declared.layout.Layout.{Layout}
+use Rattle.wfe_drive_rule.specs.drive_cells.Unit.{SeatView, shown}
+use Rattle.law_all.specs.logs.Versions.{Counts, met_by, met_in}
+use Rattle.law_all.proofs.logs.LastScans.{record_reads}
+use Rattle.law_all.proofs.logs.Meets.{logs_extend}
+use Rattle.law_all.proofs.Records.{logs_answer}
+use Rattle.law_all.proofs.held.scans.Placing.Keeps.{records_refuse}
+use Rattle.wfe_drive_call.specs.drive_words.Called.{Called, Ends, Here, LeadsTo}
+use Rattle.wfe_drive_call.specs.drive_words.Comes.{departs}
+use Rattle.wfe_drive_rule.specs.Handles.{IsResting, IsSeated, IsTracked}
+use Rattle.wfe_drive_rule.specs.Views.{Handle, call_in, entered, own, seat_of, standing}
+use Rattle.wfe_drive_rule.specs.history.History.{Item}
+use Rattle.wfe_drive_rule.proofs.Seated.{resting_slot}
+use Rattle.wfe_table.specs.Calls.{IsMade, group_of}
+use Rattle.wfe_table.specs.Public.{SeatNow}
+use Rattle.wfe_table.specs.Sound.{IsMet}
+
+-- a resting handle's seat stands where its track says
+pub stands_at : (handle : Handle) → IsResting handle → standing handle ≡ (own handle.0).local
+stands_at handle r = ap (entered (own handle.0).local) (resting_slot (own handle.0).local (call_in handle.1) r)
+
+-- its code may begin a call there
+pub rests_here : (handle : Handle) (seat : SeatView) → IsResting handle → shown (own handle.0).local ≡ seat → departs (own handle.0).local.call ≡ false → Here (λ l. standing handle ≡ l) seat
+rests_here handle seat r e d =
+    let at : standing handle ≡ (own handle.0).local = stands_at handle r in
+    let idle : busy_in (own handle.0).local.phase ≡ false = ap (λ (l : Local). busy_in l.phase) (sym at) ∙ r in
+    record { local = (own handle.0).local; there = at; is = e; staying = λ b. absurd (cc); here = d }
+
+-- and is there after it
+pub still_there : (handle : Handle) (seat : SeatView) → IsResting handle → Here (λ l. standing handle ≡ l) seat → departs (own handle.0).local.call ≡ false
+still_there handle seat r h = ap (λ (l : Local). departs l.call) (sym (stands_at handle r) ∙ h.there) ∙ h.here
+
+-- what the call came to: where its seat stands now, and by which operations
+pub record Over (call : Call) (answer : Answer) (old new : Handle) (seat : SeatView) : Type 0 where
+  pub resting : IsResting new
+  pub here : shown (own new.0).local ≡ seat
+  pub ops : List (Op × ℕ)
+  pub ends : Ends call answer ops (own old.0).local (own new.0).local
+
+pub over : (call : Call) (answer : Answer) (old new : Handle) (stands_old stands_new : List (Op × ℕ) → Type 0) (before after : SeatView) → IsResting old → shown (own old.0).local ≡ before
+    → Called call answer (λ l. standing old ≡ l) (λ l. standing new ≡ l) stands_old stands_new before after → Over call answer old new after
+over call answer old new stands_old stands_new before after rest e made =
+    let at : standing old ≡ (own old.0).local = stands_at old rest in
+    let led : LeadsTo (Ends call answer) (λ l. standing new ≡ l) after made.ops (own old.0).local = made.each (own old.0).local at e in
+    let r : IsResting new = ap (λ (l : Local). busy_in l.phase) led.there ∙ ap busy_in led.by.left.idle in
+    let now : (own new.0).local ≡ led.left = sym (stands_at new r) ∙ led.there in
+    record {
+      resting = r;
+      here = ap shown now ∙ led.is;
+      ops = made.ops;
+      ends = subst (Ends call answer made.ops (own old.0).local) (sym now) led.by;
+    }
+
+-- the versions seen, with the answer's
+pub met_more : (buckets : ℕ) (call : Call) (answer : Answer) (before after : Local) (ops : List (Op × ℕ)) (list more : List ℕ) → Ends call answer ops before after → IsMet buckets (met_in buckets before.log) list
+    → ((met : Counts) → IsMet buckets met list → IsMet buckets (met_by buckets call answer met) more) → IsMet buckets (met_in buckets after.log) more
+met_more buckets call answer before after ops list more ends m f =
+    let group : Group = record { call = call; answer = answer; notes = after.desk.notes } in
+    let e : met_in buckets after.log ≡ met_by buckets call answer (met_in buckets before.log) = ap (met_in buckets) ends.left.log ∙ logs_extend buckets before.log group in
+    subst (λ (met : Counts). IsMet buckets met more) (sym e) (f (met_in buckets before.log) m)
+
+-- what the record of the seat's history says of the call
+pub made_by : (layout : Layout) (old new : SeatNow) (call : Call) (answer : Answer) (ops : List (Op × ℕ)) (more : List Item) → IsTracked layout new.track → Ends call answer ops old.track.local new.track.local
+    → new.track.past ≡ old.track.past ++ more → IsMade layout old new call answer
+made_by layout old new call answer ops more t ends grows = record {
+  ops = ops;
+  ends = ends;
+  more = more;
+  grows = grows;
+  tracked = t;
+  answered = logs_answer layout new.track.past (seat_of new.track) old.track.local.log [] (group_of call answer new) t.valid (ap (λ (l : Local). l.log) t.stood ∙ ends.left.log);
+  refuses = records_refuse layout new.track.past t.valid;
+  reads = record_reads layout new.track.past (seat_of new.track) t.valid ∙ ap (λ (l : Local). l.desk.report.read) t.stood;
+}
+
+-- the handle's slot is that of its seat's number, on a table of this layout
+pub seated_as : (layout : Layout) (slot : ℕ) (post : Post) (handle : Handle) → IsSeated layout slot handle → post.layout ≡ layout → slot ≡ post.seat → IsSeated post.layout post.seat handle
+seated_as layout slot post handle s table number = subst (λ (d : Layout). IsSeated d post.seat handle) (sym table) (subst (λ (k : ℕ). IsSeated layout k handle) number s)

@@ -1,0 +1,83 @@
+-- A call that was made on a seat of a shared table, and the answers that its caller is given.
+use Rattle.std.specs.Prelude.{List, None, Option, Some, ℕ, ◌++◌, ◌≡◌}
+use Rattle.wfe_core.specs.Guards.{guards}
+use Rattle.wfe_core.specs.Locals.{Group}
+use Rattle.wfe_core.specs.declared.op.Op.{Op}
+use Rattle.wfe_core.specs.defs.declared.call.Answer.{Answer}
+use Rattle.wfe_core.specs.defs.declared.call.Answer.TheVariants as answers
+use Rattle.wfe_core.specs.defs.declared.call.Call.{Call}
+use Rattle.wfe_core.specs.words.declared.layout.Layout.{Layout}
+use Rattle.wfe_drive_rule.specs.history.History.{Item, record_of}
+use Rattle.laws.specs.HistoryAnswers.{RefusalLaw}
+use Rattle.laws.specs.StateAt.{read_of}
+use Rattle.law_all.specs.logs.Records.{IsAnswered}
+use Rattle.wfe_drive_call.specs.drive_words.Called.{Ends}
+use Rattle.wfe_drive_rule.specs.Handles.{IsTracked}
+use Rattle.wfe_drive_rule.specs.Views.{seat_of}
+use Rattle.wfe_table.specs.Public.{SeatNow}
+use Rattle.wfe_table.specs.declared.calls.Looked.{Looked}
+use Rattle.wfe_table.specs.declared.calls.PutIfRefusal.{PutIfRefusal}
+use Rattle.wfe_table.specs.declared.calls.PutIfRefusal.TheVariants as put_ifs
+use Rattle.wfe_table.specs.declared.calls.PutRefusal.{PutRefusal}
+use Rattle.wfe_table.specs.declared.calls.PutRefusal.TheVariants as puts
+use Rattle.wfe_table.specs.declared.calls.RemoveRefusal.{RemoveRefusal}
+use Rattle.wfe_table.specs.declared.calls.RemoveRefusal.TheVariants as removes
+use Rattle.wfe_table.specs.declared.calls.EnqueueRefusal.{EnqueueRefusal}
+use Rattle.wfe_table.specs.declared.calls.EnqueueRefusal.TheVariants as enqueues
+
+-- the call, its answer and its notes
+abbrev pub group_of : Call → Answer → SeatNow → Group
+group_of call answer seat = record { call = call; answer = answer; notes = seat.track.local.desk.notes }
+
+-- the seat made this call, and was answered so
+pub record IsMade (layout : Layout) (old new : SeatNow) (call : Call) (answer : Answer) : Type 0 where
+  -- its operations, each with what it found, are the machine's, each a step of the seat in a World to which a history comes; the
+  -- last one answers; the log has this group more, and the steps are as many as the operations
+  pub ops : List (Op × ℕ)
+  pub ends : Ends call answer ops old.track.local new.track.local
+  -- the history up to the seat's last step has grown, and comes to its state
+  pub more : List Item
+  pub grows : new.track.past ≡ old.track.past ++ more
+  pub tracked : IsTracked layout new.track
+  -- the answer says what is so by the record of that history: see the texts of `law_logs`
+  pub answered : IsAnswered layout.config (seat_of new.track) (record_of layout new.track.past) old.track.local.log (group_of call answer new)
+  -- by the same record only a call that is answered Done, Queued or Taken has told a change, or a link that is not to the tail: a call
+  -- that is refused leaves map and queue as they were without it
+  pub refuses : RefusalLaw (record_of layout new.track.past)
+  -- the report shows the guards that the seat's last block read, by the same record
+  pub reads : read_of (guards layout.config) (seat_of new.track) (record_of layout new.track.past) ≡ new.track.local.desk.report.read
+
+-- refusals as answers
+abbrev pub put_answer : PutRefusal → Answer
+put_answer puts.Full = answers.Full
+put_answer (puts.BucketFull version) = answers.BucketFull version
+put_answer (puts.Spent number) = answers.Spent number
+
+abbrev pub put_if_answer : PutIfRefusal → Answer
+put_if_answer (put_ifs.Stale version) = answers.Stale version
+put_if_answer (put_ifs.Spent number) = answers.Spent number
+put_if_answer (put_ifs.BucketFull version) = answers.BucketFull version
+put_if_answer put_ifs.Full = answers.Full
+
+abbrev pub remove_answer : RemoveRefusal → Answer
+remove_answer (removes.Absent version) = answers.Absent version
+remove_answer (removes.Spent number) = answers.Spent number
+remove_answer removes.Full = answers.Full
+
+abbrev pub enqueue_answer : EnqueueRefusal → Answer
+enqueue_answer (enqueues.Spent number) = answers.Spent number
+enqueue_answer enqueues.Full = answers.Full
+
+-- a hold holds a row, or has found none
+abbrev pub hold_answer : Option ℕ → Answer
+hold_answer None = answers.Nothing
+hold_answer (Some slot) = answers.Holding slot
+
+-- a copy protects a row at another index, and a look reads one; or nothing stands there
+abbrev pub copy_answer : Option ℕ → Answer
+copy_answer None = answers.Nothing
+copy_answer (Some slot) = answers.Copied slot
+
+abbrev pub look_answer : Option Looked → Answer
+look_answer None = answers.Nothing
+look_answer (Some looked) = answers.Looked looked.slot looked.version looked.value

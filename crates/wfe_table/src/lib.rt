@@ -1,0 +1,39 @@
+//! The table that threads share: its calls (`calls.rt`), seats that leave (`handover.rt`), its end (`close.rt`). Each call on
+//! its seats is one walk of its machine, one atomic step after another, whatever the other threads do between them. A call
+//! takes no memory and never waits.
+#![tactic(auto)]
+
+mod calls;
+mod close;
+mod close_left;
+mod closed;
+mod facts;
+mod handover;
+mod leaving;
+mod left;
+mod list;
+mod part;
+mod places;
+mod reading;
+mod room;
+mod seat;
+mod shared;
+mod take;
+mod words;
+
+pub use calls::{
+    Done, Empty, EnqueueRefusal, Got, Looked, PutIfRefusal, PutRefusal, Queued, RemoveRefusal,
+    Scanned, Taken,
+};
+pub use close::CloseError;
+pub use close_left::CloseLeftError;
+pub use closed::{BucketRow, Closed};
+pub use facts::seats_meet_no_more_than_there_is;
+pub use handover::{AdoptEnd, adopt, leave};
+pub use left::LeftSeat;
+pub use room::ClosedRoom;
+pub use seat::Seat;
+pub use shared::{MakeError, Shared};
+pub use wfe_core::{
+    Answer, Call, ClockMove, Config, Layout, Lifetime, Notes, RetireList, ScanReport, SchemeKind,
+};

@@ -1,0 +1,51 @@
+// One seat's words on the shared table, for one call.
+use wfe_core::{Call, Op};
+use wfe_drive_call::Words;
+use wfe_drive_rule::{Handle, Ledger, begin, step};
+
+/// The table with a seat's handle on it. It lives for one call.
+#[derive(Drop)]
+pub(crate) struct TableWords<'a> {
+    pub(crate) ledger: &'a Ledger,
+    pub(crate) handle: &'a mut Handle,
+    pub(crate) slot: usize,
+    /// Whether the call has made no step yet.
+    pub(crate) first: bool,
+}
+
+impl<'a> Words for TableWords<'a> {
+    ghost use Rattle.std.specs.Prelude.{◌-◌, ◌≡◌, ◌^◌};
+    ghost use Rattle.wfe_drive_rule.specs.Views.{standing};
+    ghost use Rattle.wfe_table.specs.TableWords.{IsFit, IsLater, comes_by, later_on, later_self};
+
+    ghost at = { λ w l. standing w.handle.now.me ≡ l };
+
+    ghost stands = { λ _ _. Unit {0} };
+
+    ghost rest = { λ w. 2 ^ 62 - (standing w.handle.now.me).post.steps };
+
+    ghost valid = { λ w. IsFit w };
+
+    ghost same = { IsLater };
+
+    ghost same_self = { later_self };
+
+    ghost same_on = { later_on };
+
+    ghost comes = { comes_by };
+
+    #[inline(always)]
+    fn start(&mut self, call: Call) {
+        self.first = true;
+        begin(self.ledger, self.handle, self.slot, call);
+    }
+
+    #[inline(always)]
+    fn perform(&mut self, op: Op) -> u64 {
+        if self.first {
+            self.first = false;
+            return step(self.ledger, self.handle, self.slot, op, true);
+        }
+        step(self.ledger, self.handle, self.slot, op, false)
+    }
+}

@@ -1,5 +1,0 @@
-//! Tests of the watchers that count.
-#![tactic(auto)]
-
-#[cfg(test)]
-mod watch;
