@@ -1,4 +1,4 @@
-//! When a guard covers a row (`Covers.antt`); requests, and movers that help (`Requests/Parts.antt`). It is a part of the
+//! When a guard covers a row (`Covers.antt`); requests, and movers that help (`Requests/Parts.antt`). These are parts of the
 //! invariant. Each function here does nothing, and carries a theorem.
 #![tactic(auto)]
 

@@ -1,4 +1,4 @@
-// Requests of Wait-Free Eras, and movers that help (`Parts.antt`). It is a part of what holds between any two steps of any
+// Requests of Wait-Free Eras, and movers that help (`Requests/Parts.antt`). It is a part of what holds between any two steps of any
 // calls. Each function here does nothing, and carries a theorem.
 
 ghost use Rattle.std.specs.Prelude.{ℕ, ◌≡◌, ◌<◌, true, false};

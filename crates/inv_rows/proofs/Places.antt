@@ -129,7 +129,7 @@ retire_places (LoadLife slot) = refl
 retire_places (LoadRetire slot birth) = refl
 retire_places (StoreRetired slot birth retire) = refl
 
-base_places : (base : Base) (post : Post) → is_placing (base_move base post) ≡ false
+pub base_places : (base : Base) (post : Post) → is_placing (base_move base post) ≡ false
 base_places (Begin at) post = begin_places at post
 base_places (Protect aim index root steps at) post = protect_places index root at post
 base_places (Reload parent index slot era steps) post = refl
@@ -142,27 +142,27 @@ base_places (GiveUp slot) post = refl
 base_places (Retire at) post = retire_places at
 base_places (Moves at) post = move_places at post
 
-get_places : (at : GetAt) → is_placing (gets.get_move at) ≡ false
+pub get_places : (at : GetAt) → is_placing (gets.get_move at) ≡ false
 get_places (FindVersion slot) = refl
 get_places (FindCount slot version) = refl
 get_places (FindKey slot version count pair) = refl
 get_places (FindValue slot version pair) = refl
 
-change_places : (kept : ChangeKept) (at : ChangeAt) (post : Post) → is_placing (alters.change_move kept at post) ≡ false
+pub change_places : (kept : ChangeKept) (at : ChangeAt) (post : Post) → is_placing (alters.change_move kept at post) ≡ false
 change_places kept (LoadVersion slot) post = refl
 change_places kept (LoadCount slot) post = refl
 change_places kept (LoadKey slot count) post = refl
 change_places kept (LoadValue slot count key) post = refl
 change_places kept (ExchangeRoot slot) post = refl
 
-enqueue_places : (kept : EnqueueKept) (at : EnqueueAt) → is_placing (enqueues.enqueue_move kept at) ≡ false
+pub enqueue_places : (kept : EnqueueKept) (at : EnqueueAt) → is_placing (enqueues.enqueue_move kept at) ≡ false
 enqueue_places kept LoadNumber = refl
 enqueue_places kept LoadNext = refl
 enqueue_places kept (PassTail next) = refl
 enqueue_places kept (ExchangeNext slot) = refl
 enqueue_places kept (ExchangeTail slot) = refl
 
-dequeue_places : (at : DequeueAt) → is_placing (dequeues.dequeue_move at) ≡ false
+pub dequeue_places : (at : DequeueAt) → is_placing (dequeues.dequeue_move at) ≡ false
 dequeue_places (LoadTail head) = refl
 dequeue_places (SwingTail head next) = refl
 dequeue_places (TakeNumber head next) = refl
@@ -318,7 +318,7 @@ work_placed i mem (Dequeuing at) post next desk s p =
     placed_plain i mem (dequeues.dequeue_move at) (dequeue_row at (memory.found (dequeues.dequeue_move at) (mem (place_in (dequeues.dequeue_move at))))) _ (p.here refl) (dequeue_places at) (dequeue_adopts at _)
 work_placed i mem (Keeping at) post next desk s p = keep_placed i mem at post next desk s p
 
-scan_places : (at : ScanAt) (post : Post) → is_placing (scan.scan_move at post) ≡ false
+pub scan_places : (at : ScanAt) (post : Post) → is_placing (scan.scan_move at post) ≡ false
 scan_places (ReadGuard number) post = refl
 scan_places (GiveBack place slot) post = refl
 

@@ -1,5 +1,5 @@
-//! Each seat's shape (`Shapes/Seats.antt`); which rows are free, claimed, linked, cut, by whom (`Rows.antt`). It is a part of
-//! the invariant. Each function here does nothing, and carries a theorem.
+//! Each seat's shape (`Shapes/Seats.antt`); which rows are free, claimed, linked, cut, by whom (`Rows.antt`). These, and eras
+//! up to the clock (`Shapes/Eras.antt`), are parts of the invariant. Each function here does nothing, and carries a theorem.
 #![tactic(auto)]
 
 mod seats;

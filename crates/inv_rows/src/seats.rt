@@ -1,4 +1,4 @@
-// Each seat's shape (`Seats.antt`), and eras up to the clock (`Eras.antt`). These are the parts of the invariant that speak of
+// Each seat's shape (`Shapes/Seats.antt`), and eras up to the clock (`Shapes/Eras.antt`). These are the parts of the invariant that speak of
 // each seat alone, of words that decode, and of eras. Each function here does nothing, and carries a theorem.
 
 ghost use Rattle.std.specs.Prelude.{ℕ, ◌≡◌, ◌≤◌, ◌<◌, ◌+◌, length, true};

@@ -44,7 +44,7 @@ use Rattle.law_reasons.proofs.reuse.AnswersTold.Owed.{Serves, WhyServes, call_fo
 use Rattle.law_reasons.proofs.reuse.ReadGuards.{reads_are}
 use Rattle.law_held.proofs.scans.Placing.Marks.{InOrder, is_common, ordered, step_order}
 use Rattle.law_reasons.proofs.Reasons.Shows.{Shows}
-use Rattle.law_logs.specs.Shown.{shows_bucket, shows_for, shows_ok}
+use Rattle.law_all.specs.Logs.Shown.{shows_bucket, shows_for, shows_ok}
 
 -- each row that is told as held is one of these
 abbrev Of : (ℕ → Type 0) → Event → Type 0

@@ -18,7 +18,7 @@ use Rattle.law_held.specs.laws.HistoryAnswers.{full_ok}
 use Rattle.law_held.specs.laws.HistoryHolds.{sources_ok}
 use Rattle.law_held.specs.laws.Once.{lists_ok, order_ok}
 use Rattle.law_held.specs.laws.StateAt.{began_of, bucket_of, count_of, pairs_at, value_at}
-use Rattle.law_logs.proofs.letter.Clocks.{full_kept}
+use Rattle.law_all.proofs.letter.Clocks.{full_kept}
 use Rattle.law_reasons.proofs.Full.Keeps.{records_keep_full}
 use Rattle.law_reasons.proofs.Reasons.Keeps.{records_keep_reasons}
 use Rattle.law_held.proofs.Roots.Sources.{records_find_sources}
@@ -32,19 +32,19 @@ use Rattle.law_held.proofs.inv.history.Entries.{each_of_entries}
 use Rattle.law_held.specs.inv.history.History.{Item, record_of, world_of}
 use Rattle.law_held.specs.inv.history.Record.{Past, tells}
 use Rattle.law_held.specs.inv.history.Record.Past.{Then}
-use Rattle.law_logs.specs.Answered.{IsDone, IsGot, Says, SaysOfRows}
-use Rattle.law_logs.specs.Ledgers.{log_of, notes_of}
-use Rattle.law_logs.specs.Records.{IsAnswered, IsEnded}
-use Rattle.law_logs.proofs.Begins.{Began, began_at}
-use Rattle.law_logs.specs.Versions.{AtMost, Counts, counts_of, met_in, seen_in}
-use Rattle.law_logs.proofs.Along.{first_answers, lawful_tells, met_rises}
-use Rattle.law_logs.proofs.Answered.{says_on}
-use Rattle.law_logs.proofs.Counts.{begun_counts, most_same}
-use Rattle.law_logs.proofs.Cuts.{log_more, logs_are_cut}
-use Rattle.law_logs.proofs.Grows.{Grows, grows_along, grows_entry, grows_tells, records_grow}
-use Rattle.law_logs.proofs.Knows.{Answers, Knows, Lawful, answers_of, end_log, end_rises, knows, lawful_before}
-use Rattle.law_logs.proofs.Ledgers.{records_keep_logs}
-use Rattle.law_logs.proofs.Meets.{Rises}
+use Rattle.law_all.specs.Logs.Answered.{IsDone, IsGot, Says, SaysOfRows}
+use Rattle.law_all.specs.Logs.Ledgers.{log_of, notes_of}
+use Rattle.law_all.specs.Logs.Records.{IsAnswered, IsEnded}
+use Rattle.law_all.proofs.Logs.Begins.{Began, began_at}
+use Rattle.law_all.specs.Logs.Versions.{AtMost, Counts, counts_of, met_in, seen_in}
+use Rattle.law_all.proofs.Logs.Along.{first_answers, lawful_tells, met_rises}
+use Rattle.law_all.proofs.Logs.Answered.{says_on}
+use Rattle.law_all.proofs.Logs.Counts.{begun_counts, most_same}
+use Rattle.law_all.proofs.Logs.Cuts.{log_more, logs_are_cut}
+use Rattle.law_all.proofs.Logs.Grows.{Grows, grows_along, grows_entry, grows_tells, records_grow}
+use Rattle.law_all.proofs.Logs.Knows.{Answers, Knows, Lawful, answers_of, end_log, end_rises, knows, lawful_before}
+use Rattle.law_all.proofs.Logs.Ledgers.{records_keep_logs}
+use Rattle.law_all.proofs.Logs.Meets.{Rises}
 use Rattle.law_all.specs.Answers.{CallsAnswer, ChangesAreRead, GetsAgree, HoldsSeeNothing, LogsAnswer, LogsGrow, LogsMeet, LogsRise}
 
 -- the laws that the record of each history keeps

@@ -40,9 +40,9 @@ use Rattle.law_reasons.proofs.reuse.AnswersTold.Owed.{Owes, is_open, owed}
 use Rattle.law_reasons.proofs.reuse.Reuse.Keeps.{record_stands}
 use Rattle.law_reasons.proofs.Reasons.Shows.{Shows, begin_shows, first_book_shows, step_shows}
 use Rattle.law_all.proofs.HeldRows.{held_step}
-use Rattle.law_logs.proofs.HoldPhases.{Missed, hold_begins, hold_goes, hold_phase, phase_missed}
-use Rattle.law_logs.proofs.Links.{links_step, records_start_right}
-use Rattle.law_logs.specs.Shown.{RecordsKeepShown, links_ok, misses_for, misses_ok, shows_ok}
+use Rattle.law_all.proofs.Logs.HoldPhases.{Missed, hold_begins, hold_goes, hold_phase, phase_missed}
+use Rattle.law_all.proofs.Logs.Links.{links_step, records_start_right}
+use Rattle.law_all.specs.Logs.Shown.{RecordsKeepShown, links_ok, misses_for, misses_ok, shows_ok}
 
 links_item : (layout : Layout) (k j s : ℕ) → is_valid layout ≡ true → (path : List Item) (item : Item) (fit : Bool) → fits (world_of layout path) item ≡ fit
     → Each (links_ok k j s) (record_of layout path) → Each (links_ok k j s) (done_if (made_of layout path) item fit).past

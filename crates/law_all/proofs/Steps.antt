@@ -21,9 +21,9 @@ use Rattle.law_held.specs.laws.Standing.{open_ok}
 use Rattle.law_held.specs.laws.Lists.{list_of}
 use Rattle.law_held.specs.laws.StateAt.{backs_by, backs_of, began_of, is_back, seen, times}
 use Rattle.law_held.specs.laws.StepLaw.{began_steps, end_ok, steps_right}
-use Rattle.law_logs.proofs.letter.Answers.{reasons_kept}
-use Rattle.law_logs.proofs.letter.Each.{counted_by, times_seen}
-use Rattle.law_logs.proofs.letter.Steps.{ends_kept}
+use Rattle.law_all.proofs.letter.Answers.{reasons_kept}
+use Rattle.law_all.proofs.letter.Each.{counted_by, times_seen}
+use Rattle.law_all.proofs.letter.Steps.{ends_kept}
 use Rattle.law_held.proofs.Indexes.Alone.{records_hold_alone}
 use Rattle.law_held.proofs.Indexes.Clears.{records_clear_rows}
 use Rattle.law_reasons.proofs.reuse.OpenCalls.{records_open_calls}
@@ -34,10 +34,10 @@ use Rattle.law_held.proofs.inv.history.Entries.{each_of_entries, entries_of_each
 use Rattle.law_held.specs.inv.history.History.{record_of}
 use Rattle.law_held.specs.inv.history.Record.{EachEntry, Past}
 use Rattle.law_held.specs.inv.history.Record.Past.{Start, Then}
-use Rattle.law_logs.specs.Ledgers.{Ledger, ledger_by, ledger_of, notes_of}
-use Rattle.law_logs.specs.Records.{IsEnded}
-use Rattle.law_logs.proofs.Cuts.{logs_are_cut}
-use Rattle.law_logs.proofs.Ledgers.{records_keep_logs}
+use Rattle.law_all.specs.Logs.Ledgers.{Ledger, ledger_by, ledger_of, notes_of}
+use Rattle.law_all.specs.Logs.Records.{IsEnded}
+use Rattle.law_all.proofs.Logs.Cuts.{logs_are_cut}
+use Rattle.law_all.proofs.Logs.Ledgers.{records_keep_logs}
 use Rattle.law_all.specs.Answers.{LogsTakeFewSteps, ScansTellBacks}
 
 -- as many rows went back as the notes tell

@@ -32,7 +32,7 @@ use Rattle.law_held.proofs.Indexes.Indexing as indexes
 use Rattle.law_held.proofs.Roots.Following as follows
 use Rattle.law_held.proofs.Roots.Linking as links
 use Rattle.law_held.proofs.Roots.Sources as sources
-use Rattle.law_logs.proofs.inv.Finish as finishes
+use Rattle.law_all.proofs.inv.Finish as finishes
 use Rattle.law_reasons.proofs.Eras.Current.Keeps as current
 use Rattle.law_all.proofs.Rising.RiseKeeps as rising
 use Rattle.law_held.proofs.NextRows.Following as behind
@@ -57,13 +57,13 @@ use Rattle.law_held.proofs.turns.Withdrawals.Entries as next_withdrawals
 use Rattle.law_all.proofs.Tried as tried
 use Rattle.law_held.proofs.Steps.Asking.Owning as asked
 use Rattle.law_reasons.proofs.reuse.shapes.Shapes.{guards_some}
-use Rattle.law_logs.proofs.letter.Letters.{laws_follow}
-use Rattle.law_logs.specs.letter.Letters.{Kept}
+use Rattle.law_all.proofs.letter.Letters.{laws_follow}
+use Rattle.law_all.specs.letter.Letters.{Kept}
 use Rattle.std.specs.Prelude.{◌≡◌, true, List}
-use Rattle.law_logs.specs.inv.model.words.Place.{is_valid}
-use Rattle.law_logs.specs.inv.model.words.declared.layout.Layout.{Layout}
-use Rattle.law_logs.specs.inv.history.Heard.{heard_of}
-use Rattle.law_logs.specs.inv.history.History.{Item, record_of}
+use Rattle.law_all.specs.inv.model.words.Place.{is_valid}
+use Rattle.law_all.specs.inv.model.words.declared.layout.Layout.{Layout}
+use Rattle.law_all.specs.inv.history.Heard.{heard_of}
+use Rattle.law_all.specs.inv.history.History.{Item, record_of}
 use Rattle.law_all.specs.Whole.{HistoriesLawful}
 
 -- what is proved of each history's record and turns

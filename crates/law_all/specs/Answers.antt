@@ -1,19 +1,19 @@
 -- What the logs of seats say of the record of their history: the answers of calls, what they met, and how many steps they took.
 use Rattle.std.specs.Prelude.{List, None, Option, Some, [], false, if◌then◌else◌, length, true, ℕ, ◌++◌, ◌-◌, ◌==◌, ◌∷◌, ◌≡◌}
-use Rattle.law_logs.specs.inv.model.Desks.{Notes}
-use Rattle.law_logs.specs.inv.model.Locals.{Group}
-use Rattle.law_logs.specs.inv.model.World.{is_busy}
-use Rattle.law_logs.specs.inv.model.defs.declared.call.Answer.TheVariants as answers
-use Rattle.law_logs.specs.inv.model.defs.declared.call.Call.TheVariants as calls
-use Rattle.law_logs.specs.inv.model.defs.declared.call.ClockMove.{ClockMove}
-use Rattle.law_logs.specs.inv.model.words.Place.{is_valid}
-use Rattle.law_logs.specs.inv.model.words.declared.layout.Layout.{Layout}
-use Rattle.law_logs.specs.laws.StateAt.{bucket_of, value_at}
-use Rattle.law_logs.specs.laws.StepLaw.{steps_right}
-use Rattle.law_logs.specs.inv.history.History.{Item, record_of, world_of}
-use Rattle.law_logs.specs.Answered.{Says}
-use Rattle.law_logs.specs.Records.{Extends, IsAnswered}
-use Rattle.law_logs.specs.Versions.{AtMost, counts_of, met_in, seen_in}
+use Rattle.law_all.specs.inv.model.Desks.{Notes}
+use Rattle.law_all.specs.inv.model.Locals.{Group}
+use Rattle.law_all.specs.inv.model.World.{is_busy}
+use Rattle.law_all.specs.inv.model.defs.declared.call.Answer.TheVariants as answers
+use Rattle.law_all.specs.inv.model.defs.declared.call.Call.TheVariants as calls
+use Rattle.law_all.specs.inv.model.defs.declared.call.ClockMove.{ClockMove}
+use Rattle.law_all.specs.inv.model.words.Place.{is_valid}
+use Rattle.law_all.specs.inv.model.words.declared.layout.Layout.{Layout}
+use Rattle.law_all.specs.laws.StateAt.{bucket_of, value_at}
+use Rattle.law_all.specs.laws.StepLaw.{steps_right}
+use Rattle.law_all.specs.inv.history.History.{Item, record_of, world_of}
+use Rattle.law_all.specs.Logs.Answered.{Says}
+use Rattle.law_all.specs.Logs.Records.{Extends, IsAnswered}
+use Rattle.law_all.specs.Logs.Versions.{AtMost, counts_of, met_in, seen_in}
 
 -- each call in the log of a seat is answered by its record
 abbrev pub LogsAnswer : Type 0

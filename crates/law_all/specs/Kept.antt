@@ -1,12 +1,12 @@
 -- What a seat keeps at its indexes from 2 on, as the calls of its log and their answers tell: a hold keeps a row at index 2, a copy keeps it
 -- at a higher index too, and a release and a drop let go of it.
 use Rattle.std.specs.Prelude.{List, None, Option, Some, [], if◌then◌else◌, max, ℕ, ◌++◌, ◌==◌, ◌∷◌}
-use Rattle.law_logs.specs.inv.model.Locals.{Group}
-use Rattle.law_logs.specs.inv.model.defs.declared.call.Answer.TheVariants as answers
-use Rattle.law_logs.specs.inv.model.defs.declared.call.Answer.{Answer}
-use Rattle.law_logs.specs.inv.model.defs.declared.call.Call.TheVariants as calls
-use Rattle.law_logs.specs.inv.model.defs.declared.call.Call.{Call}
-use Rattle.law_logs.specs.laws.StateAt.{bucket_of}
+use Rattle.law_all.specs.inv.model.Locals.{Group}
+use Rattle.law_all.specs.inv.model.defs.declared.call.Answer.TheVariants as answers
+use Rattle.law_all.specs.inv.model.defs.declared.call.Answer.{Answer}
+use Rattle.law_all.specs.inv.model.defs.declared.call.Call.TheVariants as calls
+use Rattle.law_all.specs.inv.model.defs.declared.call.Call.{Call}
+use Rattle.law_all.specs.laws.StateAt.{bucket_of}
 
 -- a row that is kept: the key of the hold that it came from, its slot, and the calls of the seat before that hold
 pub record Keeping : Type 0 where

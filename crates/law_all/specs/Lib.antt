@@ -1,8 +1,9 @@
-pub use Rattle.law_logs.specs.laws as laws
-pub use Rattle.law_logs.specs as logs
-pub use Rattle.law_logs.specs.inv as inv
+pub use Rattle.law_scans.specs.laws
+pub use Rattle.law_scans.specs.inv
+pub use Rattle.law_reuse.specs.Letter as letter
 pub mod Answers
 pub mod Kept
+pub mod Logs
 pub mod RunLaw
 pub mod Runs
 pub mod Schedule

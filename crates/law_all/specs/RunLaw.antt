@@ -2,27 +2,27 @@
 -- them. No order between calls of two seats is in it.
 use Rattle.std.specs.Prelude.{Bool, List, None, Option, Some, [], count_by, drop, false, filter, if◌then◌else◌, is_some, length, map, nat_le, nat_lt, slice_get, slice_index_or, suc, sum_by, take, true, zero, ℕ, ◌%◌, ◌&&◌, ◌++◌, ◌+◌, ◌-◌, ◌<◌, ◌==◌, ◌∷◌, ◌≡◌, ◌≤◌}
 use Rattle.std.specs.List.{range_with_len}
-use Rattle.law_logs.specs.inv.model.Desks.{Notes}
-use Rattle.law_logs.specs.inv.model.Locals.{Group}
-use Rattle.law_logs.specs.inv.model.defs.Pairs.{Pair, pairs_after, value_in}
-use Rattle.law_logs.specs.inv.model.defs.declared.call.Answer.{Answer}
-use Rattle.law_logs.specs.inv.model.defs.declared.call.Answer.TheVariants as answers
-use Rattle.law_logs.specs.inv.model.defs.declared.call.Call.{Call}
-use Rattle.law_logs.specs.inv.model.defs.declared.call.Call.TheVariants as calls
-use Rattle.law_logs.specs.inv.model.defs.declared.call.ClockMove.{ClockMove}
-use Rattle.law_logs.specs.inv.model.defs.declared.call.ClockMove.TheVariants as moves
-use Rattle.law_logs.specs.inv.model.defs.declared.event.Event.{Event}
-use Rattle.law_logs.specs.inv.model.defs.declared.event.Event.TheVariants as events
-use Rattle.law_logs.specs.inv.model.defs.declared.fold.Change.{Change}
-use Rattle.law_logs.specs.inv.model.defs.declared.fold.Change.TheVariants as changes
-use Rattle.law_logs.specs.inv.model.defs.declared.lifetime.Lifetime.{Lifetime}
-use Rattle.law_logs.specs.inv.model.words.Schemes.{moves as moves_clock}
-use Rattle.law_logs.specs.inv.model.words.declared.config.Config.{Config}
-use Rattle.law_logs.specs.laws.AnswerLaw.{is_advance, owes, retires_for, suits}
-pub use Rattle.law_logs.specs.laws.AnswerLaw.{is_still}
-use Rattle.law_logs.specs.laws.StateAt.{Filling, bucket_of, is_among, numbered_from, one, without_one}
+use Rattle.law_all.specs.inv.model.Desks.{Notes}
+use Rattle.law_all.specs.inv.model.Locals.{Group}
+use Rattle.law_all.specs.inv.model.defs.Pairs.{Pair, pairs_after, value_in}
+use Rattle.law_all.specs.inv.model.defs.declared.call.Answer.{Answer}
+use Rattle.law_all.specs.inv.model.defs.declared.call.Answer.TheVariants as answers
+use Rattle.law_all.specs.inv.model.defs.declared.call.Call.{Call}
+use Rattle.law_all.specs.inv.model.defs.declared.call.Call.TheVariants as calls
+use Rattle.law_all.specs.inv.model.defs.declared.call.ClockMove.{ClockMove}
+use Rattle.law_all.specs.inv.model.defs.declared.call.ClockMove.TheVariants as moves
+use Rattle.law_all.specs.inv.model.defs.declared.event.Event.{Event}
+use Rattle.law_all.specs.inv.model.defs.declared.event.Event.TheVariants as events
+use Rattle.law_all.specs.inv.model.defs.declared.fold.Change.{Change}
+use Rattle.law_all.specs.inv.model.defs.declared.fold.Change.TheVariants as changes
+use Rattle.law_all.specs.inv.model.defs.declared.lifetime.Lifetime.{Lifetime}
+use Rattle.law_all.specs.inv.model.words.Schemes.{moves as moves_clock}
+use Rattle.law_all.specs.inv.model.words.declared.config.Config.{Config}
+use Rattle.law_all.specs.laws.AnswerLaw.{is_advance, owes, retires_for, suits}
+pub use Rattle.law_all.specs.laws.AnswerLaw.{is_still}
+use Rattle.law_all.specs.laws.StateAt.{Filling, bucket_of, is_among, numbered_from, one, without_one}
 use Rattle.law_all.specs.Kept.{Keeping, kept_in, looked_in}
-use Rattle.law_logs.specs.Versions.{number_queued, number_taken, seen_in, version_told}
+use Rattle.law_all.specs.Logs.Versions.{number_queued, number_taken, seen_in, version_told}
 
 -- The table as it was closed: the clock, each bucket with its version and its pairs, the items of the queue with their numbers, and the
 -- rows that are taken.

@@ -1,15 +1,15 @@
 -- What the logs of seats are that are all between calls, by the history that comes there: the law of runs, and its parts.
 use Rattle.std.specs.Prelude.{List, None, Some, drop, false, filter, length, map, true, ℕ, ◌+◌, ◌<◌, ◌==◌, ◌≡◌, ◌≤◌}
 use Rattle.std.specs.List.{range_with_len}
-use Rattle.law_logs.specs.inv.model.Locals.{Group}
-use Rattle.law_logs.specs.inv.model.World.{is_busy}
-use Rattle.law_logs.specs.inv.model.defs.declared.call.Answer.TheVariants as answers
-use Rattle.law_logs.specs.inv.model.words.Place.{is_valid, row_count}
-use Rattle.law_logs.specs.inv.model.words.declared.config.Config.{Config}
-use Rattle.law_logs.specs.inv.model.words.declared.layout.Layout.{Layout}
-use Rattle.law_logs.specs.laws.StateAt.{changes_of, clock_of, count_of, filling_at, numbered_from, one, queued_of, taken_at, taken_of}
-use Rattle.law_logs.specs.inv.history.History.{Item, record_of, world_of}
-use Rattle.law_logs.specs.inv.history.Record.{Past}
+use Rattle.law_all.specs.inv.model.Locals.{Group}
+use Rattle.law_all.specs.inv.model.World.{is_busy}
+use Rattle.law_all.specs.inv.model.defs.declared.call.Answer.TheVariants as answers
+use Rattle.law_all.specs.inv.model.words.Place.{is_valid, row_count}
+use Rattle.law_all.specs.inv.model.words.declared.config.Config.{Config}
+use Rattle.law_all.specs.inv.model.words.declared.layout.Layout.{Layout}
+use Rattle.law_all.specs.laws.StateAt.{changes_of, clock_of, count_of, filling_at, numbered_from, one, queued_of, taken_at, taken_of}
+use Rattle.law_all.specs.inv.history.History.{Item, record_of, world_of}
+use Rattle.law_all.specs.inv.history.Record.{Past}
 use Rattle.law_all.specs.RunLaw.{AnswersLaw, AtClose, InOrder, IsCall, KeepsLaw, ListsLaw, QueuesRight, ReadsRight, RisesLaw, RunLaw, backs_in, clock_told, era_spent, era_told, gives, is_change_of, is_moved_to, is_queued_as, is_taken_as, once_up_to, total, total_of, unuseds}
 
 -- a history whose seats are all between calls at its end

@@ -1,13 +1,13 @@
 -- Calls and turns.
 use Rattle.std.specs.Prelude.{ℕ, ◌≡◌, ◌<◌, false, true, List}
-use Rattle.law_logs.specs.inv.model.words.declared.layout.Layout.{Layout}
-use Rattle.law_logs.specs.inv.model.words.Schemes.{is_ibr, publishes_eras, publishes_rows}
-use Rattle.law_logs.specs.inv.history.History.{Item, record_of}
+use Rattle.law_all.specs.inv.model.words.declared.layout.Layout.{Layout}
+use Rattle.law_all.specs.inv.model.words.Schemes.{is_ibr, publishes_eras, publishes_rows}
+use Rattle.law_all.specs.inv.history.History.{Item, record_of}
 use Rattle.law_reasons.specs.reuse.Heard.{IsCounted}
-use Rattle.law_logs.specs.inv.history.Heard.{heard_of}
-use Rattle.law_logs.specs.laws.HistoryTurns.{handed_right, loads_right, one_step, numbers_right, OpenLaw}
-use Rattle.law_logs.specs.inv.history.Turns.{EachTurn}
-use Rattle.law_logs.specs.inv.Finish.{CallFinishes}
+use Rattle.law_all.specs.inv.history.Heard.{heard_of}
+use Rattle.law_all.specs.laws.HistoryTurns.{handed_right, loads_right, one_step, numbers_right, OpenLaw}
+use Rattle.law_all.specs.inv.history.Turns.{EachTurn}
+use Rattle.law_all.specs.inv.Finish.{CallFinishes}
 
 -- A history is starts of calls and turns of seats.
 pub record Schedule (layout : Layout) (items : List Item) : Type 0 where

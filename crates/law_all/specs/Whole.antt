@@ -1,12 +1,12 @@
 -- What each history keeps, in one statement: the laws of its record, sentence by sentence; that calls and turns make it; and what its
 -- record and its turns keep beyond the laws.
 use Rattle.std.specs.Prelude.{◌≡◌, true, List}
-use Rattle.law_logs.specs.inv.model.words.Place.{is_valid}
-use Rattle.law_logs.specs.inv.model.words.declared.layout.Layout.{Layout}
-use Rattle.law_logs.specs.laws.Histories.{Histories}
-use Rattle.law_logs.specs.laws.Laws.{Laws}
-use Rattle.law_logs.specs.inv.history.Heard.{heard_of}
-use Rattle.law_logs.specs.inv.history.History.{Item, record_of}
+use Rattle.law_all.specs.inv.model.words.Place.{is_valid}
+use Rattle.law_all.specs.inv.model.words.declared.layout.Layout.{Layout}
+use Rattle.law_all.specs.laws.Histories.{Histories}
+use Rattle.law_all.specs.laws.Laws.{Laws}
+use Rattle.law_all.specs.inv.history.Heard.{heard_of}
+use Rattle.law_all.specs.inv.history.History.{Item, record_of}
 use Rattle.law_all.specs.Schedule.{Schedule}
 
 pub record IsLawful (layout : Layout) (items : List Item) : Type 0 where

@@ -3,10 +3,16 @@
 //! nothing, and carries a theorem.
 #![tactic(auto)]
 
+mod answered;
+
 ghost use Rattle.law_all.specs.Answers.{CallsAnswer, ChangesAreRead, GetsAgree, HoldsSeeNothing, LogsAnswer, LogsGrow, LogsMeet, LogsRise, LogsTakeFewSteps, ScansTellBacks};
 ghost use Rattle.law_all.specs.Runs.{RunsAddUp, RunsAgree, RunsAreLawful, RunsKeep, RunsList, RunsTick};
 ghost use Rattle.law_all.specs.Whole.{HistoriesLawful};
 ghost use Rattle.law_held.specs.Steps.Records.{RecordsCountTries, RecordsRaiseEras, RecordsRaiseSpans, RecordsRaiseTries};
+
+pub use answered::{
+    logs_are_cut, logs_extend, record_reads, records_grow, records_keep_logs, turns_leave_notes,
+};
 
 /// Each history of a table with a valid setting is lawful, whatever calls begin and whichever seats
 /// make their steps. The list of items is any: an item that does not fit does nothing, and the first

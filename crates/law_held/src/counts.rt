@@ -1,4 +1,4 @@
-// What numbers of steps count (`Records.antt`), when help is asked for. Each function here does nothing, and carries a
+// What numbers of steps count (`Steps/Records.antt`), when help is asked for. Each function here does nothing, and carries a
 // theorem.
 
 ghost use Rattle.law_held.specs.Steps.Records.{RecordsAskLate, RecordsKeepEnds, RecordsKeepHelpers, RecordsKeepRaises, RecordsShowLate, RecordsTakeLate};

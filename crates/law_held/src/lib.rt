@@ -1,5 +1,5 @@
-//! What stands, where it was found, what guards publish then (`Records.antt`); what numbers of steps count. Each function here
-//! does nothing, and carries a theorem.
+//! What stands, where it was found, what guards publish then (`Records.antt`); what numbers of steps count. The last, and when
+//! help is asked for, is in `Steps/Records.antt`. Each function here does nothing, and carries a theorem.
 #![tactic(auto)]
 
 mod counts;

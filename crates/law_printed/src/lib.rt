@@ -1,6 +1,7 @@
 //! That a check finds lawful what a replay prints (`Printed.antt`). That is so where the work is done, and what is printed no
-//! longer than a record may be. And of which version the lines of a trace are, with the calls that their record begins. Each
-//! function here does nothing, and carries a theorem.
+//! longer than a record may be. And of which version the lines of a trace are, with the calls that their record begins; how
+//! many rows wait in each seat's list (`ListCounts/Counted.antt`); and that lines of a record are read back
+//! (`ReadBack/Printed.antt`). Each function here does nothing, and carries a theorem.
 #![tactic(auto)]
 
 mod lists;

@@ -1,4 +1,4 @@
-// How many rows wait in each seat's retire list (`Counted.antt`). The function here does nothing, and carries a theorem.
+// How many rows wait in each seat's retire list (`ListCounts/Counted.antt`). The function here does nothing, and carries a theorem.
 
 ghost use Rattle.law_printed.specs.ListCounts.Counted.{RecordsCountLists};
 

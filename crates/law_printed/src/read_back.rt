@@ -1,4 +1,4 @@
-// Theorems: text made of lines of a record is read back (`Printed.antt`). Its reading finds no bad line and tells the entries
+// Theorems: text made of lines of a record is read back (`ReadBack/Printed.antt`). Its reading finds no bad line and tells the entries
 // of those lines. Where they are good the text comes to the verdict that it is, and to no other. Each function does nothing,
 // and carries a theorem.
 

@@ -1,4 +1,4 @@
-// Which schemes, calls, answers and events a version has (`Versions.antt`). The records of a version have no others. The
+// Which schemes, calls, answers and events a version has (`OfVersion.antt`). The records of a version have no others. The
 // function here does nothing, and carries a theorem.
 
 ghost use Rattle.law_printed.specs.OfVersion.{RecordsAreOf};

@@ -1,4 +1,4 @@
-// Which eras are told (`Records.antt`), and which calls answer. Each function here does nothing, and carries a theorem.
+// Which eras are told (`Eras/Records.antt`), and which calls answer. Each function here does nothing, and carries a theorem.
 
 ghost use Rattle.law_reasons.specs.Eras.Current.{ClockBetween};
 ghost use Rattle.law_reasons.specs.Eras.Records.{RecordClock, RecordsAdvance, RecordsGiveCurrent, RecordsKeepEras, RecordsKeepGuards, RecordsKeepKinds, RecordsNameGuards, RecordsReserveCurrent, RecordsRetireCurrent};

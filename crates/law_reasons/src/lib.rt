@@ -1,5 +1,5 @@
-//! Why calls answer what they do, and how often they begin anew; which eras are told. Each function here does nothing, and
-//! carries a theorem.
+//! Why calls answer what they do (`Records.antt`); which eras are told (`Eras/Records.antt`). With how often calls begin anew.
+//! Each function here does nothing, and carries a theorem.
 #![tactic(auto)]
 
 mod dates;

@@ -1,4 +1,4 @@
-// That the laws follow from what histories keep (`Letters.antt`). These are lemmas on records alone. The function here does
+// That the laws follow from what histories keep (`Letter/Letters.antt`). These are lemmas on records alone. The function here does
 // nothing, and carries a theorem.
 
 ghost use Rattle.law_reuse.specs.Letter.Letters.{LawsFollow};

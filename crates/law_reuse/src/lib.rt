@@ -1,6 +1,7 @@
 //! No reuse, rows once, scans, map, queue, answers (`Records.antt`); that the laws follow (`Letter/Letters.antt`). No row is
 //! used again while it stands, rows are given and go back once, and scans keep just what they have to; what the record says of
-//! the map, the queue and of answers; and that histories are schedules. Each function here does nothing, and carries a theorem.
+//! the map, the queue and of answers; and that histories are schedules. That the laws follow from what histories keep is shown
+//! of records alone. Each function here does nothing, and carries a theorem.
 #![tactic(auto)]
 
 mod letters;

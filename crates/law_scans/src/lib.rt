@@ -1,5 +1,6 @@
 //! Which rows calls are given, link, cut, retire; which scan (`Records.antt`); turns of protections. In which order they do;
-//! which calls move the clock, and what they answer of it. Each function here does nothing, and carries a theorem.
+//! which calls move the clock, and what they answer of it. How many turns of its seat a protection takes is in
+//! `Turns/Records.antt`. Each function here does nothing, and carries a theorem.
 #![tactic(auto)]
 
 mod tries;

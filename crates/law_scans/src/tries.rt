@@ -1,4 +1,4 @@
-// How many turns of its seat a protection takes (`Records.antt`). Each function here does nothing, and carries a theorem.
+// How many turns of its seat a protection takes (`Turns/Records.antt`). Each function here does nothing, and carries a theorem.
 
 ghost use Rattle.law_scans.specs.Turns.Records.{HandoversMeet, HazardsCount, LoadsCount, ProtectionsCount, ProtectionsEnd, ProtectionsLast, RecordsWithdrawNext, TriesCount, WithdrawalsFollow, TurnsFindLast};
 

@@ -1,4 +1,5 @@
 pub use Rattle.wfe_iface.specs as iface
+pub mod Endings
 pub mod Reclaims
 pub mod Rounds
 pub mod Steps

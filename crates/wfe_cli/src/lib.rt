@@ -3,6 +3,8 @@
 #![tactic(auto)]
 
 mod command;
+mod job;
 
 pub use command::{exit_number, main_call};
+pub use job::{Job, job_of};
 pub use wfe_server_run::{Gate, OpenGate, RunRecord, run, run_threads};

@@ -1,5 +1,6 @@
-//! Tests of words, definitions, seats' lists, pairs, operations, and of a protection of Wait-Free Eras step by step. They show that
-//! definitions mean the published numbers, that calls which take memory succeed, and what a seat keeps.
+//! Tests of words, definitions, seats' lists, pairs, operations; a protection of Wait-Free Eras (`by_hand.rt`). They show that
+//! definitions mean the published numbers, that calls which take memory succeed, and what a seat keeps. The protection is in
+//! the hands of a test, which makes what other seats would do.
 #![tactic(auto)]
 
 #[cfg(test)]

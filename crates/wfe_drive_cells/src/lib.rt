@@ -1,5 +1,6 @@
-//! Words by number, and that they are the model's memory (`Bridge.antt`); a replay's, atomic (`table.rt`). With the operations
-//! on them; the model has its words by place.
+//! Words by number, which are the model's memory (`Bridge.antt`), and a replay's, which are atomic (`table.rt`). With the
+//! operations on them; the model has its words by place. The atomic words have one owner, who makes each operation as one
+//! atomic step.
 #![tactic(auto)]
 
 mod cells;

@@ -9,18 +9,18 @@ ghost use Rattle.wfe_core.specs.Memory.{Load as Loads, Store as Stores, numbered
 ghost use Rattle.wfe_core.specs.Phases.Base.{Retire as Retiring};
 ghost use Rattle.wfe_core.specs.Phases.RetireAt.{LoadLife};
 ghost use Rattle.wfe_core.specs.Ready.{SlotFits};
-ghost use Rattle.wfe_core.specs.Retire.{birth_in};
 ghost use Rattle.wfe_core.specs.Rounds.{with_clock};
 ghost use Rattle.wfe_core.specs.Steps.{tidying};
 ghost use Rattle.wfe_core.specs.Valid.{IsValid};
-ghost use Rattle.wfe_core.specs.words.Packed.{life_word as word_of, read_life as life_in};
+ghost use Rattle.wfe_core.specs.words.Packed.{life_word as word_of};
 ghost use Rattle.wfe_core.specs.words.Place.Place.{Life as LifeWord};
 ghost use Rattle.wfe_drive_words.specs.Called.{Here, at_phase};
 ghost use Rattle.wfe_drive_words.specs.Path.{Closes};
 ghost use Rattle.wfe_drive_runs.specs.Pieces.{TurnsTo, retire_told};
 
 use crate::tidy_run::tidy;
-use wfe_core::{ClockMove, Desk, Life, Lifetime, Op, Post, life_word, read_life};
+use wfe_call_rounds::birth_of;
+use wfe_core::{ClockMove, Desk, Life, Lifetime, Op, Post, life_word};
 use wfe_drive_words::{Words, load_clock, note_steps, step};
 
 /// Retires the row, and then tidies where that is due. It answers the outcome of the move; `Still` where
@@ -111,16 +111,5 @@ fn store_lifetime(post: &Post, slot: u32, birth: u32, retire: u32) -> Op
     Op::Store {
         word: post.layout.life(slot),
         value: life_word(Life { birth, retire }),
-    }
-}
-
-// The birth era in a lifetime word.
-#[inline(always)]
-fn birth_of(word: u64) -> u32
-    ensures { result ≡ birth_in (life_in word) }
-{
-    match read_life(word) {
-        Some(life) => life.birth,
-        None => 0,
     }
 }

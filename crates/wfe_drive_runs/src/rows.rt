@@ -1,7 +1,7 @@
 // A row is taken for a call, or given up before it was linked. One that is free at the first try is taken
 // without a walk.
 ghost use Rattle.std.specs.Prelude.{◌≡◌, ◌<◌, ◌≤◌, ◌+◌, ◌^◌, [], IfErr, IfOk, List, ℕ, Some, length, false, true};
-ghost use Rattle.wfe_core.specs.Allocate.{after_claim_slot, is_claimed, next_slot, walk_from};
+ghost use Rattle.wfe_core.specs.Allocate.{after_claim_slot, is_claimed, walk_from};
 ghost use Rattle.wfe_core.specs.defs.declared.call.Answer.{Answer as ModelAnswer};
 ghost use Rattle.wfe_core.specs.Calls.{GivesUp, Idle, Runs, Why};
 ghost use Rattle.wfe_core.specs.DeskHeld.{HasRoom, desk_of};
@@ -27,7 +27,7 @@ ghost use Rattle.wfe_drive_runs.specs.Pieces.{EndsSo, IsWalk, TurnsTo, claimed_a
 use crate::base_run::run;
 use wfe_core::{AllocateEnd, Answer, Desk, Life, Machine, Op, Post, Told, life_word};
 use wfe_drive_words::{Words, load_clock, note_steps, step};
-use wfe_slots::{Allocate, GiveUp};
+use wfe_slots::{Allocate, GiveUp, is_taken, slot_after};
 
 /// Takes the first row that is free from the seat's cursor on.
 pub fn take_row<W: Words>(words: &mut W, post: &mut Post, desk: &mut Desk) -> AllocateEnd
@@ -89,24 +89,6 @@ fn note_given(desk: &mut Desk, slot: u32, birth: u32)
 {
     desk.notes.given = Some((slot, birth));
     desk.notes.early = desk.notes.back.len() as u32;
-}
-
-// The claim word shows the slot taken.
-#[inline(always)]
-#[tactic(auto, using(std::proofs::lemmas::Nat::Bits::shr_and_one))]
-fn is_taken(word: u64, slot: u32) -> bool
-    ensures { result ≡ is_claimed word slot }
-{
-    (word >> (slot % 64)) & 1 == 1
-}
-
-// The slot after it, round the table.
-#[inline(always)]
-fn slot_after(slots: u32, slot: u32) -> u32
-    requires { slot ≤ slots }
-    ensures { result ≡ next_slot slots slot }
-{
-    if slot == slots { 0 } else { slot + 1 }
 }
 
 // An operation that sets a slot's claim bit.

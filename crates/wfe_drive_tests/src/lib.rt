@@ -1,5 +1,5 @@
-//! Tests of the rig, unit by unit: answers and steps of each call. Also on rows that stay protected between calls, and of a
-//! protection that moves of the clock overtake, alone and within a call.
+//! Tests of the rig, unit by unit: answers and steps of each call, rows that stay protected, seats that leave. Also of a protection
+//! that moves of the clock overtake, alone and within a call, and of lists that are taken over.
 #![tactic(auto)]
 
 #[cfg(test)]
@@ -10,6 +10,10 @@ mod each_call;
 mod hazards;
 #[cfg(test)]
 mod kept;
+#[cfg(test)]
+mod leaving;
+#[cfg(test)]
+mod leaving_bench;
 #[cfg(test)]
 mod overtaken;
 #[cfg(test)]

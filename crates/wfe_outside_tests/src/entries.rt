@@ -3,7 +3,7 @@ use std::process::Abort;
 use std::test::Fail;
 use wfe_defs::{Answer, Call, ClockMove, Event, Root};
 use wfe_outside::Watcher;
-use wfe_row_rules::Reading;
+use wfe_watch::Reading;
 
 // How many of these entries are against each of the rules.
 fn found<R: Abort + AllocGlobal>(rt: &R, told: &[(u32, Event)]) -> Result<(u64, u64), Fail> {

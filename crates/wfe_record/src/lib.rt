@@ -1,5 +1,5 @@
-//! Reads an event's line of a record (`event.rt`, `Entry.antt`). A line is read without its line feed, as the crate of traces
-//! prints it, by the version and the setting of the first line, whose reader is handed on. No call here takes memory.
+//! Reads an event's line of a record (`event.rt`, `Entry.antt`). A line is read without its line feed, as `wfe_text` prints it,
+//! by the version and the setting of the first line, whose reader is handed on. No call here takes memory.
 #![tactic(auto)]
 
 mod event;

@@ -3,5 +3,5 @@
 
 mod retire;
 
-pub use retire::Retire;
+pub use retire::{Retire, birth_of};
 pub use wfe_core::{CallMachine, Desk, Notes, RetireList, ScanReport};

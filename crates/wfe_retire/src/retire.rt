@@ -37,8 +37,9 @@ impl Retire {
     }
 }
 
-// The birth era in a lifetime word.
-fn birth_of(word: u64) -> u32
+/// The birth era in a lifetime word; 0 where no row is taken there.
+#[inline(always)]
+pub fn birth_of(word: u64) -> u32
     ensures { result ≡ birth_in (life_in word) }
 {
     match read_life(word) {

@@ -3,9 +3,9 @@
 use std::alloc::Global;
 use wfe_drive_cells::TableCells;
 use wfe_outside::{Sink, Source, WatchRow, Watcher};
-use wfe_row_rules::Reading;
 use wfe_server::{Rig, replay};
 use wfe_trace::Status;
+use wfe_watch::Reading;
 
 /// Replays the trace of the source.
 pub fn replay_on_table<S: Source, K: Sink>(alloc: Global, source: &mut S, sink: &mut K) -> Status {

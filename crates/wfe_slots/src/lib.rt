@@ -11,5 +11,6 @@ mod write_row;
 pub use allocate::Allocate;
 pub use give_up::GiveUp;
 pub use pairs::Pairs;
+pub use walk::{is_taken, slot_after};
 pub use wfe_core::AllocateEnd;
 pub use write_row::{Row, WriteRow};

@@ -14,7 +14,8 @@ pub struct Walk {
     pub shown: u64,
 }
 
-// The claim word shows the slot taken.
+/// Whether the claim word, as it was found, shows the slot taken.
+#[inline(always)]
 #[tactic(auto, using(std::proofs::lemmas::Nat::Bits::shr_and_one))]
 pub fn is_taken(word: u64, slot: u32) -> bool
     ensures { result ≡ is_claimed word slot }
@@ -22,7 +23,8 @@ pub fn is_taken(word: u64, slot: u32) -> bool
     (word >> (slot % 64)) & 1 == 1
 }
 
-// The slot after it, round the table.
+/// The slot after it, round the table: 0 after the last.
+#[inline(always)]
 pub fn slot_after(slots: u32, slot: u32) -> u32
     requires { slot ≤ slots }
     ensures next { result ≡ next_slot slots slot }

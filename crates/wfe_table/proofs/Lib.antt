@@ -1,5 +1,5 @@
 pub use Rattle.law_all.proofs as all
-pub use Rattle.law_all.proofs.logs as logs
+pub use Rattle.law_all.proofs.Logs as logs
 pub use Rattle.law_reasons.proofs.inv
 pub use Rattle.law_reasons.proofs.inv.history
 pub use Rattle.wfe_drive_cells.proofs as drive_cells

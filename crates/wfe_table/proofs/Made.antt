@@ -7,9 +7,9 @@ use Rattle.wfe_core.specs.defs.declared.call.Answer.{Answer}
 use Rattle.wfe_core.specs.defs.declared.call.Call.{Call}
 use Rattle.wfe_core.specs.words.declared.layout.Layout.{Layout}
 use Rattle.wfe_drive_rule.specs.drive_cells.Unit.{SeatView, shown}
-use Rattle.law_all.specs.logs.Versions.{Counts, met_by, met_in}
-use Rattle.law_all.proofs.logs.LastScans.{record_reads}
-use Rattle.law_all.proofs.logs.Meets.{logs_extend}
+use Rattle.law_all.specs.Logs.Versions.{Counts, met_by, met_in}
+use Rattle.law_all.proofs.Logs.LastScans.{record_reads}
+use Rattle.law_all.proofs.Logs.Meets.{logs_extend}
 use Rattle.law_all.proofs.Records.{logs_answer}
 use Rattle.law_all.proofs.held.scans.Placing.Keeps.{records_refuse}
 use Rattle.wfe_drive_call.specs.drive_words.Called.{Called, Ends, Here, LeadsTo}

@@ -3,10 +3,10 @@ use Rattle.std.proofs.Common.{List, subst, sym, true, ◌++◌, ◌≡◌}
 use Rattle.wfe_core.specs.Locals.{Local}
 use Rattle.wfe_core.specs.words.Place.{is_valid}
 use Rattle.wfe_core.specs.words.declared.layout.Layout.{Layout}
-use Rattle.law_all.specs.logs.Records.{IsBeginning}
-use Rattle.law_all.specs.logs.Versions.{AtMost, counts_of, met_in, seen_in}
-use Rattle.law_all.proofs.logs.Answered.{pairs_on}
-use Rattle.law_all.proofs.logs.Grows.{Grows, grows_tells, records_grow}
+use Rattle.law_all.specs.Logs.Records.{IsBeginning}
+use Rattle.law_all.specs.Logs.Versions.{AtMost, counts_of, met_in, seen_in}
+use Rattle.law_all.proofs.Logs.Answered.{pairs_on}
+use Rattle.law_all.proofs.Logs.Grows.{Grows, grows_tells, records_grow}
 use Rattle.law_all.proofs.Records.{logs_meet}
 use Rattle.wfe_drive_rule.specs.Rule.{Follows}
 use Rattle.wfe_drive_rule.specs.Views.{Track, seat_of}

@@ -10,7 +10,7 @@ use Rattle.wfe_core.specs.words.declared.layout.Layout.{Layout}
 use Rattle.wfe_drive_rule.specs.history.History.{Item, record_of}
 use Rattle.laws.specs.HistoryAnswers.{RefusalLaw}
 use Rattle.laws.specs.StateAt.{read_of}
-use Rattle.law_all.specs.logs.Records.{IsAnswered}
+use Rattle.law_all.specs.Logs.Records.{IsAnswered}
 use Rattle.wfe_drive_call.specs.drive_words.Called.{Ends}
 use Rattle.wfe_drive_rule.specs.Handles.{IsTracked}
 use Rattle.wfe_drive_rule.specs.Views.{seat_of}

@@ -1,6 +1,7 @@
-//! The table that threads share: its calls (`calls.rt`), seats that leave (`handover.rt`), its end (`close.rt`). Each call on
-//! its seats is one walk of its machine, one atomic step after another, whatever the other threads do between them. A call
-//! takes no memory and never waits.
+//! The table that threads share: its calls (`calls.rt`), seats that leave (`handover.rt`), and its end. Each call on its seats
+//! is one walk of its machine, one atomic step after another, whatever the other threads do between them. A call takes no
+//! memory and never waits. The table's end is `close.rt`, or where seats have left `close_left.rt`; what it holds then is read
+//! into memory that is taken before.
 #![tactic(auto)]
 
 mod calls;

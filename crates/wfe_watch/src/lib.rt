@@ -6,7 +6,10 @@
 mod garbage;
 mod keys;
 mod lists;
+mod reading;
+mod rules;
 
 pub use garbage::GarbageCounter;
 pub use keys::KeyCounter;
 pub use lists::ListCounter;
+pub use reading::Reading;

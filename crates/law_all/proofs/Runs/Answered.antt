@@ -2,41 +2,41 @@
 use Rattle.std.proofs.Common.{Bool, List, Option, Some, ap, false, length, refl, subst, sym, true, ℕ, ◌+◌, ◌∙◌, ◌≡◌}
 use Rattle.std.proofs.lemmas.List.FromFn.{length-map-range_with_len}
 use Rattle.std.specs.Prelude.{if◌then◌else◌, is_some, ◌%◌, ◌&&◌, ◌==◌}
-use Rattle.law_logs.proofs.inv.model.Facts.{false_of_not, first_of, le_test, lt_test, number_is, rest_of, same_test}
-use Rattle.law_logs.specs.inv.model.Desks.{Notes}
-use Rattle.law_logs.specs.inv.model.Locals.{Group}
-use Rattle.law_logs.specs.inv.model.defs.declared.call.Answer.TheVariants as answers
-use Rattle.law_logs.specs.inv.model.defs.declared.call.Answer.{Answer}
-use Rattle.law_logs.specs.inv.model.defs.declared.call.Call.TheVariants as calls
-use Rattle.law_logs.specs.inv.model.defs.declared.call.Call.{Call}
-use Rattle.law_logs.specs.inv.model.defs.declared.call.ClockMove.TheVariants as moves
-use Rattle.law_logs.specs.inv.model.defs.declared.call.ClockMove.{ClockMove}
-use Rattle.law_logs.specs.inv.model.defs.declared.event.Event.TheVariants as events
-use Rattle.law_logs.specs.inv.model.defs.declared.event.Event.{Event}
-use Rattle.law_logs.specs.inv.model.words.Schemes.{moves as moves_clock}
-use Rattle.law_logs.specs.inv.model.words.declared.config.Config.{Config}
-use Rattle.law_logs.specs.inv.model.words.declared.layout.Layout.{Layout}
-use Rattle.law_logs.specs.inv.history.History.{Item, record_of}
-use Rattle.law_logs.specs.inv.history.Record.Past.{Then}
-use Rattle.law_logs.specs.inv.history.Record.{Each, Past}
-use Rattle.law_logs.proofs.inv.history.Entries.{each_before, each_of_entries}
+use Rattle.law_all.proofs.inv.model.Facts.{false_of_not, first_of, le_test, lt_test, number_is, rest_of, same_test}
+use Rattle.law_all.specs.inv.model.Desks.{Notes}
+use Rattle.law_all.specs.inv.model.Locals.{Group}
+use Rattle.law_all.specs.inv.model.defs.declared.call.Answer.TheVariants as answers
+use Rattle.law_all.specs.inv.model.defs.declared.call.Answer.{Answer}
+use Rattle.law_all.specs.inv.model.defs.declared.call.Call.TheVariants as calls
+use Rattle.law_all.specs.inv.model.defs.declared.call.Call.{Call}
+use Rattle.law_all.specs.inv.model.defs.declared.call.ClockMove.TheVariants as moves
+use Rattle.law_all.specs.inv.model.defs.declared.call.ClockMove.{ClockMove}
+use Rattle.law_all.specs.inv.model.defs.declared.event.Event.TheVariants as events
+use Rattle.law_all.specs.inv.model.defs.declared.event.Event.{Event}
+use Rattle.law_all.specs.inv.model.words.Schemes.{moves as moves_clock}
+use Rattle.law_all.specs.inv.model.words.declared.config.Config.{Config}
+use Rattle.law_all.specs.inv.model.words.declared.layout.Layout.{Layout}
+use Rattle.law_all.specs.inv.history.History.{Item, record_of}
+use Rattle.law_all.specs.inv.history.Record.Past.{Then}
+use Rattle.law_all.specs.inv.history.Record.{Each, Past}
+use Rattle.law_all.proofs.inv.history.Entries.{each_before, each_of_entries}
 use Rattle.law_all.proofs.Whole.{histories_are_lawful}
-use Rattle.law_logs.specs.Answered.{Says, SaysOfRows}
-use Rattle.law_logs.specs.Ledgers.{log_of, notes_of}
-use Rattle.law_logs.specs.Records.{IsEnded}
-use Rattle.law_logs.specs.Versions.{Counts, counts_of}
-use Rattle.law_logs.specs.laws.AnswerLaw as letter
-use Rattle.law_logs.specs.laws.AnswerLaw.{is_advance, retires_for, suits}
-use Rattle.law_logs.specs.laws.HistoryAnswers.{ClockTally, answer_fits, change_fits, outcome_fits, plain_clock, retires_ok}
-use Rattle.law_logs.specs.laws.Lists.{list_of}
-use Rattle.law_logs.specs.laws.StateAt.{has_told, is_back, is_give, one, retires_of, times}
+use Rattle.law_all.specs.Logs.Answered.{Says, SaysOfRows}
+use Rattle.law_all.specs.Logs.Ledgers.{log_of, notes_of}
+use Rattle.law_all.specs.Logs.Records.{IsEnded}
+use Rattle.law_all.specs.Logs.Versions.{Counts, counts_of}
+use Rattle.law_all.specs.laws.AnswerLaw as letter
+use Rattle.law_all.specs.laws.AnswerLaw.{is_advance, retires_for, suits}
+use Rattle.law_all.specs.laws.HistoryAnswers.{ClockTally, answer_fits, change_fits, outcome_fits, plain_clock, retires_ok}
+use Rattle.law_all.specs.laws.Lists.{list_of}
+use Rattle.law_all.specs.laws.StateAt.{has_told, is_back, is_give, one, retires_of, times}
 use Rattle.law_all.specs.RunLaw.{AnswersLaw, IsCall, IsRight, clock_told, is_allowed, is_still, retired_by}
 use Rattle.law_all.specs.Runs.{AtRest, logs_of}
 use Rattle.law_all.proofs.Runs.Bare.{none_noted}
 use Rattle.law_all.proofs.Runs.Calls.{Called, called, log_at}
 use Rattle.law_all.proofs.Runs.Clocks.{due_right, retires_noted}
 use Rattle.law_all.proofs.Runs.Closes.{Closes, closes}
-use Rattle.law_logs.proofs.Runs.Notes.{backs_noted, none_given}
+use Rattle.law_all.proofs.Logs.Runs.Notes.{backs_noted, none_given}
 
 -- versions and numbers are in range
 allowed_by : (c : Config) (from : Counts) (r : Past) (call : Call) (answer : Answer) → suits call answer ≡ true → Says c from r call answer

@@ -1,43 +1,43 @@
 -- A copy, a drop and a look, and calls by which a seat leaves or takes a list over, are given no row and give none back.
 use Rattle.std.proofs.Common.{ℕ, ◌≡◌, Bool, true, false, List, [], ◌∷◌, ◌++◌, Option, Some, None, refl, sym, ◌∙◌, subst}
 use Rattle.std.specs.Prelude.{◌==◌, filter, if◌then◌else◌}
-use Rattle.law_logs.proofs.inv.model.Facts.{number_is}
-use Rattle.law_logs.specs.inv.model.Calls.{CallTurn, CallOutcome, GoesOn, Answers, GetAt, FindVersion, FindCount, FindKey, FindValue, KeepAt, Keeping, Dropped, Parting, LoadHeld, Loosens, Looks, Misses, HideSpan, MarkLeft, TakeList, MarkTaken, StoreHeld, Phase, Idle, Runs, Works, Releases, Why}
-use Rattle.law_logs.specs.inv.model.Desks.{Desk, Notes, noted, noted_all, noting}
-use Rattle.law_logs.specs.inv.model.Keep as keeps
-use Rattle.law_logs.specs.inv.model.Locals.{Group, Local, begun, begun_post, rounds_told, settled_by, told_by, turn}
-use Rattle.law_logs.specs.inv.model.Phases.Base.{Clear, Release}
-use Rattle.law_logs.specs.inv.model.Phases.{Base, Outcome, Goes, Ends}
-use Rattle.law_logs.specs.inv.model.Posts.{counted, publishes_index, stands}
-use Rattle.law_logs.specs.inv.model.Rounds as rounds
-use Rattle.law_logs.specs.inv.model.Rounds.{scheme_of}
-use Rattle.law_logs.specs.inv.model.Steps as steps
-use Rattle.law_logs.specs.inv.model.World.{World, begin, finds, offered, step}
-use Rattle.law_logs.specs.inv.model.declared.post.Post.{Post}
-use Rattle.law_logs.specs.inv.model.defs.Events.{is_of_rows}
-use Rattle.law_logs.specs.inv.model.defs.declared.call.Call.TheVariants as calls
-use Rattle.law_logs.specs.inv.model.defs.declared.call.Call.{Call}
-use Rattle.law_logs.specs.inv.model.defs.declared.event.Event.TheVariants as events
-use Rattle.law_logs.specs.inv.model.defs.declared.event.Event.{Event}
-use Rattle.law_logs.specs.inv.model.defs.declared.lifetime.Interval.{Interval}
-use Rattle.law_logs.specs.inv.model.words.Place.{is_valid}
-use Rattle.law_logs.specs.inv.model.words.Schemes.{has_one_interval, publishes_rows}
-use Rattle.law_logs.specs.inv.model.words.declared.layout.Layout.{Layout}
-use Rattle.law_logs.specs.inv.Inv.{Inv}
-use Rattle.law_logs.specs.inv.ends.Told.{birth_in, row_events}
-use Rattle.law_logs.specs.inv.history.History.{Begins, Item, Made, Steps, done_if, fits, made_of, world_of}
-use Rattle.law_logs.specs.inv.rows.Hands.{base_row, keep_row, row_move}
-use Rattle.law_logs.specs.inv.rows.Rows.RowMove.{Adopts, Stays}
-use Rattle.law_logs.specs.inv.shapes.Frame.{phase_left}
-use Rattle.law_logs.specs.inv.shapes.Seats.{kind_of, suits}
-use Rattle.law_logs.proofs.inv.Inv.Reached.{inv_reached}
-use Rattle.law_logs.proofs.inv.ends.Told.Rows.{rows_told}
+use Rattle.law_all.proofs.inv.model.Facts.{number_is}
+use Rattle.law_all.specs.inv.model.Calls.{CallTurn, CallOutcome, GoesOn, Answers, GetAt, FindVersion, FindCount, FindKey, FindValue, KeepAt, Keeping, Dropped, Parting, LoadHeld, Loosens, Looks, Misses, HideSpan, MarkLeft, TakeList, MarkTaken, StoreHeld, Phase, Idle, Runs, Works, Releases, Why}
+use Rattle.law_all.specs.inv.model.Desks.{Desk, Notes, noted, noted_all, noting}
+use Rattle.law_all.specs.inv.model.Keep as keeps
+use Rattle.law_all.specs.inv.model.Locals.{Group, Local, begun, begun_post, rounds_told, settled_by, told_by, turn}
+use Rattle.law_all.specs.inv.model.Phases.Base.{Clear, Release}
+use Rattle.law_all.specs.inv.model.Phases.{Base, Outcome, Goes, Ends}
+use Rattle.law_all.specs.inv.model.Posts.{counted, publishes_index, stands}
+use Rattle.law_all.specs.inv.model.Rounds as rounds
+use Rattle.law_all.specs.inv.model.Rounds.{scheme_of}
+use Rattle.law_all.specs.inv.model.Steps as steps
+use Rattle.law_all.specs.inv.model.World.{World, begin, finds, offered, step}
+use Rattle.law_all.specs.inv.model.declared.post.Post.{Post}
+use Rattle.law_all.specs.inv.model.defs.Events.{is_of_rows}
+use Rattle.law_all.specs.inv.model.defs.declared.call.Call.TheVariants as calls
+use Rattle.law_all.specs.inv.model.defs.declared.call.Call.{Call}
+use Rattle.law_all.specs.inv.model.defs.declared.event.Event.TheVariants as events
+use Rattle.law_all.specs.inv.model.defs.declared.event.Event.{Event}
+use Rattle.law_all.specs.inv.model.defs.declared.lifetime.Interval.{Interval}
+use Rattle.law_all.specs.inv.model.words.Place.{is_valid}
+use Rattle.law_all.specs.inv.model.words.Schemes.{has_one_interval, publishes_rows}
+use Rattle.law_all.specs.inv.model.words.declared.layout.Layout.{Layout}
+use Rattle.law_all.specs.inv.Inv.{Inv}
+use Rattle.law_all.specs.inv.ends.Told.{birth_in, row_events}
+use Rattle.law_all.specs.inv.history.History.{Begins, Item, Made, Steps, done_if, fits, made_of, world_of}
+use Rattle.law_all.specs.inv.rows.Hands.{base_row, keep_row, row_move}
+use Rattle.law_all.specs.inv.rows.Rows.RowMove.{Adopts, Stays}
+use Rattle.law_all.specs.inv.shapes.Frame.{phase_left}
+use Rattle.law_all.specs.inv.shapes.Seats.{kind_of, suits}
+use Rattle.law_all.proofs.inv.Inv.Reached.{inv_reached}
+use Rattle.law_all.proofs.inv.ends.Told.Rows.{rows_told}
 use Rattle.law_reasons.proofs.inv.ends.Handover.Asks.{run_of}
-use Rattle.law_logs.proofs.inv.history.Along.{paths_keep}
+use Rattle.law_all.proofs.inv.history.Along.{paths_keep}
 use Rattle.law_held.proofs.reuse.shapes.Frame.{begin_begins, begin_stays, seat_stays, seat_steps}
 use Rattle.law_all.specs.RunLaw.{IsCall, NoRow, is_bare}
 use Rattle.law_all.specs.Runs.{logs_of}
-use Rattle.law_logs.proofs.Notes.{turns_leave_notes}
+use Rattle.law_all.proofs.Logs.Notes.{turns_leave_notes}
 use Rattle.law_all.proofs.Runs.Calls.{log_of_seat}
 
 -- the phases of these calls

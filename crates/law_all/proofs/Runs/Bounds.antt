@@ -1,18 +1,18 @@
 -- In the record of each history no bucket has more changes than there are versions, and no more values were queued than there are
 -- numbers, and no more taken than queued.
 use Rattle.std.proofs.Common.{List, length, refl, subst, subst₂, sym, true, ℕ, ◌≡◌, ◌≤◌}
-use Rattle.law_logs.specs.inv.model.World.{World}
-use Rattle.law_logs.specs.inv.model.defs.declared.fold.Change.{Change}
-use Rattle.law_logs.specs.inv.model.words.Place.{is_valid}
-use Rattle.law_logs.specs.inv.model.words.declared.layout.Layout.{Layout}
-use Rattle.law_logs.specs.inv.history.History.{Item, first_made, record_of, world_of}
-use Rattle.law_logs.specs.inv.history.Record.{Past}
-use Rattle.law_logs.proofs.inv.Finish.{Goes, steady}
-use Rattle.law_logs.proofs.inv.Inv.Begun.{inv_start}
-use Rattle.law_logs.proofs.inv.Inv.Tells.{inv_shows}
-use Rattle.law_logs.proofs.inv.history.Along.{items_keep}
+use Rattle.law_all.specs.inv.model.World.{World}
+use Rattle.law_all.specs.inv.model.defs.declared.fold.Change.{Change}
+use Rattle.law_all.specs.inv.model.words.Place.{is_valid}
+use Rattle.law_all.specs.inv.model.words.declared.layout.Layout.{Layout}
+use Rattle.law_all.specs.inv.history.History.{Item, first_made, record_of, world_of}
+use Rattle.law_all.specs.inv.history.Record.{Past}
+use Rattle.law_all.proofs.inv.Finish.{Goes, steady}
+use Rattle.law_all.proofs.inv.Inv.Begun.{inv_start}
+use Rattle.law_all.proofs.inv.Inv.Tells.{inv_shows}
+use Rattle.law_all.proofs.inv.history.Along.{items_keep}
 use Rattle.law_reasons.proofs.reuse.Lawful.Books.{record_books}
-use Rattle.law_logs.specs.laws.StateAt.{count_of, queued_of, taken_of}
+use Rattle.law_all.specs.laws.StateAt.{count_of, queued_of, taken_of}
 
 pub record Bounds (most : ℕ) (p : Past) : Type 0 where
   pub versions : (b : ℕ) → count_of b p ≤ most

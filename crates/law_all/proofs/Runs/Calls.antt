@@ -3,13 +3,13 @@
 use Rattle.std.proofs.Common.{List, Some, [], append-nil, append_assoc, subst, suc, sym, true, zero, ℕ, ◌++◌, ◌∙◌, ◌∷◌, ◌≡◌}
 use Rattle.std.specs.Prelude.{map, slice_get}
 use Rattle.std.specs.List.{range_with_len}
-use Rattle.law_logs.specs.inv.model.Locals.{Group}
-use Rattle.law_logs.specs.inv.model.words.Place.{is_valid}
-use Rattle.law_logs.specs.inv.model.words.declared.layout.Layout.{Layout}
-use Rattle.law_logs.specs.Records.{IsAnswered}
-use Rattle.law_logs.specs.Versions.{AtMost, counts_of, met_in}
-use Rattle.law_logs.specs.inv.history.History.{Item, record_of, world_of}
-use Rattle.law_logs.proofs.Counts.{most_along, most_same}
+use Rattle.law_all.specs.inv.model.Locals.{Group}
+use Rattle.law_all.specs.inv.model.words.Place.{is_valid}
+use Rattle.law_all.specs.inv.model.words.declared.layout.Layout.{Layout}
+use Rattle.law_all.specs.Logs.Records.{IsAnswered}
+use Rattle.law_all.specs.Logs.Versions.{AtMost, counts_of, met_in}
+use Rattle.law_all.specs.inv.history.History.{Item, record_of, world_of}
+use Rattle.law_all.proofs.Logs.Counts.{most_along, most_same}
 use Rattle.law_all.proofs.Records.{logs_answer}
 use Rattle.law_all.specs.RunLaw.{InOrder, IsCall}
 use Rattle.law_all.specs.Runs.{logs_of}

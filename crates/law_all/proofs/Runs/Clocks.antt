@@ -3,28 +3,28 @@ use Rattle.std.proofs.Common.{Bool, List, None, Option, Some, ap, arith, false, 
 use Rattle.std.proofs.lemmas.Bool.Decides.{nat_tests}
 use Rattle.std.proofs.lemmas.List.Sums.{sum_by_push}
 use Rattle.std.specs.Prelude.{if◌then◌else◌, is_some, nat_lt, ◌%◌, ◌&&◌, ◌==◌, not}
-use Rattle.law_logs.proofs.inv.model.Facts.{first_of, false_of_not, number_is}
-use Rattle.law_logs.specs.inv.model.Desks.{Notes, noted}
-use Rattle.law_logs.specs.inv.model.Locals.{Group}
-use Rattle.law_logs.specs.inv.model.defs.declared.call.Answer.TheVariants as answers
-use Rattle.law_logs.specs.inv.model.defs.declared.call.Answer.{Answer}
-use Rattle.law_logs.specs.inv.model.defs.declared.call.Call.TheVariants as calls
-use Rattle.law_logs.specs.inv.model.defs.declared.call.Call.{Call}
-use Rattle.law_logs.specs.inv.model.defs.declared.event.Event.TheVariants as events
-use Rattle.law_logs.specs.inv.model.defs.declared.event.Event.{Event}
-use Rattle.law_logs.specs.inv.history.Record.Past.{Start, Then}
-use Rattle.law_logs.specs.inv.history.Record.{Each, Past}
-use Rattle.law_logs.specs.Ledgers.{Ledger, ledger_by, ledger_of, left_by, log_of, no_ledger, notes_of}
-use Rattle.law_logs.proofs.Knows.{other_inner, own_log, own_open}
-use Rattle.law_logs.proofs.Ledgers.{ledger_began}
-use Rattle.law_logs.proofs.laws.Tells.{seen_other, seen_own}
-use Rattle.law_logs.specs.laws.AnswerLaw.{is_advance, retires_for, suits}
-use Rattle.law_logs.specs.laws.HistoryAnswers.{ClockTally, answer_right, answers_ok, no_clock, plain_clock, plain_clock_by, retires_ok}
-use Rattle.law_logs.specs.laws.Standing.{open_ok}
-use Rattle.law_logs.specs.laws.Lists.{has_left}
-use Rattle.law_logs.specs.laws.StateAt.{began_of, is_open, one, opened_by, retires_by, retires_of, told_of}
+use Rattle.law_all.proofs.inv.model.Facts.{first_of, false_of_not, number_is}
+use Rattle.law_all.specs.inv.model.Desks.{Notes, noted}
+use Rattle.law_all.specs.inv.model.Locals.{Group}
+use Rattle.law_all.specs.inv.model.defs.declared.call.Answer.TheVariants as answers
+use Rattle.law_all.specs.inv.model.defs.declared.call.Answer.{Answer}
+use Rattle.law_all.specs.inv.model.defs.declared.call.Call.TheVariants as calls
+use Rattle.law_all.specs.inv.model.defs.declared.call.Call.{Call}
+use Rattle.law_all.specs.inv.model.defs.declared.event.Event.TheVariants as events
+use Rattle.law_all.specs.inv.model.defs.declared.event.Event.{Event}
+use Rattle.law_all.specs.inv.history.Record.Past.{Start, Then}
+use Rattle.law_all.specs.inv.history.Record.{Each, Past}
+use Rattle.law_all.specs.Logs.Ledgers.{Ledger, ledger_by, ledger_of, left_by, log_of, no_ledger, notes_of}
+use Rattle.law_all.proofs.Logs.Knows.{other_inner, own_log, own_open}
+use Rattle.law_all.proofs.Logs.Ledgers.{ledger_began}
+use Rattle.law_all.proofs.laws.Tells.{seen_other, seen_own}
+use Rattle.law_all.specs.laws.AnswerLaw.{is_advance, retires_for, suits}
+use Rattle.law_all.specs.laws.HistoryAnswers.{ClockTally, answer_right, answers_ok, no_clock, plain_clock, plain_clock_by, retires_ok}
+use Rattle.law_all.specs.laws.Standing.{open_ok}
+use Rattle.law_all.specs.laws.Lists.{has_left}
+use Rattle.law_all.specs.laws.StateAt.{began_of, is_open, one, opened_by, retires_by, retires_of, told_of}
 use Rattle.law_all.specs.RunLaw.{retired_by, retired_in}
-use Rattle.law_logs.proofs.Runs.Notes.{both_seen, retired_noted}
+use Rattle.law_all.proofs.Logs.Runs.Notes.{both_seen, retired_noted}
 
 -- the clock has to be moved by a call that is an advance, or that noted a life with which its seat retired a multiple of `every` rows
 abbrev Due : (every : ℕ) → Ledger → ClockTally → Type 0

@@ -1,28 +1,28 @@
 -- What is known of a call that has ended, at its end.
 use Rattle.std.proofs.Common.{List, Option, Some, ap, subst, sym, true, ℕ, ◌∙◌, ◌≡◌}
-use Rattle.law_logs.proofs.inv.model.Facts.{first_of, rest_of}
-use Rattle.law_logs.specs.inv.model.Locals.{Group}
-use Rattle.law_logs.specs.inv.model.defs.declared.call.Answer.{Answer}
-use Rattle.law_logs.specs.inv.model.defs.declared.call.Call.{Call}
-use Rattle.law_logs.specs.inv.model.defs.declared.event.Event.TheVariants as events
-use Rattle.law_logs.specs.inv.model.defs.declared.event.Event.{Event}
-use Rattle.law_logs.specs.inv.model.words.Place.{is_valid}
-use Rattle.law_logs.specs.inv.model.words.declared.config.Config.{Config}
-use Rattle.law_logs.specs.inv.model.words.declared.layout.Layout.{Layout}
-use Rattle.law_logs.specs.inv.history.History.{Item, record_of}
-use Rattle.law_logs.specs.inv.history.Record.Past.{Then}
-use Rattle.law_logs.specs.inv.history.Record.{Each, Past, tells}
-use Rattle.law_logs.specs.Records.{IsEnded}
-use Rattle.law_logs.proofs.Along.{lawful_tells}
-use Rattle.law_logs.proofs.Counts.{begun_counts}
-use Rattle.law_logs.proofs.Grows.{Grows, grows_along, grows_entry, grows_tells}
-use Rattle.law_logs.proofs.Heard.{AllHeard}
-use Rattle.law_logs.proofs.Knows.{Lawful, knows, lawful_before}
+use Rattle.law_all.proofs.inv.model.Facts.{first_of, rest_of}
+use Rattle.law_all.specs.inv.model.Locals.{Group}
+use Rattle.law_all.specs.inv.model.defs.declared.call.Answer.{Answer}
+use Rattle.law_all.specs.inv.model.defs.declared.call.Call.{Call}
+use Rattle.law_all.specs.inv.model.defs.declared.event.Event.TheVariants as events
+use Rattle.law_all.specs.inv.model.defs.declared.event.Event.{Event}
+use Rattle.law_all.specs.inv.model.words.Place.{is_valid}
+use Rattle.law_all.specs.inv.model.words.declared.config.Config.{Config}
+use Rattle.law_all.specs.inv.model.words.declared.layout.Layout.{Layout}
+use Rattle.law_all.specs.inv.history.History.{Item, record_of}
+use Rattle.law_all.specs.inv.history.Record.Past.{Then}
+use Rattle.law_all.specs.inv.history.Record.{Each, Past, tells}
+use Rattle.law_all.specs.Logs.Records.{IsEnded}
+use Rattle.law_all.proofs.Logs.Along.{lawful_tells}
+use Rattle.law_all.proofs.Logs.Counts.{begun_counts}
+use Rattle.law_all.proofs.Logs.Grows.{Grows, grows_along, grows_entry, grows_tells}
+use Rattle.law_all.proofs.Logs.Heard.{AllHeard}
+use Rattle.law_all.proofs.Logs.Knows.{Lawful, knows, lawful_before}
 use Rattle.law_all.proofs.Records.{lawful}
-use Rattle.law_logs.specs.laws.AnswerLaw.{suits}
-use Rattle.law_logs.specs.laws.HistoryAnswers.{answer_right, answers_ok, owes, reason, same_told}
-use Rattle.law_logs.specs.laws.Standing.{open_ok}
-use Rattle.law_logs.specs.laws.StateAt.{is_open, told_of}
+use Rattle.law_all.specs.laws.AnswerLaw.{suits}
+use Rattle.law_all.specs.laws.HistoryAnswers.{answer_right, answers_ok, owes, reason, same_told}
+use Rattle.law_all.specs.laws.Standing.{open_ok}
+use Rattle.law_all.specs.laws.StateAt.{is_open, told_of}
 
 -- What is known where a call ends, in a later record: the call has told just what it owes, each of that is so, and its answer has its
 -- reason; its seat is in it; and calls were begun and answered as they have to be till then.

@@ -1,15 +1,15 @@
 -- A call that was given no row has no row that went back before it was given one.
 use Rattle.std.proofs.Common.{List, None, ap, refl, sym, ℕ, ◌∙◌, ◌≡◌}
-use Rattle.law_logs.specs.inv.model.Desks.{Notes}
-use Rattle.law_logs.specs.inv.model.Locals.{Group}
-use Rattle.law_logs.specs.inv.model.defs.declared.event.Event.{Event}
-use Rattle.law_logs.specs.inv.model.defs.declared.event.Event.TheVariants as events
-use Rattle.law_logs.specs.inv.history.Record.{Past}
-use Rattle.law_logs.proofs.letter.Each.{counted_by}
-use Rattle.law_logs.specs.Ledgers.{Ledger, ledger_by, no_ledger}
-use Rattle.law_logs.specs.Records.{IsEnded}
-use Rattle.law_logs.specs.laws.StateAt.{is_give}
-use Rattle.law_logs.proofs.Runs.Notes.{both_seen}
+use Rattle.law_all.specs.inv.model.Desks.{Notes}
+use Rattle.law_all.specs.inv.model.Locals.{Group}
+use Rattle.law_all.specs.inv.model.defs.declared.event.Event.{Event}
+use Rattle.law_all.specs.inv.model.defs.declared.event.Event.TheVariants as events
+use Rattle.law_all.specs.inv.history.Record.{Past}
+use Rattle.law_all.proofs.letter.Each.{counted_by}
+use Rattle.law_all.specs.Logs.Ledgers.{Ledger, ledger_by, no_ledger}
+use Rattle.law_all.specs.Logs.Records.{IsEnded}
+use Rattle.law_all.specs.laws.StateAt.{is_give}
+use Rattle.law_all.proofs.Logs.Runs.Notes.{both_seen}
 
 abbrev Early : Ledger → ℕ → Type 0
 Early x n = x.notes.given ≡ None → x.notes.early ≡ 0

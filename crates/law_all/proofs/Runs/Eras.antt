@@ -2,24 +2,24 @@
 use Rattle.std.proofs.Common.{Bool, List, Option, Some, [], arith, false, refl, subst, sym, true, ℕ, ◌+◌, ◌<◌, ◌∙◌, ◌∷◌, ◌≡◌, ◌≤◌}
 use Rattle.std.proofs.lemmas.Bool.Decides.{nat_tests}
 use Rattle.std.specs.Prelude.{if◌then◌else◌, nat_le, nat_lt, not, ◌&&◌, ◌==◌, ◌||◌}
-use Rattle.law_logs.proofs.inv.model.Facts.{first_of, number_is, rest_of, same_number}
-use Rattle.law_logs.specs.inv.model.defs.Entry.{Entry}
-use Rattle.law_logs.specs.inv.model.defs.declared.call.Answer.TheVariants as answers
-use Rattle.law_logs.specs.inv.model.defs.declared.call.Answer.{Answer}
-use Rattle.law_logs.specs.inv.model.defs.declared.call.Call.{Call}
-use Rattle.law_logs.specs.inv.model.defs.declared.call.ClockMove.TheVariants as moves
-use Rattle.law_logs.specs.inv.model.defs.declared.call.ClockMove.{ClockMove}
-use Rattle.law_logs.specs.inv.model.defs.declared.event.Event.TheVariants as events
-use Rattle.law_logs.specs.inv.model.defs.declared.event.Event.{Event}
-use Rattle.law_logs.specs.inv.model.words.Schemes.{moves as moves_clock}
-use Rattle.law_logs.specs.inv.model.words.declared.config.Config.{Config}
+use Rattle.law_all.proofs.inv.model.Facts.{first_of, number_is, rest_of, same_number}
+use Rattle.law_all.specs.inv.model.defs.Entry.{Entry}
+use Rattle.law_all.specs.inv.model.defs.declared.call.Answer.TheVariants as answers
+use Rattle.law_all.specs.inv.model.defs.declared.call.Answer.{Answer}
+use Rattle.law_all.specs.inv.model.defs.declared.call.Call.{Call}
+use Rattle.law_all.specs.inv.model.defs.declared.call.ClockMove.TheVariants as moves
+use Rattle.law_all.specs.inv.model.defs.declared.call.ClockMove.{ClockMove}
+use Rattle.law_all.specs.inv.model.defs.declared.event.Event.TheVariants as events
+use Rattle.law_all.specs.inv.model.defs.declared.event.Event.{Event}
+use Rattle.law_all.specs.inv.model.words.Schemes.{moves as moves_clock}
+use Rattle.law_all.specs.inv.model.words.declared.config.Config.{Config}
 use Rattle.law_reasons.proofs.Eras.Current.Positions.{ticked_rises}
-use Rattle.law_logs.specs.inv.history.Record.Past.{Start, Then}
-use Rattle.law_logs.specs.inv.history.Record.{Each, Past, tells}
-use Rattle.law_logs.proofs.inv.history.Entries.{each_before}
-use Rattle.law_logs.specs.laws.AnswerLaw.{ClockTally, answer_fits, change_fits, clock_by, clock_tally, clocks_ok, from_by, from_of, is_still, outcome_fits}
-use Rattle.law_logs.specs.laws.EraLaw.{era_ok}
-use Rattle.law_logs.specs.laws.StateAt.{clock_of, is_among, ticked_by}
+use Rattle.law_all.specs.inv.history.Record.Past.{Start, Then}
+use Rattle.law_all.specs.inv.history.Record.{Each, Past, tells}
+use Rattle.law_all.proofs.inv.history.Entries.{each_before}
+use Rattle.law_all.specs.laws.AnswerLaw.{ClockTally, answer_fits, change_fits, clock_by, clock_tally, clocks_ok, from_by, from_of, is_still, outcome_fits}
+use Rattle.law_all.specs.laws.EraLaw.{era_ok}
+use Rattle.law_all.specs.laws.StateAt.{clock_of, is_among, ticked_by}
 use Rattle.law_all.specs.RunLaw.{clock_told, era_spent, era_told}
 
 -- the laws of eras that a record keeps, by recursion

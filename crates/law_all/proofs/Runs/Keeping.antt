@@ -1,41 +1,41 @@
 -- What copies and looks answer is right by what their seat keeps.
 use Rattle.std.proofs.Common.{ℕ, ◌≡◌, ◌≤◌, ◌<◌, true, false, List, ◌∷◌, ◌++◌, length, Option, Some, None, refl, sym, ap, ◌∙◌, subst, arith, append_assoc}
 use Rattle.std.specs.Prelude.{◌==◌}
-use Rattle.law_logs.specs.inv.model.Locals.{Group, may_begin}
-use Rattle.law_logs.specs.inv.model.defs.Entry.{Entry}
-use Rattle.law_logs.specs.inv.model.defs.declared.call.Answer.TheVariants as answers
-use Rattle.law_logs.specs.inv.model.defs.declared.call.Answer.{Answer}
-use Rattle.law_logs.specs.inv.model.defs.declared.call.Call.TheVariants as calls
-use Rattle.law_logs.specs.inv.model.defs.declared.call.Call.{Call}
-use Rattle.law_logs.specs.inv.model.defs.declared.event.Event.TheVariants as events
-use Rattle.law_logs.specs.inv.model.words.declared.config.Config.{Config}
-use Rattle.law_logs.specs.inv.model.words.declared.layout.Layout.{Layout}
-use Rattle.law_logs.specs.laws.HistoryHolds.{copies_ok, indexes_ok}
-use Rattle.law_logs.specs.laws.HistoryTable.{ranges_ok}
-use Rattle.law_logs.specs.laws.StateAt.RowShows.{ShowsVersion}
-use Rattle.law_logs.specs.laws.StateAt.{began_of, changes_of, count_of, is_open, shows_of, stood_at, value_at}
+use Rattle.law_all.specs.inv.model.Locals.{Group, may_begin}
+use Rattle.law_all.specs.inv.model.defs.Entry.{Entry}
+use Rattle.law_all.specs.inv.model.defs.declared.call.Answer.TheVariants as answers
+use Rattle.law_all.specs.inv.model.defs.declared.call.Answer.{Answer}
+use Rattle.law_all.specs.inv.model.defs.declared.call.Call.TheVariants as calls
+use Rattle.law_all.specs.inv.model.defs.declared.call.Call.{Call}
+use Rattle.law_all.specs.inv.model.defs.declared.event.Event.TheVariants as events
+use Rattle.law_all.specs.inv.model.words.declared.config.Config.{Config}
+use Rattle.law_all.specs.inv.model.words.declared.layout.Layout.{Layout}
+use Rattle.law_all.specs.laws.HistoryHolds.{copies_ok, indexes_ok}
+use Rattle.law_all.specs.laws.HistoryTable.{ranges_ok}
+use Rattle.law_all.specs.laws.StateAt.RowShows.{ShowsVersion}
+use Rattle.law_all.specs.laws.StateAt.{began_of, changes_of, count_of, is_open, shows_of, stood_at, value_at}
 use Rattle.law_all.proofs.Whole.{histories_are_lawful}
-use Rattle.law_logs.proofs.inv.history.Entries.{each_of_entries}
-use Rattle.law_logs.specs.inv.history.History.{Item, record_of}
-use Rattle.law_logs.specs.inv.history.Record.Past.{Then}
-use Rattle.law_logs.specs.inv.history.Record.{Past, tells}
-use Rattle.law_logs.specs.Answered.{IsShown, SaysOfRows}
+use Rattle.law_all.proofs.inv.history.Entries.{each_of_entries}
+use Rattle.law_all.specs.inv.history.History.{Item, record_of}
+use Rattle.law_all.specs.inv.history.Record.Past.{Then}
+use Rattle.law_all.specs.inv.history.Record.{Past, tells}
+use Rattle.law_all.specs.Logs.Answered.{IsShown, SaysOfRows}
 use Rattle.law_all.specs.Kept.{Keeping, kept_in, looked_in}
-use Rattle.law_logs.specs.Ledgers.{log_of}
-use Rattle.law_logs.specs.Records.{IsAnswered, IsEnded}
+use Rattle.law_all.specs.Logs.Ledgers.{log_of}
+use Rattle.law_all.specs.Logs.Records.{IsAnswered, IsEnded}
 use Rattle.law_all.specs.RunLaw.{IsCall, IsLook, KeptRight, bucket_kept, look_made}
 use Rattle.law_all.specs.Runs.{AtRest, RunsKeep, logs_of}
-use Rattle.law_logs.specs.Shown.{KeepsShown}
-use Rattle.law_logs.specs.Versions.{seen_in}
-use Rattle.law_logs.proofs.Answered.{value_on}
-use Rattle.law_logs.proofs.Grows.{Grows, more_count}
+use Rattle.law_all.specs.Logs.Shown.{KeepsShown}
+use Rattle.law_all.specs.Logs.Versions.{seen_in}
+use Rattle.law_all.proofs.Logs.Answered.{value_on}
+use Rattle.law_all.proofs.Logs.Grows.{Grows, more_count}
 use Rattle.law_all.proofs.Records.{lawful, logs_answer}
 use Rattle.law_all.proofs.Runs.Calls.{Called, called, log_at, log_of_seat}
 use Rattle.law_all.proofs.Runs.Closes.{closes}
 use Rattle.law_all.proofs.Runs.Keeps.{Holds, Laws, apart_of, copy_low, holds, laws_before, laws_tells, look_low, touches}
 use Rattle.law_all.proofs.Runs.Shelves.{Keeps, KeepsAt, held_tells, held_version}
 use Rattle.law_all.proofs.Shown.{records_keep_shown}
-use Rattle.law_logs.proofs.Shows.{IsVersion, shown_version}
+use Rattle.law_all.proofs.Logs.Shows.{IsVersion, shown_version}
 
 record_laws : (layout : Layout) (items : List Item) → AtRest layout items → Laws layout.config (record_of layout items)
 record_laws layout items rest =

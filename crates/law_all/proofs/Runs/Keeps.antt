@@ -3,40 +3,40 @@ use Rattle.std.proofs.Common.{ℕ, ◌≡◌, ◌≤◌, ◌<◌, ◌+◌, Bool,
 use Rattle.std.proofs.lemmas.Bool.Decides.{nat_tests}
 use Rattle.std.proofs.Math.Nat.{max-le}
 use Rattle.std.specs.Prelude.{◌==◌, ◌&&◌, if◌then◌else◌, max, nat_le, nat_lt, is_none, not}
-use Rattle.law_logs.proofs.inv.model.Facts.{false_of_not, first_of, le_of_test, number_is, rest_of, same_number}
-use Rattle.law_logs.specs.inv.model.Desks.{noted}
-use Rattle.law_logs.specs.inv.model.Locals.{Group, may_begin}
-use Rattle.law_logs.specs.inv.model.defs.Entry.{Entry}
-use Rattle.law_logs.specs.inv.model.defs.Events.{is_held}
-use Rattle.law_logs.specs.inv.model.defs.declared.call.Answer.TheVariants as answers
-use Rattle.law_logs.specs.inv.model.defs.declared.call.Answer.{Answer}
-use Rattle.law_logs.specs.inv.model.defs.declared.call.Call.TheVariants as calls
-use Rattle.law_logs.specs.inv.model.defs.declared.call.Call.{Call}
-use Rattle.law_logs.specs.inv.model.defs.declared.event.Event.TheVariants as events
-use Rattle.law_logs.specs.inv.model.defs.declared.event.Event.{Event}
-use Rattle.law_logs.specs.inv.model.words.declared.config.Config.{Config}
-use Rattle.law_logs.specs.laws.AnswerLaw.{suits, tells_none}
-use Rattle.law_logs.specs.laws.HistoryAnswers.{answer_right, owes, reason, same_told}
-use Rattle.law_logs.specs.laws.HistoryHolds.{clears_at, copies_ok, indexes_ok, protects_at}
-use Rattle.law_logs.specs.laws.HistoryTable.{is_in_range, ranges_ok}
-use Rattle.law_logs.specs.laws.Standing.{is_copy}
-use Rattle.law_logs.specs.laws.StateAt.RowShows.{LinkedAt, ShowsVersion, Unlinked}
-use Rattle.law_logs.specs.laws.Lists.{has_left}
-use Rattle.law_logs.specs.laws.StateAt.{RowShows, began_of, bucket_of, count_of, has_told, is_open, is_row, shows_of, stood_at, stood_by, told_of}
-use Rattle.law_logs.specs.inv.history.Record.Past.{Start, Then}
-use Rattle.law_logs.specs.inv.history.Record.{Each, Past, begins, own, tells, told_since}
-use Rattle.law_logs.specs.Answered.{IsRow, IsShown, Says, SaysOfRows}
+use Rattle.law_all.proofs.inv.model.Facts.{false_of_not, first_of, le_of_test, number_is, rest_of, same_number}
+use Rattle.law_all.specs.inv.model.Desks.{noted}
+use Rattle.law_all.specs.inv.model.Locals.{Group, may_begin}
+use Rattle.law_all.specs.inv.model.defs.Entry.{Entry}
+use Rattle.law_all.specs.inv.model.defs.Events.{is_held}
+use Rattle.law_all.specs.inv.model.defs.declared.call.Answer.TheVariants as answers
+use Rattle.law_all.specs.inv.model.defs.declared.call.Answer.{Answer}
+use Rattle.law_all.specs.inv.model.defs.declared.call.Call.TheVariants as calls
+use Rattle.law_all.specs.inv.model.defs.declared.call.Call.{Call}
+use Rattle.law_all.specs.inv.model.defs.declared.event.Event.TheVariants as events
+use Rattle.law_all.specs.inv.model.defs.declared.event.Event.{Event}
+use Rattle.law_all.specs.inv.model.words.declared.config.Config.{Config}
+use Rattle.law_all.specs.laws.AnswerLaw.{suits, tells_none}
+use Rattle.law_all.specs.laws.HistoryAnswers.{answer_right, owes, reason, same_told}
+use Rattle.law_all.specs.laws.HistoryHolds.{clears_at, copies_ok, indexes_ok, protects_at}
+use Rattle.law_all.specs.laws.HistoryTable.{is_in_range, ranges_ok}
+use Rattle.law_all.specs.laws.Standing.{is_copy}
+use Rattle.law_all.specs.laws.StateAt.RowShows.{LinkedAt, ShowsVersion, Unlinked}
+use Rattle.law_all.specs.laws.Lists.{has_left}
+use Rattle.law_all.specs.laws.StateAt.{RowShows, began_of, bucket_of, count_of, has_told, is_open, is_row, shows_of, stood_at, stood_by, told_of}
+use Rattle.law_all.specs.inv.history.Record.Past.{Start, Then}
+use Rattle.law_all.specs.inv.history.Record.{Each, Past, begins, own, tells, told_since}
+use Rattle.law_all.specs.Logs.Answered.{IsRow, IsShown, Says, SaysOfRows}
 use Rattle.law_all.specs.Kept.{Keeping, kept_by, kept_in, looked_at, looked_by, looked_in}
-use Rattle.law_logs.specs.Ledgers.{log_of, notes_of}
+use Rattle.law_all.specs.Logs.Ledgers.{log_of, notes_of}
 use Rattle.law_all.specs.RunLaw.{bucket_kept}
-use Rattle.law_logs.specs.Shown.{is_bucket_link, links_ok, misses_for, misses_ok, shows_bucket, shows_for, shows_ok, starts_ok}
-use Rattle.law_logs.specs.Versions.{Counts, seen_in}
-use Rattle.law_logs.proofs.Counts.{begun_counts}
-use Rattle.law_logs.proofs.Grows.{grows_entry, more_count}
-use Rattle.law_logs.proofs.Holds.{same_call}
-use Rattle.law_logs.proofs.Knows.{Answers, Inner, Lawful, answers_of, end_log, inner_own, is_inner, knows, lawful_before, other_inner, own_begun, own_log, own_open}
+use Rattle.law_all.specs.Logs.Shown.{is_bucket_link, links_ok, misses_for, misses_ok, shows_bucket, shows_for, shows_ok, starts_ok}
+use Rattle.law_all.specs.Logs.Versions.{Counts, seen_in}
+use Rattle.law_all.proofs.Logs.Counts.{begun_counts}
+use Rattle.law_all.proofs.Logs.Grows.{grows_entry, more_count}
+use Rattle.law_all.proofs.Logs.Holds.{same_call}
+use Rattle.law_all.proofs.Logs.Knows.{Answers, Inner, Lawful, answers_of, end_log, inner_own, is_inner, knows, lawful_before, other_inner, own_begun, own_log, own_open}
 use Rattle.law_all.proofs.Runs.Shelves.{Keeps, KeepsAt, held_now, held_version, kept_more, looked_more, keeps_moved, keeps_on, no_link, still_shows, version_shown}
-use Rattle.law_logs.proofs.Shows.{IsVersion, shown_version}
+use Rattle.law_all.proofs.Logs.Shows.{IsVersion, shown_version}
 
 -- the laws that a record keeps
 pub record Laws (c : Config) (r : Past) : Type 0 where

@@ -1,17 +1,17 @@
 -- What the record of each history keeps, as far as sums over its seats need it.
 use Rattle.std.proofs.Common.{ℕ, ◌≡◌, true, List}
-use Rattle.law_logs.specs.inv.model.defs.declared.event.Event.{Event}
-use Rattle.law_logs.specs.inv.model.words.Place.{is_valid}
-use Rattle.law_logs.specs.inv.model.words.declared.config.Config.{Config}
-use Rattle.law_logs.specs.inv.model.words.declared.layout.Layout.{Layout}
-use Rattle.law_logs.proofs.laws.records.Entries.{each_of_entries}
-use Rattle.law_logs.specs.laws.HistoryAnswers.{answers_ok, plain_clocks_ok}
-use Rattle.law_logs.specs.laws.HistoryEras as eras
-use Rattle.law_logs.specs.laws.HistoryRows.{once_ok, placing_ok}
-use Rattle.law_logs.specs.laws.HistoryTable.{ranges_ok}
-use Rattle.law_logs.specs.laws.MapLaw.{map_ok}
-use Rattle.law_logs.specs.laws.QueueLaw.{queue_ok}
-use Rattle.law_logs.specs.laws.Standing.{open_ok}
+use Rattle.law_all.specs.inv.model.defs.declared.event.Event.{Event}
+use Rattle.law_all.specs.inv.model.words.Place.{is_valid}
+use Rattle.law_all.specs.inv.model.words.declared.config.Config.{Config}
+use Rattle.law_all.specs.inv.model.words.declared.layout.Layout.{Layout}
+use Rattle.law_all.proofs.laws.records.Entries.{each_of_entries}
+use Rattle.law_all.specs.laws.HistoryAnswers.{answers_ok, plain_clocks_ok}
+use Rattle.law_all.specs.laws.HistoryEras as eras
+use Rattle.law_all.specs.laws.HistoryRows.{once_ok, placing_ok}
+use Rattle.law_all.specs.laws.HistoryTable.{ranges_ok}
+use Rattle.law_all.specs.laws.MapLaw.{map_ok}
+use Rattle.law_all.specs.laws.QueueLaw.{queue_ok}
+use Rattle.law_all.specs.laws.Standing.{open_ok}
 use Rattle.law_held.proofs.scans.Placing.Keeps.{records_place_rows}
 use Rattle.law_reasons.proofs.reuse.AnswersTold.Answering.{records_keep_answers}
 use Rattle.law_reasons.proofs.reuse.Lawful.Maps.{records_keep_map}
@@ -21,9 +21,9 @@ use Rattle.law_reasons.proofs.reuse.Once.Keeps.{records_keep_once}
 use Rattle.law_reasons.proofs.Ranges.Records.{records_stay_in_range}
 use Rattle.law_held.proofs.scans.FewRetired.Plain.{records_answer_plainly}
 use Rattle.law_reasons.proofs.Eras.EraLaw.Keeps.{records_keep_eras}
-use Rattle.law_logs.specs.inv.history.History.{Item, record_of}
-use Rattle.law_logs.specs.inv.history.Record.{Each, Past}
-use Rattle.law_logs.specs.inv.history.Record.Past.{Then}
+use Rattle.law_all.specs.inv.history.History.{Item, record_of}
+use Rattle.law_all.specs.inv.history.Record.{Each, Past}
+use Rattle.law_all.specs.inv.history.Record.Past.{Then}
 
 -- by recursion
 pub record Kept (c : Config) (r : Past) : Type 0 where

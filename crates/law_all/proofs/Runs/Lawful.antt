@@ -4,14 +4,14 @@ use Rattle.std.specs.Prelude.{filter, if◌then◌else◌}
 use Rattle.std.specs.List.{range_with_len}
 use Rattle.std.proofs.lemmas.Bool.Decides.{nat_tests}
 use Rattle.std.proofs.lemmas.List.FromFn.{get_or-map-range_with_len, length-map-range_with_len}
-use Rattle.law_logs.specs.inv.model.Locals.{Group}
-use Rattle.law_logs.specs.inv.model.defs.Pairs.{pairs_after}
-use Rattle.law_logs.specs.inv.model.defs.declared.fold.Change.{Change}
-use Rattle.law_logs.specs.inv.model.words.Place.{row_count}
-use Rattle.law_logs.specs.inv.model.words.declared.layout.Layout.{Layout}
-use Rattle.law_logs.specs.laws.StateAt.{Filling, changes_of, clock_of, filling_at, is_among, one, queued_of, taken_at, taken_of}
-use Rattle.law_logs.specs.inv.history.History.{record_of}
-use Rattle.law_logs.specs.inv.history.Record.{Past}
+use Rattle.law_all.specs.inv.model.Locals.{Group}
+use Rattle.law_all.specs.inv.model.defs.Pairs.{pairs_after}
+use Rattle.law_all.specs.inv.model.defs.declared.fold.Change.{Change}
+use Rattle.law_all.specs.inv.model.words.Place.{row_count}
+use Rattle.law_all.specs.inv.model.words.declared.layout.Layout.{Layout}
+use Rattle.law_all.specs.laws.StateAt.{Filling, changes_of, clock_of, filling_at, is_among, one, queued_of, taken_at, taken_of}
+use Rattle.law_all.specs.inv.history.History.{record_of}
+use Rattle.law_all.specs.inv.history.Record.{Past}
 use Rattle.law_all.proofs.Runs.Agrees.{runs_agree}
 use Rattle.law_all.proofs.Runs.Keeping.{runs_keep}
 use Rattle.law_all.proofs.Runs.Bounds.{bounds}

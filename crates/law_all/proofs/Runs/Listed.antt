@@ -3,45 +3,45 @@ use Rattle.std.proofs.Common.{ℕ, ◌≡◌, ◌⊎◌, inl, inr, Bool, true, f
 use Rattle.std.proofs.lemmas.Bool.Decides.{nat_tests}
 use Rattle.std.proofs.lemmas.List.{append-nil, length-map}
 use Rattle.std.specs.Prelude.{◌==◌, ◌&&◌, ◌||◌, if◌then◌else◌, not}
-use Rattle.law_logs.proofs.inv.model.Facts.{false_of_not, first_of, number_is, rest_of, same_number}
-use Rattle.law_logs.specs.inv.model.Desks.{Notes, noted}
-use Rattle.law_logs.specs.inv.model.Locals.{Group}
-use Rattle.law_logs.specs.inv.model.defs.Entry.{Entry}
-use Rattle.law_logs.specs.inv.model.defs.Shown.{Seen}
-use Rattle.law_logs.specs.inv.model.defs.declared.call.Answer.{Answer}
-use Rattle.law_logs.specs.inv.model.defs.declared.call.Answer.TheVariants as answers
-use Rattle.law_logs.specs.inv.model.defs.declared.call.Call.{Call}
-use Rattle.law_logs.specs.inv.model.defs.declared.call.Call.TheVariants as calls
-use Rattle.law_logs.specs.inv.model.defs.declared.event.Event.{Event}
-use Rattle.law_logs.specs.inv.model.defs.declared.event.Event.TheVariants as events
-use Rattle.law_logs.specs.inv.model.defs.declared.event.Root.TheVariants as roots
-use Rattle.law_logs.specs.inv.model.defs.declared.lifetime.Lifetime.{Lifetime}
-use Rattle.law_logs.specs.inv.model.words.Place.{is_valid}
-use Rattle.law_logs.specs.inv.model.words.declared.config.Config.{Config}
-use Rattle.law_logs.specs.inv.model.words.declared.layout.Layout.{Layout}
-use Rattle.law_logs.specs.laws.AnswerLaw.{reason, reasons_ok, suits}
-use Rattle.law_logs.specs.laws.HistoryAnswers.{answer_right, answers_ok, owes, same_told}
-use Rattle.law_logs.specs.laws.HistoryRows.{cuts_one, placing_ok, single_ok}
-use Rattle.law_logs.specs.laws.HistoryScans.{Course, may_read, plain_scans_ok, plain_tally, scan_right}
-use Rattle.law_logs.specs.laws.HistoryScans.Course.{Plain}
-use Rattle.law_logs.specs.laws.Once.{due_at, due_cut, due_linked, is_adopt, lists_ok, meets_due, order_ok, retiring_ok}
-use Rattle.law_logs.specs.laws.ScanLaw.{guards, is_life_of, is_over, next_back, scan_by, scan_ok}
-use Rattle.law_logs.specs.laws.Standing.{is_leave, open_ok}
-use Rattle.law_logs.specs.laws.Lists.{adopts, gained_by, handed_by, has_left, is_adopted, list_of}
-use Rattle.law_logs.specs.laws.StateAt.{Given, began_of, bucket_at, cuts_of, given_of, is_among, is_back, is_dequeue, is_empty, is_open, read_of, retires_of, scans_of, times, told_of}
-use Rattle.law_logs.proofs.inv.history.Entries.{each_before, each_of_entries}
-use Rattle.law_logs.specs.inv.rows.Hands.{each_once, no_entry}
-use Rattle.law_logs.specs.inv.history.History.{Item, record_of}
-use Rattle.law_logs.specs.inv.history.Record.{Each, Past, tells}
-use Rattle.law_logs.specs.inv.history.Record.Past.{Start, Then}
+use Rattle.law_all.proofs.inv.model.Facts.{false_of_not, first_of, number_is, rest_of, same_number}
+use Rattle.law_all.specs.inv.model.Desks.{Notes, noted}
+use Rattle.law_all.specs.inv.model.Locals.{Group}
+use Rattle.law_all.specs.inv.model.defs.Entry.{Entry}
+use Rattle.law_all.specs.inv.model.defs.Shown.{Seen}
+use Rattle.law_all.specs.inv.model.defs.declared.call.Answer.{Answer}
+use Rattle.law_all.specs.inv.model.defs.declared.call.Answer.TheVariants as answers
+use Rattle.law_all.specs.inv.model.defs.declared.call.Call.{Call}
+use Rattle.law_all.specs.inv.model.defs.declared.call.Call.TheVariants as calls
+use Rattle.law_all.specs.inv.model.defs.declared.event.Event.{Event}
+use Rattle.law_all.specs.inv.model.defs.declared.event.Event.TheVariants as events
+use Rattle.law_all.specs.inv.model.defs.declared.event.Root.TheVariants as roots
+use Rattle.law_all.specs.inv.model.defs.declared.lifetime.Lifetime.{Lifetime}
+use Rattle.law_all.specs.inv.model.words.Place.{is_valid}
+use Rattle.law_all.specs.inv.model.words.declared.config.Config.{Config}
+use Rattle.law_all.specs.inv.model.words.declared.layout.Layout.{Layout}
+use Rattle.law_all.specs.laws.AnswerLaw.{reason, reasons_ok, suits}
+use Rattle.law_all.specs.laws.HistoryAnswers.{answer_right, answers_ok, owes, same_told}
+use Rattle.law_all.specs.laws.HistoryRows.{cuts_one, placing_ok, single_ok}
+use Rattle.law_all.specs.laws.HistoryScans.{Course, may_read, plain_scans_ok, plain_tally, scan_right}
+use Rattle.law_all.specs.laws.HistoryScans.Course.{Plain}
+use Rattle.law_all.specs.laws.Once.{due_at, due_cut, due_linked, is_adopt, lists_ok, meets_due, order_ok, retiring_ok}
+use Rattle.law_all.specs.laws.ScanLaw.{guards, is_life_of, is_over, next_back, scan_by, scan_ok}
+use Rattle.law_all.specs.laws.Standing.{is_leave, open_ok}
+use Rattle.law_all.specs.laws.Lists.{adopts, gained_by, handed_by, has_left, is_adopted, list_of}
+use Rattle.law_all.specs.laws.StateAt.{Given, began_of, bucket_at, cuts_of, given_of, is_among, is_back, is_dequeue, is_empty, is_open, read_of, retires_of, scans_of, times, told_of}
+use Rattle.law_all.proofs.inv.history.Entries.{each_before, each_of_entries}
+use Rattle.law_all.specs.inv.rows.Hands.{each_once, no_entry}
+use Rattle.law_all.specs.inv.history.History.{Item, record_of}
+use Rattle.law_all.specs.inv.history.Record.{Each, Past, tells}
+use Rattle.law_all.specs.inv.history.Record.Past.{Start, Then}
 use Rattle.law_all.proofs.Whole.{histories_are_lawful}
-use Rattle.law_logs.proofs.Ledgers.{ledger_began}
-use Rattle.law_logs.proofs.Lists.{leaves_open}
-use Rattle.law_logs.specs.Ledgers.{ledger_of, log_of, notes_of}
-use Rattle.law_logs.specs.Records.{IsEnded}
-use Rattle.law_logs.proofs.Runs.Entries.{fresh_ok, kind_right, kinds_ok, records_keep_fresh, records_keep_kinds}
-use Rattle.law_logs.proofs.Runs.Hands.{hands_ok, records_keep_hands}
-use Rattle.law_logs.proofs.Runs.Owned.{AllTaken, IsTaken, adopted_left, first_taken, left_first, own_is, own_of}
+use Rattle.law_all.proofs.Logs.Ledgers.{ledger_began}
+use Rattle.law_all.proofs.Logs.Lists.{leaves_open}
+use Rattle.law_all.specs.Logs.Ledgers.{ledger_of, log_of, notes_of}
+use Rattle.law_all.specs.Logs.Records.{IsEnded}
+use Rattle.law_all.proofs.Logs.Runs.Entries.{fresh_ok, kind_right, kinds_ok, records_keep_fresh, records_keep_kinds}
+use Rattle.law_all.proofs.Logs.Runs.Hands.{hands_ok, records_keep_hands}
+use Rattle.law_all.proofs.Logs.Runs.Owned.{AllTaken, IsTaken, adopted_left, first_taken, left_first, own_is, own_of}
 use Rattle.law_all.proofs.Runs.Seats.{Allowed, Deed, Seat, gains, hands_on, is_out, is_reading, open_right, parts, seat_by, slots_in, takes_list}
 use Rattle.law_all.proofs.Runs.Stages.{Backs, Sound, Stage, all_are, sound_step, stage_backs}
 use Rattle.law_all.proofs.Runs.Tellings.{told_owed}

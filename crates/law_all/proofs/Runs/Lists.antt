@@ -4,44 +4,44 @@ use Rattle.std.proofs.lemmas.Bool.Decides.{nat_tests}
 use Rattle.std.proofs.lemmas.List.{get_or_past, length-map}
 use Rattle.std.proofs.lemmas.List.FromFn.{get_or-map-range_with_len, length-map-range_with_len}
 use Rattle.std.specs.Prelude.{◌==◌, ◌&&◌, ◌||◌, count_by, if◌then◌else◌, nat_lt, not}
-use Rattle.law_logs.proofs.inv.model.Facts.{false_of_not, first_of, number_is, or_more, rest_of, same_number}
-use Rattle.law_logs.specs.inv.model.CallReady.{slots_of}
-use Rattle.law_logs.specs.inv.model.Desks.{Notes}
-use Rattle.law_logs.specs.inv.model.Locals.{Group}
-use Rattle.law_logs.specs.inv.model.defs.Entry.{Entry}
-use Rattle.law_logs.specs.inv.model.defs.declared.call.Answer.{Answer}
-use Rattle.law_logs.specs.inv.model.defs.declared.call.Answer.TheVariants as answers
-use Rattle.law_logs.specs.inv.model.defs.declared.call.Call.{Call}
-use Rattle.law_logs.specs.inv.model.defs.declared.call.Call.TheVariants as calls
-use Rattle.law_logs.specs.inv.model.defs.declared.event.Event.{Event}
-use Rattle.law_logs.specs.inv.model.defs.declared.event.Event.TheVariants as events
-use Rattle.law_logs.specs.inv.model.defs.declared.lifetime.Lifetime.{Lifetime}
-use Rattle.law_logs.specs.inv.model.words.declared.config.Config.{Config}
-use Rattle.law_logs.specs.inv.model.words.declared.layout.Layout.{Layout}
-use Rattle.law_logs.specs.laws.AnswerLaw.{adopted_else}
-use Rattle.law_logs.specs.laws.HistoryAnswers.{owes}
-use Rattle.law_logs.specs.laws.Once.{is_adopt, lists_ok}
-use Rattle.law_logs.specs.laws.Standing.{is_leave, open_ok}
-use Rattle.law_logs.specs.laws.Lists.{adopts, has_left, is_adopted, is_left, list_of}
-use Rattle.law_logs.specs.laws.StateAt.{began_of, is_open, one, told, told_of}
-use Rattle.law_logs.specs.inv.history.History.{Item, record_of}
-use Rattle.law_logs.specs.inv.history.Record.{Each, Past, begins, tells}
-use Rattle.law_logs.specs.inv.history.Record.Past.{Start, Then}
-use Rattle.law_logs.proofs.Answered.{adopted_on, adopted_tells, left_tells}
-use Rattle.law_logs.proofs.Cuts.{logs_are_cut}
-use Rattle.law_logs.proofs.Knows.{other_inner}
-use Rattle.law_logs.proofs.Ledgers.{records_keep_logs}
-use Rattle.law_logs.proofs.Lists.{AllTold, Told, all_told, leaves_open}
+use Rattle.law_all.proofs.inv.model.Facts.{false_of_not, first_of, number_is, or_more, rest_of, same_number}
+use Rattle.law_all.specs.inv.model.CallReady.{slots_of}
+use Rattle.law_all.specs.inv.model.Desks.{Notes}
+use Rattle.law_all.specs.inv.model.Locals.{Group}
+use Rattle.law_all.specs.inv.model.defs.Entry.{Entry}
+use Rattle.law_all.specs.inv.model.defs.declared.call.Answer.{Answer}
+use Rattle.law_all.specs.inv.model.defs.declared.call.Answer.TheVariants as answers
+use Rattle.law_all.specs.inv.model.defs.declared.call.Call.{Call}
+use Rattle.law_all.specs.inv.model.defs.declared.call.Call.TheVariants as calls
+use Rattle.law_all.specs.inv.model.defs.declared.event.Event.{Event}
+use Rattle.law_all.specs.inv.model.defs.declared.event.Event.TheVariants as events
+use Rattle.law_all.specs.inv.model.defs.declared.lifetime.Lifetime.{Lifetime}
+use Rattle.law_all.specs.inv.model.words.declared.config.Config.{Config}
+use Rattle.law_all.specs.inv.model.words.declared.layout.Layout.{Layout}
+use Rattle.law_all.specs.laws.AnswerLaw.{adopted_else}
+use Rattle.law_all.specs.laws.HistoryAnswers.{owes}
+use Rattle.law_all.specs.laws.Once.{is_adopt, lists_ok}
+use Rattle.law_all.specs.laws.Standing.{is_leave, open_ok}
+use Rattle.law_all.specs.laws.Lists.{adopts, has_left, is_adopted, is_left, list_of}
+use Rattle.law_all.specs.laws.StateAt.{began_of, is_open, one, told, told_of}
+use Rattle.law_all.specs.inv.history.History.{Item, record_of}
+use Rattle.law_all.specs.inv.history.Record.{Each, Past, begins, tells}
+use Rattle.law_all.specs.inv.history.Record.Past.{Start, Then}
+use Rattle.law_all.proofs.Logs.Answered.{adopted_on, adopted_tells, left_tells}
+use Rattle.law_all.proofs.Logs.Cuts.{logs_are_cut}
+use Rattle.law_all.proofs.Logs.Knows.{other_inner}
+use Rattle.law_all.proofs.Logs.Ledgers.{records_keep_logs}
+use Rattle.law_all.proofs.Logs.Lists.{AllTold, Told, all_told, leaves_open}
 use Rattle.law_all.proofs.Records.{logs_answer}
-use Rattle.law_logs.specs.Answered.{IsTakenOver, SaysOfRows}
-use Rattle.law_logs.specs.Ledgers.{log_of}
-use Rattle.law_logs.specs.Records.{IsAnswered, IsEnded}
+use Rattle.law_all.specs.Logs.Answered.{IsTakenOver, SaysOfRows}
+use Rattle.law_all.specs.Logs.Ledgers.{log_of}
+use Rattle.law_all.specs.Logs.Records.{IsAnswered, IsEnded}
 use Rattle.law_all.proofs.Runs.Calls.{Called, Follow, called, follow, log_at, log_of_seat}
 use Rattle.law_all.proofs.Runs.Closes.{Closes, closes}
 use Rattle.law_all.proofs.Runs.Early.{ended_early}
 use Rattle.law_all.proofs.Runs.Kept.{histories_keep}
 use Rattle.law_all.proofs.Runs.Listed.{Kept, Right, before_last, ended_right, kept_before, record_keeps, sound_at, taken_before, whole_at}
-use Rattle.law_logs.proofs.Runs.Owned.{AllTaken, adopted_left, all_taken, first_taken, handed_of, own_of}
+use Rattle.law_all.proofs.Logs.Runs.Owned.{AllTaken, adopted_left, all_taken, first_taken, handed_of, own_of}
 use Rattle.law_all.proofs.Runs.Ranks.{lefts, left_counts, rank, rank_along, rank_here, rank_left, rank_low, rank_stays}
 use Rattle.law_all.proofs.Runs.Rests.{seats_of}
 use Rattle.law_all.proofs.Runs.Seats.{slots_in}

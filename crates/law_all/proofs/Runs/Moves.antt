@@ -1,25 +1,25 @@
 -- The clock: a call says that it moved the clock to an era only where it told that era, and the record tells each era once at most.
 use Rattle.std.proofs.Common.{ℕ, ◌≡◌, ◌+◌, ◌≤◌, Bool, true, false, List, Option, Some, None, refl, sym, ap, subst, arith}
 use Rattle.std.specs.Prelude.{if◌then◌else◌, nat_le, ◌==◌}
-use Rattle.law_logs.proofs.inv.model.Facts.{number_is, rest_of}
-use Rattle.law_logs.specs.inv.model.Locals.{Group}
-use Rattle.law_logs.specs.inv.model.defs.declared.call.Answer.{Answer}
-use Rattle.law_logs.specs.inv.model.defs.declared.call.Answer.TheVariants as answers
-use Rattle.law_logs.specs.inv.model.defs.declared.call.ClockMove.{ClockMove}
-use Rattle.law_logs.specs.inv.model.defs.declared.call.ClockMove.TheVariants as moves
-use Rattle.law_logs.specs.inv.model.defs.declared.event.Event.{Event}
-use Rattle.law_logs.specs.inv.model.defs.declared.event.Event.TheVariants as events
-use Rattle.law_logs.specs.inv.model.words.Schemes.{moves as moves_clock}
-use Rattle.law_logs.specs.inv.model.words.declared.config.Config.{Config}
-use Rattle.law_logs.specs.inv.model.words.declared.layout.Layout.{Layout}
-use Rattle.law_logs.proofs.laws.Tells.{seen_other, seen_own}
-use Rattle.law_logs.specs.laws.AnswerLaw.{is_still}
-use Rattle.law_logs.specs.laws.HistoryAnswers.{ClockTally, answer_fits, change_fits, is_era, no_clock, outcome_fits, plain_clock, plain_clock_by}
-use Rattle.law_logs.specs.laws.HistoryEras.{era_ok}
-use Rattle.law_logs.specs.laws.StateAt.{clock_of, one, told}
-use Rattle.law_logs.specs.inv.history.History.{Item, record_of}
-use Rattle.law_logs.specs.inv.history.Record.{Each, Past}
-use Rattle.law_logs.specs.inv.history.Record.Past.{Start, Then}
+use Rattle.law_all.proofs.inv.model.Facts.{number_is, rest_of}
+use Rattle.law_all.specs.inv.model.Locals.{Group}
+use Rattle.law_all.specs.inv.model.defs.declared.call.Answer.{Answer}
+use Rattle.law_all.specs.inv.model.defs.declared.call.Answer.TheVariants as answers
+use Rattle.law_all.specs.inv.model.defs.declared.call.ClockMove.{ClockMove}
+use Rattle.law_all.specs.inv.model.defs.declared.call.ClockMove.TheVariants as moves
+use Rattle.law_all.specs.inv.model.defs.declared.event.Event.{Event}
+use Rattle.law_all.specs.inv.model.defs.declared.event.Event.TheVariants as events
+use Rattle.law_all.specs.inv.model.words.Schemes.{moves as moves_clock}
+use Rattle.law_all.specs.inv.model.words.declared.config.Config.{Config}
+use Rattle.law_all.specs.inv.model.words.declared.layout.Layout.{Layout}
+use Rattle.law_all.proofs.laws.Tells.{seen_other, seen_own}
+use Rattle.law_all.specs.laws.AnswerLaw.{is_still}
+use Rattle.law_all.specs.laws.HistoryAnswers.{ClockTally, answer_fits, change_fits, is_era, no_clock, outcome_fits, plain_clock, plain_clock_by}
+use Rattle.law_all.specs.laws.HistoryEras.{era_ok}
+use Rattle.law_all.specs.laws.StateAt.{clock_of, one, told}
+use Rattle.law_all.specs.inv.history.History.{Item, record_of}
+use Rattle.law_all.specs.inv.history.Record.{Each, Past}
+use Rattle.law_all.specs.inv.history.Record.Past.{Start, Then}
 use Rattle.law_all.specs.RunLaw.{clock_told, era_moved, has_number, is_moved_to, once_up_to, total_of}
 use Rattle.law_all.specs.Runs.{AtRest, logs_of}
 use Rattle.law_all.proofs.Runs.Kept.{Kept, histories_keep}

@@ -2,8 +2,8 @@
 use Rattle.std.proofs.Common.{ℕ, ◌≡◌, ◌+◌, ◌≤◌, Bool, true, false, refl, arith}
 use Rattle.std.proofs.lemmas.Bool.Decides.{nat_tests}
 use Rattle.std.specs.Prelude.{if◌then◌else◌, nat_le, ◌&&◌, ◌==◌}
-use Rattle.law_logs.proofs.inv.model.Facts.{first_of, number_is}
-use Rattle.law_logs.specs.laws.StateAt.{one}
+use Rattle.law_all.proofs.inv.model.Facts.{first_of, number_is}
+use Rattle.law_all.specs.laws.StateAt.{one}
 use Rattle.law_all.specs.RunLaw.{once_up_to}
 
 pub one_counts : (b : Bool) → (if b then 1 else 0) ≡ one b

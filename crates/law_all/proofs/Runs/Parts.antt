@@ -2,15 +2,15 @@
 use Rattle.std.proofs.Common.{ℕ, ◌≡◌, ◌⊎◌, inl, inr, Bool, true, false, List, [], ◌∷◌, ◌++◌, Some, refl, sym, ap, ◌∙◌, subst, arith}
 use Rattle.std.proofs.lemmas.Bool.Decides.{nat_tests}
 use Rattle.std.specs.Prelude.{◌==◌, if◌then◌else◌, not}
-use Rattle.law_logs.proofs.inv.model.Facts.{first_of, rest_of, same_number}
-use Rattle.law_logs.proofs.inv.model.Lists.{or_left, or_right}
-use Rattle.law_logs.specs.inv.model.CallReady.{slots_of}
-use Rattle.law_logs.specs.inv.model.defs.Shown.{Seen, keeps_any}
-use Rattle.law_logs.specs.inv.model.defs.declared.lifetime.Lifetime.{Lifetime}
-use Rattle.law_logs.specs.laws.ScanLaw.{next_back}
-use Rattle.law_logs.specs.laws.Lists.{without}
-use Rattle.law_logs.specs.laws.StateAt.{is_among, without_one}
-use Rattle.law_logs.specs.inv.rows.Hands.{each_once, no_entry}
+use Rattle.law_all.proofs.inv.model.Facts.{first_of, rest_of, same_number}
+use Rattle.law_all.proofs.inv.model.Lists.{or_left, or_right}
+use Rattle.law_all.specs.inv.model.CallReady.{slots_of}
+use Rattle.law_all.specs.inv.model.defs.Shown.{Seen, keeps_any}
+use Rattle.law_all.specs.inv.model.defs.declared.lifetime.Lifetime.{Lifetime}
+use Rattle.law_all.specs.laws.ScanLaw.{next_back}
+use Rattle.law_all.specs.laws.Lists.{without}
+use Rattle.law_all.specs.laws.StateAt.{is_among, without_one}
+use Rattle.law_all.specs.inv.rows.Hands.{each_once, no_entry}
 use Rattle.law_all.specs.RunLaw.{is_part_of, without_all}
 
 -- These slots went back, in order, of a list whose slots were `slots`, and these lives are left: each row that was passed over before

@@ -2,20 +2,20 @@
 use Rattle.std.proofs.Common.{List, Some, [], ap, arith, length, subst, sym, true, ℕ, ◌++◌, ◌-◌, ◌<◌, ◌∙◌, ◌∷◌, ◌≡◌, ◌≤◌}
 use Rattle.std.proofs.lemmas.Option.{slice_get-get_or}
 use Rattle.std.specs.Prelude.{slice_get, slice_index_or}
-use Rattle.law_logs.specs.inv.model.Locals.{Group}
-use Rattle.law_logs.specs.inv.model.defs.declared.call.Answer.TheVariants as answers
-use Rattle.law_logs.specs.inv.model.defs.declared.call.Answer.{Answer}
-use Rattle.law_logs.specs.inv.model.defs.declared.call.Call.TheVariants as calls
-use Rattle.law_logs.specs.inv.model.defs.declared.call.Call.{Call}
-use Rattle.law_logs.specs.inv.model.words.declared.config.Config.{Config}
-use Rattle.law_logs.specs.inv.model.words.declared.layout.Layout.{Layout}
-use Rattle.law_logs.specs.inv.history.History.{Item, record_of}
-use Rattle.law_logs.specs.inv.history.Record.{Past}
-use Rattle.law_logs.specs.Answered.{IsEmpty, Says}
-use Rattle.law_logs.specs.Versions.{Counts, counts_of, met_in}
-use Rattle.law_logs.proofs.Grows.{Grows, grows_tells}
-use Rattle.law_logs.specs.laws.AnswerLaw.{suits}
-use Rattle.law_logs.specs.laws.StateAt.{queued_of, taken_of}
+use Rattle.law_all.specs.inv.model.Locals.{Group}
+use Rattle.law_all.specs.inv.model.defs.declared.call.Answer.TheVariants as answers
+use Rattle.law_all.specs.inv.model.defs.declared.call.Answer.{Answer}
+use Rattle.law_all.specs.inv.model.defs.declared.call.Call.TheVariants as calls
+use Rattle.law_all.specs.inv.model.defs.declared.call.Call.{Call}
+use Rattle.law_all.specs.inv.model.words.declared.config.Config.{Config}
+use Rattle.law_all.specs.inv.model.words.declared.layout.Layout.{Layout}
+use Rattle.law_all.specs.inv.history.History.{Item, record_of}
+use Rattle.law_all.specs.inv.history.Record.{Past}
+use Rattle.law_all.specs.Logs.Answered.{IsEmpty, Says}
+use Rattle.law_all.specs.Logs.Versions.{Counts, counts_of, met_in}
+use Rattle.law_all.proofs.Logs.Grows.{Grows, grows_tells}
+use Rattle.law_all.specs.laws.AnswerLaw.{suits}
+use Rattle.law_all.specs.laws.StateAt.{queued_of, taken_of}
 use Rattle.law_all.specs.RunLaw.{InOrder, IsCall, QueuesRight, is_queued_as}
 use Rattle.law_all.specs.Runs.{AtRest, logs_of}
 use Rattle.law_all.proofs.Runs.Bounds.{bounds}

@@ -1,13 +1,13 @@
 -- How many seats had left when a seat left: a list goes only to a seat that has not left yet, and so had a greater number.
 use Rattle.std.proofs.Common.{ℕ, ◌≡◌, ◌≤◌, ◌<◌, ◌+◌, Bool, true, false, List, [], ◌∷◌, refl, sym, ap, ◌∙◌, arith}
 use Rattle.std.specs.Prelude.{◌==◌, ◌&&◌, ◌||◌, if◌then◌else◌}
-use Rattle.law_logs.proofs.inv.model.Facts.{first_of, or_more}
-use Rattle.law_logs.specs.inv.model.defs.Entry.{Entry}
-use Rattle.law_logs.specs.inv.model.defs.declared.event.Event.{Event}
-use Rattle.law_logs.specs.inv.history.Record.{Past, tells}
-use Rattle.law_logs.specs.inv.history.Record.Past.{Start, Then}
-use Rattle.law_logs.specs.laws.Lists.{has_left, is_left}
-use Rattle.law_logs.specs.laws.StateAt.{one, told}
+use Rattle.law_all.proofs.inv.model.Facts.{first_of, or_more}
+use Rattle.law_all.specs.inv.model.defs.Entry.{Entry}
+use Rattle.law_all.specs.inv.model.defs.declared.event.Event.{Event}
+use Rattle.law_all.specs.inv.history.Record.{Past, tells}
+use Rattle.law_all.specs.inv.history.Record.Past.{Start, Then}
+use Rattle.law_all.specs.laws.Lists.{has_left, is_left}
+use Rattle.law_all.specs.laws.StateAt.{one, told}
 use Rattle.law_all.proofs.Runs.Totals.{own_count}
 
 -- how many seats have left

@@ -3,30 +3,30 @@ use Rattle.std.proofs.Common.{[], ◌∷◌, Bool, List, Some, ap, arith, false,
 use Rattle.std.proofs.lemmas.List.{get_or_append_left}
 use Rattle.std.proofs.lemmas.Option.{slice_get_read}
 use Rattle.std.specs.Prelude.{if◌then◌else◌, is_some, nat_le, nat_lt, slice_get, ◌&&◌, ◌==◌, ◌||◌}
-use Rattle.law_logs.proofs.inv.model.Facts.{rest_of}
-use Rattle.law_logs.specs.inv.model.Locals.{Group}
-use Rattle.law_logs.specs.inv.model.defs.Pairs.{Pair, value_in}
-use Rattle.law_logs.specs.inv.model.defs.declared.call.Answer.TheVariants as answers
-use Rattle.law_logs.specs.inv.model.defs.declared.call.Answer.{Answer}
-use Rattle.law_logs.specs.inv.model.defs.declared.call.Call.TheVariants as calls
-use Rattle.law_logs.specs.inv.model.defs.declared.call.Call.{Call}
-use Rattle.law_logs.specs.inv.model.defs.declared.call.ClockMove.TheVariants as moves
-use Rattle.law_logs.specs.inv.model.defs.declared.call.ClockMove.{ClockMove}
-use Rattle.law_logs.specs.inv.model.defs.declared.event.Event.TheVariants as events
-use Rattle.law_logs.specs.inv.model.defs.declared.fold.Change.TheVariants as changes
-use Rattle.law_logs.specs.inv.model.defs.declared.fold.Change.{Change}
-use Rattle.law_logs.specs.inv.model.words.declared.config.Config.{Config}
-use Rattle.law_logs.specs.inv.model.words.declared.layout.Layout.{Layout}
-use Rattle.law_logs.specs.inv.history.History.{Item, record_of}
-use Rattle.law_logs.specs.inv.history.Record.{Past}
-use Rattle.law_logs.specs.Answered.{Says}
-use Rattle.law_logs.specs.Versions.{Counts, counts_of}
-use Rattle.law_logs.proofs.Answered.{pairs_on}
-use Rattle.law_logs.proofs.Counts.{begun_counts}
-use Rattle.law_logs.proofs.Grows.{Grows}
-use Rattle.law_logs.specs.laws.HistoryAnswers.{put_reason, same_told}
-use Rattle.law_logs.proofs.Heard.{AllHeard, ChangeHeard, heard_one, same_put, same_removed}
-use Rattle.law_logs.specs.laws.StateAt.{bucket_of, changes_of, count_of, had_version, is_there, pairs_at, told_of}
+use Rattle.law_all.proofs.inv.model.Facts.{rest_of}
+use Rattle.law_all.specs.inv.model.Locals.{Group}
+use Rattle.law_all.specs.inv.model.defs.Pairs.{Pair, value_in}
+use Rattle.law_all.specs.inv.model.defs.declared.call.Answer.TheVariants as answers
+use Rattle.law_all.specs.inv.model.defs.declared.call.Answer.{Answer}
+use Rattle.law_all.specs.inv.model.defs.declared.call.Call.TheVariants as calls
+use Rattle.law_all.specs.inv.model.defs.declared.call.Call.{Call}
+use Rattle.law_all.specs.inv.model.defs.declared.call.ClockMove.TheVariants as moves
+use Rattle.law_all.specs.inv.model.defs.declared.call.ClockMove.{ClockMove}
+use Rattle.law_all.specs.inv.model.defs.declared.event.Event.TheVariants as events
+use Rattle.law_all.specs.inv.model.defs.declared.fold.Change.TheVariants as changes
+use Rattle.law_all.specs.inv.model.defs.declared.fold.Change.{Change}
+use Rattle.law_all.specs.inv.model.words.declared.config.Config.{Config}
+use Rattle.law_all.specs.inv.model.words.declared.layout.Layout.{Layout}
+use Rattle.law_all.specs.inv.history.History.{Item, record_of}
+use Rattle.law_all.specs.inv.history.Record.{Past}
+use Rattle.law_all.specs.Logs.Answered.{Says}
+use Rattle.law_all.specs.Logs.Versions.{Counts, counts_of}
+use Rattle.law_all.proofs.Logs.Answered.{pairs_on}
+use Rattle.law_all.proofs.Logs.Counts.{begun_counts}
+use Rattle.law_all.proofs.Logs.Grows.{Grows}
+use Rattle.law_all.specs.laws.HistoryAnswers.{put_reason, same_told}
+use Rattle.law_all.proofs.Logs.Heard.{AllHeard, ChangeHeard, heard_one, same_put, same_removed}
+use Rattle.law_all.specs.laws.StateAt.{bucket_of, changes_of, count_of, had_version, is_there, pairs_at, told_of}
 use Rattle.law_all.specs.RunLaw.{IsCall, IsMade, ReadsRight, could_put}
 use Rattle.law_all.specs.Runs.{AtRest, logs_of}
 use Rattle.law_all.proofs.Runs.Bounds.{Bounds, bounds}

@@ -2,16 +2,16 @@
 use Rattle.std.proofs.Common.{ℕ, Bool, true, false, List, sym, ◌∙◌, subst}
 use Rattle.std.specs.List.{sum_by}
 use Rattle.std.specs.Prelude.{nat_lt}
-use Rattle.law_logs.proofs.inv.model.Facts.{first_of}
-use Rattle.law_logs.specs.inv.model.Locals.{Group}
-use Rattle.law_logs.specs.inv.model.words.declared.config.Config.{Config}
-use Rattle.law_logs.specs.inv.model.words.declared.layout.Layout.{Layout}
-use Rattle.law_logs.specs.laws.HistoryTable.{is_in_range, ranges_ok}
-use Rattle.law_logs.specs.laws.StateAt.{told}
-use Rattle.law_logs.proofs.Ledgers.{records_keep_logs}
-use Rattle.law_logs.specs.inv.history.History.{Item, record_of, world_of}
-use Rattle.law_logs.specs.inv.history.Record.{Each, Past}
-use Rattle.law_logs.specs.inv.history.Record.Past.{Start, Then}
+use Rattle.law_all.proofs.inv.model.Facts.{first_of}
+use Rattle.law_all.specs.inv.model.Locals.{Group}
+use Rattle.law_all.specs.inv.model.words.declared.config.Config.{Config}
+use Rattle.law_all.specs.inv.model.words.declared.layout.Layout.{Layout}
+use Rattle.law_all.specs.laws.HistoryTable.{is_in_range, ranges_ok}
+use Rattle.law_all.specs.laws.StateAt.{told}
+use Rattle.law_all.proofs.Logs.Ledgers.{records_keep_logs}
+use Rattle.law_all.specs.inv.history.History.{Item, record_of, world_of}
+use Rattle.law_all.specs.inv.history.Record.{Each, Past}
+use Rattle.law_all.specs.inv.history.Record.Past.{Start, Then}
 use Rattle.law_all.specs.RunLaw.{total}
 use Rattle.law_all.specs.Runs.{AtRest, logs_of}
 use Rattle.law_all.proofs.Runs.Kept.{Kept, histories_keep}

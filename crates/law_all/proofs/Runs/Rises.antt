@@ -1,20 +1,20 @@
 -- What the answers of a seat tell of versions and of numbers rises.
 use Rattle.std.proofs.Common.{Bool, List, None, Option, Some, [], ap, arith, refl, subst, sym, true, ℕ, ◌++◌, ◌<◌, ◌∙◌, ◌∷◌, ◌≡◌, ◌≤◌}
 use Rattle.std.specs.Prelude.{if◌then◌else◌, is_some, ◌&&◌, ◌==◌}
-use Rattle.law_logs.proofs.inv.model.Facts.{first_of, number_is, rest_of, same_test}
-use Rattle.law_logs.specs.inv.model.Locals.{Group}
-use Rattle.law_logs.specs.inv.model.defs.declared.call.Answer.{Answer}
-use Rattle.law_logs.specs.inv.model.defs.declared.call.Answer.TheVariants as answers
-use Rattle.law_logs.specs.inv.model.defs.declared.call.Call.{Call}
-use Rattle.law_logs.specs.inv.model.defs.declared.call.Call.TheVariants as calls
-use Rattle.law_logs.specs.inv.model.words.declared.config.Config.{Config}
-use Rattle.law_logs.specs.inv.model.words.declared.layout.Layout.{Layout}
-use Rattle.law_logs.specs.laws.StateAt.{bucket_of}
-use Rattle.law_logs.specs.Answered.{Says}
-use Rattle.law_logs.specs.Versions.{Counts, counts_of, met_in, number_by, number_queued, number_taken, version_by, version_told}
-use Rattle.law_logs.specs.inv.history.History.{Item, record_of}
-use Rattle.law_logs.specs.inv.history.Record.{Past}
-use Rattle.law_logs.proofs.Meets.{logs_extend, version_met}
+use Rattle.law_all.proofs.inv.model.Facts.{first_of, number_is, rest_of, same_test}
+use Rattle.law_all.specs.inv.model.Locals.{Group}
+use Rattle.law_all.specs.inv.model.defs.declared.call.Answer.{Answer}
+use Rattle.law_all.specs.inv.model.defs.declared.call.Answer.TheVariants as answers
+use Rattle.law_all.specs.inv.model.defs.declared.call.Call.{Call}
+use Rattle.law_all.specs.inv.model.defs.declared.call.Call.TheVariants as calls
+use Rattle.law_all.specs.inv.model.words.declared.config.Config.{Config}
+use Rattle.law_all.specs.inv.model.words.declared.layout.Layout.{Layout}
+use Rattle.law_all.specs.laws.StateAt.{bucket_of}
+use Rattle.law_all.specs.Logs.Answered.{Says}
+use Rattle.law_all.specs.Logs.Versions.{Counts, counts_of, met_in, number_by, number_queued, number_taken, version_by, version_told}
+use Rattle.law_all.specs.inv.history.History.{Item, record_of}
+use Rattle.law_all.specs.inv.history.Record.{Past}
+use Rattle.law_all.proofs.Logs.Meets.{logs_extend, version_met}
 use Rattle.law_all.specs.RunLaw.{InOrder, RisesLaw, change_made, has_number, is_queued_as, is_taken_as, is_version}
 use Rattle.law_all.specs.Runs.{AtRest, logs_of}
 use Rattle.law_all.proofs.Runs.Calls.{Called, Follow, called, follow}

@@ -3,23 +3,23 @@
 use Rattle.std.proofs.Common.{ℕ, ◌≡◌, ◌+◌, Bool, true, false, List, refl, sym, ap, ◌∙◌, subst, arith}
 use Rattle.std.proofs.lemmas.List.Sums.{sum_by_push}
 use Rattle.std.specs.Prelude.{count_by, if◌then◌else◌, ◌&&◌, ◌==◌}
-use Rattle.law_logs.proofs.inv.model.Facts.{false_of_not, first_of, number_is}
-use Rattle.law_logs.specs.inv.model.Desks.{Notes, no_notes, noted}
-use Rattle.law_logs.specs.inv.model.Locals.{Group}
-use Rattle.law_logs.specs.inv.model.defs.declared.event.Event.{Event}
-use Rattle.law_logs.specs.inv.model.defs.declared.event.Event.TheVariants as events
-use Rattle.law_logs.specs.inv.model.defs.declared.event.Root.TheVariants as roots
-use Rattle.law_logs.specs.inv.model.words.declared.config.Config.{Config}
-use Rattle.law_logs.specs.inv.model.words.declared.layout.Layout.{Layout}
-use Rattle.law_logs.proofs.laws.Tells.{seen_other, seen_own}
-use Rattle.law_logs.specs.laws.HistoryRows.{is_in_hand, is_without, once_ok, places_right, placing_ok}
-use Rattle.law_logs.specs.laws.StateAt.Given.{InHand, Placed, Without}
-use Rattle.law_logs.specs.laws.Lists.{has_slot, list_of}
-use Rattle.law_logs.specs.laws.StateAt.{Given, given_by, given_of, one, taken_at, told}
-use Rattle.law_logs.specs.Ledgers.{Ledger, ledger_by, ledger_of, no_ledger, notes_of}
-use Rattle.law_logs.specs.inv.history.History.{Item, record_of}
-use Rattle.law_logs.specs.inv.history.Record.{Each, Past}
-use Rattle.law_logs.specs.inv.history.Record.Past.{Start, Then}
+use Rattle.law_all.proofs.inv.model.Facts.{false_of_not, first_of, number_is}
+use Rattle.law_all.specs.inv.model.Desks.{Notes, no_notes, noted}
+use Rattle.law_all.specs.inv.model.Locals.{Group}
+use Rattle.law_all.specs.inv.model.defs.declared.event.Event.{Event}
+use Rattle.law_all.specs.inv.model.defs.declared.event.Event.TheVariants as events
+use Rattle.law_all.specs.inv.model.defs.declared.event.Root.TheVariants as roots
+use Rattle.law_all.specs.inv.model.words.declared.config.Config.{Config}
+use Rattle.law_all.specs.inv.model.words.declared.layout.Layout.{Layout}
+use Rattle.law_all.proofs.laws.Tells.{seen_other, seen_own}
+use Rattle.law_all.specs.laws.HistoryRows.{is_in_hand, is_without, once_ok, places_right, placing_ok}
+use Rattle.law_all.specs.laws.StateAt.Given.{InHand, Placed, Without}
+use Rattle.law_all.specs.laws.Lists.{has_slot, list_of}
+use Rattle.law_all.specs.laws.StateAt.{Given, given_by, given_of, one, taken_at, told}
+use Rattle.law_all.specs.Logs.Ledgers.{Ledger, ledger_by, ledger_of, no_ledger, notes_of}
+use Rattle.law_all.specs.inv.history.History.{Item, record_of}
+use Rattle.law_all.specs.inv.history.Record.{Each, Past}
+use Rattle.law_all.specs.inv.history.Record.Past.{Start, Then}
 use Rattle.law_all.specs.RunLaw.{backs_in, gives, is_slot_of, total, unuseds}
 use Rattle.law_all.specs.Runs.{AtRest, logs_of}
 use Rattle.law_all.proofs.Runs.Kept.{Kept, histories_keep}

@@ -3,27 +3,27 @@
 use Rattle.std.proofs.Common.{ℕ, ◌≡◌, ◌+◌, Bool, true, false, List, [], ◌∷◌, ◌++◌, length, Option, Some, refl, sym, ap, subst, arith, length-append}
 use Rattle.std.proofs.lemmas.Bool.Decides.{nat_tests}
 use Rattle.std.specs.Prelude.{◌==◌, ◌&&◌, ◌||◌, if◌then◌else◌, is_none, nat_lt, not}
-use Rattle.law_logs.proofs.inv.model.Facts.{first_of, or_more}
-use Rattle.law_logs.specs.inv.model.CallReady.{slots_of}
-use Rattle.law_logs.specs.inv.model.defs.Shown.{Seen, shown, shown_row}
-use Rattle.law_logs.specs.inv.model.defs.declared.call.Call.{Call}
-use Rattle.law_logs.specs.inv.model.defs.declared.call.Call.TheVariants as calls
-use Rattle.law_logs.specs.inv.model.defs.declared.event.Event.{Event}
-use Rattle.law_logs.specs.inv.model.defs.declared.event.Event.TheVariants as events
-use Rattle.law_logs.specs.inv.model.defs.declared.event.Root.TheVariants as roots
-use Rattle.law_logs.specs.inv.model.defs.declared.lifetime.Lifetime.{Lifetime}
-use Rattle.law_logs.specs.inv.model.words.declared.config.Config.{Config}
-use Rattle.law_logs.specs.laws.HistoryRows.{cuts_one, is_in_hand, is_without, places_right}
-use Rattle.law_logs.specs.laws.HistoryScans.{Course, Tally, first_course, may_read, moved_course, plain_by, read_course, retired_course, scan_right}
-use Rattle.law_logs.specs.laws.HistoryScans.Course.{Advancing, MayScan, MustScan, Plain, Reading}
-use Rattle.law_logs.specs.laws.ScanLaw.{guards, is_given_one, is_life_of, is_over, next_back, scan_by}
-use Rattle.law_logs.specs.laws.Standing.{is_leave}
-use Rattle.law_logs.specs.laws.Lists.{gained_by}
-use Rattle.law_logs.specs.laws.StateAt.{Given, InHand, Placed, Without, cuts_by, given_by, is_dequeue, is_empty, is_scan, opened_by, read_by, retires_by, with_told}
-use Rattle.law_logs.proofs.inv.rows.Lists.{once_last}
-use Rattle.law_logs.specs.inv.rows.Hands.{each_once, no_entry}
-use Rattle.law_logs.specs.Ledgers.{Ledger, ledger_by}
-use Rattle.law_logs.proofs.Runs.Entries.{kind_right}
+use Rattle.law_all.proofs.inv.model.Facts.{first_of, or_more}
+use Rattle.law_all.specs.inv.model.CallReady.{slots_of}
+use Rattle.law_all.specs.inv.model.defs.Shown.{Seen, shown, shown_row}
+use Rattle.law_all.specs.inv.model.defs.declared.call.Call.{Call}
+use Rattle.law_all.specs.inv.model.defs.declared.call.Call.TheVariants as calls
+use Rattle.law_all.specs.inv.model.defs.declared.event.Event.{Event}
+use Rattle.law_all.specs.inv.model.defs.declared.event.Event.TheVariants as events
+use Rattle.law_all.specs.inv.model.defs.declared.event.Root.TheVariants as roots
+use Rattle.law_all.specs.inv.model.defs.declared.lifetime.Lifetime.{Lifetime}
+use Rattle.law_all.specs.inv.model.words.declared.config.Config.{Config}
+use Rattle.law_all.specs.laws.HistoryRows.{cuts_one, is_in_hand, is_without, places_right}
+use Rattle.law_all.specs.laws.HistoryScans.{Course, Tally, first_course, may_read, moved_course, plain_by, read_course, retired_course, scan_right}
+use Rattle.law_all.specs.laws.HistoryScans.Course.{Advancing, MayScan, MustScan, Plain, Reading}
+use Rattle.law_all.specs.laws.ScanLaw.{guards, is_given_one, is_life_of, is_over, next_back, scan_by}
+use Rattle.law_all.specs.laws.Standing.{is_leave}
+use Rattle.law_all.specs.laws.Lists.{gained_by}
+use Rattle.law_all.specs.laws.StateAt.{Given, InHand, Placed, Without, cuts_by, given_by, is_dequeue, is_empty, is_scan, opened_by, read_by, retires_by, with_told}
+use Rattle.law_all.proofs.inv.rows.Lists.{once_last}
+use Rattle.law_all.specs.inv.rows.Hands.{each_once, no_entry}
+use Rattle.law_all.specs.Logs.Ledgers.{Ledger, ledger_by}
+use Rattle.law_all.proofs.Logs.Runs.Entries.{kind_right}
 use Rattle.law_all.proofs.Runs.Parts.{once_without}
 use Rattle.law_all.specs.RunLaw.{slots_gained, taken_over}
 

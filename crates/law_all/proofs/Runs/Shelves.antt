@@ -3,24 +3,24 @@
 use Rattle.std.proofs.Common.{ℕ, ◌≡◌, ◌≤◌, ◌<◌, ◌+◌, Bool, true, false, List, [], ◌∷◌, ◌++◌, length, Option, Some, None, refl, sym, ap, ◌∙◌, subst, arith, append-nil, append_assoc, length-append}
 use Rattle.std.proofs.lemmas.Bool.Decides.{nat_tests}
 use Rattle.std.specs.Prelude.{◌==◌, ◌&&◌, if◌then◌else◌}
-use Rattle.law_logs.proofs.inv.model.Facts.{false_of_not, same_number}
-use Rattle.law_logs.specs.inv.model.Locals.{Group}
-use Rattle.law_logs.specs.inv.model.defs.Entry.{Entry}
-use Rattle.law_logs.specs.inv.model.defs.declared.call.Answer.{Answer}
-use Rattle.law_logs.specs.inv.model.defs.declared.event.Event.TheVariants as events
-use Rattle.law_logs.specs.inv.model.defs.declared.event.Event.{Event}
-use Rattle.law_logs.specs.inv.model.defs.declared.event.Root.TheVariants as roots
-use Rattle.law_logs.specs.inv.model.words.declared.config.Config.{Config}
-use Rattle.law_logs.specs.laws.StateAt.RowShows.{ShowsVersion}
-use Rattle.law_logs.specs.laws.StateAt.{RowShows, changed_to, is_row, shows_of, stood_at}
-use Rattle.law_logs.specs.inv.history.Record.Past.{Start, Then}
-use Rattle.law_logs.specs.inv.history.Record.{Past, tells}
+use Rattle.law_all.proofs.inv.model.Facts.{false_of_not, same_number}
+use Rattle.law_all.specs.inv.model.Locals.{Group}
+use Rattle.law_all.specs.inv.model.defs.Entry.{Entry}
+use Rattle.law_all.specs.inv.model.defs.declared.call.Answer.{Answer}
+use Rattle.law_all.specs.inv.model.defs.declared.event.Event.TheVariants as events
+use Rattle.law_all.specs.inv.model.defs.declared.event.Event.{Event}
+use Rattle.law_all.specs.inv.model.defs.declared.event.Root.TheVariants as roots
+use Rattle.law_all.specs.inv.model.words.declared.config.Config.{Config}
+use Rattle.law_all.specs.laws.StateAt.RowShows.{ShowsVersion}
+use Rattle.law_all.specs.laws.StateAt.{RowShows, changed_to, is_row, shows_of, stood_at}
+use Rattle.law_all.specs.inv.history.Record.Past.{Start, Then}
+use Rattle.law_all.specs.inv.history.Record.{Past, tells}
 use Rattle.law_all.specs.Kept.{Keeping, kept_by, kept_from, kept_in, looked_by, looked_from, looked_in}
-use Rattle.law_logs.specs.Ledgers.{log_of}
+use Rattle.law_all.specs.Logs.Ledgers.{log_of}
 use Rattle.law_all.specs.RunLaw.{bucket_kept}
-use Rattle.law_logs.specs.Shown.{is_bucket_link, links_ok}
-use Rattle.law_logs.specs.Versions.{seen_in}
-use Rattle.law_logs.proofs.Cuts.{log_more}
+use Rattle.law_all.specs.Logs.Shown.{is_bucket_link, links_ok}
+use Rattle.law_all.specs.Logs.Versions.{seen_in}
+use Rattle.law_all.proofs.Logs.Cuts.{log_more}
 
 -- the version that a row shows, and none is 0
 abbrev pub version_shown : RowShows → ℕ

@@ -4,29 +4,29 @@ use Rattle.std.proofs.Common.{ℕ, ◌≡◌, ◌⊎◌, inl, inr, Bool, true, f
 use Rattle.std.proofs.lemmas.Bool.Decides.{nat_tests}
 use Rattle.std.proofs.lemmas.List.{append-nil, append_assoc, drop_at, map-append, take_at}
 use Rattle.std.specs.Prelude.{◌==◌, ◌&&◌, ◌||◌, nat_lt, not}
-use Rattle.law_logs.proofs.inv.model.Facts.{both, false_of_not, first_of, number_is, or_more, rest_of}
-use Rattle.law_logs.specs.inv.model.CallReady.{slots_of}
-use Rattle.law_logs.specs.inv.model.Desks.{Notes, noted}
-use Rattle.law_logs.specs.inv.model.Locals.{Group}
-use Rattle.law_logs.specs.inv.model.defs.Shown.{Seen}
-use Rattle.law_logs.specs.inv.model.defs.declared.call.Answer.{Answer}
-use Rattle.law_logs.specs.inv.model.defs.declared.call.Call.{Call}
-use Rattle.law_logs.specs.inv.model.defs.declared.call.Call.TheVariants as calls
-use Rattle.law_logs.specs.inv.model.defs.declared.event.Event.{Event}
-use Rattle.law_logs.specs.inv.model.defs.declared.event.Event.TheVariants as events
-use Rattle.law_logs.specs.inv.model.defs.declared.event.Root.TheVariants as roots
-use Rattle.law_logs.specs.inv.model.defs.declared.lifetime.Lifetime.{Lifetime}
-use Rattle.law_logs.specs.inv.model.words.declared.config.Config.{Config}
-use Rattle.law_logs.specs.laws.HistoryRows.{cuts_one, is_without}
-use Rattle.law_logs.specs.laws.HistoryScans.{Course, may_read, moved_course, read_course}
-use Rattle.law_logs.specs.laws.HistoryScans.Course.{Advancing, MayScan, MustScan, Plain, Reading}
-use Rattle.law_logs.specs.laws.ScanLaw.{guards, is_given_one, is_life_of, next_back}
-use Rattle.law_logs.specs.laws.Standing.{is_leave}
-use Rattle.law_logs.specs.laws.Lists.{is_handed, is_left, without}
-use Rattle.law_logs.specs.laws.StateAt.{Given, InHand, Placed, Without, is_dequeue, read_by, with_told}
-use Rattle.law_logs.specs.inv.rows.Hands.{each_once}
-use Rattle.law_logs.proofs.Knows.{is_inner}
-use Rattle.law_logs.specs.Ledgers.{left_by}
+use Rattle.law_all.proofs.inv.model.Facts.{both, false_of_not, first_of, number_is, or_more, rest_of}
+use Rattle.law_all.specs.inv.model.CallReady.{slots_of}
+use Rattle.law_all.specs.inv.model.Desks.{Notes, noted}
+use Rattle.law_all.specs.inv.model.Locals.{Group}
+use Rattle.law_all.specs.inv.model.defs.Shown.{Seen}
+use Rattle.law_all.specs.inv.model.defs.declared.call.Answer.{Answer}
+use Rattle.law_all.specs.inv.model.defs.declared.call.Call.{Call}
+use Rattle.law_all.specs.inv.model.defs.declared.call.Call.TheVariants as calls
+use Rattle.law_all.specs.inv.model.defs.declared.event.Event.{Event}
+use Rattle.law_all.specs.inv.model.defs.declared.event.Event.TheVariants as events
+use Rattle.law_all.specs.inv.model.defs.declared.event.Root.TheVariants as roots
+use Rattle.law_all.specs.inv.model.defs.declared.lifetime.Lifetime.{Lifetime}
+use Rattle.law_all.specs.inv.model.words.declared.config.Config.{Config}
+use Rattle.law_all.specs.laws.HistoryRows.{cuts_one, is_without}
+use Rattle.law_all.specs.laws.HistoryScans.{Course, may_read, moved_course, read_course}
+use Rattle.law_all.specs.laws.HistoryScans.Course.{Advancing, MayScan, MustScan, Plain, Reading}
+use Rattle.law_all.specs.laws.ScanLaw.{guards, is_given_one, is_life_of, next_back}
+use Rattle.law_all.specs.laws.Standing.{is_leave}
+use Rattle.law_all.specs.laws.Lists.{is_handed, is_left, without}
+use Rattle.law_all.specs.laws.StateAt.{Given, InHand, Placed, Without, is_dequeue, read_by, with_told}
+use Rattle.law_all.specs.inv.rows.Hands.{each_once}
+use Rattle.law_all.proofs.Logs.Knows.{is_inner}
+use Rattle.law_all.specs.Logs.Ledgers.{left_by}
 use Rattle.law_all.proofs.Runs.Parts.{Went, went_left, went_more, went_part}
 use Rattle.law_all.proofs.Runs.Seats.{Allowed, Counts, Path, Scanning, Seat, gain, gains, given_not, hands_on, is_out, is_reading, not_out, once_step, one_more, part, parts, path_step, scan_step, seat_by, slots_in, takes_list}
 use Rattle.law_all.specs.RunLaw.{early_backs, is_part_of, late_backs, list_after, list_from, slot_retired, slots_gained, taken_over, without_all}

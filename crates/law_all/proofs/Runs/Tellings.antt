@@ -2,24 +2,24 @@
 use Rattle.std.proofs.Common.{ℕ, ◌≡◌, ◌+◌, Bool, true, false, List, [], ◌∷◌, ◌++◌, Option, Some, refl, sym, ap, ◌∙◌, subst, arith}
 use Rattle.std.proofs.lemmas.List.Sums.{sum_by_push}
 use Rattle.std.specs.Prelude.{count_by, if◌then◌else◌, ◌&&◌, ◌==◌}
-use Rattle.law_logs.proofs.inv.model.Facts.{first_of, number_is, rest_of}
-use Rattle.law_logs.specs.inv.model.Desks.{Notes, noted}
-use Rattle.law_logs.specs.inv.model.Locals.{Group}
-use Rattle.law_logs.specs.inv.model.defs.declared.call.Answer.{Answer}
-use Rattle.law_logs.specs.inv.model.defs.declared.call.Call.{Call}
-use Rattle.law_logs.specs.inv.model.defs.declared.event.Event.{Event}
-use Rattle.law_logs.specs.inv.model.defs.declared.event.Event.TheVariants as events
-use Rattle.law_logs.specs.inv.model.words.declared.config.Config.{Config}
-use Rattle.law_logs.specs.inv.model.words.declared.layout.Layout.{Layout}
-use Rattle.law_logs.specs.laws.AnswerLaw.{same_event, suits}
-use Rattle.law_logs.specs.laws.HistoryAnswers.{answer_right, owes, same_told}
-use Rattle.law_logs.specs.laws.StateAt.{began_of, one, told, told_of, with_told}
-use Rattle.law_logs.proofs.Heard.{same_got, same_put, same_queued_event, same_removed, same_taken}
-use Rattle.law_logs.proofs.Knows.{is_inner, other_told, own_told}
-use Rattle.law_logs.specs.Ledgers.{notes_of}
-use Rattle.law_logs.specs.inv.history.History.{Item, record_of}
-use Rattle.law_logs.specs.inv.history.Record.{Past}
-use Rattle.law_logs.specs.inv.history.Record.Past.{Then}
+use Rattle.law_all.proofs.inv.model.Facts.{first_of, number_is, rest_of}
+use Rattle.law_all.specs.inv.model.Desks.{Notes, noted}
+use Rattle.law_all.specs.inv.model.Locals.{Group}
+use Rattle.law_all.specs.inv.model.defs.declared.call.Answer.{Answer}
+use Rattle.law_all.specs.inv.model.defs.declared.call.Call.{Call}
+use Rattle.law_all.specs.inv.model.defs.declared.event.Event.{Event}
+use Rattle.law_all.specs.inv.model.defs.declared.event.Event.TheVariants as events
+use Rattle.law_all.specs.inv.model.words.declared.config.Config.{Config}
+use Rattle.law_all.specs.inv.model.words.declared.layout.Layout.{Layout}
+use Rattle.law_all.specs.laws.AnswerLaw.{same_event, suits}
+use Rattle.law_all.specs.laws.HistoryAnswers.{answer_right, owes, same_told}
+use Rattle.law_all.specs.laws.StateAt.{began_of, one, told, told_of, with_told}
+use Rattle.law_all.proofs.Logs.Heard.{same_got, same_put, same_queued_event, same_removed, same_taken}
+use Rattle.law_all.proofs.Logs.Knows.{is_inner, other_told, own_told}
+use Rattle.law_all.specs.Logs.Ledgers.{notes_of}
+use Rattle.law_all.specs.inv.history.History.{Item, record_of}
+use Rattle.law_all.specs.inv.history.Record.{Past}
+use Rattle.law_all.specs.inv.history.Record.Past.{Then}
 use Rattle.law_all.specs.RunLaw.{total_of}
 use Rattle.law_all.specs.Runs.{AtRest, logs_of}
 use Rattle.law_all.proofs.Runs.Kept.{Kept}

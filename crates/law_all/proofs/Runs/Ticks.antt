@@ -1,20 +1,20 @@
 -- What answers say of the clock is so by the record, and within a seat eras rise.
 use Rattle.std.proofs.Common.{List, None, Option, Some, arith, refl, subst, sym, ℕ, ◌++◌, ◌∙◌, ◌∷◌, ◌≡◌, ◌≤◌}
-use Rattle.law_logs.proofs.inv.model.Ranges.{bounds_of}
-use Rattle.law_logs.specs.inv.model.Locals.{Group}
-use Rattle.law_logs.specs.inv.model.defs.declared.event.Event.TheVariants as events
-use Rattle.law_logs.specs.inv.model.words.declared.config.Config.{Config}
-use Rattle.law_logs.specs.inv.model.words.declared.layout.Layout.{Layout}
-use Rattle.law_logs.specs.inv.history.History.{Item, record_of}
-use Rattle.law_logs.specs.inv.history.Record.Past.{Then}
-use Rattle.law_logs.specs.inv.history.Record.{Past, tells}
-use Rattle.law_logs.proofs.inv.history.Entries.{each_of_entries}
+use Rattle.law_all.proofs.inv.model.Ranges.{bounds_of}
+use Rattle.law_all.specs.inv.model.Locals.{Group}
+use Rattle.law_all.specs.inv.model.defs.declared.event.Event.TheVariants as events
+use Rattle.law_all.specs.inv.model.words.declared.config.Config.{Config}
+use Rattle.law_all.specs.inv.model.words.declared.layout.Layout.{Layout}
+use Rattle.law_all.specs.inv.history.History.{Item, record_of}
+use Rattle.law_all.specs.inv.history.Record.Past.{Then}
+use Rattle.law_all.specs.inv.history.Record.{Past, tells}
+use Rattle.law_all.proofs.inv.history.Entries.{each_of_entries}
 use Rattle.law_all.proofs.Whole.{histories_are_lawful}
-use Rattle.law_logs.specs.Records.{IsBegun, IsEnded}
-use Rattle.law_logs.proofs.Cuts.{logs_are_cut}
-use Rattle.law_logs.specs.laws.AnswerLaw.{clocks_ok}
-use Rattle.law_logs.specs.laws.EraLaw.{era_ok}
-use Rattle.law_logs.specs.laws.StateAt.{clock_of}
+use Rattle.law_all.specs.Logs.Records.{IsBegun, IsEnded}
+use Rattle.law_all.proofs.Logs.Cuts.{logs_are_cut}
+use Rattle.law_all.specs.laws.AnswerLaw.{clocks_ok}
+use Rattle.law_all.specs.laws.EraLaw.{era_ok}
+use Rattle.law_all.specs.laws.StateAt.{clock_of}
 use Rattle.law_all.specs.RunLaw.{InOrder, IsCall, clock_told, era_told}
 use Rattle.law_all.specs.Runs.{AtRest, RunsTick, logs_of}
 use Rattle.law_all.proofs.Runs.Calls.{Called, Follow, called, follow}

@@ -5,12 +5,12 @@ use Rattle.std.proofs.lemmas.Bool.Decides.{nat_tests}
 use Rattle.std.proofs.lemmas.List.FromFn.{sum_by-map-range_with_len_more}
 use Rattle.std.specs.List.{range_with_len, sum_by}
 use Rattle.std.specs.Prelude.{nat_lt, ◌&&◌, ◌==◌}
-use Rattle.law_logs.proofs.inv.model.Facts.{number_is}
-use Rattle.law_logs.specs.inv.model.Locals.{Group}
-use Rattle.law_logs.specs.inv.model.defs.declared.event.Event.{Event}
-use Rattle.law_logs.specs.laws.StateAt.{count, one, told}
-use Rattle.law_logs.specs.inv.history.Record.{Each, Past, Test, own}
-use Rattle.law_logs.specs.inv.history.Record.Past.{Start, Then}
+use Rattle.law_all.proofs.inv.model.Facts.{number_is}
+use Rattle.law_all.specs.inv.model.Locals.{Group}
+use Rattle.law_all.specs.inv.model.defs.declared.event.Event.{Event}
+use Rattle.law_all.specs.laws.StateAt.{count, one, told}
+use Rattle.law_all.specs.inv.history.Record.{Each, Past, Test, own}
+use Rattle.law_all.specs.inv.history.Record.Past.{Start, Then}
 use Rattle.law_all.specs.RunLaw.{total}
 
 -- over the seats below n

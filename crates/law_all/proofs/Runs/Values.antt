@@ -3,21 +3,21 @@
 use Rattle.std.proofs.Common.{ℕ, ◌≡◌, ◌+◌, Bool, false, true, List, [], ◌∷◌, ◌++◌, length, refl, sym, ap, ◌∙◌, arith}
 use Rattle.std.proofs.lemmas.List.{length-append}
 use Rattle.std.specs.Prelude.{count_by, if◌then◌else◌, ◌==◌}
-use Rattle.law_logs.proofs.inv.model.Facts.{number_is}
-use Rattle.law_logs.specs.inv.model.Desks.{Notes}
-use Rattle.law_logs.specs.inv.model.defs.declared.call.Answer.{Answer}
-use Rattle.law_logs.specs.inv.model.defs.declared.call.Answer.TheVariants as answers
-use Rattle.law_logs.specs.inv.model.defs.declared.call.Call.{Call}
-use Rattle.law_logs.specs.inv.model.defs.declared.call.Call.TheVariants as calls
-use Rattle.law_logs.specs.inv.model.defs.declared.event.Event.{Event}
-use Rattle.law_logs.specs.inv.model.defs.declared.event.Event.TheVariants as events
-use Rattle.law_logs.specs.inv.model.words.declared.layout.Layout.{Layout}
-use Rattle.law_logs.specs.laws.HistoryAnswers.{owes}
-use Rattle.law_logs.specs.laws.QueueLaw.{queue_ok}
-use Rattle.law_logs.specs.laws.StateAt.{one, queued_of, taken_of, told}
-use Rattle.law_logs.specs.inv.history.History.{Item, record_of}
-use Rattle.law_logs.specs.inv.history.Record.{Each, Past}
-use Rattle.law_logs.specs.inv.history.Record.Past.{Start, Then}
+use Rattle.law_all.proofs.inv.model.Facts.{number_is}
+use Rattle.law_all.specs.inv.model.Desks.{Notes}
+use Rattle.law_all.specs.inv.model.defs.declared.call.Answer.{Answer}
+use Rattle.law_all.specs.inv.model.defs.declared.call.Answer.TheVariants as answers
+use Rattle.law_all.specs.inv.model.defs.declared.call.Call.{Call}
+use Rattle.law_all.specs.inv.model.defs.declared.call.Call.TheVariants as calls
+use Rattle.law_all.specs.inv.model.defs.declared.event.Event.{Event}
+use Rattle.law_all.specs.inv.model.defs.declared.event.Event.TheVariants as events
+use Rattle.law_all.specs.inv.model.words.declared.layout.Layout.{Layout}
+use Rattle.law_all.specs.laws.HistoryAnswers.{owes}
+use Rattle.law_all.specs.laws.QueueLaw.{queue_ok}
+use Rattle.law_all.specs.laws.StateAt.{one, queued_of, taken_of, told}
+use Rattle.law_all.specs.inv.history.History.{Item, record_of}
+use Rattle.law_all.specs.inv.history.Record.{Each, Past}
+use Rattle.law_all.specs.inv.history.Record.Past.{Start, Then}
 use Rattle.law_all.specs.RunLaw.{is_queued_as, is_taken_as, once_up_to, total_of}
 use Rattle.law_all.specs.Runs.{AtRest, logs_of}
 use Rattle.law_all.proofs.Runs.Kept.{histories_keep}

@@ -4,22 +4,22 @@ use Rattle.std.proofs.Common.{ℕ, ◌≡◌, ◌+◌, ◌≤◌, Bool, true, fa
 use Rattle.std.proofs.lemmas.List.Sums.{sum_by_push}
 use Rattle.std.specs.List.{sum_by}
 use Rattle.std.specs.Prelude.{◌==◌, not}
-use Rattle.law_logs.proofs.inv.model.Facts.{first_of, false_of_not, number_is, same_number}
-use Rattle.law_logs.specs.inv.model.Desks.{Notes, noted}
-use Rattle.law_logs.specs.inv.model.Locals.{Group}
-use Rattle.law_logs.specs.inv.model.defs.declared.call.Answer.{Answer}
-use Rattle.law_logs.specs.inv.model.defs.declared.call.Call.{Call}
-use Rattle.law_logs.specs.inv.model.defs.declared.event.Event.{Event}
-use Rattle.law_logs.specs.inv.model.defs.declared.event.Event.TheVariants as events
-use Rattle.law_logs.specs.inv.model.words.declared.config.Config.{Config}
-use Rattle.law_logs.specs.laws.HistoryAnswers.{answer_right}
-use Rattle.law_logs.specs.laws.Lists.{has_left}
-use Rattle.law_logs.specs.laws.StateAt.{began_of, is_open, one, told_of}
-use Rattle.law_logs.proofs.Knows.{inner_own, is_inner, other_inner, own_log, own_open}
-use Rattle.law_logs.proofs.Ledgers.{ledger_began}
-use Rattle.law_logs.specs.Ledgers.{left_by, log_of, notes_of}
-use Rattle.law_logs.specs.inv.history.Record.{Past}
-use Rattle.law_logs.specs.inv.history.Record.Past.{Start, Then}
+use Rattle.law_all.proofs.inv.model.Facts.{first_of, false_of_not, number_is, same_number}
+use Rattle.law_all.specs.inv.model.Desks.{Notes, noted}
+use Rattle.law_all.specs.inv.model.Locals.{Group}
+use Rattle.law_all.specs.inv.model.defs.declared.call.Answer.{Answer}
+use Rattle.law_all.specs.inv.model.defs.declared.call.Call.{Call}
+use Rattle.law_all.specs.inv.model.defs.declared.event.Event.{Event}
+use Rattle.law_all.specs.inv.model.defs.declared.event.Event.TheVariants as events
+use Rattle.law_all.specs.inv.model.words.declared.config.Config.{Config}
+use Rattle.law_all.specs.laws.HistoryAnswers.{answer_right}
+use Rattle.law_all.specs.laws.Lists.{has_left}
+use Rattle.law_all.specs.laws.StateAt.{began_of, is_open, one, told_of}
+use Rattle.law_all.proofs.Logs.Knows.{inner_own, is_inner, other_inner, own_log, own_open}
+use Rattle.law_all.proofs.Logs.Ledgers.{ledger_began}
+use Rattle.law_all.specs.Logs.Ledgers.{left_by, log_of, notes_of}
+use Rattle.law_all.specs.inv.history.Record.{Past}
+use Rattle.law_all.specs.inv.history.Record.Past.{Start, Then}
 use Rattle.law_all.proofs.Runs.Kept.{Kept, kept_before}
 use Rattle.law_all.proofs.Runs.Totals.{own_count}
 

@@ -5,19 +5,9 @@ use Rattle.std.proofs.lemmas.Bool.Decides.{nat_tests}
 use Rattle.std.specs.Prelude.{◌==◌, nat_lt, if◌then◌else◌}
 use Rattle.inv_all.specs.model.words.Place.{Place}
 use Rattle.inv_all.specs.model.words.Place.Place.{PlaceOf}
-use Rattle.inv_all.specs.model.defs.declared.event.Root.{Root}
 use Rattle.inv_all.specs.model.declared.post.Post.{Post}
 use Rattle.inv_all.specs.model.Memory as memory
-use Rattle.inv_all.specs.model.Memory.{Move, Load, Store, Cas, Or, And, change, place_in, written}
-use Rattle.inv_all.specs.model.Phases.{Base, BeginAt, ProtectAt, AllocateAt, RetireAt, MoveAt}
-use Rattle.inv_all.specs.model.Phases.BeginAt.{LoadLower, PublishSpan}
-use Rattle.inv_all.specs.model.Phases.ProtectAt.{LoadClock, PublishEra, LoadLink, CheckClock, PublishRequest, LoadOwnClock, PublishHelper, LoadOwnLink, CheckOwnClock, AnswerOwn, LoadAnswer, TakeAnswer, WithdrawRequest, WithdrawHelper, LoadWithin, CheckUpper, RaiseUpper, ByHazard}
-use Rattle.inv_all.specs.model.Phases.HazardAt.{FirstLink, PublishLink, CheckLink}
-use Rattle.inv_all.specs.model.Phases.AllocateAt.{LoadBirth, ClaimSlot, StoreLife}
-use Rattle.inv_all.specs.model.Phases.RetireAt.{LoadLife, LoadRetire, StoreRetired}
-use Rattle.inv_all.specs.model.Phases.MoveAt.{LoadEra, LoadRequest, ShowEra, LoadAsked, CheckEra, AnswerAsked, LoadReserved, HandOver, HideEra, HideLate, ExchangeClock}
-use Rattle.inv_all.specs.model.Phases.Base.{Begin, Protect, Reload, Clear, Finish, Release, Allocate, Write, GiveUp, Retire, Move as Moves}
-use Rattle.inv_all.specs.model.Machine as machine
+use Rattle.inv_all.specs.model.Memory.{Move, Store, Cas, place_in, written}
 use Rattle.inv_all.specs.model.Machine.{base_move}
 use Rattle.inv_all.specs.model.Get as gets
 use Rattle.inv_all.specs.model.Keep as keeps
@@ -27,7 +17,7 @@ use Rattle.inv_all.specs.model.Dequeue as dequeues
 use Rattle.inv_all.specs.model.Desks.{Desk}
 use Rattle.inv_all.specs.model.Steps.{phase_move, phase_turn}
 use Rattle.inv_all.specs.model.Scan as scan
-use Rattle.inv_all.specs.model.Calls.{ChangeKept, EnqueueKept, ScanAt, ReadGuard, GiveBack, GetAt, FindVersion, FindCount, FindKey, FindValue, ChangeAt, LoadVersion, LoadCount, LoadKey, LoadValue, ExchangeRoot, EnqueueAt, LoadNumber, LoadNext, PassTail, ExchangeNext, ExchangeTail, DequeueAt, LoadTail, SwingTail, TakeNumber, TakeValue, ExchangeHead, Getting, Changing, Enqueuing, Dequeuing, Phase, Idle, Runs, Scans, Works, KeepAt, Loosens, LoadHeld, StoreHeld, Looks, Misses, HideSpan, MarkLeft, TakeList, MarkTaken, Keeping}
+use Rattle.inv_all.specs.model.Calls.{Getting, Changing, Enqueuing, Dequeuing, Phase, Idle, Runs, Scans, Works, KeepAt, Loosens, LoadHeld, StoreHeld, Looks, Misses, HideSpan, MarkLeft, TakeList, MarkTaken, Keeping}
 use Rattle.inv_all.specs.model.Locals.{busy_in}
 use Rattle.inv_all.proofs.model.Facts.{no_truth, number_is, first_of, rest_of}
 use Rattle.std.specs.Prelude.{List, [], ◌∷◌, ◌||◌}
@@ -36,7 +26,7 @@ use Rattle.inv_all.specs.model.defs.declared.event.Event.TheVariants as events
 use Rattle.inv_all.specs.model.Locals.{told_by}
 use Rattle.inv_all.specs.rows.Agree.{Agree, Present}
 use Rattle.inv_all.proofs.rows.Words.{missed}
-use Rattle.inv_all.proofs.rows.Places.{is_placing, unplaced}
+use Rattle.inv_all.proofs.rows.Places.{is_placing, unplaced, base_places, get_places, change_places, enqueue_places, dequeue_places, scan_places}
 use Rattle.inv_all.proofs.history.AllOf.{all_of}
 use Rattle.inv_all.specs.history.Record.{Past, tells_of}
 use Rattle.inv_all.specs.history.Record.Past.{Start, Then}
@@ -47,100 +37,6 @@ use Rattle.inv_all.specs.model.World.{World, start, step, is_busy, offered, told
 use Rattle.inv_all.specs.rows.Rows.{View}
 use Rattle.inv_all.specs.model.Posts.{counted}
 use Rattle.inv_all.specs.model.words.declared.layout.Layout.{Layout}
-
--- which operations change a place word
-protect_places : (index : ℕ) (root : Root) (at : ProtectAt) (post : Post) → is_placing (machine.protect_move index root at post) ≡ false
-protect_places index root (LoadClock tries) post = refl
-protect_places index root (PublishEra era tries) post = refl
-protect_places index root (LoadLink era tries) post = refl
-protect_places index root (CheckClock era tries link) post = refl
-protect_places index root PublishRequest post = refl
-protect_places index root LoadOwnClock post = refl
-protect_places index root (PublishHelper first era last) post = refl
-protect_places index root (LoadOwnLink first era last) post = refl
-protect_places index root (CheckOwnClock first era last link) post = refl
-protect_places index root (AnswerOwn first era link) post = refl
-protect_places index root (LoadAnswer first) post = refl
-protect_places index root (TakeAnswer link era) post = refl
-protect_places index root (WithdrawRequest link era) post = refl
-protect_places index root (WithdrawHelper link era) post = refl
-protect_places index root LoadWithin post = refl
-protect_places index root (CheckUpper link) post = refl
-protect_places index root (RaiseUpper era) post = refl
-protect_places index root (ByHazard FirstLink) post = refl
-protect_places index root (ByHazard (PublishLink link)) post = refl
-protect_places index root (ByHazard (CheckLink link)) post = refl
-
-move_places : (at : MoveAt) (post : Post) → is_placing (machine.move_move at post) ≡ false
-move_places (LoadEra helps) post = refl
-move_places (LoadRequest era seat shows) post = refl
-move_places (ShowEra era seat tag index root) post = refl
-move_places (LoadAsked era seat tag index root) post = refl
-move_places (CheckEra era seat tag index root link) post = refl
-move_places (AnswerAsked era seat tag index root link) post = refl
-move_places (LoadReserved era seat tag index root link) post = refl
-move_places (HandOver era seat tag index root link old) post = refl
-move_places (HideEra era) post = refl
-move_places (HideLate seen) post = refl
-move_places (ExchangeClock era) post = refl
-
-begin_places : (at : BeginAt) (post : Post) → is_placing (machine.begin_move at post) ≡ false
-begin_places LoadLower post = refl
-begin_places (PublishSpan era) post = refl
-
-allocate_places : (at : AllocateAt) → is_placing (machine.allocate_move at) ≡ false
-allocate_places LoadBirth = refl
-allocate_places (ClaimSlot birth walk) = refl
-allocate_places (StoreLife birth slot) = refl
-
-retire_places : (at : RetireAt) → is_placing (machine.retire_move at) ≡ false
-retire_places (LoadLife slot) = refl
-retire_places (LoadRetire slot birth) = refl
-retire_places (StoreRetired slot birth retire) = refl
-
-base_places : (base : Base) (post : Post) → is_placing (base_move base post) ≡ false
-base_places (Begin at) post = begin_places at post
-base_places (Protect aim index root steps at) post = protect_places index root at post
-base_places (Reload parent index slot era steps) post = refl
-base_places (Clear rows index) post = refl
-base_places Finish post = refl
-base_places (Release index) post = refl
-base_places (Allocate at) post = allocate_places at
-base_places (Write slot row place) post = refl
-base_places (GiveUp slot) post = refl
-base_places (Retire at) post = retire_places at
-base_places (Moves at) post = move_places at post
-
-get_places : (at : GetAt) → is_placing (gets.get_move at) ≡ false
-get_places (FindVersion slot) = refl
-get_places (FindCount slot version) = refl
-get_places (FindKey slot version count pair) = refl
-get_places (FindValue slot version pair) = refl
-
-change_places : (kept : ChangeKept) (at : ChangeAt) (post : Post) → is_placing (alters.change_move kept at post) ≡ false
-change_places kept (LoadVersion slot) post = refl
-change_places kept (LoadCount slot) post = refl
-change_places kept (LoadKey slot count) post = refl
-change_places kept (LoadValue slot count key) post = refl
-change_places kept (ExchangeRoot slot) post = refl
-
-enqueue_places : (kept : EnqueueKept) (at : EnqueueAt) → is_placing (enqueues.enqueue_move kept at) ≡ false
-enqueue_places kept LoadNumber = refl
-enqueue_places kept LoadNext = refl
-enqueue_places kept (PassTail next) = refl
-enqueue_places kept (ExchangeNext slot) = refl
-enqueue_places kept (ExchangeTail slot) = refl
-
-dequeue_places : (at : DequeueAt) → is_placing (dequeues.dequeue_move at) ≡ false
-dequeue_places (LoadTail head) = refl
-dequeue_places (SwingTail head next) = refl
-dequeue_places (TakeNumber head next) = refl
-dequeue_places (TakeValue head next number) = refl
-dequeue_places (ExchangeHead head next number value) = refl
-
-scan_places : (at : ScanAt) (post : Post) → is_placing (scan.scan_move at post) ≡ false
-scan_places (ReadGuard number) post = refl
-scan_places (GiveBack place slot) post = refl
 
 -- the same seats have left, and the same lists are taken over
 record SameWords (mem after : Place → ℕ) : Type 0 where

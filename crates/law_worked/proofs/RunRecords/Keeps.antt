@@ -15,7 +15,7 @@ use Rattle.law_all.specs.inv.model.words.declared.config.Config.{Config}
 use Rattle.law_all.specs.laws.StateAt.{bucket_of, same_value}
 use Rattle.law_all.specs.Kept.{Keeping, kept_by, kept_from, kept_in, looked_in}
 use Rattle.law_all.specs.RunLaw.{IsKept, IsLook, KeptRight, bucket_kept, is_version, pairs_by}
-use Rattle.law_all.specs.logs.Versions.{seen_in}
+use Rattle.law_all.specs.Logs.Versions.{seen_in}
 use Rattle.law_worked.specs.RunRecords.Readers.{keeps_ok, later_ok, look_ok, one_hold, row_ok, same_ok, shows_ok}
 use Rattle.law_worked.proofs.RunRecords.Tests.{decides_most, decides_value}
 

@@ -1,0 +1,5 @@
+pub mod Answered
+pub mod Ledgers
+pub mod Records
+pub mod Shown
+pub mod Versions

@@ -1,0 +1,11 @@
+-- How a round ends, as the model's.
+use Rattle.wfe_core.specs.Calls.{Again, Answering, MakeRoom, Next, Retiring}
+use Rattle.wfe_call_rounds.specs.declared.ending.RoundEnd.{RoundEnd}
+use Rattle.wfe_call_rounds.specs.declared.ending.RoundEnd.TheVariants as round_ends
+
+-- what comes once the round's protection is cleared
+abbrev pub next_of : RoundEnd → Next
+next_of round_ends.Again = Again
+next_of round_ends.MakeRoom = MakeRoom
+next_of (round_ends.Answers answer) = Answering answer
+next_of (round_ends.Retires slot answer) = Retiring slot answer
