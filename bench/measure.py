@@ -106,7 +106,7 @@ def least_space(program, trace):
 
 
 # Functions whose names show that they make the text of a line or hand bytes on.
-PRINTS = re.compile(r"wfe_trace|wfe_server_out|wfe_outside|write|fmt|itoa|digits|memcpy|memmove")
+PRINTS = re.compile(r"wfe_text|wfe_trace|wfe_server_out|wfe_outside|write|fmt|itoa|digits|memcpy|memmove")
 
 
 def shares(program, trace):

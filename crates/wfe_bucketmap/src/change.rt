@@ -1,37 +1,115 @@
 // The call that changes a bucket: a put, at any version or at one, or a remove.
-ghost use Rattle.std.specs.Prelude.{◌≡◌, ◌<◌, ◌≤◌, ◌+◌, [], length, List, None, false};
+ghost use Rattle.std.specs.Prelude.{◌≡◌, ◌<◌, ◌≤◌, ◌+◌, [], length, List, IfSome};
 ghost use Rattle.wfe_core.specs.defs.declared.event.Event.{Event};
-ghost use Rattle.wfe_core.specs.CallReady.{ChangeFits, IsCallPlausible, IsCallReady};
-ghost use Rattle.wfe_core.specs.Calls.{Changes, Fills, Runs};
+ghost use Rattle.wfe_core.specs.CallReady.{IsCallPlausible, IsCallReady};
+ghost use Rattle.wfe_core.specs.Calls.{ChangeKept, Changes, Fills, Runs};
 ghost use Rattle.wfe_core.specs.DeskHeld.{HasRoom, desk_of};
 ghost use Rattle.wfe_core.specs.Desks.{Desk as ModelDesk};
-ghost use Rattle.wfe_core.specs.Change.{new_row, no_room as model_no_room};
-ghost use Rattle.wfe_core.specs.Ready.{RootFits};
-ghost use Rattle.wfe_core.specs.Phases.Ending.{Protected};
-ghost use Rattle.wfe_core.specs.Rounds.{clearing, closed as model_closed, root_of, round};
-ghost use Rattle.wfe_core.specs.Steps.{changing, filled_by, opened, phase_turn, written_row};
+ghost use Rattle.wfe_core.specs.Ready.{IsReady, Plausible, RootFits};
+ghost use Rattle.wfe_core.specs.Rounds.{root_of, round};
+ghost use Rattle.wfe_core.specs.Steps.{changing, phase_turn};
 ghost use Rattle.wfe_core.specs.Valid.{IsValid};
-ghost use Rattle.wfe_core.specs.WriteRow.{writing};
 ghost use Rattle.wfe_core.specs.declared.post.Post.{Post as ModelPost};
-ghost use Rattle.wfe_bucketmap_read.specs.call_rounds.Steps.{SameSeat, Steps};
-ghost use Rattle.wfe_bucketmap.specs.Changes.{kept_of, led, next_of};
-ghost use Rattle.wfe_bucketmap.specs.ChangeStates.{change_phase};
+ghost use Rattle.wfe_call_rounds.specs.Leavings.{leave_at};
+ghost use Rattle.wfe_call_rounds.specs.Steps.{SameSeat, Steps};
+ghost use Rattle.wfe_call_rounds.specs.Turns.{Keeps, stood};
+ghost use Rattle.wfe_bucketmap.specs.Changes.{LedWithin, kept_of, led, ran};
+ghost use Rattle.wfe_bucketmap.specs.ChangeStates.{change_phase, fill_base};
 
-use super::change_at::{ChangeAt, ChangeEnd, Changed, Kept};
-use super::change_state::State;
-use wfe_bucketmap_read::{Rounds, Scheme, close, open, take_close, take_open};
-use wfe_call_rounds::{Reclaim, Tidy};
-use wfe_core::{
-    AllocateEnd, Answer, CallMachine, Change, Desk, Machine, Op, Post, ProtectEnd, Root, Told,
-};
-use wfe_slots::{Allocate, GiveUp, Pairs, Row, WriteRow};
+use super::change_at::{Changed, Kept};
+use super::change_ends::{allocated, left, reached, write, written};
+use super::change_state::{Fill, State};
+use wfe_call_rounds::{Leave, Rounds, Scheme, Then, clear, open, pass, take_leave, take_open};
+use wfe_core::{Answer, CallMachine, Change, Desk, Machine, Op, Post, Root, Told};
+use wfe_slots::{Allocate, Pairs};
 
 /// Changes a bucket: it protects the bucket's row, reads it, writes the pairs with the change into a row
 /// of its own, and exchanges the root. The row that was cut is retired before the answer.
 #[derive(Drop)]
 pub struct ChangeBucket<S: Scheme> {
     kept: Kept,
-    at: State<S::Begin, S::Protect, S::Clear, S::Finish>,
+    at: StateOf<S>,
+}
+
+// Where a change stands under one scheme.
+type StateOf<S> = State<
+    <S as Scheme>::Begin,
+    <S as Scheme>::Protect,
+    <S as Scheme>::Clear,
+    <S as Scheme>::Finish,
+>;
+
+// The root of the bucket.
+#[inline(always)]
+fn root(kept: &Kept, post: &Post) -> Root
+    requires { IsValid post.now }
+    ensures root { result ≡ root_of (Changes (kept_of kept.now)) post.now }
+    ensures there { RootFits post.now.layout result }
+{
+    Root::Bucket(kept.bucket(post))
+}
+
+// It stands where a round of its ends.
+#[inline(always)]
+fn leaves<S: Scheme>(then: Then<Leave<S::Clear, S::Finish>>) -> Then<StateOf<S>>
+    ensures { (kept : ChangeKept) (post : ModelPost) (desk : ModelDesk) (told : List Event) → stood (leave_at ⟦<S as Rounds>⟧.all_phases (Changes kept)) (Changes kept) then post desk told ≡ stood (change_phase ⟦<S as Rounds>⟧.all_phases kept) (Changes kept) result post desk told }
+{
+    match then {
+        Then::Stands(at) => Then::Stands(State::Leaves(at)),
+        Then::Begins => Then::Begins,
+        Then::Answers(answer) => Then::Answers(answer),
+    }
+}
+
+// A step leads on.
+#[inline(always)]
+fn lead<S: Scheme>(kept: &Kept, step: Changed, post: &mut Post, told: &mut Told) -> Then<StateOf<S>>
+    requires valid { IsValid post.old }
+    requires scheme { post.old.layout.config.scheme ≡ S.kind }
+    requires few { length told.old ≤ 3 }
+    requires within { LedWithin (kept_of kept.now) step }
+    ensures turn { (desk : ModelDesk) → led (kept_of kept.now) step post.old desk told.old ≡ stood (change_phase ⟦<S as Rounds>⟧.all_phases (kept_of kept.now)) (Changes (kept_of kept.now)) result post.new desk told.new }
+    ensures seat { SameSeat post.old post.new told.new 4 }
+{
+    match step {
+        Changed::Goes(at) => Then::Stands(State::Works(at)),
+        Changed::Fills => match kept.taken {
+            Some(slot) => Then::Stands(State::Fills(Fill::Writes(write(kept, slot)))),
+            None => Then::Stands(State::Fills(Fill::Allocates(Allocate::new(post)))),
+        },
+        Changed::Ends(ending) => leaves::<S>(clear::<S>(kept.taken, ending, post, told)),
+        Changed::Passes(over) => leaves::<S>(pass::<S>(kept.taken, over)),
+    }
+}
+
+// The machine of a row of its own makes a step.
+#[inline(always)]
+fn fill(
+    at: &mut Fill,
+    kept: &mut Kept,
+    post: &mut Post,
+    found: u64,
+    told: &mut Told,
+) -> Option<Changed>
+    requires valid { IsValid post.old }
+    requires version { (kept_of kept.old).version + 1 < 18446744073709551616 }
+    requires ready { IsReady (fill_base at.old) post.old }
+    requires plausible { Plausible (fill_base at.old) post.old found }
+    requires empty { told.old ≡ [] }
+    ensures turn { (desk : ModelDesk) → phase_turn (Runs (Fills (Changes (kept_of kept.old))) (fill_base at.old)) post.old desk found ≡ ran (kept_of kept.new) result post.new desk told.new (Runs (Fills (Changes (kept_of kept.new))) (fill_base at.new)) }
+    ensures within { IfSome result (λ step. LedWithin (kept_of kept.new) step) }
+    ensures seat { SameSeat post.old post.new told.new 2 }
+{
+    match at {
+        Fill::Allocates(machine) => {
+            let end = machine.take(post, found, told);
+            allocated(kept, end)
+        }
+        Fill::Writes(machine) => match machine.take(post, found, told) {
+            Some(()) => Some(written(kept)),
+            None => None,
+        },
+    }
 }
 
 impl<S: Scheme> ChangeBucket<S> {
@@ -55,196 +133,49 @@ impl<S: Scheme> ChangeBucket<S> {
         }
     }
 
-    // It stands there from now on.
     #[inline(always)]
-    fn stand(&mut self, at: State<S::Begin, S::Protect, S::Clear, S::Finish>)
-        ensures kept { self.new.kept ≡ self.old.kept }
+    fn stand(&mut self, at: StateOf<S>)
         ensures at { self.new.at ≡ at }
+        ensures kept { self.new.kept ≡ self.old.kept }
     {
         self.at = at;
     }
 
-    // The root of the bucket.
+    // What runs makes a step.
     #[inline(always)]
-    fn root(&self, post: &Post) -> Root
-        requires { IsValid post.now }
-        ensures root { result ≡ root_of (Changes (kept_of self.now.kept)) post.now }
-        ensures there { RootFits post.now.layout result }
-    {
-        Root::Bucket(self.kept.bucket(post))
-    }
-
-    // A round is over: another begins, at once or after a scan, or the call answers. A row that was not
-    // linked is given up first.
-    #[inline(always)]
-    fn closed(&mut self, ending: ChangeEnd) -> Option<Answer>
-        ensures steps { (post : ModelPost) (desk : ModelDesk) (told : List Event) → post.layout.config.scheme ≡ S.kind → Steps (model_closed (Changes (kept_of self.old.kept)) (next_of ending) post desk told) post desk told result (change_phase ⟦<S as Rounds>⟧.all_phases (kept_of self.new.kept) self.new.at post) }
-        ensures kept { self.new.kept ≡ self.old.kept }
-    {
-        match ending {
-            ChangeEnd::Again => {
-                self.stand(State::Starts);
-                None
-            }
-            ChangeEnd::MakeRoom => {
-                self.stand(State::Tidies(Tidy::new(S::MOVES, S::HELPS)));
-                None
-            }
-            ChangeEnd::Answers(answer) => match self.kept.taken {
-                Some(slot) => {
-                    self.stand(State::GivesUp(answer, GiveUp::new(slot)));
-                    None
-                }
-                None => Some(answer),
-            },
-            ChangeEnd::Retires { slot, version } => {
-                self.stand(State::Reclaims(version, Reclaim::new(slot)));
-                None
-            }
-        }
-    }
-
-    // A round ends: index 0 is cleared, and then comes what the scheme ends with.
-    #[inline(always)]
-    fn close(&mut self, ending: ChangeEnd, post: &mut Post, told: &mut Told) -> Option<Answer>
+    fn run(
+        &mut self,
+        post: &mut Post,
+        desk: &mut Desk,
+        found: u64,
+        told: &mut Told,
+    ) -> Option<Changed>
         requires valid { IsValid post.old }
         requires scheme { post.old.layout.config.scheme ≡ S.kind }
-        requires few { length told.old ≤ 6 }
-        ensures steps { (desk : ModelDesk) → Steps (clearing (Changes (kept_of self.old.kept)) (next_of ending) post.old desk told.old) post.new desk told.new result (change_phase ⟦<S as Rounds>⟧.all_phases (kept_of self.new.kept) self.new.at post.new) }
-        ensures seat { SameSeat post.old post.new told.new (length told.old + 1) }
-    {
-        match close::<S>(post, told, 0, ending.is_again()) {
-            Some(closing) => {
-                self.stand(State::Closes(ending, closing));
-                None
-            }
-            None => self.closed(ending),
-        }
-    }
-
-    // The root is protected: the row is read, or there is none yet.
-    #[inline(always)]
-    fn reach(&mut self, end: ProtectEnd, post: &mut Post, told: &mut Told) -> Option<Answer>
-        requires valid { IsValid post.old }
-        requires scheme { post.old.layout.config.scheme ≡ S.kind }
-        requires few { length told.old ≤ 2 }
-        requires fits { ChangeFits post.old (kept_of self.old.kept) }
-        ensures steps { (desk : ModelDesk) → Steps (opened (Changes (kept_of self.old.kept)) (Protected end) post.old desk told.old) post.new desk told.new result (change_phase ⟦<S as Rounds>⟧.all_phases (kept_of self.new.kept) self.new.at post.new) }
-        ensures seat { SameSeat post.old post.new told.new 4 }
-    {
-        match end {
-            ProtectEnd::Held { slot, .. } => {
-                self.kept.protected(slot as u64 + 1);
-                self.stand(State::Works(ChangeAt::LoadVersion { slot }));
-                None
-            }
-            ProtectEnd::Null => {
-                self.kept.protected(0);
-                let step = self.kept.decide(post);
-                self.lead(step, post, told)
-            }
-        }
-    }
-
-    // The row is written: the next version, and the pairs.
-    #[inline(always)]
-    fn write(&mut self, slot: u32)
-        requires { self.old.kept.version + 1 < 18446744073709551616 }
-        ensures phase { (post : ModelPost) → change_phase ⟦<S as Rounds>⟧.all_phases (kept_of self.new.kept) self.new.at post ≡ Runs (Fills (Changes (kept_of self.old.kept))) (writing slot (new_row (kept_of self.old.kept))) }
-    {
-        let (count, pairs) = self.kept.pairs.row();
-        let row = Row::Map {
-            version: self.kept.version + 1,
-            count,
-            pairs,
-        };
-        self.stand(State::Writes(WriteRow::new(slot, row)));
-    }
-
-    // A step of the work leads on.
-    #[inline(always)]
-    fn lead(&mut self, step: Changed, post: &mut Post, told: &mut Told) -> Option<Answer>
-        requires valid { IsValid post.old }
-        requires scheme { post.old.layout.config.scheme ≡ S.kind }
-        requires few { length told.old ≤ 3 }
-        requires fits { ChangeFits post.old (kept_of self.old.kept) }
-        ensures steps { (desk : ModelDesk) → Steps (led (kept_of self.old.kept) step post.old desk told.old) post.new desk told.new result (change_phase ⟦<S as Rounds>⟧.all_phases (kept_of self.new.kept) self.new.at post.new) }
-        ensures seat { SameSeat post.old post.new told.new 4 }
-    {
-        match step {
-            Changed::Goes(at) => {
-                self.stand(State::Works(at));
-                None
-            }
-            Changed::Fills => match self.kept.taken {
-                Some(slot) => {
-                    self.write(slot);
-                    None
-                }
-                None => {
-                    self.stand(State::Allocates(Allocate::new(post)));
-                    None
-                }
-            },
-            Changed::Ends(ending) => self.close(ending, post, told),
-        }
-    }
-
-    // A walk for a row is over. Where it has failed for the first time, a scan may make room.
-    #[inline(always)]
-    fn allocated(&mut self, end: AllocateEnd, post: &mut Post, told: &mut Told) -> Option<Answer>
-        requires valid { IsValid post.old }
-        requires scheme { post.old.layout.config.scheme ≡ S.kind }
-        requires few { length told.old ≤ 2 }
-        requires fits { ChangeFits post.old (kept_of self.old.kept) }
-        ensures steps { (desk : ModelDesk) → Steps (filled_by (Changes (kept_of self.old.kept)) end post.old desk told.old) post.new desk told.new result (change_phase ⟦<S as Rounds>⟧.all_phases (kept_of self.new.kept) self.new.at post.new) }
-        ensures seat { SameSeat post.old post.new told.new 3 }
-    {
-        match end {
-            AllocateEnd::Given { slot, .. } => {
-                self.kept.taken = Some(slot);
-                self.write(slot);
-                None
-            }
-            AllocateEnd::Full => {
-                let ending = no_room(self.kept.walked);
-                self.kept.walked = true;
-                self.close(ending, post, told)
-            }
-        }
-    }
-
-    // The row is written: it is to be linked.
-    #[inline(always)]
-    fn written(&mut self) -> Option<Answer>
-        ensures { (post : ModelPost) (desk : ModelDesk) (told : List Event) → Steps (written_row (Changes (kept_of self.old.kept)) post desk told) post desk told result (change_phase ⟦<S as Rounds>⟧.all_phases (kept_of self.new.kept) self.new.at post) }
-    {
-        let slot = match self.kept.taken {
-            Some(slot) => slot,
-            None => 0,
-        };
-        self.stand(State::Works(ChangeAt::ExchangeRoot { slot }));
-        None
-    }
-
-    // The first step of a round.
-    #[inline(always)]
-    fn start(&mut self, post: &mut Post, desk: &Desk, found: u64, told: &mut Told) -> Option<Answer>
-        requires valid { IsValid post.old }
-        requires scheme { post.old.layout.config.scheme ≡ S.kind }
-        requires ready { IsCallReady (round (Changes (kept_of self.old.kept)) post.old) post.old (desk_of desk.now) }
-        requires plausible { IsCallPlausible (round (Changes (kept_of self.old.kept)) post.old) post.old found }
+        requires room { HasRoom desk.old post.old.layout }
+        requires ready { IsCallReady (change_phase ⟦<S as Rounds>⟧.all_phases (kept_of self.old.kept) self.old.at post.old) post.old (desk_of desk.old) }
+        requires plausible { IsCallPlausible (change_phase ⟦<S as Rounds>⟧.all_phases (kept_of self.old.kept) self.old.at post.old) post.old found }
         requires empty { told.old ≡ [] }
-        ensures steps { Steps (phase_turn (round (Changes (kept_of self.old.kept)) post.old) post.old (desk_of desk.now) found) post.new (desk_of desk.now) told.new result (change_phase ⟦<S as Rounds>⟧.all_phases (kept_of self.new.kept) self.new.at post.new) }
-        ensures seat { SameSeat post.old post.new told.new 4 }
+        ensures turn { phase_turn (change_phase ⟦<S as Rounds>⟧.all_phases (kept_of self.old.kept) self.old.at post.old) post.old (desk_of desk.old) found ≡ ran (kept_of self.new.kept) result post.new (desk_of desk.new) told.new (change_phase ⟦<S as Rounds>⟧.all_phases (kept_of self.new.kept) self.new.at post.new) }
+        ensures within { IfSome result (λ step. LedWithin (kept_of self.new.kept) step) }
+        ensures kept { Keeps post.old post.new desk.old desk.new told.new 3 }
     {
-        let root = self.root(post);
-        let mut opening = open::<S>(post, 0, root);
-        let end = take_open::<S>(&mut opening, 0, root, post, found, told);
-        self.at = State::Opens(opening);
-        match end {
-            Some(end) => self.reach(end, post, told),
-            None => None,
+        match &mut self.at {
+            State::Starts => {
+                let root = root(&self.kept, post);
+                let mut opening = open::<S>(post, 0, root);
+                let end = take_open::<S>(&mut opening, 0, root, post, found, told);
+                self.stand(State::Opens(opening));
+                reached(&mut self.kept, end, post)
+            }
+            State::Opens(opening) => {
+                let root = root(&self.kept, post);
+                let end = take_open::<S>(opening, 0, root, post, found, told);
+                reached(&mut self.kept, end, post)
+            }
+            State::Works(at) => Some(at.take(&mut self.kept, post, found, told)),
+            State::Fills(at) => fill(at, &mut self.kept, post, found, told),
+            State::Leaves(at) => left(take_leave::<S>(at, post, desk, found, told)),
         }
     }
 
@@ -264,66 +195,22 @@ impl<S: Scheme> ChangeBucket<S> {
         requires plausible { IsCallPlausible (change_phase ⟦<S as Rounds>⟧.all_phases (kept_of self.old.kept) self.old.at post.old) post.old found }
         requires empty { told.old ≡ [] }
         ensures steps { Steps (phase_turn (change_phase ⟦<S as Rounds>⟧.all_phases (kept_of self.old.kept) self.old.at post.old) post.old (desk_of desk.old) found) post.new (desk_of desk.new) told.new result (change_phase ⟦<S as Rounds>⟧.all_phases (kept_of self.new.kept) self.new.at post.new) }
-        ensures valid { IsValid post.new }
-        ensures layout { post.new.layout ≡ post.old.layout }
-        ensures seat { post.new.seat ≡ post.old.seat }
-        ensures room { HasRoom desk.new post.new.layout }
-        ensures notes { (desk_of desk.new).notes ≡ (desk_of desk.old).notes }
-        ensures most { length told.new ≤ 4 }
+        ensures kept { Keeps post.old post.new desk.old desk.new told.new 4 }
     {
-        let root = self.root(post);
-        match &mut self.at {
-            State::Starts => self.start(post, desk, found, told),
-            State::Opens(opening) => {
-                let end = take_open::<S>(opening, 0, root, post, found, told)?;
-                self.reach(end, post, told)
-            }
-            State::Works(at) => {
-                let step = at.take(&mut self.kept, post, found, told);
-                self.lead(step, post, told)
-            }
-            State::Allocates(machine) => {
-                let end = machine.take(post, found, told)?;
-                self.allocated(end, post, told)
-            }
-            State::Writes(machine) => {
-                machine.take(post, found, told)?;
-                self.written()
-            }
-            State::Closes(ending, closing) => {
-                let ending = *ending;
-                if take_close::<S>(closing, ending.is_again(), post, found, told) {
-                    return self.closed(ending);
+        match self.run(post, desk, found, told) {
+            Some(step) => match lead::<S>(&self.kept, step, post, told) {
+                Then::Stands(at) => {
+                    self.stand(at);
+                    None
                 }
-                None
-            }
-            State::GivesUp(answer, machine) => {
-                machine.take(post, found, told)?;
-                Some(*answer)
-            }
-            State::Reclaims(version, reclaim) => {
-                let version = *version;
-                let clock = reclaim.take(S::MOVES, S::HELPS, post, desk, found, told)?;
-                Some(Answer::Done { version, clock })
-            }
-            State::Tidies(tidy) => {
-                tidy.take(post, desk, found, told)?;
-                self.stand(State::Starts);
-                None
-            }
+                Then::Begins => {
+                    self.stand(State::Starts);
+                    None
+                }
+                Then::Answers(answer) => Some(answer),
+            },
+            None => None,
         }
-    }
-}
-
-// How a round ends in which no row was free: the second walk of a call answers.
-#[inline(always)]
-fn no_room(walked: bool) -> ChangeEnd
-    ensures { next_of result ≡ model_no_room walked }
-{
-    if walked {
-        ChangeEnd::Answers(Answer::Full)
-    } else {
-        ChangeEnd::MakeRoom
     }
 }
 
@@ -336,17 +223,14 @@ impl<S: Scheme> CallMachine for ChangeBucket<S> {
     ghost phase = { λ m post. change_phase ⟦<S as Rounds>⟧.all_phases (kept_of m.kept) m.at post };
 
     #[inline(always)]
-    fn next_op(&self, post: &Post, _desk: &Desk) -> Op {
+    fn next_op(&self, post: &Post, desk: &Desk) -> Op {
         match &self.at {
-            State::Starts => open::<S>(post, 0, self.root(post)).next_op(post),
+            State::Starts => open::<S>(post, 0, root(&self.kept, post)).next_op(post),
             State::Opens(opening) => opening.next_op(post),
             State::Works(at) => at.next_op(&self.kept, post),
-            State::Allocates(machine) => machine.next_op(post),
-            State::Writes(machine) => machine.next_op(post),
-            State::Closes(_, closing) => closing.next_op(post),
-            State::GivesUp(_, machine) => machine.next_op(post),
-            State::Reclaims(_, reclaim) => reclaim.next_op(post),
-            State::Tidies(tidy) => tidy.next_op(post),
+            State::Fills(Fill::Allocates(machine)) => machine.next_op(post),
+            State::Fills(Fill::Writes(machine)) => machine.next_op(post),
+            State::Leaves(at) => at.next_op(post, desk),
         }
     }
 

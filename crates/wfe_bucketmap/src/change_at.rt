@@ -3,16 +3,15 @@ ghost use Rattle.std.specs.Prelude.{◌≡◌, ◌<◌, ◌≤◌, ◌+◌, [], 
 ghost use Rattle.wfe_core.specs.defs.Pairs.{changed};
 ghost use Rattle.wfe_core.specs.defs.declared.event.Event.{Event as ModelEvent};
 ghost use Rattle.wfe_core.specs.CallReady.{ChangeFits, change_plausible, change_ready};
-ghost use Rattle.wfe_core.specs.Change.{at_link, change_move, change_turn, changed_bucket, deciding, exchanged, reading, refusal, refused, told_change, with_change};
+ghost use Rattle.wfe_core.specs.Change.{at_link, change_move, change_turn, changed_bucket as model_bucket, deciding, exchanged, reading, refused as model_refused, told_change, with_change};
 ghost use Rattle.wfe_core.specs.Desks.{Desk};
 ghost use Rattle.wfe_core.specs.Memory.{numbered};
-ghost use Rattle.wfe_core.specs.Rounds.{key_of};
 ghost use Rattle.wfe_core.specs.Valid.{IsValid};
-ghost use Rattle.wfe_bucketmap_read.specs.call_rounds.Rounds.{is_again};
-ghost use Rattle.wfe_bucketmap.specs.Changes.{at_of, kept_of, led, next_of};
+ghost use Rattle.wfe_bucketmap.specs.Changes.{at_of, kept_of, led};
 
+use wfe_call_rounds::{Over, RoundEnd};
 use wfe_core::{Answer, Change, ClockMove, Event, Op, Post, Root, Told};
-use wfe_slots::Pairs;
+use wfe_slots::{Pairs, changed_bucket, make_change, refused};
 
 // What a change keeps: the version at which alone it is made, if it names one, the row that it has
 // taken and not linked, whether a walk for one has failed, and, from the root loaded last, the link,
@@ -38,32 +37,13 @@ pub enum ChangeAt {
     ExchangeRoot { slot: u32 },
 }
 
-// How a round of a change ends: another round, at once or after a scan; the answer; or the row that was
-// cut, with the version that the change has made.
-#[derive(Clone, Copy)]
-pub enum ChangeEnd {
-    Again,
-    MakeRoom,
-    Answers(Answer),
-    Retires { slot: u32, version: u64 },
-}
-
-impl ChangeEnd {
-    // Another round comes at once.
-    #[inline(always)]
-    pub fn is_again(&self) -> bool
-        ensures { result ≡ is_again (next_of self.now) }
-    {
-        matches!(self, ChangeEnd::Again)
-    }
-}
-
-// What a step leads to: the next one, a row to be filled, or the round's end.
-#[derive(Clone, Copy)]
+// What a step leads to: the work's next one; a row to be filled; the round's end, where index 0 is to be
+// cleared; or what comes where the round or the call is over.
 pub enum Changed {
     Goes(ChangeAt),
     Fills,
-    Ends(ChangeEnd),
+    Ends(RoundEnd),
+    Passes(Over),
 }
 
 impl ChangeAt {
@@ -125,7 +105,7 @@ impl ChangeAt {
             }
             ChangeAt::ExchangeRoot { slot } => {
                 if found != kept.link {
-                    return Changed::Ends(ChangeEnd::Again);
+                    return Changed::Ends(RoundEnd::Again);
                 }
                 kept.linked(slot, post, told)
             }
@@ -148,11 +128,10 @@ impl Kept {
     #[inline(always)]
     pub fn bucket(&self, post: &Post) -> u32
         requires { IsValid post.now }
-        ensures bucket { result ≡ changed_bucket (kept_of self.now) post.now }
+        ensures bucket { result ≡ model_bucket (kept_of self.now) post.now }
         ensures there { result < post.now.layout.config.buckets }
     {
-        let key = key_in(&self.change);
-        (key % post.layout.config().buckets as u64) as u32
+        changed_bucket(self.change, post)
     }
 
     // The next pair is read, if there is one.
@@ -178,7 +157,7 @@ impl Kept {
         ensures fits { ChangeFits post.now (kept_of self.new) }
     {
         match self.refused(post) {
-            Some(answer) => Changed::Ends(ChangeEnd::Answers(answer)),
+            Some(answer) => Changed::Ends(RoundEnd::Answers(answer)),
             None => {
                 self.change();
                 Changed::Fills
@@ -186,47 +165,12 @@ impl Kept {
         }
     }
 
-    // Why the change is refused, if it is. A version other than the one that it names comes first.
+    // Why the change is refused, if it is.
     #[inline(always)]
     fn refused(&self, post: &Post) -> Option<Answer>
-        requires { IsValid post.now }
-        ensures { result ≡ refused post.now.layout.config (kept_of self.now) }
+        ensures { result ≡ model_refused post.now.layout.config (kept_of self.now) }
     {
-        let version = self.version;
-        match self.wanted {
-            Some(wanted) if version != wanted => Some(Answer::Stale { version }),
-            _ => self.refusal(post),
-        }
-    }
-
-    // Why the change is refused at any version that it names, if it is.
-    #[inline(always)]
-    fn refusal(&self, post: &Post) -> Option<Answer>
-        requires { IsValid post.now }
-        ensures { result ≡ refusal post.now.layout.config (kept_of self.now).version (kept_of self.now).pairs (kept_of self.now).change }
-    {
-        let version = self.version;
-        let config = post.layout.config();
-        match self.change {
-            Change::Put { key, .. } => {
-                if version == config.last_version {
-                    return Some(Answer::Spent { number: version });
-                }
-                if !self.pairs.has(key) && self.pairs.len() as u32 == config.pairs {
-                    return Some(Answer::BucketFull { version });
-                }
-                None
-            }
-            Change::Removed { key } => {
-                if !self.pairs.has(key) {
-                    return Some(Answer::Absent { version });
-                }
-                if version == config.last_version {
-                    return Some(Answer::Spent { number: version });
-                }
-                None
-            }
-        }
+        refused(self.change, self.wanted, self.version, &self.pairs, post)
     }
 
     // The change is made in the pairs.
@@ -235,10 +179,7 @@ impl Kept {
         requires { length (changed (kept_of self.old).pairs (kept_of self.old).change) ≤ 14 }
         ensures { kept_of self.new ≡ with_change (kept_of self.old) }
     {
-        match self.change {
-            Change::Put { key, value } => self.pairs.put(key, value),
-            Change::Removed { key } => self.pairs.remove(key),
-        }
+        make_change(self.change, &mut self.pairs);
     }
 
     // The root leads to the new row: that is told, and the row that it led to before is cut.
@@ -259,28 +200,18 @@ impl Kept {
             root: Root::Bucket(bucket),
             slot,
         });
+        let answer = Answer::Done {
+            version,
+            clock: ClockMove::Still,
+        };
         if self.link == 0 {
             told.push(change_event(&self.change, bucket, version));
-            return Changed::Ends(ChangeEnd::Answers(Answer::Done {
-                version,
-                clock: ClockMove::Still,
-            }));
+            return Changed::Ends(RoundEnd::Answers(answer));
         }
         let cut = (self.link - 1) as u32;
         told.push(Event::Cut { slot: cut });
         told.push(change_event(&self.change, bucket, version));
-        Changed::Ends(ChangeEnd::Retires { slot: cut, version })
-    }
-}
-
-// The key of a change.
-#[inline(always)]
-fn key_in(change: &Change) -> u64
-    ensures { result ≡ key_of change.now }
-{
-    match *change {
-        Change::Put { key, .. } => key,
-        Change::Removed { key } => key,
+        Changed::Ends(RoundEnd::Retires { slot: cut, answer })
     }
 }
 

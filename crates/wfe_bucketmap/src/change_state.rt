@@ -1,14 +1,11 @@
 // Where a change stands.
-use super::change_at::{ChangeAt, ChangeEnd};
-use wfe_bucketmap_read::{Closing, Opening};
-use wfe_call_rounds::{Reclaim, Tidy};
-use wfe_core::{Answer, Machine, ProtectEnd};
-use wfe_slots::{Allocate, GiveUp, WriteRow};
+use super::change_at::ChangeAt;
+use wfe_call_rounds::{Leave, Opening};
+use wfe_core::{Machine, ProtectEnd};
+use wfe_slots::{Allocate, WriteRow};
 
-// Before its first step, or before another round; the beginning of a round; the work on the row; a row
-// that is taken, and one that is written; the end of the round, with how it ends; a row that was not
-// linked is given up, before the answer; the row that was cut is retired, and the version that the
-// change has made is answered; and the clock is moved and the list scanned, before another round.
+// Before its first step, or before another round; the beginning of a round; the work on the row; a row of
+// its own; and the round's end, with what comes after it.
 #[derive(Drop)]
 pub enum State<
     B: Machine<End = ()>,
@@ -19,10 +16,13 @@ pub enum State<
     Starts,
     Opens(Opening<B, P>),
     Works(ChangeAt),
+    Fills(Fill),
+    Leaves(Leave<C, F>),
+}
+
+// A row that is taken, and one that is written.
+#[derive(Drop)]
+pub enum Fill {
     Allocates(Allocate),
     Writes(WriteRow),
-    Closes(ChangeEnd, Closing<C, F>),
-    GivesUp(Answer, GiveUp),
-    Reclaims(u64, Reclaim),
-    Tidies(Tidy),
 }

@@ -4,6 +4,7 @@
 
 mod change;
 mod change_at;
+mod change_ends;
 mod change_state;
 mod put;
 mod put_if;

@@ -3,17 +3,28 @@ ghost use Rattle.std.specs.Prelude.{◌≡◌};
 ghost use Rattle.wfe_core.specs.Change.{no_room as model_no_room};
 ghost use Rattle.wfe_core.specs.Rounds.{with_clock as model_with_clock};
 ghost use Rattle.wfe_call_rounds.specs.Endings.{next_of};
+ghost use Rattle.wfe_call_rounds.specs.Rounds.{is_again};
 
 use wfe_core::{Answer, ClockMove};
 
 /// What comes once a round's protection is cleared: another round, at once or after a scan; the answer;
-/// or the retirement of the row that was cut, and then this answer, which has the clock still.
+/// or the retirement of the row that was cut, and then this answer, with the clock's outcome.
 #[derive(Clone, Copy)]
 pub enum RoundEnd {
     Again,
     MakeRoom,
     Answers(Answer),
     Retires { slot: u32, answer: Answer },
+}
+
+impl RoundEnd {
+    /// Another round comes at once.
+    #[inline(always)]
+    pub fn is_again(&self) -> bool
+        ensures { result ≡ is_again (next_of self.now) }
+    {
+        matches!(self, RoundEnd::Again)
+    }
 }
 
 /// How a round ends in which no row was free: the second walk of a call answers.

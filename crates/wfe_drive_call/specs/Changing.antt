@@ -1,9 +1,7 @@
 -- The states of a seat whose call is a change, and what its code keeps, as in the model.
 use Rattle.std.specs.Prelude.{[], None, Option, false, length, nat_lt, ℕ}
-use Rattle.wfe_core.specs.defs.declared.call.Answer.TheVariants as answers
-use Rattle.wfe_core.specs.defs.declared.call.ClockMove.TheVariants as moves
 use Rattle.wfe_core.specs.defs.declared.fold.Change.{Change}
-use Rattle.wfe_core.specs.Calls.{Again, Answering, ChangeAt, ChangeKept, Changes, Changing, Fills, MakeRoom, Next, Retiring, Runs, Works}
+use Rattle.wfe_core.specs.Calls.{ChangeAt, ChangeKept, Changes, Changing, Fills, Next, Runs, Works}
 use Rattle.wfe_core.specs.Change.{deciding, new_row, reading}
 use Rattle.wfe_core.specs.Desks.{Desk}
 use Rattle.wfe_core.specs.Phases.{Base}
@@ -14,8 +12,6 @@ use Rattle.wfe_core.specs.declared.post.Post.{Post}
 use Rattle.wfe_drive_runs.specs.drive_words.drive_cells.Unit.{SeatView, kept_desk, seat_after}
 use Rattle.wfe_drive_runs.specs.Pieces.{clearing_at}
 use Rattle.wfe_drive_call.specs.declared.kept.Kept.{Kept}
-use Rattle.wfe_drive_call.specs.declared.kept.RoundEnd.{RoundEnd}
-use Rattle.wfe_drive_call.specs.declared.kept.RoundEnd.TheVariants as round_ends
 
 abbrev pub kept_of : Kept → ChangeKept
 kept_of kept = record { change = kept.change; wanted = kept.wanted; taken = kept.taken; walked = kept.walked; link = kept.link; version = kept.version; pairs = kept.pairs }
@@ -23,13 +19,6 @@ kept_of kept = record { change = kept.change; wanted = kept.wanted; taken = kept
 -- what a change keeps before its first round
 abbrev pub first_kept : Change → (wanted : Option ℕ) → ChangeKept
 first_kept change wanted = record { change = change; wanted = wanted; taken = None; walked = false; link = 0; version = 0; pairs = [] }
-
--- what comes once the round's protection is cleared
-abbrev pub next_of : RoundEnd → Next
-next_of round_ends.Again = Again
-next_of round_ends.MakeRoom = MakeRoom
-next_of (round_ends.Answers answer) = Answering answer
-next_of (round_ends.Retires slot version) = Retiring slot (answers.Done version moves.Still)
 
 -- the post after so many steps of the call
 abbrev pub step_post : Post → ℕ → Post

@@ -1,22 +1,15 @@
--- An enqueue's numbers and the ends of its rounds, as the model has them.
+-- What an enqueue keeps, and where it stands once a row was sought, as in the model.
 use Rattle.std.specs.Prelude.{None, Option, Some, ℕ}
-use Rattle.wfe_core.specs.Calls.{Again, Answering, EnqueueKept, Enqueues, Enqueuing, ExchangeNext, MakeRoom, Next, Works}
+use Rattle.wfe_core.specs.Calls.{EnqueueKept, Enqueues, Enqueuing, ExchangeNext, Works}
 use Rattle.wfe_core.specs.Change.{no_room}
 use Rattle.wfe_core.specs.Desks.{Desk}
 use Rattle.wfe_core.specs.declared.post.Post.{Post}
 use Rattle.wfe_drive_runs.specs.drive_words.drive_cells.Unit.{SeatView}
 use Rattle.wfe_drive_runs.specs.Pieces.{clearing_at, seat_of}
 use Rattle.wfe_drive_call.specs.declared.item.Item.{Item}
-use Rattle.wfe_drive_call.specs.declared.item.RoundEnd.{RoundEnd}
-use Rattle.wfe_drive_call.specs.declared.item.RoundEnd.TheVariants as ends
 
 abbrev pub kept_of : Item → EnqueueKept
 kept_of item = record { value = item.value; taken = item.taken; walked = item.walked; tail = item.tail; number = item.number }
-
-abbrev pub next_of : RoundEnd → Next
-next_of ends.Again = Again
-next_of ends.MakeRoom = MakeRoom
-next_of (ends.Answers answer) = Answering answer
 
 -- a row was filled and is to be linked, or none was free
 abbrev pub filled_at : Option ℕ → (old new : EnqueueKept) → Post → Desk → SeatView

@@ -7,15 +7,17 @@ ghost use Rattle.wfe_core.specs.Enqueue.{at_next};
 ghost use Rattle.wfe_core.specs.Memory.{Cas as Exchanges, numbered};
 ghost use Rattle.wfe_core.specs.Ready.{SlotFits};
 ghost use Rattle.wfe_core.specs.Valid.{IsValid};
-ghost use Rattle.wfe_drive_call.specs.Items.{kept_of, next_of};
+ghost use Rattle.wfe_drive_call.specs.Ending.{IsStill};
+ghost use Rattle.wfe_drive_call.specs.Items.{kept_of};
+ghost use Rattle.wfe_drive_runs.specs.call_rounds.Endings.{next_of};
 ghost use Rattle.wfe_drive_runs.specs.drive_words.Called.{Here};
 ghost use Rattle.wfe_drive_runs.specs.drive_words.Path.{Leads};
 ghost use Rattle.wfe_drive_runs.specs.Pieces.{clearing_at, seat_of};
 ghost use Rattle.wfe_drive_runs.specs.drive_words.drive_cells.Unit.{kept_desk, seat_after};
 
-use crate::item::{Item, RoundEnd};
+use crate::item::Item;
 use wfe_core::{Answer, Op, Post};
-use wfe_drive_runs::{Words, load_cell, step};
+use wfe_drive_runs::{RoundEnd, Words, load_cell, step};
 
 // Reads the number of the tail's row, and then its next link, which it answers.
 #[inline(always)]
@@ -68,6 +70,7 @@ pub fn append<W: Words>(words: &mut W, post: &mut Post, item: &mut Item, slot: u
     ensures rest { W.rest words.new ≤ W.rest words.old }
     ensures layout { post.new.layout ≡ post.old.layout }
     ensures standing { post.new.standing ≡ post.old.standing }
+    ensures still { IsStill (next_of result) }
     ensures leads { (desk : ModelDesk) → Here (W.at words.old) (seat_of (Works (Enqueuing (kept_of item.old) (ExchangeNext slot))) post.old desk)
         → Leads (W.at words.old) (W.at words.new) (W.stands words.old) (W.stands words.new) (seat_of (Works (Enqueuing (kept_of item.old) (ExchangeNext slot))) post.old desk)
         (clearing_at (Enqueues (kept_of item.new)) (next_of result) post.new desk) }

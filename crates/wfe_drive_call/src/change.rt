@@ -3,17 +3,19 @@ ghost use Rattle.std.specs.Prelude.{◌≡◌, ◌<◌};
 ghost use Rattle.wfe_core.specs.Calls.{Changes, Idle};
 ghost use Rattle.wfe_core.specs.DeskHeld.{HasRoom, desk_of};
 ghost use Rattle.wfe_core.specs.Rounds.{round};
+ghost use Rattle.wfe_drive_runs.specs.call_rounds.Endings.{next_of};
 ghost use Rattle.wfe_drive_runs.specs.drive_words.Called.{Here, at_phase};
 ghost use Rattle.wfe_drive_runs.specs.drive_words.Path.{Closes, Leads};
 ghost use Rattle.wfe_drive_runs.specs.Pieces.{IsFree};
-ghost use Rattle.wfe_drive_call.specs.Changing.{clears_at, first_kept, kept_of, next_of};
+ghost use Rattle.wfe_drive_call.specs.Changing.{clears_at, first_kept, kept_of};
+ghost use Rattle.wfe_drive_call.specs.Ending.{IsStill};
 
 use crate::ending::end_round;
 use crate::fill::fill_row;
-use crate::kept::{Kept, RoundEnd};
+use crate::kept::Kept;
 use crate::opening::begin_round;
 use wfe_core::{Answer, Change, Desk, Post};
-use wfe_drive_runs::Words;
+use wfe_drive_runs::{RoundEnd, Words};
 
 // Makes a round, up to where the index is to be cleared.
 #[inline(always)]
@@ -33,6 +35,7 @@ fn make_round<W: Words>(
     ensures room { HasRoom desk.new post.new.layout }
     ensures layout { post.new.layout ≡ post.old.layout }
     ensures free { IsFree post.new }
+    ensures still { IsStill (next_of result) }
     ensures leads { Leads (W.at words.old) (W.at words.new) (W.stands words.old) (W.stands words.new)
         (at_phase (round (Changes (kept_of kept.old)) post.old) post.old desk.old) (clears_at (kept_of kept.new) (next_of result) post.new (desk_of desk.new)) }
 {
@@ -65,7 +68,7 @@ pub fn change_bucket<W: Words>(
     let mut kept = Kept::new(change, wanted);
     loop {
         let ending = make_round(words, post, desk, &mut kept);
-        match end_round(words, post, desk, &kept, ending) {
+        match end_round(words, post, desk, kept.taken, ending) {
             Some(answer) => return answer,
             None => {}
         }

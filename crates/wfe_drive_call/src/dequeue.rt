@@ -6,16 +6,16 @@ ghost use Rattle.wfe_core.specs.Calls.{Dequeues, Dequeuing, Idle, LoadTail, Work
 ghost use Rattle.wfe_core.specs.DeskHeld.{HasRoom, desk_of};
 ghost use Rattle.wfe_core.specs.Rounds.{round};
 ghost use Rattle.wfe_core.specs.Steps.{first_phase};
-ghost use Rattle.wfe_drive_call.specs.Taking.{next_of};
+ghost use Rattle.wfe_drive_call.specs.Ending.{IsStill};
+ghost use Rattle.wfe_drive_runs.specs.call_rounds.Endings.{next_of};
 ghost use Rattle.wfe_drive_runs.specs.drive_words.Called.{Here, at_phase};
 ghost use Rattle.wfe_drive_runs.specs.drive_words.Path.{Closes, Leads};
 ghost use Rattle.wfe_drive_runs.specs.Pieces.{IsFree, IsSpanned, clearing_at, clearing_next_at};
 
-use crate::take::{TakeEnd, read_end, swing_tail, take};
+use crate::ending::end_round;
+use crate::take::{read_end, swing_tail, take};
 use wfe_core::{Answer, Desk, FollowEnd, Post, Root};
-use wfe_drive_runs::{
-    Words, close_again, close_next, close_round, follow_next, note_steps, open_round, retire,
-};
+use wfe_drive_runs::{RoundEnd, Words, close_next, follow_next, open_round};
 
 /// Makes a dequeue from its first step to its answer. Under 2GE its seat keeps no row.
 #[inline(always)]
@@ -31,33 +31,17 @@ pub fn dequeue_item<W: Words>(words: &mut W, post: &mut Post, desk: &mut Desk) -
         (at_phase (first_phase DequeueCall post.old) post.old desk.old) (at_phase Idle post.new desk.new) }
 {
     loop {
-        match take_item(words, post, desk) {
-            TakeEnd::Again => close_again(words, post),
-            TakeEnd::Empty => {
-                close_round(words, post);
-                note_steps(desk, post.steps);
-                return Answer::Empty;
-            }
-            TakeEnd::Taken {
-                head,
-                number,
-                value,
-            } => {
-                close_round(words, post);
-                let clock = retire(words, post, desk, head);
-                return Answer::Taken {
-                    number,
-                    value,
-                    clock,
-                };
-            }
+        let ending = take_item(words, post, desk);
+        match end_round(words, post, desk, None, ending) {
+            Some(answer) => return answer,
+            None => {}
         }
     }
 }
 
 // A round up to its end.
 #[inline(always)]
-fn take_item<W: Words>(words: &mut W, post: &mut Post, desk: &mut Desk) -> TakeEnd
+fn take_item<W: Words>(words: &mut W, post: &mut Post, desk: &mut Desk) -> RoundEnd
     requires valid { W.valid words.old }
     requires free { IsFree post.old }
     requires here { Here (W.at words.old) (at_phase (round Dequeues post.old) post.old desk.old) }
@@ -68,6 +52,7 @@ fn take_item<W: Words>(words: &mut W, post: &mut Post, desk: &mut Desk) -> TakeE
     ensures room { HasRoom desk.new post.new.layout }
     ensures layout { post.new.layout ≡ post.old.layout }
     ensures free { IsFree post.new }
+    ensures still { IsStill (next_of result) }
     ensures leads { Leads (W.at words.old) (W.at words.new) (W.stands words.old) (W.stands words.new)
         (at_phase (round Dequeues post.old) post.old desk.old) (clearing_at Dequeues (next_of result) post.new (desk_of desk.new)) }
 {
@@ -77,13 +62,13 @@ fn take_item<W: Words>(words: &mut W, post: &mut Post, desk: &mut Desk) -> TakeE
             close_next(words, post);
             ending
         }
-        None => TakeEnd::Again,
+        None => RoundEnd::Again,
     }
 }
 
 // The head's row is held.
 #[inline(always)]
-fn take_next<W: Words>(words: &mut W, post: &mut Post, desk: &mut Desk, head: u32) -> TakeEnd
+fn take_next<W: Words>(words: &mut W, post: &mut Post, desk: &mut Desk, head: u32) -> RoundEnd
     requires valid { W.valid words.old }
     requires free { IsFree post.old }
     requires spanned { IsSpanned post.old }
@@ -95,6 +80,7 @@ fn take_next<W: Words>(words: &mut W, post: &mut Post, desk: &mut Desk, head: u3
     ensures room { HasRoom desk.new post.new.layout }
     ensures layout { post.new.layout ≡ post.old.layout }
     ensures free { IsFree post.new }
+    ensures still { IsStill (next_of result) }
     ensures leads { Leads (W.at words.old) (W.at words.new) (W.stands words.old) (W.stands words.new)
         (at_phase (Works (Dequeuing (LoadTail head))) post.old desk.old) (clearing_next_at (next_of result) post.new (desk_of desk.new)) }
 {
@@ -103,11 +89,11 @@ fn take_next<W: Words>(words: &mut W, post: &mut Post, desk: &mut Desk, head: u3
         FollowEnd::Followed { slot } => {
             if tail == head as u64 + 1 {
                 swing_tail(words, post, head, slot);
-                return TakeEnd::Again;
+                return RoundEnd::Again;
             }
             take(words, post, head, slot)
         }
-        FollowEnd::NoNext => TakeEnd::Empty,
-        FollowEnd::RootMoved { .. } => TakeEnd::Again,
+        FollowEnd::NoNext => RoundEnd::Answers(Answer::Empty),
+        FollowEnd::RootMoved { .. } => RoundEnd::Again,
     }
 }

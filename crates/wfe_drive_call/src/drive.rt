@@ -19,7 +19,7 @@ use crate::enqueue::enqueue_item;
 use crate::under::drive_under;
 use wfe_call_any::{Get, He, Hp, Ibr, Scheme, Wfe};
 use wfe_core::{Answer, Call, Change, Desk, Post, SchemeKind};
-use wfe_drive_runs::{Words, drive_apart, get_he_in, get_hp_in, get_ibr_in, get_wfe_in};
+use wfe_drive_runs::{Words, drive_apart, get_by_index, get_ibr_in};
 
 /// Makes a whole call of the seat of this post and desk on its words, and answers as the call does.
 /// No call of the seat may be under way, and the call must be one that may begin: it names indexes in
@@ -100,10 +100,8 @@ pub fn drive_get<W: Words>(
     post.steps = 0;
     desk.notes.clear();
     match post.layout.config().scheme {
-        SchemeKind::He => get_he_in(words, post, desk, key, bucket),
         SchemeKind::Ibr => get_free(words, post, desk, key, bucket, Call::Get { key }),
-        SchemeKind::Wfe => get_wfe_in(words, post, desk, key, bucket),
-        SchemeKind::Hp => get_hp_in(words, post, desk, key, bucket),
+        _ => get_by_index(words, post, desk, key, bucket),
     }
 }
 

@@ -1,77 +1,61 @@
-// The end of a round: its protection is over, and then another round comes or the answer.
-ghost use Rattle.std.specs.Prelude.{◌≡◌, ◌<◌, ◌≤◌, MatchOption};
-ghost use Rattle.wfe_core.specs.defs.declared.call.Answer.TheVariants.{Done as DoneAnswer};
+// The end of a round, whatever its task: its protection is over, and then another round comes or the answer.
+ghost use Rattle.std.specs.Prelude.{◌≡◌, ◌<◌, ◌≤◌, IfNone, MatchOption};
 ghost use Rattle.wfe_core.specs.defs.declared.call.ClockMove.TheVariants.{Still as StillMove};
-ghost use Rattle.wfe_core.specs.Calls.{Again as AgainNext, Answering, Changes, Idle, MakeRoom as MakeRoomNext, Retiring};
+ghost use Rattle.wfe_core.specs.Calls.{Answering, Idle, MakeRoom as MakeRoomNext, Retiring, Task};
 ghost use Rattle.wfe_core.specs.DeskHeld.{HasRoom, desk_of};
-ghost use Rattle.wfe_core.specs.Rounds.{round};
+ghost use Rattle.wfe_core.specs.Rounds.{index_of, round, taken_of, with_clock as model_with_clock};
+ghost use Rattle.wfe_drive_call.specs.Ending.{IsStill};
+ghost use Rattle.wfe_drive_runs.specs.call_rounds.Endings.{next_of};
 ghost use Rattle.wfe_drive_runs.specs.drive_words.Called.{Here, at_phase};
 ghost use Rattle.wfe_drive_runs.specs.drive_words.Path.{Closes, Leads};
-ghost use Rattle.wfe_drive_runs.specs.Pieces.{IsFree};
-ghost use Rattle.wfe_drive_call.specs.Changing.{clears_at, kept_of, next_of};
+ghost use Rattle.wfe_drive_runs.specs.Pieces.{IsFree, clearing_at};
 
-use crate::kept::{Kept, RoundEnd};
 use wfe_core::{Answer, Desk, Post};
-use wfe_drive_runs::{Words, close_again, close_round, give_up, note_steps, retire, tidy};
-
-// The root has moved: another round comes.
-#[inline(always)]
-fn begin_again<W: Words>(words: &mut W, post: &mut Post, _desk: &Desk, _kept: &Kept)
-    requires valid { W.valid words.old }
-    requires free { IsFree post.old }
-    requires here { Here (W.at words.old) (clears_at (kept_of _kept.now) AgainNext post.old (desk_of _desk.now)) }
-    ensures valid { W.valid words.new }
-    ensures same { W.same words.old words.new }
-    ensures rest { W.rest words.new ≤ W.rest words.old }
-    ensures layout { post.new.layout ≡ post.old.layout }
-    ensures free { IsFree post.new }
-    ensures leads { Leads (W.at words.old) (W.at words.new) (W.stands words.old) (W.stands words.new)
-        (clears_at (kept_of _kept.now) AgainNext post.old (desk_of _desk.now)) (at_phase (round (Changes (kept_of _kept.now)) post.new) post.new _desk.now) }
-{
-    close_again(words, post);
-}
+use wfe_drive_runs::{
+    RoundEnd, Words, close_again, close_round, give_up, note_steps, retire, tidy, with_clock,
+};
 
 // No row was free: the clock is moved, where retirements move it, and the list scanned, and then another
 // round comes.
-fn make_room<W: Words>(words: &mut W, post: &mut Post, desk: &mut Desk, _kept: &Kept)
+fn make_room<W: Words>(words: &mut W, post: &mut Post, desk: &mut Desk)
     requires valid { W.valid words.old }
     requires free { IsFree post.old }
     requires room { HasRoom desk.old post.old.layout }
-    requires here { Here (W.at words.old) (clears_at (kept_of _kept.now) MakeRoomNext post.old (desk_of desk.old)) }
+    requires here { (task : Task) × (index_of task ≡ 0) × Here (W.at words.old) (clearing_at task MakeRoomNext post.old (desk_of desk.old)) }
     ensures valid { W.valid words.new }
     ensures same { W.same words.old words.new }
     ensures rest { W.rest words.new < W.rest words.old }
     ensures room { HasRoom desk.new post.new.layout }
     ensures layout { post.new.layout ≡ post.old.layout }
     ensures free { IsFree post.new }
-    ensures leads { Leads (W.at words.old) (W.at words.new) (W.stands words.old) (W.stands words.new)
-        (clears_at (kept_of _kept.now) MakeRoomNext post.old (desk_of desk.old)) (at_phase (round (Changes (kept_of _kept.now)) post.new) post.new desk.new) }
+    ensures leads { (task : Task) → index_of task ≡ 0 → Here (W.at words.old) (clearing_at task MakeRoomNext post.old (desk_of desk.old))
+        → Leads (W.at words.old) (W.at words.new) (W.stands words.old) (W.stands words.new) (clearing_at task MakeRoomNext post.old (desk_of desk.old)) (at_phase (round task post.new) post.new desk.new) }
 {
     close_round(words, post);
     tidy(words, post, desk);
 }
 
-// The call is answered. A row that was not linked is given up first.
+// The call is answered. A row that was taken and not linked is given up first.
 #[inline(always)]
 fn answer_call<W: Words>(
     words: &mut W,
     post: &mut Post,
     desk: &mut Desk,
-    kept: &Kept,
+    taken: Option<u32>,
     answer: Answer,
 ) -> Answer
     requires valid { W.valid words.old }
     requires free { IsFree post.old }
     requires room { HasRoom desk.old post.old.layout }
-    requires here { Here (W.at words.old) (clears_at (kept_of kept.now) (Answering answer) post.old (desk_of desk.old)) }
+    requires here { (task : Task) × (index_of task ≡ 0) × (taken_of task ≡ taken) × Here (W.at words.old) (clearing_at task (Answering answer) post.old (desk_of desk.old)) }
     ensures valid { W.valid words.new }
     ensures same { W.same words.old words.new }
     ensures room { HasRoom desk.new post.new.layout }
-    ensures closes { Closes result (W.at words.old) (W.at words.new) (W.stands words.old) (W.stands words.new)
-        (clears_at (kept_of kept.now) (Answering answer) post.old (desk_of desk.old)) (at_phase Idle post.new desk.new) }
+    ensures closes { (task : Task) → index_of task ≡ 0 → taken_of task ≡ taken → Here (W.at words.old) (clearing_at task (Answering answer) post.old (desk_of desk.old))
+        → Closes result (W.at words.old) (W.at words.new) (W.stands words.old) (W.stands words.new) (clearing_at task (Answering answer) post.old (desk_of desk.old)) (at_phase Idle post.new desk.new) }
 {
     close_round(words, post);
-    match kept.taken {
+    match taken {
         Some(slot) => give_up(words, post, desk, slot, answer),
         None => {
             note_steps(desk, post.steps);
@@ -86,60 +70,60 @@ fn retire_cut<W: Words>(
     words: &mut W,
     post: &mut Post,
     desk: &mut Desk,
-    _kept: &Kept,
     slot: u32,
-    version: u64,
+    answer: Answer,
 ) -> Answer
     requires valid { W.valid words.old }
     requires free { IsFree post.old }
     requires room { HasRoom desk.old post.old.layout }
-    requires here { Here (W.at words.old) (clears_at (kept_of _kept.now) (Retiring slot (DoneAnswer version StillMove)) post.old (desk_of desk.old)) }
+    requires still { model_with_clock answer StillMove ≡ answer }
+    requires here { (task : Task) × (index_of task ≡ 0) × Here (W.at words.old) (clearing_at task (Retiring slot answer) post.old (desk_of desk.old)) }
     ensures valid { W.valid words.new }
     ensures same { W.same words.old words.new }
     ensures room { HasRoom desk.new post.new.layout }
-    ensures closes { Closes result (W.at words.old) (W.at words.new) (W.stands words.old) (W.stands words.new)
-        (clears_at (kept_of _kept.now) (Retiring slot (DoneAnswer version StillMove)) post.old (desk_of desk.old)) (at_phase Idle post.new desk.new) }
+    ensures closes { (task : Task) → index_of task ≡ 0 → Here (W.at words.old) (clearing_at task (Retiring slot answer) post.old (desk_of desk.old))
+        → Closes result (W.at words.old) (W.at words.new) (W.stands words.old) (W.stands words.new) (clearing_at task (Retiring slot answer) post.old (desk_of desk.old)) (at_phase Idle post.new desk.new) }
 {
     close_round(words, post);
     let clock = retire(words, post, desk, slot);
-    Answer::Done { version, clock }
+    with_clock(answer, clock)
 }
 
-// Ends a round, and answers where the call is over.
+// Ends a round of a call that has taken this row and not linked it, if any, and answers where the call is
+// over.
 #[inline(always)]
 pub fn end_round<W: Words>(
     words: &mut W,
     post: &mut Post,
     desk: &mut Desk,
-    kept: &Kept,
+    taken: Option<u32>,
     ending: RoundEnd,
 ) -> Option<Answer>
     requires valid { W.valid words.old }
     requires free { IsFree post.old }
     requires room { HasRoom desk.old post.old.layout }
-    requires here { Here (W.at words.old) (clears_at (kept_of kept.now) (next_of ending) post.old (desk_of desk.old)) }
+    requires still { IsStill (next_of ending) }
+    requires here { (task : Task) × (index_of task ≡ 0) × (taken_of task ≡ taken) × Here (W.at words.old) (clearing_at task (next_of ending) post.old (desk_of desk.old)) }
     ensures valid { W.valid words.new }
     ensures same { W.same words.old words.new }
     ensures room { HasRoom desk.new post.new.layout }
-    ensures ends { MatchOption result
-        ((W.rest words.new ≤ W.rest words.old) × (post.new.layout ≡ post.old.layout) × IsFree post.new
-        × Leads (W.at words.old) (W.at words.new) (W.stands words.old) (W.stands words.new)
-        (clears_at (kept_of kept.now) (next_of ending) post.old (desk_of desk.old)) (at_phase (round (Changes (kept_of kept.now)) post.new) post.new desk.new))
+    ensures goes_on { IfNone result ((W.rest words.new ≤ W.rest words.old) × (post.new.layout ≡ post.old.layout) × IsFree post.new) }
+    ensures ends { (task : Task) → index_of task ≡ 0 → taken_of task ≡ taken → Here (W.at words.old) (clearing_at task (next_of ending) post.old (desk_of desk.old)) → MatchOption result
+        (Leads (W.at words.old) (W.at words.new) (W.stands words.old) (W.stands words.new)
+        (clearing_at task (next_of ending) post.old (desk_of desk.old)) (at_phase (round task post.new) post.new desk.new))
         (λ answer. Closes answer (W.at words.old) (W.at words.new) (W.stands words.old) (W.stands words.new)
-        (clears_at (kept_of kept.now) (next_of ending) post.old (desk_of desk.old)) (at_phase Idle post.new desk.new)) }
+        (clearing_at task (next_of ending) post.old (desk_of desk.old)) (at_phase Idle post.new desk.new)) }
 {
     match ending {
         RoundEnd::Again => {
-            begin_again(words, post, desk, kept);
+            close_again(words, post);
             None
         }
         RoundEnd::MakeRoom => {
-            make_room(words, post, desk, kept);
+            make_room(words, post, desk);
             None
         }
-        RoundEnd::Answers(answer) => Some(answer_call(words, post, desk, kept, answer)),
-        RoundEnd::Retires { slot, version } => {
-            Some(retire_cut(words, post, desk, kept, slot, version))
-        }
+        RoundEnd::Answers(answer) => Some(answer_call(words, post, desk, taken, answer)),
+        RoundEnd::Retires { slot, answer } => Some(retire_cut(words, post, desk, slot, answer)),
     }
 }

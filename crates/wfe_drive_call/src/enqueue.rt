@@ -3,21 +3,23 @@
 ghost use Rattle.std.specs.Prelude.{◌≡◌, ◌≤◌, ◌<◌};
 ghost use Rattle.wfe_core.specs.defs.declared.call.Call.TheVariants.{Enqueue as EnqueueCall};
 ghost use Rattle.wfe_core.specs.Calls.{Enqueues, Fills, Idle, Runs};
-ghost use Rattle.wfe_core.specs.Change.{no_room as model_no_room};
 ghost use Rattle.wfe_core.specs.DeskHeld.{HasRoom, desk_of};
 ghost use Rattle.wfe_core.specs.Enqueue.{filling};
 ghost use Rattle.wfe_core.specs.Rounds.{round};
 ghost use Rattle.wfe_core.specs.Steps.{first_phase};
-ghost use Rattle.wfe_drive_call.specs.Items.{kept_of, next_of};
+ghost use Rattle.wfe_drive_call.specs.Ending.{IsStill};
+ghost use Rattle.wfe_drive_call.specs.Items.{kept_of};
+ghost use Rattle.wfe_drive_runs.specs.call_rounds.Endings.{next_of};
 ghost use Rattle.wfe_drive_runs.specs.drive_words.Called.{Here, at_phase};
 ghost use Rattle.wfe_drive_runs.specs.drive_words.Path.{Closes, Leads};
 ghost use Rattle.wfe_drive_runs.specs.Pieces.{IsFree, clearing_at};
 
 use crate::append::{append, pass_tail, read_tail};
-use crate::item::{Item, RoundEnd};
+use crate::ending::end_round;
+use crate::item::Item;
 use crate::item_row::fill;
 use wfe_core::{Answer, Desk, Post, Root};
-use wfe_drive_runs::{Words, close_again, close_round, give_up, note_steps, open_round, tidy};
+use wfe_drive_runs::{RoundEnd, Words, no_room, open_round};
 
 /// Makes an enqueue from its first step to its answer. Under 2GE its seat keeps no row.
 #[inline(always)]
@@ -40,22 +42,10 @@ pub fn enqueue_item<W: Words>(words: &mut W, post: &mut Post, desk: &mut Desk, v
         number: 0,
     };
     loop {
-        match link_item(words, post, desk, &mut item) {
-            RoundEnd::Again => close_again(words, post),
-            RoundEnd::MakeRoom => {
-                close_round(words, post);
-                tidy(words, post, desk);
-            }
-            RoundEnd::Answers(answer) => {
-                close_round(words, post);
-                match item.taken {
-                    Some(slot) => return give_up(words, post, desk, slot, answer),
-                    None => {
-                        note_steps(desk, post.steps);
-                        return answer;
-                    }
-                }
-            }
+        let ending = link_item(words, post, desk, &mut item);
+        match end_round(words, post, desk, item.taken, ending) {
+            Some(answer) => return answer,
+            None => {}
         }
     }
 }
@@ -73,6 +63,7 @@ fn link_item<W: Words>(words: &mut W, post: &mut Post, desk: &mut Desk, item: &m
     ensures room { HasRoom desk.new post.new.layout }
     ensures layout { post.new.layout ≡ post.old.layout }
     ensures free { IsFree post.new }
+    ensures still { IsStill (next_of result) }
     ensures leads { Leads (W.at words.old) (W.at words.new) (W.stands words.old) (W.stands words.new)
         (at_phase (round (Enqueues (kept_of item.old)) post.old) post.old desk.old)
         (clearing_at (Enqueues (kept_of item.new)) (next_of result) post.new (desk_of desk.new)) }
@@ -111,6 +102,7 @@ fn link_filled<W: Words>(
     ensures room { HasRoom desk.new post.new.layout }
     ensures layout { post.new.layout ≡ post.old.layout }
     ensures standing { post.new.standing ≡ post.old.standing }
+    ensures still { IsStill (next_of result) }
     ensures leads { Leads (W.at words.old) (W.at words.new) (W.stands words.old) (W.stands words.new)
         (at_phase (Runs (Fills (Enqueues (kept_of item.old))) (filling (kept_of item.old))) post.old desk.old)
         (clearing_at (Enqueues (kept_of item.new)) (next_of result) post.new (desk_of desk.new)) }
@@ -119,17 +111,5 @@ fn link_filled<W: Words>(
     match fill(words, post, desk, item) {
         Some(slot) => append(words, post, item, slot),
         None => no_room(walked),
-    }
-}
-
-// How a round ends in which no row was free: the second walk of a call answers.
-#[inline(always)]
-fn no_room(walked: bool) -> RoundEnd
-    ensures { next_of result ≡ model_no_room walked }
-{
-    if walked {
-        RoundEnd::Answers(Answer::Full)
-    } else {
-        RoundEnd::MakeRoom
     }
 }

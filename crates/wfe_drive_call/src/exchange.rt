@@ -5,13 +5,15 @@ ghost use Rattle.wfe_core.specs.Change.{change_move};
 ghost use Rattle.wfe_core.specs.DeskHeld.{desk_of};
 ghost use Rattle.wfe_core.specs.Memory.{numbered};
 ghost use Rattle.wfe_core.specs.Valid.{IsValid};
+ghost use Rattle.wfe_drive_runs.specs.call_rounds.Endings.{next_of};
 ghost use Rattle.wfe_drive_runs.specs.drive_words.Called.{Here};
 ghost use Rattle.wfe_drive_runs.specs.drive_words.Path.{Leads};
-ghost use Rattle.wfe_drive_call.specs.Changing.{clears_at, kept_of, next_of, works_at};
+ghost use Rattle.wfe_drive_call.specs.Changing.{clears_at, kept_of, works_at};
+ghost use Rattle.wfe_drive_call.specs.Ending.{IsStill};
 
-use crate::kept::{Kept, RoundEnd};
+use crate::kept::Kept;
 use wfe_core::{Answer, ClockMove, Desk, Op, Post};
-use wfe_drive_runs::{Words, step};
+use wfe_drive_runs::{RoundEnd, Words, step};
 
 // An exchange of the bucket's root: the link that was loaded for this row.
 #[inline(always)]
@@ -45,6 +47,7 @@ pub fn exchange<W: Words>(
     ensures same { W.same words.old words.new }
     ensures rest { W.rest words.new < W.rest words.old }
     ensures post { post.new ≡ record post.old { steps = post.old.steps + 1 } }
+    ensures still { IsStill (next_of result) }
     ensures leads { Leads (W.at words.old) (W.at words.new) (W.stands words.old) (W.stands words.new)
         (works_at (kept_of kept.old) (ExchangeRoot slot) post.old (desk_of _desk.now)) (clears_at (kept_of kept.new) (next_of result) post.new (desk_of _desk.now)) }
 {
@@ -54,15 +57,15 @@ pub fn exchange<W: Words>(
         return RoundEnd::Again;
     }
     kept.taken = None;
-    let version = kept.version + 1;
+    let answer = Answer::Done {
+        version: kept.version + 1,
+        clock: ClockMove::Still,
+    };
     if kept.link == 0 {
-        return RoundEnd::Answers(Answer::Done {
-            version,
-            clock: ClockMove::Still,
-        });
+        return RoundEnd::Answers(answer);
     }
     RoundEnd::Retires {
         slot: kept.link - 1,
-        version,
+        answer,
     }
 }

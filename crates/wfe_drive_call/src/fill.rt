@@ -2,28 +2,18 @@
 ghost use Rattle.std.specs.Prelude.{◌≡◌, ◌<◌, ◌≤◌, Some, MatchOption};
 ghost use Rattle.wfe_core.specs.Change.{filling, no_room as room_sought, with_change};
 ghost use Rattle.wfe_core.specs.DeskHeld.{HasRoom, desk_of};
+ghost use Rattle.wfe_drive_runs.specs.call_rounds.Endings.{next_of};
 ghost use Rattle.wfe_drive_runs.specs.drive_words.Called.{Here};
 ghost use Rattle.wfe_drive_runs.specs.drive_words.Path.{Leads};
 ghost use Rattle.wfe_drive_runs.specs.Pieces.{IsFree};
-ghost use Rattle.wfe_drive_call.specs.Changing.{clears_at, fills_at, kept_of, next_of, writes_at};
+ghost use Rattle.wfe_drive_call.specs.Changing.{clears_at, fills_at, kept_of, writes_at};
+ghost use Rattle.wfe_drive_call.specs.Ending.{IsStill};
 
 use crate::exchange::exchange;
-use crate::kept::{Kept, RoundEnd};
+use crate::kept::Kept;
 use crate::write::write_row;
-use wfe_core::{AllocateEnd, Answer, Desk, Post};
-use wfe_drive_runs::{Words, take_row};
-
-// How a round ends in which no row was free: the second walk of a call answers.
-#[inline(always)]
-fn no_room(walked: bool) -> RoundEnd
-    ensures { next_of result ≡ room_sought walked }
-{
-    if walked {
-        RoundEnd::Answers(Answer::Full)
-    } else {
-        RoundEnd::MakeRoom
-    }
-}
+use wfe_core::{AllocateEnd, Desk, Post};
+use wfe_drive_runs::{RoundEnd, Words, no_room, take_row};
 
 // Takes a row, unless one is taken. Where none was free the walk is noted.
 #[inline(always)]
@@ -83,6 +73,7 @@ fn link_row<W: Words>(
     ensures rest { W.rest words.new < W.rest words.old }
     ensures layout { post.new.layout ≡ post.old.layout }
     ensures free { IsFree post.new }
+    ensures still { IsStill (next_of result) }
     ensures leads { Leads (W.at words.old) (W.at words.new) (W.stands words.old) (W.stands words.new)
         (writes_at (kept_of kept.old) slot 1 post.old (desk_of _desk.now)) (clears_at (kept_of kept.new) (next_of result) post.new (desk_of _desk.now)) }
 {
@@ -110,6 +101,7 @@ pub fn fill_row<W: Words>(
     ensures room { HasRoom desk.new post.new.layout }
     ensures layout { post.new.layout ≡ post.old.layout }
     ensures free { IsFree post.new }
+    ensures still { IsStill (next_of result) }
     ensures leads { Leads (W.at words.old) (W.at words.new) (W.stands words.old) (W.stands words.new)
         (fills_at (with_change (kept_of kept.old)) (filling (with_change (kept_of kept.old))) post.old (desk_of desk.old)) (clears_at (kept_of kept.new) (next_of result) post.new (desk_of desk.new)) }
 {

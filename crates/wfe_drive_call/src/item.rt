@@ -1,5 +1,4 @@
-// What an enqueue keeps from round to round, and how a round ends.
-use wfe_core::Answer;
+// What an enqueue keeps from round to round.
 
 // The row that was taken and not linked, whether a walk has failed, and the tail's row with its number.
 #[derive(Clone, Copy)]
@@ -9,12 +8,4 @@ pub struct Item {
     pub walked: bool,
     pub tail: u32,
     pub number: u64,
-}
-
-// Another round comes at once, or after a scan; or the call is answered.
-#[derive(Clone, Copy)]
-pub enum RoundEnd {
-    Again,
-    MakeRoom,
-    Answers(Answer),
 }

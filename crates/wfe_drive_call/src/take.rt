@@ -8,22 +8,14 @@ ghost use Rattle.wfe_core.specs.Dequeue.{follow_base};
 ghost use Rattle.wfe_core.specs.Memory.{Cas as Exchanges, Load as Loads, numbered};
 ghost use Rattle.wfe_core.specs.Ready.{SlotFits};
 ghost use Rattle.wfe_core.specs.Valid.{IsValid};
-ghost use Rattle.wfe_drive_call.specs.Taking.{next_of};
+ghost use Rattle.wfe_drive_call.specs.Ending.{IsStill};
+ghost use Rattle.wfe_drive_runs.specs.call_rounds.Endings.{next_of};
 ghost use Rattle.wfe_drive_runs.specs.drive_words.Called.{Here};
 ghost use Rattle.wfe_drive_runs.specs.drive_words.Path.{Leads};
 ghost use Rattle.wfe_drive_runs.specs.Pieces.{clearing_next_at, seat_of};
 
-use wfe_core::{Op, Post};
-use wfe_drive_runs::{Words, load_cell, step};
-
-// How a round ends once the head is held: another round comes, the queue is empty, or the item of this
-// number and value was taken, and the head has left a row.
-#[derive(Clone, Copy)]
-pub enum TakeEnd {
-    Again,
-    Empty,
-    Taken { head: u32, number: u64, value: u64 },
-}
+use wfe_core::{Answer, ClockMove, Op, Post};
+use wfe_drive_runs::{RoundEnd, Words, load_cell, step};
 
 // Loads the queue's tail.
 #[inline(always)]
@@ -60,9 +52,10 @@ pub fn swing_tail<W: Words>(words: &mut W, post: &mut Post, head: u32, next: u32
     post.steps += 1;
 }
 
-// Reads the item after the head's row, and moves the head to it.
+// Reads the item after the head's row, and moves the head to it; then the row that the head left is to be
+// retired. Another round comes where the head has moved.
 #[inline(always)]
-pub fn take<W: Words>(words: &mut W, post: &mut Post, head: u32, next: u32) -> TakeEnd
+pub fn take<W: Words>(words: &mut W, post: &mut Post, head: u32, next: u32) -> RoundEnd
     requires valid { W.valid words.old }
     requires own { IsValid post.old }
     requires next { SlotFits post.old next }
@@ -71,6 +64,7 @@ pub fn take<W: Words>(words: &mut W, post: &mut Post, head: u32, next: u32) -> T
     ensures same { W.same words.old words.new }
     ensures rest { W.rest words.new ≤ W.rest words.old }
     ensures post { post.new ≡ record post.old { steps = post.old.steps + 3 } }
+    ensures still { IsStill (next_of result) }
     ensures leads { (desk : ModelDesk) → Here (W.at words.old) (seat_of (Works (Dequeuing (TakeNumber head next))) post.old desk)
         → Leads (W.at words.old) (W.at words.new) (W.stands words.old) (W.stands words.new) (seat_of (Works (Dequeuing (TakeNumber head next))) post.old desk)
         (clearing_next_at (next_of result) post.new desk) }
@@ -81,12 +75,15 @@ pub fn take<W: Words>(words: &mut W, post: &mut Post, head: u32, next: u32) -> T
     let found = step(words, move_head(post, head, next));
     post.steps += 3;
     if found != head as u64 + 1 {
-        return TakeEnd::Again;
+        return RoundEnd::Again;
     }
-    TakeEnd::Taken {
-        head,
-        number,
-        value,
+    RoundEnd::Retires {
+        slot: head,
+        answer: Answer::Taken {
+            number,
+            value,
+            clock: ClockMove::Still,
+        },
     }
 }
 

@@ -100,17 +100,14 @@ clearing_clears task next post desk told one = ap (clearing_has task next post d
 pub clearing_next_clears : (next : Next) (post : Post) (desk : Desk) (told : List Event) → has_one_interval (scheme_of post) ≡ false → clearing_next next post desk told ≡ goes_on post desk told (Runs (ClearsNext next) (Clear (publishes_rows (scheme_of post)) 1))
 clearing_next_clears next post desk told one = ap (λ (b : Bool). clearing_next_by next post desk told (if b then None else Some (Clear (publishes_rows (scheme_of post)) 1))) one
 
-pub clears_is : (task : Task) (next : Next) (post : Post) (desk : Desk) (rows : Bool) → index_of task ≡ 0 → has_one_interval (scheme_of post) ≡ false → rows ≡ publishes_rows (scheme_of post)
-    → clearing_at task next post desk ≡ seat_of (Runs (Clears task next) (Clear rows 0)) post desk
-clears_is task next post desk rows i one r =
+pub clears_is : (task : Task) (next : Next) (post : Post) (desk : Desk) → index_of task ≡ 0 → has_one_interval (scheme_of post) ≡ false
+    → clearing_at task next post desk ≡ seat_of (Runs (Clears task next) (Clear (publishes_rows (scheme_of post)) 0)) post desk
+clears_is task next post desk i one =
     ap seat_after (clearing_clears task next post (kept_desk desk) [] one)
     ∙ ap (λ (index : ℕ). seat_of (Runs (Clears task next) (Clear (publishes_rows (scheme_of post)) index)) post desk) i
-    ∙ ap (λ (b : Bool). seat_of (Runs (Clears task next) (Clear b 0)) post desk) (sym r)
 
-pub clears_next_is : (next : Next) (post : Post) (desk : Desk) (rows : Bool) → has_one_interval (scheme_of post) ≡ false → rows ≡ publishes_rows (scheme_of post) → clearing_next_at next post desk ≡ seat_of (Runs (ClearsNext next) (Clear rows 1)) post desk
-clears_next_is next post desk rows one r =
-    ap seat_after (clearing_next_clears next post (kept_desk desk) [] one)
-    ∙ ap (λ (b : Bool). seat_of (Runs (ClearsNext next) (Clear b 1)) post desk) (sym r)
+pub clears_next_is : (next : Next) (post : Post) (desk : Desk) → has_one_interval (scheme_of post) ≡ false → clearing_next_at next post desk ≡ seat_of (Runs (ClearsNext next) (Clear (publishes_rows (scheme_of post)) 1)) post desk
+clears_next_is next post desk one = ap seat_after (clearing_next_clears next post (kept_desk desk) [] one)
 
 -- and the round is over after it
 abbrev finishing_has : Task → Next → Post → Desk → List Event → (one : Bool) → CallTurn

@@ -7,7 +7,7 @@ use Rattle.wfe_core.specs.defs.declared.call.Answer.{Answer}
 use Rattle.wfe_core.specs.defs.declared.call.ClockMove.{ClockMove}
 use Rattle.wfe_core.specs.defs.declared.event.Root.{Root}
 use Rattle.wfe_core.specs.defs.declared.event.Root.TheVariants as roots
-use Rattle.wfe_core.specs.Calls.{Answering, Changes, Dequeues, Enqueues, Gets, GivesUp, Holds, Idle, MakeRoom, Opens, Repeated, Runs, Task}
+use Rattle.wfe_core.specs.Calls.{Answering, Changes, Dequeues, Enqueues, Gets, GivesUp, Holds, Idle, Opens, Repeated, Runs, Task}
 use Rattle.wfe_core.specs.DeskHeld.{desk_of}
 use Rattle.wfe_core.specs.Locals.{Local}
 use Rattle.wfe_core.specs.Phases.Base.{GiveUp}
@@ -41,10 +41,10 @@ opens_as kind task root post held is p =
     ∙ ap (λ (at : Root). at_phase (Runs (Opens task) (protect_base kind 0 at)) post held) p.1
 
 -- a round begins with it, where the scheme has no interval
-pub round_as : (kind : SchemeKind) (task : Task) (root : Root) (post : Post) (held : HeldDesk) → has_one_interval kind ≡ false → scheme_of post ≡ kind → Protects task root post → at_phase (round task post) post held ≡ at_phase (Runs (Opens task) (protect_base kind 0 root)) post held
-round_as kind task root post held one is p =
+pub round_as : (task : Task) (root : Root) (post : Post) (held : HeldDesk) → has_one_interval (scheme_of post) ≡ false → Protects task root post → at_phase (round task post) post held ≡ at_phase (Runs (Opens task) (protect_base (scheme_of post) 0 root)) post held
+round_as task root post held one p =
     let opens : Bool → SeatView = λ b. at_phase (round_by task post (begin_where b post)) post held in
-    ap opens (ap has_one_interval is ∙ one) ∙ opens_as kind task root post held is p
+    ap opens one ∙ opens_as (scheme_of post) task root post held refl p
 
 module _ {at0 at1 : Local → Type 0} {stands0 stands1 : List (Op × ℕ) → Type 0} {first : SeatView} where
   -- another round begins once room was made

@@ -1,5 +1,5 @@
 // A protection of the next link of the queue's head row, by which the seat is as the model's.
-ghost use Rattle.std.specs.Prelude.{◌≡◌, ◌<◌, ◌≤◌, ◌+◌, ◌^◌, ℕ, IsSome};
+ghost use Rattle.std.specs.Prelude.{◌≡◌, ◌<◌, ◌≤◌, ◌+◌, ◌^◌, ℕ, IsSome, false};
 ghost use Rattle.wfe_core.specs.Calls.{Runs, Why};
 ghost use Rattle.wfe_core.specs.Dequeue.{follow_base};
 ghost use Rattle.wfe_core.specs.DeskHeld.{HasRoom, desk_of};
@@ -12,7 +12,8 @@ ghost use Rattle.wfe_core.specs.Rounds.{kept_row};
 ghost use Rattle.wfe_core.specs.Valid.{IsValid};
 ghost use Rattle.wfe_core.specs.defs.declared.event.Root.TheVariants.{Next as NextOf};
 ghost use Rattle.wfe_core.specs.words.Place.Place.{Head};
-ghost use Rattle.wfe_core.specs.words.declared.config.SchemeKind.TheVariants.{He as HeKind, Hp as HpKind, Ibr as IbrKind, Wfe as WfeKind};
+ghost use Rattle.wfe_core.specs.words.Schemes.{has_one_interval};
+ghost use Rattle.wfe_core.specs.words.declared.config.SchemeKind.TheVariants.{Ibr as IbrKind};
 ghost use Rattle.wfe_drive_words.specs.Called.{Here, at_phase};
 ghost use Rattle.wfe_drive_runs.specs.Following.{followed_trial};
 ghost use Rattle.wfe_drive_words.specs.Path.{held_at, protecting};
@@ -21,7 +22,7 @@ ghost use Rattle.wfe_drive_runs.specs.Pieces.{IsFree, IsSpanned, LeadsSo};
 use crate::followed_run::run_followed;
 use wfe_core::{Desk, FollowEnd, Interval, Op, Post, ProtectEnd, Root, SchemeKind};
 use wfe_drive_words::{
-    Bounded, Guarded, WfeProtect, Words, protect_he, protect_hp, protect_wfe, protect_within, step,
+    Bounded, Guarded, WfeProtect, Words, protect_by_index, protect_within, step,
 };
 
 /// Protects the next link of the head's row at index 1, under any scheme, and holds the row to which it
@@ -49,55 +50,22 @@ pub fn follow_next<W: Words>(
         → LeadsSo (W.at words.old) (W.at words.new) (W.stands words.old) (W.stands words.new) (at_phase (Runs why (follow_base post.old.layout.config.scheme parent)) post.old desk.old) why (FollowedEnd result) post.new desk.new }
 {
     match post.layout.config().scheme {
-        SchemeKind::Wfe => follow_wfe(words, post, desk, parent),
-        SchemeKind::He => follow_he(words, post, desk, parent),
-        SchemeKind::Hp => follow_hp(words, post, desk, parent),
         SchemeKind::Ibr => follow_ibr(words, post, desk, parent),
+        _ => follow_by_index(words, post, desk, parent),
     }
 }
 
-// Under Hazard Eras.
+// Under a scheme that clears an index by a step. Where tries are used up it asks for help.
 #[inline(always)]
-fn follow_he<W: Words>(words: &mut W, post: &mut Post, _desk: &Desk, parent: u32) -> FollowEnd
+fn follow_by_index<W: Words>(
+    words: &mut W,
+    post: &mut Post,
+    desk: &mut Desk,
+    parent: u32,
+) -> FollowEnd
     requires valid { W.valid words.old }
-    requires scheme { post.old.layout.config.scheme ≡ HeKind }
-    requires here { (why : Why) × Here (W.at words.old) (at_phase (Runs why (follow_base HeKind parent)) post.old _desk.now) }
-    ensures valid { W.valid words.new }
-    ensures same { W.same words.old words.new }
-    ensures rest { W.rest words.new < W.rest words.old }
-    ensures layout { post.new.layout ≡ post.old.layout }
-    ensures within { follow_within result post.new }
-    ensures leads { (why : Why) → Here (W.at words.old) (at_phase (Runs why (follow_base HeKind parent)) post.old _desk.now)
-        → LeadsSo (W.at words.old) (W.at words.new) (W.stands words.old) (W.stands words.new) (at_phase (Runs why (follow_base HeKind parent)) post.old _desk.now) why (FollowedEnd result) post.new _desk.now }
-{
-    let guarded = protect_he(words, post, 1, Root::Next(parent));
-    follow_link(words, post, _desk, parent, guarded)
-}
-
-// Under hazard pointers.
-#[inline(always)]
-fn follow_hp<W: Words>(words: &mut W, post: &mut Post, _desk: &Desk, parent: u32) -> FollowEnd
-    requires valid { W.valid words.old }
-    requires scheme { post.old.layout.config.scheme ≡ HpKind }
-    requires here { (why : Why) × Here (W.at words.old) (at_phase (Runs why (follow_base HpKind parent)) post.old _desk.now) }
-    ensures valid { W.valid words.new }
-    ensures same { W.same words.old words.new }
-    ensures rest { W.rest words.new < W.rest words.old }
-    ensures layout { post.new.layout ≡ post.old.layout }
-    ensures within { follow_within result post.new }
-    ensures leads { (why : Why) → Here (W.at words.old) (at_phase (Runs why (follow_base HpKind parent)) post.old _desk.now)
-        → LeadsSo (W.at words.old) (W.at words.new) (W.stands words.old) (W.stands words.new) (at_phase (Runs why (follow_base HpKind parent)) post.old _desk.now) why (FollowedEnd result) post.new _desk.now }
-{
-    let guarded = protect_hp(words, post, 1, Root::Next(parent));
-    follow_link(words, post, _desk, parent, guarded)
-}
-
-// Under Wait-Free Eras. Where the tries are used up it asks for help.
-#[inline(always)]
-fn follow_wfe<W: Words>(words: &mut W, post: &mut Post, desk: &mut Desk, parent: u32) -> FollowEnd
-    requires valid { W.valid words.old }
-    requires scheme { post.old.layout.config.scheme ≡ WfeKind }
-    requires here { (why : Why) × Here (W.at words.old) (at_phase (Runs why (follow_base WfeKind parent)) post.old desk.old) }
+    requires clears { has_one_interval post.old.layout.config.scheme ≡ false }
+    requires here { (why : Why) × Here (W.at words.old) (at_phase (Runs why (follow_base post.old.layout.config.scheme parent)) post.old desk.old) }
     requires room { HasRoom desk.old post.old.layout }
     ensures valid { W.valid words.new }
     ensures same { W.same words.old words.new }
@@ -105,10 +73,10 @@ fn follow_wfe<W: Words>(words: &mut W, post: &mut Post, desk: &mut Desk, parent:
     ensures room { HasRoom desk.new post.new.layout }
     ensures layout { post.new.layout ≡ post.old.layout }
     ensures within { follow_within result post.new }
-    ensures leads { (why : Why) → Here (W.at words.old) (at_phase (Runs why (follow_base WfeKind parent)) post.old desk.old)
-        → LeadsSo (W.at words.old) (W.at words.new) (W.stands words.old) (W.stands words.new) (at_phase (Runs why (follow_base WfeKind parent)) post.old desk.old) why (FollowedEnd result) post.new desk.new }
+    ensures leads { (why : Why) → Here (W.at words.old) (at_phase (Runs why (follow_base post.old.layout.config.scheme parent)) post.old desk.old)
+        → LeadsSo (W.at words.old) (W.at words.new) (W.stands words.old) (W.stands words.new) (at_phase (Runs why (follow_base post.old.layout.config.scheme parent)) post.old desk.old) why (FollowedEnd result) post.new desk.new }
 {
-    match protect_wfe(words, post, 1, Root::Next(parent)) {
+    match protect_by_index(words, post, 1, Root::Next(parent)) {
         Bounded::Within(guarded) => follow_link(words, post, desk, parent, guarded),
         Bounded::Used { steps } => ask(words, post, desk, parent, steps),
     }

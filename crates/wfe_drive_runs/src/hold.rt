@@ -1,6 +1,6 @@
 // A protection of a root by which the seat is as the model's, under the schemes that clear an index by a
 // step.
-ghost use Rattle.std.specs.Prelude.{◌≡◌, ◌<◌, ◌+◌, ◌^◌, ℕ, IfSome};
+ghost use Rattle.std.specs.Prelude.{◌≡◌, ◌<◌, ◌+◌, ◌^◌, ℕ, IfSome, false};
 ghost use Rattle.wfe_core.specs.Calls.{Runs, Why};
 ghost use Rattle.wfe_core.specs.DeskHeld.{HasRoom, desk_of};
 ghost use Rattle.wfe_core.specs.Phases.Ending.{Protected as ProtectedEnd};
@@ -8,63 +8,42 @@ ghost use Rattle.wfe_core.specs.Phases.ProtectAt.{PublishRequest};
 ghost use Rattle.wfe_core.specs.Ready.{IndexFits, LinkFits, SlotFits};
 ghost use Rattle.wfe_core.specs.Rounds.{protect_base};
 ghost use Rattle.wfe_core.specs.Valid.{IsValid};
-ghost use Rattle.wfe_core.specs.words.declared.config.SchemeKind.TheVariants.{He as HeKind, Hp as HpKind, Wfe as WfeKind};
+ghost use Rattle.wfe_core.specs.words.Schemes.{has_one_interval};
 ghost use Rattle.wfe_drive_words.specs.Called.{Here, at_phase};
 ghost use Rattle.wfe_drive_runs.specs.Pieces.{IsStood, LeadsSo, Outer, asked_trial, end_of};
 ghost use Rattle.wfe_drive_words.specs.Path.{protecting};
 
 use crate::base_run::run;
 use wfe_core::{Desk, Post, ProtectEnd, Root};
-use wfe_drive_words::{Bounded, Guarded, WfeProtect, Words, protect_he, protect_hp, protect_wfe};
+use wfe_drive_words::{Bounded, Guarded, WfeProtect, Words, protect_by_index};
 
-/// Protects a root under Hazard Eras, and answers the row that it holds from then on.
+/// Protects a root, and answers the row that it holds from then on. Where tries are used up it asks for help.
 #[inline(always)]
-pub fn hold_he<W: Words>(
+pub fn hold_by_index<W: Words>(
     words: &mut W,
     post: &mut Post,
-    _desk: &Desk,
+    desk: &mut Desk,
     index: u32,
     root: Root,
 ) -> Option<u32>
     requires valid { W.valid words.old }
-    requires scheme { post.old.layout.config.scheme ≡ HeKind }
+    requires clears { has_one_interval post.old.layout.config.scheme ≡ false }
     requires outer { Outer root }
-    requires here { (why : Why) × Here (W.at words.old) (at_phase (Runs why (protect_base HeKind index root)) post.old _desk.now) }
+    requires here { (why : Why) × Here (W.at words.old) (at_phase (Runs why (protect_base post.old.layout.config.scheme index root)) post.old desk.old) }
+    requires room { HasRoom desk.old post.old.layout }
     ensures valid { W.valid words.new }
     ensures same { W.same words.old words.new }
     ensures rest { W.rest words.new < W.rest words.old }
+    ensures room { HasRoom desk.new post.new.layout }
     ensures layout { post.new.layout ≡ post.old.layout }
     ensures fits { IfSome result (λ slot. SlotFits post.new slot) }
-    ensures leads { (why : Why) → Here (W.at words.old) (at_phase (Runs why (protect_base HeKind index root)) post.old _desk.now) → (era : ℕ)
-        × LeadsSo (W.at words.old) (W.at words.new) (W.stands words.old) (W.stands words.new) (at_phase (Runs why (protect_base HeKind index root)) post.old _desk.now) why (ProtectedEnd (end_of result era)) post.new _desk.now }
+    ensures leads { (why : Why) → Here (W.at words.old) (at_phase (Runs why (protect_base post.old.layout.config.scheme index root)) post.old desk.old) → (era : ℕ)
+        × LeadsSo (W.at words.old) (W.at words.new) (W.stands words.old) (W.stands words.new) (at_phase (Runs why (protect_base post.old.layout.config.scheme index root)) post.old desk.old) why (ProtectedEnd (end_of result era)) post.new desk.new }
 {
-    let guarded = protect_he(words, post, index, root);
-    stand(post, index, guarded)
-}
-
-/// Protects a root under hazard pointers, and answers the row that it holds from then on.
-#[inline(always)]
-pub fn hold_hp<W: Words>(
-    words: &mut W,
-    post: &mut Post,
-    _desk: &Desk,
-    index: u32,
-    root: Root,
-) -> Option<u32>
-    requires valid { W.valid words.old }
-    requires scheme { post.old.layout.config.scheme ≡ HpKind }
-    requires outer { Outer root }
-    requires here { (why : Why) × Here (W.at words.old) (at_phase (Runs why (protect_base HpKind index root)) post.old _desk.now) }
-    ensures valid { W.valid words.new }
-    ensures same { W.same words.old words.new }
-    ensures rest { W.rest words.new < W.rest words.old }
-    ensures layout { post.new.layout ≡ post.old.layout }
-    ensures fits { IfSome result (λ slot. SlotFits post.new slot) }
-    ensures leads { (why : Why) → Here (W.at words.old) (at_phase (Runs why (protect_base HpKind index root)) post.old _desk.now) → (era : ℕ)
-        × LeadsSo (W.at words.old) (W.at words.new) (W.stands words.old) (W.stands words.new) (at_phase (Runs why (protect_base HpKind index root)) post.old _desk.now) why (ProtectedEnd (end_of result era)) post.new _desk.now }
-{
-    let guarded = protect_hp(words, post, index, root);
-    stand(post, index, guarded)
+    match protect_by_index(words, post, index, root) {
+        Bounded::Within(guarded) => stand(post, index, guarded),
+        Bounded::Used { steps } => ask(words, post, desk, index, root, steps),
+    }
 }
 
 // The row to which a protected root leads stands at the index, if it leads to one.
@@ -84,35 +63,6 @@ pub fn stand(post: &mut Post, index: u32, guarded: Guarded) -> Option<u32>
     let slot = guarded.link - 1;
     post.standing[index as usize] = Some(slot);
     Some(slot)
-}
-
-/// The same under Wait-Free Eras. Where the tries are used up it asks for help.
-#[inline(always)]
-pub fn hold_wfe<W: Words>(
-    words: &mut W,
-    post: &mut Post,
-    desk: &mut Desk,
-    index: u32,
-    root: Root,
-) -> Option<u32>
-    requires valid { W.valid words.old }
-    requires scheme { post.old.layout.config.scheme ≡ WfeKind }
-    requires outer { Outer root }
-    requires here { (why : Why) × Here (W.at words.old) (at_phase (Runs why (protect_base WfeKind index root)) post.old desk.old) }
-    requires room { HasRoom desk.old post.old.layout }
-    ensures valid { W.valid words.new }
-    ensures same { W.same words.old words.new }
-    ensures rest { W.rest words.new < W.rest words.old }
-    ensures room { HasRoom desk.new post.new.layout }
-    ensures layout { post.new.layout ≡ post.old.layout }
-    ensures fits { IfSome result (λ slot. SlotFits post.new slot) }
-    ensures leads { (why : Why) → Here (W.at words.old) (at_phase (Runs why (protect_base WfeKind index root)) post.old desk.old) → (era : ℕ)
-        × LeadsSo (W.at words.old) (W.at words.new) (W.stands words.old) (W.stands words.new) (at_phase (Runs why (protect_base WfeKind index root)) post.old desk.old) why (ProtectedEnd (end_of result era)) post.new desk.new }
-{
-    match protect_wfe(words, post, index, root) {
-        Bounded::Within(guarded) => stand(post, index, guarded),
-        Bounded::Used { steps } => ask(words, post, desk, index, root, steps),
-    }
 }
 
 // The tries are used up after so many steps.

@@ -18,14 +18,15 @@ mod tidy_run;
 pub use base_run::run;
 pub use fill::{store_cell, write_item};
 pub use follow::follow_next;
-pub use hold::{hold_he, hold_hp, hold_wfe};
+pub use hold::hold_by_index;
 pub use opening::open_round;
 pub use retirement::retire;
 pub use round_end::{close_again, close_next, close_round};
 pub use rows::{give_up, take_row};
 pub use span::{close_span, hold_ibr, open_span};
 pub use tidy_run::tidy;
+pub use wfe_call_rounds::{RoundEnd, no_room, with_clock};
 pub use wfe_drive_words::{
-    Words, answers_leave_groups, bucket_for, drive_apart, drive_on, get_he_in, get_hp_in,
-    get_ibr_in, get_wfe_in, histories_ready_seats, load_cell, note_steps, step,
+    Words, answers_leave_groups, bucket_for, drive_apart, drive_on, get_by_index, get_ibr_in,
+    histories_ready_seats, load_cell, note_steps, step,
 };

@@ -9,7 +9,7 @@ ghost use Rattle.wfe_core.specs.Rounds.{round};
 ghost use Rattle.wfe_drive_words.specs.Called.{Here, at_phase};
 ghost use Rattle.wfe_drive_runs.specs.Pieces.{IsFree, IsSpanned, LeadsSo, Outer, Protects, end_of};
 
-use crate::hold::{hold_he, hold_hp, hold_wfe};
+use crate::hold::hold_by_index;
 use crate::span::{hold_ibr, open_span};
 use wfe_core::{Desk, Post, Root, SchemeKind};
 use wfe_drive_words::Words;
@@ -40,12 +40,10 @@ pub fn open_round<W: Words>(
         × LeadsSo (W.at words.old) (W.at words.new) (W.stands words.old) (W.stands words.new) (at_phase (round task post.old) post.old desk.old) (Opens task) (ProtectedEnd (end_of result era)) post.new desk.new }
 {
     match post.layout.config().scheme {
-        SchemeKind::Wfe => hold_wfe(words, post, desk, 0, root),
-        SchemeKind::He => hold_he(words, post, desk, 0, root),
-        SchemeKind::Hp => hold_hp(words, post, desk, 0, root),
         SchemeKind::Ibr => {
             let span = open_span(words, post, desk);
             hold_ibr(words, post, desk, 0, root, span)
         }
+        _ => hold_by_index(words, post, desk, 0, root),
     }
 }

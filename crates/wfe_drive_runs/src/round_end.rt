@@ -1,6 +1,6 @@
 // A round ends: its indexes are cleared, and its interval ends, whatever comes after it.
 ghost use Rattle.std.specs.Prelude.{◌≡◌, ◌≤◌, ◌<◌, ◌+◌, [], List, None, false, slice_set};
-ghost use Rattle.wfe_core.specs.words.Schemes.{has_one_interval, publishes_rows};
+ghost use Rattle.wfe_core.specs.words.Schemes.{has_one_interval, publishes_rows as shows_rows};
 ghost use Rattle.wfe_core.specs.Calls.{Again, Dequeues, Next, Runs, Task, Why};
 ghost use Rattle.wfe_core.specs.Desks.{Desk as ModelDesk, noting};
 ghost use Rattle.wfe_core.specs.Phases.Base.{Clear};
@@ -15,30 +15,29 @@ ghost use Rattle.wfe_drive_runs.specs.Pieces.{Finishing, IsFree, TurnsTo, cleari
 
 use crate::span::close_span;
 use wfe_core::{Post, SchemeKind};
-use wfe_drive_words::{Words, publish_as, step};
+use wfe_drive_words::{Words, publish_as, publishes_rows, step};
 
-// Clears an index of the seat, whose word publishes rows or eras, by a store, and answers nothing of it.
+// Clears an index of the seat by a store.
 #[inline(always)]
-fn clear<W: Words>(words: &mut W, post: &mut Post, rows: bool, index: u32)
+fn clear<W: Words>(words: &mut W, post: &mut Post, index: u32)
     requires valid { W.valid words.old }
-    requires here { (why : Why) × (desk : ModelDesk) × Here (W.at words.old) (seat_of (Runs why (Clear rows index)) post.old desk) }
+    requires here { (why : Why) × (desk : ModelDesk) × Here (W.at words.old) (seat_of (Runs why (Clear (shows_rows post.old.layout.config.scheme) index)) post.old desk) }
     ensures valid { W.valid words.new }
     ensures same { W.same words.old words.new }
     ensures rest { W.rest words.new < W.rest words.old }
     ensures post { post.new ≡ record post.old { standing = slice_set post.old.standing index None; steps = post.old.steps + 1 } }
-    ensures turns { (why : Why) (desk : ModelDesk) → Here (W.at words.old) (seat_of (Runs why (Clear rows index)) post.old desk) → (told : List ModelEvent) × (noting (kept_desk desk) told ≡ kept_desk desk)
-        × TurnsTo (W.at words.old) (W.at words.new) (W.stands words.old) (W.stands words.new) (seat_of (Runs why (Clear rows index)) post.old desk) (resume why Done post.new (kept_desk desk) told) }
+    ensures turns { (why : Why) (desk : ModelDesk) → Here (W.at words.old) (seat_of (Runs why (Clear (shows_rows post.old.layout.config.scheme) index)) post.old desk) → (told : List ModelEvent) × (noting (kept_desk desk) told ≡ kept_desk desk)
+        × TurnsTo (W.at words.old) (W.at words.new) (W.stands words.old) (W.stands words.new) (seat_of (Runs why (Clear (shows_rows post.old.layout.config.scheme) index)) post.old desk) (resume why Done post.new (kept_desk desk) told) }
 {
-    step(words, publish_as(rows, post, index, 0));
+    step(words, publish_as(publishes_rows(post), post, index, 0));
     post.standing[index as usize] = None;
     post.steps += 1;
 }
 
 // Ends a round under a scheme that clears an index by a step: index 0 is cleared.
 #[inline(always)]
-fn close<W: Words>(words: &mut W, post: &mut Post, rows: bool)
+fn close<W: Words>(words: &mut W, post: &mut Post)
     requires valid { W.valid words.old }
-    requires rows { rows ≡ publishes_rows post.old.layout.config.scheme }
     requires clears { has_one_interval post.old.layout.config.scheme ≡ false }
     requires here { (task : Task) × (next : Next) × (desk : ModelDesk) × (index_of task ≡ 0) × Here (W.at words.old) (clearing_at task next post.old desk) }
     ensures valid { W.valid words.new }
@@ -48,7 +47,7 @@ fn close<W: Words>(words: &mut W, post: &mut Post, rows: bool)
     ensures turns { (task : Task) (next : Next) (desk : ModelDesk) → index_of task ≡ 0 → Here (W.at words.old) (clearing_at task next post.old desk)
         → TurnsTo (W.at words.old) (W.at words.new) (W.stands words.old) (W.stands words.new) (clearing_at task next post.old desk) (closed task next post.new (kept_desk desk) []) }
 {
-    clear(words, post, rows, 0);
+    clear(words, post, 0);
 }
 
 /// A dequeue clears index 1 first, under any scheme.
@@ -67,9 +66,7 @@ pub fn close_next<W: Words>(words: &mut W, post: &mut Post)
 {
     match post.layout.config().scheme {
         SchemeKind::Ibr => post.standing[1] = None,
-        SchemeKind::He => clear(words, post, false, 1),
-        SchemeKind::Wfe => clear(words, post, false, 1),
-        SchemeKind::Hp => clear(words, post, true, 1),
+        _ => clear(words, post, 1),
     }
 }
 
@@ -89,9 +86,7 @@ pub fn close_round<W: Words>(words: &mut W, post: &mut Post)
 {
     match post.layout.config().scheme {
         SchemeKind::Ibr => close_span(words, post),
-        SchemeKind::He => close(words, post, false),
-        SchemeKind::Wfe => close(words, post, false),
-        SchemeKind::Hp => close(words, post, true),
+        _ => close(words, post),
     }
 }
 
@@ -111,8 +106,6 @@ pub fn close_again<W: Words>(words: &mut W, post: &mut Post)
 {
     match post.layout.config().scheme {
         SchemeKind::Ibr => post.standing[0] = None,
-        SchemeKind::He => close(words, post, false),
-        SchemeKind::Wfe => close(words, post, false),
-        SchemeKind::Hp => close(words, post, true),
+        _ => close(words, post),
     }
 }

@@ -5,7 +5,6 @@ use Rattle.std.proofs.lemmas.List.{set-set}
 use Rattle.wfe_core.specs.words.Packed.{reservation_word}
 use Rattle.wfe_core.specs.words.Place.Place.{Index}
 use Rattle.wfe_core.specs.words.Schemes.{has_one_interval, publishes_rows}
-use Rattle.wfe_core.specs.words.declared.config.SchemeKind.{SchemeKind}
 use Rattle.wfe_core.specs.defs.declared.call.Answer.{Answer}
 use Rattle.wfe_core.specs.defs.declared.call.Answer.TheVariants as answers
 use Rattle.wfe_core.specs.defs.declared.call.Call.TheVariants as calls_named
@@ -22,7 +21,7 @@ use Rattle.wfe_core.specs.Memory.{Store, numbered}
 use Rattle.wfe_core.specs.Phases.Base.{Clear}
 use Rattle.wfe_core.specs.Phases.Ending.{Protected}
 use Rattle.wfe_core.specs.Posts.{cleared, publishes_index, shown_word, stands, with_row, withdrawn}
-use Rattle.wfe_core.specs.Rounds.{begin_where, bucket_of, clearing_by, finish_span, finishing_by, kept_row, protect_at, protect_base, root_of, round_by, scheme_of}
+use Rattle.wfe_core.specs.Rounds.{begin_where, bucket_of, clearing_by, finish_span, finishing_by, kept_row, protect_base, root_of, round_by, scheme_of}
 use Rattle.wfe_core.specs.Steps.{first_phase, opened}
 use Rattle.wfe_core.specs.declared.ends.ProtectEnd.TheVariants as protect_ends
 use Rattle.wfe_core.specs.declared.desk.Desk.{Desk as HeldDesk}
@@ -32,7 +31,7 @@ use Rattle.wfe_drive_cells.specs.Unit.{SeatView, kept_desk, seat_after}
 use Rattle.wfe_drive_words.specs.Called.{Here, at_phase}
 use Rattle.wfe_drive_words.specs.declared.found.Found.{Found}
 use Rattle.wfe_drive_words.specs.declared.protect.Guarded.{Guarded}
-use Rattle.wfe_drive_words.specs.Path.{AsksFor, Closes, StepsOn, closing_at, found_at, get_trial, guarded_at, held_at, held_reader, protecting, read_post, reading, taken}
+use Rattle.wfe_drive_words.specs.Path.{AsksFor, Closes, StepsOn, closing_at, found_at, get_trial, guarded_at, held_at, held_reader, protects_from, read_post, reading, taken}
 use Rattle.wfe_drive_words.proofs.Leading.{closes_as}
 
 -- what stands does not change the seat's words
@@ -49,11 +48,12 @@ clear-word : (null : Bool) (post : Post) (slot steps : ℕ)
 clear-word true post slot steps = ap (λ (word : ℕ). numbered post.layout (Store (Index post.seat 0) word)) (shown-same (publishes_rows (scheme_of post)) post (record post { steps = steps }) refl)
 clear-word false post slot steps = ap (λ (word : ℕ). numbered post.layout (Store (Index post.seat 0) word)) (shown-same (publishes_rows (scheme_of post)) post (record (with_row post 0 slot) { steps = steps }) refl)
 
-pub clear_stores : (place post : Post) (rows : Bool) (op : Op) → place ≡ post → rows ≡ publishes_rows (scheme_of post) → op ≡ numbered place.layout (Store (Index place.seat 0) (shown_word rows place 0 0))
-    → op ≡ numbered post.layout (Store (Index post.seat 0) (shown_word (publishes_rows (scheme_of post)) post 0 0))
-clear_stores place post rows op e r o =
-    o ∙ ap (λ (p : Post). numbered p.layout (Store (Index p.seat 0) (shown_word rows p 0 0))) e
-    ∙ ap (λ (b : Bool). numbered post.layout (Store (Index post.seat 0) (shown_word b post 0 0))) r
+-- the store is that of the seat's state
+pub clear_stores : (place post : Post) (index : ℕ) (rows : Bool) (op : Op) → place ≡ post → rows ≡ publishes_rows (scheme_of place) → op ≡ numbered place.layout (Store (Index place.seat index) (shown_word rows place index 0))
+    → op ≡ numbered post.layout (Store (Index post.seat index) (shown_word (publishes_rows (scheme_of post)) post index 0))
+clear_stores place post index rows op e r o =
+    o ∙ ap (λ (b : Bool). numbered place.layout (Store (Index place.seat index) (shown_word b place index 0))) r
+    ∙ ap (λ (p : Post). numbered p.layout (Store (Index p.seat index) (shown_word (publishes_rows (scheme_of p)) p index 0))) e
 
 pub clear_asks : {at : Local → Type 0} (key : ℕ) (post : Post) (bucket link : ℕ) (desk : Desk) (steps : ℕ) (found : Found) (op : Op) → Here at (closing_at key (held_reader post bucket link desk steps) found) → op ≡ numbered post.layout (Store (Index post.seat 0) (shown_word (publishes_rows (scheme_of post)) post 0 0))
     → AsksFor at (closing_at key (held_reader post bucket link desk steps) found) op
@@ -151,14 +151,12 @@ pub layout_stays : (post : Post) (bucket link : ℕ) (desk : Desk) (steps : ℕ)
 layout_stays post bucket link desk steps = layout-by (link == 0) post (link - 1)
 
 -- a get begins with a protection of its bucket's root, where the scheme begins with no interval
-pub begins_at : (kind : SchemeKind) (key : ℕ) (post : Post) (held : HeldDesk) (root : Root) → has_one_interval kind ≡ false → scheme_of post ≡ kind → root ≡ root_of (Gets key) post
-    → at_phase (first_phase (calls_named.Get key) post) post held ≡ protecting (get_trial key (desk_of held) post.steps) 0 root (protect_at kind) post
-begins_at kind key post held root none e r =
+pub begins_at : (key : ℕ) (post : Post) (held : HeldDesk) (root : Root) → has_one_interval (scheme_of post) ≡ false → root ≡ root_of (Gets key) post
+    → at_phase (first_phase (calls_named.Get key) post) post held ≡ protects_from (get_trial key (desk_of held) post.steps) 0 root post
+begins_at key post held root one r =
     let opens : Bool → Phase = λ one. round_by (Gets key) post (begin_where one post) in
-    let protects : SchemeKind → Root → Phase = λ scheme root. Runs (Opens (Gets key)) (protect_base scheme 0 root) in
-    let one : has_one_interval (scheme_of post) ≡ false = ap has_one_interval e ∙ none in
-    let phase : first_phase (calls_named.Get key) post ≡ protects kind root = ap opens one ∙ ap (λ (scheme : SchemeKind). protects scheme (root_of (Gets key) post)) e ∙ ap (protects kind) (sym r) in
-    ap (λ (phase : Phase). at_phase phase post held) phase
+    let protects : Root → Phase = λ root. Runs (Opens (Gets key)) (protect_base (scheme_of post) 0 root) in
+    ap (λ (phase : Phase). at_phase phase post held) (ap opens one ∙ ap protects (sym r))
 
 -- and where it has ended, its row is read
 pub guarded_reads : (key : ℕ) (post : Post) (desk : Desk) (root : Root) (n : ℕ) (guarded : Guarded) → root ≡ root_of (Gets key) post

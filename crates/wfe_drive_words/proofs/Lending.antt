@@ -2,14 +2,9 @@
 use Rattle.std.proofs.Common.{List, [], ap, false, refl, subst, true, ℕ, ◌∙◌, ◌≡◌}
 use Rattle.wfe_core.specs.defs.declared.call.Call.{Call}
 use Rattle.wfe_core.specs.defs.declared.lifetime.Lifetime.{Lifetime}
-use Rattle.wfe_core.specs.CallReady.{BackFits, IsCallReady, scan_ready, why_ready}
-use Rattle.wfe_core.specs.Calls.{GiveBack, Idle, Keeping, Phase, ReadGuard, Retires, Runs, ScanAt, Scans, TakeList, Why, Works}
-use Rattle.wfe_core.specs.Desks.{Desk}
+use Rattle.wfe_core.specs.Calls.{Keeping, Phase, TakeList, Works}
 use Rattle.wfe_core.specs.Locals.{Local, busy_in, stays}
-use Rattle.wfe_core.specs.Phases.{Base}
-use Rattle.wfe_core.specs.Phases.Base.{Retire}
 use Rattle.wfe_core.specs.World.{World, gift_at}
-use Rattle.wfe_core.specs.declared.post.Post.{Post}
 use Rattle.wfe_drive_cells.specs.Unit.{kept_desk, may_adopt}
 use Rattle.law_reuse.specs.history.History.{made_of, world_of}
 use Rattle.law_reuse.proofs.AnswersTold.Answering.{Keeps, answers_kept}

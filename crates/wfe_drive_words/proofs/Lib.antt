@@ -1,4 +1,5 @@
 pub mod Askings
+pub mod ByIndex
 pub mod Cells
 pub mod Endings
 pub mod Getting

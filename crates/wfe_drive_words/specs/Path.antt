@@ -18,9 +18,11 @@ use Rattle.wfe_core.specs.Phases.HazardAt.{PublishLink}
 use Rattle.wfe_core.specs.Phases.ProtectAt.{ByHazard, LoadLink, LoadWithin, PublishEra, PublishRequest}
 use Rattle.wfe_core.specs.Protect.{failed_once, held_post, protected, trying}
 use Rattle.wfe_core.specs.Ready.{LinkFits}
-use Rattle.wfe_core.specs.Rounds.{opening, scheme_of}
+use Rattle.wfe_core.specs.Rounds.{opening, protect_at, scheme_of}
 use Rattle.wfe_core.specs.Steps.{phase_turn, run_turn}
 use Rattle.wfe_core.specs.words.Schemes.{publishes_rows}
+use Rattle.wfe_core.specs.words.declared.config.SchemeKind.{SchemeKind}
+use Rattle.wfe_core.specs.words.declared.config.SchemeKind.TheVariants.{Wfe}
 use Rattle.wfe_core.specs.declared.op.Op.{Op}
 use Rattle.wfe_core.specs.declared.post.Post.{Post}
 use Rattle.wfe_drive_cells.specs.Unit.{SeatView, asked, kept_desk, seat_after}
@@ -189,6 +191,15 @@ asks_from t = record t { made = 0 }
 abbrev pub asked_at : Trial → ℕ → Root → Post → ℕ → Bounded → SeatView
 asked_at t index root post n (Within guarded) = guarded_at t index root post n guarded
 asked_at t index root post n (Used steps) = protecting (record t { made = steps; steps = t.steps + steps }) index root PublishRequest post
+
+-- a protection before its first step, which is the scheme's
+abbrev pub protects_from : Trial → ℕ → Root → Post → SeatView
+protects_from t index root post = protecting (asks_from t) index root (protect_at (scheme_of post)) post
+
+-- only Wait-Free Eras use tries up
+abbrev pub UsedUnder : SchemeKind → Bounded → Type 0
+UsedUnder kind (Within guarded) = Unit {0}
+UsedUnder kind (Used steps) = kind ≡ Wfe
 
 -- the post of a seat whose interval is this one
 abbrev pub spanned : Post → (lo hi : ℕ) → Post

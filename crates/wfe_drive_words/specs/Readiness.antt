@@ -1,8 +1,8 @@
 -- What the code of a seat's next step rests on.
-use Rattle.std.specs.Prelude.{Bool, false, true, ℕ, ◌+◌, ◌≡◌}
+use Rattle.std.specs.Prelude.{false, true, ℕ, ◌+◌, ◌≡◌}
 use Rattle.wfe_core.specs.defs.declared.call.Answer.{Answer}
 use Rattle.wfe_core.specs.CallReady.{IsCallPlausible, IsCallReady, NotesFit}
-use Rattle.wfe_core.specs.Calls.{Answers, GoesOn, Keeping, Phase, TakeList, Works}
+use Rattle.wfe_core.specs.Calls.{Answers, GoesOn, Phase}
 use Rattle.wfe_core.specs.Locals.{Local, after, busy_in, turn}
 use Rattle.wfe_core.specs.Valid.{IsValid}
 use Rattle.wfe_drive_cells.specs.Unit.{SeatView, may_adopt, turned}

@@ -12,25 +12,25 @@ ghost use Rattle.wfe_core.specs.defs.declared.call.Answer.TheVariants.{Got as Go
 ghost use Rattle.wfe_core.specs.defs.declared.call.Call.TheVariants.{Get as GetCall};
 ghost use Rattle.wfe_core.specs.defs.declared.event.Root.TheVariants as roots;
 ghost use Rattle.wfe_core.specs.words.Place.{is_valid};
-ghost use Rattle.wfe_core.specs.words.Schemes.{has_one_interval, publishes_rows};
-ghost use Rattle.wfe_core.specs.words.declared.config.SchemeKind.TheVariants.{He as HeKind, Hp as HpKind, Wfe as WfeKind};
+ghost use Rattle.wfe_core.specs.words.Schemes.{has_one_interval};
+ghost use Rattle.wfe_core.specs.words.declared.config.SchemeKind.TheVariants.{Wfe as WfeKind};
 ghost use Rattle.wfe_drive_words.specs.Called.{Here, Makes, at_phase};
 ghost use Rattle.wfe_drive_words.specs.Path.{Closes, Leads, asking_trial, closing_at, get_trial, held_at, held_reader, protecting};
 
 use crate::Words;
 use crate::apart::drive_apart;
-use crate::asking::{Bounded, protect_wfe};
+use crate::asking::Bounded;
+use crate::by_index::protect_by_index;
 use crate::found::{Found, find};
-use crate::hazard::protect_hp;
-use crate::path::{publish_as, step};
-use crate::protect::protect_he;
+use crate::path::{publish_as, publishes_rows, step};
 use wfe_bucketmap_read::{Get, Wfe};
-use wfe_core::{Answer, Desk, Layout, Post, Root};
+use wfe_core::{Answer, Desk, Layout, Post, Root, SchemeKind};
 use wfe_fast::WfeProtect;
 
-/// Makes a get under Hazard Eras, of a key whose bucket is known, from its first step to its answer.
+/// Makes a get under a scheme that clears an index by a step, of a key whose bucket is known, from its first
+/// step to its answer.
 #[inline(always)]
-pub fn get_he_in<W: Words>(
+pub fn get_by_index<W: Words>(
     words: &mut W,
     post: &mut Post,
     desk: &mut Desk,
@@ -38,7 +38,7 @@ pub fn get_he_in<W: Words>(
     bucket: u32,
 ) -> Answer
     requires valid { W.valid words.old }
-    requires scheme { post.old.layout.config.scheme ≡ HeKind }
+    requires clears { has_one_interval post.old.layout.config.scheme ≡ false }
     requires here { Here (W.at words.old) (at_phase (first_phase (GetCall key) post.old) post.old desk.old) }
     requires bucket { bucket ≡ bucket_of post.old key }
     requires there { bucket < post.old.layout.config.buckets }
@@ -49,17 +49,18 @@ pub fn get_he_in<W: Words>(
     ensures made { Closes result (W.at words.old) (W.at words.new) (W.stands words.old) (W.stands words.new)
         (at_phase (first_phase (GetCall key) post.old) post.old desk.old) (at_phase Idle post.new desk.new) }
 {
-    // (the post as it is before the steps, for a compiler that can't tell that none of them changes it)
-    let place = *post;
-    let root = Root::Bucket(bucket);
-    let guarded = protect_he(words, &place, 0, root);
-    let found = find_held(words, post, key, guarded.link);
-    close_get(words, &place, post, desk, found, guarded.steps, false)
+    // (an arm for each scheme, for a compiler that then knows it in all that follows)
+    match post.layout.config().scheme {
+        SchemeKind::He => get_guarded(words, post, desk, key, bucket),
+        SchemeKind::Wfe => get_guarded(words, post, desk, key, bucket),
+        SchemeKind::Hp => get_guarded(words, post, desk, key, bucket),
+        SchemeKind::Ibr => unreachable!(),
+    }
 }
 
-/// Makes a get under hazard pointers, of a key whose bucket is known, from its first step to its answer.
+// The same, whichever of these the scheme is.
 #[inline(always)]
-pub fn get_hp_in<W: Words>(
+fn get_guarded<W: Words>(
     words: &mut W,
     post: &mut Post,
     desk: &mut Desk,
@@ -67,7 +68,7 @@ pub fn get_hp_in<W: Words>(
     bucket: u32,
 ) -> Answer
     requires valid { W.valid words.old }
-    requires scheme { post.old.layout.config.scheme ≡ HpKind }
+    requires clears { has_one_interval post.old.layout.config.scheme ≡ false }
     requires here { Here (W.at words.old) (at_phase (first_phase (GetCall key) post.old) post.old desk.old) }
     requires bucket { bucket ≡ bucket_of post.old key }
     requires there { bucket < post.old.layout.config.buckets }
@@ -81,39 +82,10 @@ pub fn get_hp_in<W: Words>(
     // (the post as it is before the steps, for a compiler that can't tell that none of them changes it)
     let place = *post;
     let root = Root::Bucket(bucket);
-    let guarded = protect_hp(words, &place, 0, root);
-    let found = find_held(words, post, key, guarded.link);
-    close_get(words, &place, post, desk, found, guarded.steps, true)
-}
-
-/// Makes a get under Wait-Free Eras, of a key whose bucket is known, from its first step to its answer.
-#[inline(always)]
-pub fn get_wfe_in<W: Words>(
-    words: &mut W,
-    post: &mut Post,
-    desk: &mut Desk,
-    key: u64,
-    bucket: u32,
-) -> Answer
-    requires valid { W.valid words.old }
-    requires scheme { post.old.layout.config.scheme ≡ WfeKind }
-    requires here { Here (W.at words.old) (at_phase (first_phase (GetCall key) post.old) post.old desk.old) }
-    requires bucket { bucket ≡ bucket_of post.old key }
-    requires there { bucket < post.old.layout.config.buckets }
-    requires room { HasRoom desk.old post.old.layout }
-    ensures valid { W.valid words.new }
-    ensures same { W.same words.old words.new }
-    ensures room { HasRoom desk.new post.new.layout }
-    ensures made { Closes result (W.at words.old) (W.at words.new) (W.stands words.old) (W.stands words.new)
-        (at_phase (first_phase (GetCall key) post.old) post.old desk.old) (at_phase Idle post.new desk.new) }
-{
-    // (the post as it is before the steps, for a compiler that can't tell that none of them changes it)
-    let place = *post;
-    let root = Root::Bucket(bucket);
-    match protect_wfe(words, &place, 0, root) {
+    match protect_by_index(words, &place, 0, root) {
         Bounded::Within(guarded) => {
             let found = find_held(words, post, key, guarded.link);
-            close_get(words, &place, post, desk, found, guarded.steps, false)
+            close_get(words, &place, post, desk, found, guarded.steps)
         }
         Bounded::Used { steps } => ask(words, post, desk, key, root, steps),
     }
@@ -205,11 +177,9 @@ fn close_get<W: Words>(
     desk: &mut Desk,
     found: Found,
     before: u64,
-    rows: bool,
 ) -> Answer
     requires valid { W.valid words.old }
     requires own { IsValid post.old }
-    requires rows { rows ≡ publishes_rows post.old.layout.config.scheme }
     requires place { place.now ≡ post.old }
     requires clears { has_one_interval post.old.layout.config.scheme ≡ false }
     requires room { HasRoom desk.old post.old.layout }
@@ -224,7 +194,7 @@ fn close_get<W: Words>(
         (closing_at key (held_reader post.old bucket link (desk_of desk.old) (post.old.steps + before)) found)
         (at_phase Idle post.new desk.new) }
 {
-    step(words, publish_as(rows, place, 0, 0));
+    step(words, publish_as(publishes_rows(place), place, 0, 0));
     post.standing[0] = None;
     post.steps = post.steps + before + found.steps + 1;
     note_steps(desk, post.steps);

@@ -2,6 +2,7 @@
 ghost use Rattle.std.specs.Prelude.{◌≡◌, ◌<◌, ℕ, true};
 ghost use Rattle.wfe_core.specs.words.Place.Place.{Clock, Index, Row};
 ghost use Rattle.wfe_core.specs.words.Place.{has, number};
+ghost use Rattle.wfe_core.specs.words.Schemes.{publishes_rows as shows_rows};
 ghost use Rattle.wfe_core.specs.Links.{link_place};
 ghost use Rattle.wfe_core.specs.Memory.{Load as Loads, Store as Stores, numbered};
 ghost use Rattle.wfe_core.specs.Posts.{index_word as own_index_word, shown_word as own_shown_word};
@@ -11,7 +12,7 @@ ghost use Rattle.wfe_drive_cells.specs.Unit.{SeatView};
 ghost use Rattle.wfe_drive_words.specs.Path.{AsksFor, StepFrom};
 
 use crate::Words;
-use wfe_core::{Op, Post, Root, index_word, link_word_number, shown_word};
+use wfe_core::{Op, Post, Root, SchemeKind, index_word, link_word_number, shown_word};
 
 // Makes the step that the seat's state asks for, whichever state that is.
 #[inline(always)]
@@ -60,6 +61,14 @@ pub fn publish_as(rows: bool, post: &Post, index: u32, number: u32) -> Op
         word: post.layout.index(post.seat, index),
         value: shown_word(rows, post, index, number),
     }
+}
+
+// The seat's index words publish rows, and no eras.
+#[inline(always)]
+pub fn publishes_rows(post: &Post) -> bool
+    ensures { result ≡ shows_rows post.now.layout.config.scheme }
+{
+    matches!(post.layout.config().scheme, SchemeKind::Hp)
 }
 
 // A load of a root.

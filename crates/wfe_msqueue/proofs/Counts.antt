@@ -20,6 +20,7 @@ dequeue_counted phases follow kept states.Starts post = round_counted Dequeues p
 dequeue_counted phases follow kept (states.Opens opening) post = refl
 dequeue_counted phases follow kept (states.Works at) post = refl
 dequeue_counted phases follow kept (states.Follows machine) post = refl
+dequeue_counted phases follow kept (states.ClearsNext ending machine) post = refl
 dequeue_counted phases follow kept (states.Leaves at) post = refl
 
 -- an enqueue

@@ -1,20 +1,14 @@
--- The ends of a dequeue's rounds as turns of the model, and what the parts of a step keep together.
-use Rattle.std.proofs.Common.{ℕ, ◌≡◌, ◌≤◌, List, ◌++◌, length, Option, Some, None, refl, sym, ap, subst, ◌∙◌, arith}
+-- The ends of a dequeue's rounds as turns of the model.
+use Rattle.std.proofs.Common.{◌≡◌, List, ◌++◌, Option, Some, None, refl, sym, ap, ◌∙◌}
 use Rattle.std.proofs.lemmas.List.{append-nil}
 use Rattle.wfe_slots.specs.words.declared.config.SchemeKind.{SchemeKind}
 use Rattle.wfe_slots.specs.words.declared.config.SchemeKind.TheVariants.{He, Hp, Ibr, Wfe}
-use Rattle.wfe_slots.specs.words.declared.layout.Layout.{Layout}
 use Rattle.wfe_core.specs.defs.declared.event.Event.{Event}
-use Rattle.wfe_core.specs.declared.desk.Desk.{Desk as HeldDesk}
 use Rattle.wfe_core.specs.declared.post.Post.{Post}
 use Rattle.wfe_core.specs.Calls.{Dequeues, ClearsNext, Next, Runs, goes_on}
-use Rattle.wfe_core.specs.DeskHeld.{HasRoom}
 use Rattle.wfe_core.specs.Desks.{Desk}
 use Rattle.wfe_core.specs.Phases.{Base}
 use Rattle.wfe_core.specs.Rounds.{scheme_of, clear_base, clear_post, clear_told, clearing, clearing_next, clearing_next_by}
-use Rattle.wfe_core.specs.Valid.{IsValid}
-use Rattle.wfe_call_rounds.specs.Steps.{SameSeat}
-use Rattle.wfe_msqueue.specs.Turns.{Keeps}
 
 -- a clear that takes a step leaves all else to it
 post_stays : (kind : SchemeKind) (base : Base) (post : Post) → Some base ≡ clear_base kind 1 → clear_post kind post 1 ≡ post
@@ -53,36 +47,3 @@ next_clears next kind post last desk told early s o p t =
     ∙ ap (λ (events : List Event). clearing Dequeues next last desk events) (sym t)
     )
     )
-
--- a step of a machine that leaves the desk alone
-pub keeps_desk : (old new : Post) (desk : HeldDesk) (told : List Event) (few count : ℕ) → IsValid new → new.layout ≡ old.layout → new.seat ≡ old.seat → length told ≤ few → few ≤ count → HasRoom desk old.layout → Keeps old new desk desk told count
-keeps_desk old new desk told few count v l s m n r = record {
-  valid = v;
-  layout = l;
-  seat = s;
-  most = omega arith;
-  room = subst (λ (layout : Layout). HasRoom desk layout) (sym l) r;
-  notes = refl;
-}
-
--- what comes after a step keeps as much
-pub keeps_on : (old mid new : Post) (desk held : HeldDesk) (early told : List Event) (few count : ℕ) → Keeps old mid desk held early few → SameSeat mid new told count → Keeps old new desk held told count
-keeps_on old mid new desk held early told few count k s = record {
-  valid = s.valid;
-  layout = s.layout ∙ k.layout;
-  seat = s.seat ∙ k.seat;
-  most = s.most;
-  room = subst (λ (layout : Layout). HasRoom held layout) (sym s.layout) k.room;
-  notes = k.notes;
-}
-
--- and where nothing does
-pub keeps_more : (old new : Post) (desk held : HeldDesk) (told : List Event) (few count : ℕ) → Keeps old new desk held told few → few ≤ count → Keeps old new desk held told count
-keeps_more old new desk held told few count k n = record {
-  valid = k.valid;
-  layout = k.layout;
-  seat = k.seat;
-  most = omega (arith, k.most);
-  room = k.room;
-  notes = k.notes;
-}

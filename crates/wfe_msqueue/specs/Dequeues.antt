@@ -1,18 +1,16 @@
 -- Where a dequeue's work on its rows stands, as phases of the model.
 use Rattle.std.specs.Prelude.{List, Option, Some, None}
-use Rattle.wfe_core.specs.defs.declared.call.Answer.TheVariants as answers
-use Rattle.wfe_core.specs.defs.declared.call.ClockMove.TheVariants as moves
 use Rattle.wfe_core.specs.defs.declared.event.Event.{Event}
 use Rattle.wfe_core.specs.declared.post.Post.{Post}
-use Rattle.wfe_core.specs.Calls.{DequeueAt, LoadTail, SwingTail, TakeNumber, TakeValue, ExchangeHead, Next, Again, Answering, Retiring, Dequeues, FollowsHead, Phase, Runs, Works, Dequeuing, CallTurn, goes_on, answers as answers_so}
+use Rattle.wfe_core.specs.Calls.{DequeueAt, LoadTail, SwingTail, TakeNumber, TakeValue, ExchangeHead, Dequeues, FollowsHead, Phase, Runs, Works, Dequeuing, CallTurn, goes_on}
 use Rattle.wfe_core.specs.Dequeue.{follow_base}
 use Rattle.wfe_core.specs.Desks.{Desk}
 use Rattle.wfe_core.specs.Ready.{SlotFits}
-use Rattle.wfe_core.specs.Rounds.{scheme_of, clearing, clearing_next, closed}
+use Rattle.wfe_core.specs.Rounds.{scheme_of, clearing, clearing_next}
+use Rattle.wfe_call_rounds.specs.Endings.{next_of}
+use Rattle.wfe_call_rounds.specs.Leavings.{over_turn}
 use Rattle.wfe_msqueue.specs.declared.dequeue_at.DequeueAt.{DequeueAt as At}
 use Rattle.wfe_msqueue.specs.declared.dequeue_at.DequeueAt.TheVariants as ats
-use Rattle.wfe_msqueue.specs.declared.dequeue_at.DequeueEnd.{DequeueEnd}
-use Rattle.wfe_msqueue.specs.declared.dequeue_at.DequeueEnd.TheVariants as round_ends
 use Rattle.wfe_msqueue.specs.declared.dequeue_at.Dequeued.{Dequeued}
 use Rattle.wfe_msqueue.specs.declared.dequeue_at.Dequeued.TheVariants as leads
 
@@ -23,20 +21,13 @@ at_of (ats.TakeNumber head next) = TakeNumber head next
 at_of (ats.TakeValue head next number) = TakeValue head next number
 at_of (ats.ExchangeHead head next number value) = ExchangeHead head next number value
 
--- what comes once the round's protections are cleared
-abbrev pub next_of : DequeueEnd → Next
-next_of round_ends.Again = Again
-next_of round_ends.Empty = Answering answers.Empty
-next_of (round_ends.Taken head number value) = Retiring head (answers.Taken number value moves.Still)
-
 -- the turn that leads there
 abbrev pub led : Dequeued → Post → Desk → List Event → CallTurn
 led (leads.Goes at) post desk told = goes_on post desk told (Works (Dequeuing (at_of at)))
 led (leads.Follows head tail) post desk told = goes_on post desk told (Runs (FollowsHead head tail) (follow_base (scheme_of post) head))
 led (leads.Ends ending) post desk told = clearing_next (next_of ending) post desk told
 led (leads.Clears ending) post desk told = clearing Dequeues (next_of ending) post desk told
-led (leads.Closed ending) post desk told = closed Dequeues (next_of ending) post desk told
-led (leads.Answers answer) post desk told = answers_so post desk told answer
+led (leads.Passes over) post desk told = over_turn Dequeues over post desk told
 
 -- what runs goes on at this phase, or the call is led on
 abbrev pub ran : Option Dequeued → Post → Desk → List Event → Phase → CallTurn
@@ -49,5 +40,4 @@ LedWithin (leads.Goes at) post = Unit {0}
 LedWithin (leads.Follows head tail) post = SlotFits post head
 LedWithin (leads.Ends ending) post = Unit {0}
 LedWithin (leads.Clears ending) post = Unit {0}
-LedWithin (leads.Closed ending) post = Unit {0}
-LedWithin (leads.Answers answer) post = Unit {0}
+LedWithin (leads.Passes over) post = Unit {0}

@@ -2,15 +2,15 @@
 use Rattle.std.specs.Prelude.{◌<◌, ◌+◌, List, Option, Some, None}
 use Rattle.wfe_core.specs.defs.declared.event.Event.{Event}
 use Rattle.wfe_core.specs.declared.post.Post.{Post}
-use Rattle.wfe_core.specs.Calls.{EnqueueKept, EnqueueAt, LoadNumber, LoadNext, PassTail, ExchangeNext, ExchangeTail, Next, Again, MakeRoom, Answering, Enqueues, Fills, Phase, Runs, Works, Enqueuing, CallTurn, goes_on, answers}
+use Rattle.wfe_core.specs.Calls.{EnqueueKept, EnqueueAt, LoadNumber, LoadNext, PassTail, ExchangeNext, ExchangeTail, Enqueues, Fills, Phase, Runs, Works, Enqueuing, CallTurn, goes_on}
 use Rattle.wfe_core.specs.Desks.{Desk}
 use Rattle.wfe_core.specs.Enqueue.{filling}
-use Rattle.wfe_core.specs.Rounds.{clearing, closed}
+use Rattle.wfe_core.specs.Rounds.{clearing}
+use Rattle.wfe_call_rounds.specs.Endings.{next_of}
+use Rattle.wfe_call_rounds.specs.Leavings.{over_turn}
 use Rattle.wfe_msqueue.specs.declared.enqueue_at.Kept.{Kept}
 use Rattle.wfe_msqueue.specs.declared.enqueue_at.EnqueueAt.{EnqueueAt as At}
 use Rattle.wfe_msqueue.specs.declared.enqueue_at.EnqueueAt.TheVariants as ats
-use Rattle.wfe_msqueue.specs.declared.enqueue_at.EnqueueEnd.{EnqueueEnd}
-use Rattle.wfe_msqueue.specs.declared.enqueue_at.EnqueueEnd.TheVariants as round_ends
 use Rattle.wfe_msqueue.specs.declared.enqueue_at.Enqueued.{Enqueued}
 use Rattle.wfe_msqueue.specs.declared.enqueue_at.Enqueued.TheVariants as leads
 
@@ -24,19 +24,12 @@ at_of (ats.PassTail next) = PassTail next
 at_of (ats.ExchangeNext slot) = ExchangeNext slot
 at_of (ats.ExchangeTail slot) = ExchangeTail slot
 
--- what comes once the round's protection is cleared
-abbrev pub next_of : EnqueueEnd → Next
-next_of round_ends.Again = Again
-next_of round_ends.MakeRoom = MakeRoom
-next_of (round_ends.Answers answer) = Answering answer
-
 -- the turn that leads there
 abbrev pub led : EnqueueKept → Enqueued → Post → Desk → List Event → CallTurn
 led kept (leads.Goes at) post desk told = goes_on post desk told (Works (Enqueuing kept (at_of at)))
 led kept leads.Fills post desk told = goes_on post desk told (Runs (Fills (Enqueues kept)) (filling kept))
 led kept (leads.Ends ending) post desk told = clearing (Enqueues kept) (next_of ending) post desk told
-led kept (leads.Closed ending) post desk told = closed (Enqueues kept) (next_of ending) post desk told
-led kept (leads.Answers answer) post desk told = answers post desk told answer
+led kept (leads.Passes over) post desk told = over_turn (Enqueues kept) over post desk told
 
 -- what runs goes on at this phase, or the call is led on
 abbrev pub ran : EnqueueKept → Option Enqueued → Post → Desk → List Event → Phase → CallTurn
@@ -48,5 +41,4 @@ abbrev pub LedWithin : EnqueueKept → Enqueued → Type 0
 LedWithin kept (leads.Goes at) = Unit {0}
 LedWithin kept leads.Fills = kept.number + 1 < 18446744073709551616
 LedWithin kept (leads.Ends ending) = Unit {0}
-LedWithin kept (leads.Closed ending) = Unit {0}
-LedWithin kept (leads.Answers answer) = Unit {0}
+LedWithin kept (leads.Passes over) = Unit {0}

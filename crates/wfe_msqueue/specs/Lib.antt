@@ -2,4 +2,3 @@ pub mod DequeueStates
 pub mod Dequeues
 pub mod EnqueueStates
 pub mod Enqueues
-pub mod Turns

@@ -4,21 +4,23 @@ ghost use Rattle.wfe_core.specs.defs.declared.event.Event.{Event as ModelEvent};
 ghost use Rattle.wfe_core.specs.defs.declared.event.Event.TheVariants.{Cut as CutTold, Link as LinkTold, Taken as TakenTold};
 ghost use Rattle.wfe_core.specs.defs.declared.event.Root.TheVariants.{Head};
 ghost use Rattle.wfe_core.specs.CallReady.{dequeue_plausible, dequeue_ready};
-ghost use Rattle.wfe_core.specs.Calls.{Dequeues, FollowsHead, Opens, Runs};
+ghost use Rattle.wfe_core.specs.Calls.{ClearsNext, Dequeues, FollowsHead, Opens, Phase, Runs};
 ghost use Rattle.wfe_core.specs.Dequeue.{dequeue_move, dequeue_turn, followed_row};
 ghost use Rattle.wfe_core.specs.Desks.{Desk};
 ghost use Rattle.wfe_core.specs.Memory.{numbered};
-ghost use Rattle.wfe_core.specs.Phases.{Base};
+ghost use Rattle.wfe_core.specs.Phases.{Base, Ending};
 ghost use Rattle.wfe_core.specs.Phases.Ending.{Followed, Protected};
 ghost use Rattle.wfe_core.specs.Valid.{IsValid};
 ghost use Rattle.wfe_core.specs.declared.post.Post.{Post as ModelPost};
-ghost use Rattle.wfe_call_rounds.specs.Rounds.{is_again};
+ghost use Rattle.wfe_call_rounds.specs.Endings.{next_of};
+ghost use Rattle.wfe_call_rounds.specs.Leavings.{left as model_left};
 ghost use Rattle.wfe_call_rounds.specs.Steps.{came};
-ghost use Rattle.wfe_msqueue.specs.Dequeues.{LedWithin, at_of, led, next_of, ran};
+ghost use Rattle.wfe_msqueue.specs.Dequeues.{LedWithin, at_of, led, ran};
 ghost use Rattle.wfe_msqueue.specs.declared.dequeue_at.Dequeued.TheVariants.{Goes};
 
 use super::links::{link_to, tell_link};
-use wfe_core::{Answer, Event, FollowEnd, Op, Post, ProtectEnd, Root, Told};
+use wfe_call_rounds::{Over, RoundEnd};
+use wfe_core::{Answer, ClockMove, Event, FollowEnd, Op, Post, ProtectEnd, Root, Told};
 
 // The step to come. `head` is the row that the head led to, `next` the row after it.
 #[derive(Clone, Copy)]
@@ -47,51 +49,46 @@ pub enum DequeueAt {
     },
 }
 
-// How a round of a dequeue ends: another round, no item, or the item and the row that was cut.
-#[derive(Clone, Copy)]
-pub enum DequeueEnd {
-    Again,
-    Empty,
-    Taken { head: u32, number: u64, value: u64 },
-}
-
-impl DequeueEnd {
-    // Another round comes at once.
-    #[inline(always)]
-    pub fn is_again(&self) -> bool
-        ensures { result ≡ is_again (next_of self.now) }
-    {
-        matches!(self, DequeueEnd::Again)
-    }
-}
-
-// An item that was taken.
-#[derive(Clone, Copy)]
-pub struct Item {
-    pub number: u64,
-    pub value: u64,
-}
-
-// What a dequeue keeps beside where it stands: while the row after the head's is protected, the head's row
-// and the tail's link; while a round ends, how it ends; and the item that it has taken.
+// What a dequeue keeps while the row after the head's is protected: the head's row and the tail's link.
 #[derive(Clone, Copy)]
 pub struct Kept {
     pub head: u32,
     pub tail: u64,
-    pub ending: DequeueEnd,
-    pub item: Item,
 }
 
 // What a step leads to: the work's next one; the protection of the row after the head's; the round's end,
-// where index 1 is to be cleared, where index 0 alone is, and where nothing is any more; or the answer.
-#[derive(Clone, Copy)]
+// where index 1 is to be cleared, and where index 0 alone is; or what comes where the round or the call is
+// over.
 pub enum Dequeued {
     Goes(DequeueAt),
     Follows { head: u32, tail: u64 },
-    Ends(DequeueEnd),
-    Clears(DequeueEnd),
-    Closed(DequeueEnd),
-    Answers(Answer),
+    Ends(RoundEnd),
+    Clears(RoundEnd),
+    Passes(Over),
+}
+
+// What comes where a round ends has made a step.
+#[inline(always)]
+pub fn left(over: Option<Over>) -> Option<Dequeued>
+    ensures turn { (post : ModelPost) (desk : Desk) (told : List ModelEvent) (phase : Phase) → model_left Dequeues over post desk told phase ≡ ran result post desk told phase }
+    ensures within { (post : ModelPost) → IfSome result (λ step. LedWithin step post) }
+{
+    match over {
+        Some(over) => Some(Dequeued::Passes(over)),
+        None => None,
+    }
+}
+
+// The clear of index 1 has made a step. Where it is over, index 0 comes next.
+#[inline(always)]
+pub fn cleared(ending: RoundEnd, end: Option<()>) -> Option<Dequeued>
+    ensures turn { (means : _ → Ending) (base : Base) (post : ModelPost) (desk : Desk) (told : List ModelEvent) → came means (ClearsNext (next_of ending)) base end post desk told ≡ ran result post desk told (Runs (ClearsNext (next_of ending)) base) }
+    ensures within { (post : ModelPost) → IfSome result (λ step. LedWithin step post) }
+{
+    match end {
+        Some(()) => Some(Dequeued::Clears(ending)),
+        None => None,
+    }
 }
 
 // The head's protection has made a step. Where it is over, and leads to a row, the work begins.
@@ -104,7 +101,7 @@ pub fn reached(end: Option<ProtectEnd>) -> Option<Dequeued>
         Some(ProtectEnd::Held { slot, .. }) => {
             Some(Dequeued::Goes(DequeueAt::LoadTail { head: slot }))
         }
-        Some(ProtectEnd::Null) => Some(Dequeued::Clears(DequeueEnd::Again)),
+        Some(ProtectEnd::Null) => Some(Dequeued::Clears(RoundEnd::Again)),
         None => None,
     }
 }
@@ -120,8 +117,8 @@ pub fn followed(head: u32, tail: u64, end: Option<FollowEnd>) -> Option<Dequeued
         Some(FollowEnd::Followed { slot }) => {
             Some(Dequeued::Goes(after_follow(head, tail, slot)))
         }
-        Some(FollowEnd::NoNext) => Some(Dequeued::Ends(DequeueEnd::Empty)),
-        Some(FollowEnd::RootMoved { .. }) => Some(Dequeued::Ends(DequeueEnd::Again)),
+        Some(FollowEnd::NoNext) => Some(Dequeued::Ends(RoundEnd::Answers(Answer::Empty))),
+        Some(FollowEnd::RootMoved { .. }) => Some(Dequeued::Ends(RoundEnd::Again)),
         None => None,
     }
 }
@@ -181,7 +178,7 @@ impl DequeueAt {
             DequeueAt::LoadTail { head } => Dequeued::Follows { head, tail: found },
             DequeueAt::SwingTail { head, next } => {
                 tell_link(told, Root::Tail, next, found == link_to(head));
-                Dequeued::Ends(DequeueEnd::Again)
+                Dequeued::Ends(RoundEnd::Again)
             }
             DequeueAt::TakeNumber { head, next } => Dequeued::Goes(DequeueAt::TakeValue {
                 head,
@@ -203,14 +200,15 @@ impl DequeueAt {
                 value,
             } => {
                 if found != link_to(head) {
-                    return Dequeued::Ends(DequeueEnd::Again);
+                    return Dequeued::Ends(RoundEnd::Again);
                 }
                 tell_taken(told, head, next, number, value);
-                Dequeued::Ends(DequeueEnd::Taken {
-                    head,
+                let answer = Answer::Taken {
                     number,
                     value,
-                })
+                    clock: ClockMove::Still,
+                };
+                Dequeued::Ends(RoundEnd::Retires { slot: head, answer })
             }
         }
     }

@@ -1,11 +1,11 @@
 // Where a dequeue stands.
 use super::dequeue_at::DequeueAt;
-use wfe_call_rounds::{Closing, Opening, Reclaim};
+use wfe_call_rounds::{Leave, Opening, RoundEnd};
 use wfe_core::{FollowEnd, Machine, ProtectEnd};
 
 // Before its first step, or before another round; the beginning of a round; the work on the rows; the
-// protection of the row after the head's; and the round's end. Each has one machine at most: what else the
-// call needs there it keeps beside.
+// protection of the row after the head's; the clear of index 1, with how the round ends; and the rest of
+// the round's end, with what comes after it. Each has one machine at most.
 #[derive(Drop)]
 pub enum State<
     B: Machine<End = ()>,
@@ -18,14 +18,6 @@ pub enum State<
     Opens(Opening<B, P>),
     Works(DequeueAt),
     Follows(W),
+    ClearsNext(RoundEnd, C),
     Leaves(Leave<C, F>),
-}
-
-// The end of a round: the clear of index 1, and the rest of it; and what follows the round that took an
-// item.
-#[derive(Drop)]
-pub enum Leave<C: Machine<End = ()>, F: Machine<End = ()>> {
-    ClearsNext(C),
-    Closes(Closing<C, F>),
-    Reclaims(Reclaim),
 }

@@ -2,25 +2,25 @@
 ghost use Rattle.std.specs.Prelude.{◌≡◌, ◌<◌, ◌≤◌, ◌+◌, [], length, List, None, false, IfSome};
 ghost use Rattle.wfe_core.specs.defs.declared.event.Event.{Event};
 ghost use Rattle.wfe_core.specs.CallReady.{IsCallPlausible, IsCallReady};
-ghost use Rattle.wfe_core.specs.Calls.{Enqueues, Fills, Runs};
+ghost use Rattle.wfe_core.specs.Calls.{EnqueueKept, Enqueues, Fills, Runs};
 ghost use Rattle.wfe_core.specs.DeskHeld.{HasRoom, desk_of};
 ghost use Rattle.wfe_core.specs.Desks.{Desk as ModelDesk};
 ghost use Rattle.wfe_core.specs.Ready.{IsReady, Plausible};
-ghost use Rattle.wfe_core.specs.Rounds.{clearing, closed as model_closed, round};
+ghost use Rattle.wfe_core.specs.Rounds.{round};
 ghost use Rattle.wfe_core.specs.Steps.{phase_turn};
 ghost use Rattle.wfe_core.specs.Valid.{IsValid};
 ghost use Rattle.wfe_core.specs.declared.post.Post.{Post as ModelPost};
+ghost use Rattle.wfe_call_rounds.specs.Leavings.{leave_at};
 ghost use Rattle.wfe_call_rounds.specs.Steps.{SameSeat, Steps};
-ghost use Rattle.wfe_msqueue.specs.Enqueues.{LedWithin, kept_of, led, next_of, ran};
-ghost use Rattle.wfe_msqueue.specs.EnqueueStates.{enqueue_phase, fill_base, leave_phase};
-ghost use Rattle.wfe_msqueue.specs.Turns.{Keeps, stood};
+ghost use Rattle.wfe_call_rounds.specs.Turns.{Keeps, stood};
+ghost use Rattle.wfe_msqueue.specs.Enqueues.{LedWithin, kept_of, led, ran};
+ghost use Rattle.wfe_msqueue.specs.EnqueueStates.{enqueue_phase, fill_base};
 
-use super::enqueue_at::{EnqueueEnd, Enqueued, Kept};
-use super::enqueue_state::{Fill, Leave, State};
-use super::then::Then;
-use wfe_call_rounds::{Rounds, Scheme, Tidy, close, open, take_close, take_open};
+use super::enqueue_at::{Enqueued, Kept, left};
+use super::enqueue_state::{Fill, State};
+use wfe_call_rounds::{Leave, Rounds, Scheme, Then, clear, open, pass, take_leave, take_open};
 use wfe_core::{Answer, CallMachine, Desk, Machine, Op, Post, Root, Told};
-use wfe_slots::{Allocate, GiveUp};
+use wfe_slots::Allocate;
 
 /// Puts an item at the queue's end (Michael and Scott 1996): it protects the tail's row, writes a row of
 /// its own with the next number, links it after the tail's row, and moves the tail. It answers the
@@ -40,42 +40,15 @@ type StateOf<S> = State<
     <S as Scheme>::Finish,
 >;
 
-// A round is over: another begins, at once or after a scan, or the call answers. A row that was not
-// linked is given up first.
+// It stands where a round of its ends.
 #[inline(always)]
-fn closed<S: Scheme>(kept: &Kept, ending: EnqueueEnd) -> Then<StateOf<S>>
-    ensures { (post : ModelPost) (desk : ModelDesk) (told : List Event) → post.layout.config.scheme ≡ S.kind → model_closed (Enqueues (kept_of kept.now)) (next_of ending) post desk told ≡ stood (enqueue_phase ⟦<S as Rounds>⟧.all_phases (kept_of kept.now)) result post desk told }
+fn leaves<S: Scheme>(then: Then<Leave<S::Clear, S::Finish>>) -> Then<StateOf<S>>
+    ensures { (kept : EnqueueKept) (post : ModelPost) (desk : ModelDesk) (told : List Event) → stood (leave_at ⟦<S as Rounds>⟧.all_phases (Enqueues kept)) (Enqueues kept) then post desk told ≡ stood (enqueue_phase ⟦<S as Rounds>⟧.all_phases kept) (Enqueues kept) result post desk told }
 {
-    match ending {
-        EnqueueEnd::Again => Then::Stands(State::Starts),
-        EnqueueEnd::MakeRoom => Then::Stands(State::Leaves(Leave::Tidies(Tidy::new(
-            S::MOVES,
-            S::HELPS,
-        )))),
-        EnqueueEnd::Answers(answer) => match kept.taken {
-            Some(slot) => Then::Stands(State::Leaves(Leave::GivesUp(answer, GiveUp::new(slot)))),
-            None => Then::Answers(answer),
-        },
-    }
-}
-
-// A round ends: index 0 is cleared, and then comes what the scheme ends with.
-#[inline(always)]
-fn clear<S: Scheme>(
-    kept: &Kept,
-    ending: EnqueueEnd,
-    post: &mut Post,
-    told: &mut Told,
-) -> Then<StateOf<S>>
-    requires valid { IsValid post.old }
-    requires scheme { post.old.layout.config.scheme ≡ S.kind }
-    requires few { length told.old ≤ 6 }
-    ensures turn { (desk : ModelDesk) → clearing (Enqueues (kept_of kept.now)) (next_of ending) post.old desk told.old ≡ stood (enqueue_phase ⟦<S as Rounds>⟧.all_phases (kept_of kept.now)) result post.new desk told.new }
-    ensures seat { SameSeat post.old post.new told.new (length told.old + 1) }
-{
-    match close::<S>(post, told, 0, ending.is_again()) {
-        Some(closing) => Then::Stands(State::Leaves(Leave::Closes(ending, closing))),
-        None => closed::<S>(kept, ending),
+    match then {
+        Then::Stands(at) => Then::Stands(State::Leaves(at)),
+        Then::Begins => Then::Begins,
+        Then::Answers(answer) => Then::Answers(answer),
     }
 }
 
@@ -91,7 +64,7 @@ fn lead<S: Scheme>(
     requires scheme { post.old.layout.config.scheme ≡ S.kind }
     requires few { length told.old ≤ 2 }
     requires within { LedWithin (kept_of kept.now) step }
-    ensures turn { (desk : ModelDesk) → led (kept_of kept.now) step post.old desk told.old ≡ stood (enqueue_phase ⟦<S as Rounds>⟧.all_phases (kept_of kept.now)) result post.new desk told.new }
+    ensures turn { (desk : ModelDesk) → led (kept_of kept.now) step post.old desk told.old ≡ stood (enqueue_phase ⟦<S as Rounds>⟧.all_phases (kept_of kept.now)) (Enqueues (kept_of kept.now)) result post.new desk told.new }
     ensures seat { SameSeat post.old post.new told.new 3 }
 {
     match step {
@@ -100,9 +73,8 @@ fn lead<S: Scheme>(
             Some(slot) => Then::Stands(State::Fills(Fill::Writes(kept.write(slot)))),
             None => Then::Stands(State::Fills(Fill::Allocates(Allocate::new(post)))),
         },
-        Enqueued::Ends(ending) => clear::<S>(kept, ending, post, told),
-        Enqueued::Closed(ending) => closed::<S>(kept, ending),
-        Enqueued::Answers(answer) => Then::Answers(answer),
+        Enqueued::Ends(ending) => leaves::<S>(clear::<S>(kept.taken, ending, post, told)),
+        Enqueued::Passes(over) => leaves::<S>(pass::<S>(kept.taken, over)),
     }
 }
 
@@ -131,44 +103,6 @@ fn fill(
         }
         Fill::Writes(machine) => match machine.take(post, found, told) {
             Some(()) => Some(kept.written()),
-            None => None,
-        },
-    }
-}
-
-// The end of a round makes a step.
-#[inline(always)]
-fn leave<S: Scheme>(
-    at: &mut Leave<S::Clear, S::Finish>,
-    kept: &Kept,
-    post: &mut Post,
-    desk: &mut Desk,
-    found: u64,
-    told: &mut Told,
-) -> Option<Enqueued>
-    requires valid { IsValid post.old }
-    requires scheme { post.old.layout.config.scheme ≡ S.kind }
-    requires room { HasRoom desk.old post.old.layout }
-    requires ready { IsCallReady (leave_phase ⟦<S as Rounds>⟧.all_phases (kept_of kept.now) at.old) post.old (desk_of desk.old) }
-    requires plausible { IsCallPlausible (leave_phase ⟦<S as Rounds>⟧.all_phases (kept_of kept.now) at.old) post.old found }
-    requires empty { told.old ≡ [] }
-    ensures turn { phase_turn (leave_phase ⟦<S as Rounds>⟧.all_phases (kept_of kept.now) at.old) post.old (desk_of desk.old) found ≡ ran (kept_of kept.now) result post.new (desk_of desk.new) told.new (leave_phase ⟦<S as Rounds>⟧.all_phases (kept_of kept.now) at.new) }
-    ensures within { IfSome result (λ step. LedWithin (kept_of kept.now) step) }
-    ensures kept { Keeps post.old post.new desk.old desk.new told.new 2 }
-{
-    match at {
-        Leave::Closes(ending, closing) => {
-            if take_close::<S>(closing, ending.is_again(), post, found, told) {
-                return Some(Enqueued::Closed(*ending));
-            }
-            None
-        }
-        Leave::GivesUp(answer, machine) => match machine.take(post, found, told) {
-            Some(()) => Some(Enqueued::Answers(*answer)),
-            None => None,
-        },
-        Leave::Tidies(tidy) => match tidy.take(post, desk, found, told) {
-            Some(_) => Some(Enqueued::Closed(EnqueueEnd::Again)),
             None => None,
         },
     }
@@ -232,7 +166,7 @@ impl<S: Scheme> Enqueue<S> {
             }
             State::Works(at) => Some(at.take(&mut self.kept, post, found, told)),
             State::Fills(at) => fill(at, &mut self.kept, post, found, told),
-            State::Leaves(at) => leave::<S>(at, &self.kept, post, desk, found, told),
+            State::Leaves(at) => left(take_leave::<S>(at, post, desk, found, told)),
         }
     }
 
@@ -260,6 +194,10 @@ impl<S: Scheme> Enqueue<S> {
                     self.stand(at);
                     None
                 }
+                Then::Begins => {
+                    self.stand(State::Starts);
+                    None
+                }
                 Then::Answers(answer) => Some(answer),
             },
             None => None,
@@ -276,16 +214,14 @@ impl<S: Scheme> CallMachine for Enqueue<S> {
     ghost phase = { λ m post. enqueue_phase ⟦<S as Rounds>⟧.all_phases (kept_of m.kept) m.at post };
 
     #[inline(always)]
-    fn next_op(&self, post: &Post, _desk: &Desk) -> Op {
+    fn next_op(&self, post: &Post, desk: &Desk) -> Op {
         match &self.at {
             State::Starts => open::<S>(post, 0, Root::Tail).next_op(post),
             State::Opens(opening) => opening.next_op(post),
             State::Works(at) => at.next_op(&self.kept, post),
             State::Fills(Fill::Allocates(machine)) => machine.next_op(post),
             State::Fills(Fill::Writes(machine)) => machine.next_op(post),
-            State::Leaves(Leave::Closes(_, closing)) => closing.next_op(post),
-            State::Leaves(Leave::GivesUp(_, machine)) => machine.next_op(post),
-            State::Leaves(Leave::Tidies(tidy)) => tidy.next_op(post),
+            State::Leaves(at) => at.next_op(post, desk),
         }
     }
 

@@ -4,8 +4,7 @@ ghost use Rattle.wfe_core.specs.defs.declared.event.Event.{Event as ModelEvent};
 ghost use Rattle.wfe_core.specs.defs.declared.event.Event.TheVariants.{Link as LinkTold, Queued as QueuedTold};
 ghost use Rattle.wfe_core.specs.defs.declared.event.Root.TheVariants.{Next as NextOf};
 ghost use Rattle.wfe_core.specs.CallReady.{EnqueueFits, enqueue_plausible, enqueue_ready};
-ghost use Rattle.wfe_core.specs.Calls.{Enqueues, Fills, Opens, Runs};
-ghost use Rattle.wfe_core.specs.Change.{no_room as model_no_room};
+ghost use Rattle.wfe_core.specs.Calls.{EnqueueKept, Enqueues, Fills, Opens, Phase, Runs};
 ghost use Rattle.wfe_core.specs.Desks.{Desk};
 ghost use Rattle.wfe_core.specs.Enqueue.{enqueue_move, enqueue_turn, new_item};
 ghost use Rattle.wfe_core.specs.Memory.{numbered};
@@ -16,11 +15,12 @@ ghost use Rattle.wfe_core.specs.Valid.{IsValid};
 ghost use Rattle.wfe_core.specs.WriteRow.{writing};
 ghost use Rattle.wfe_core.specs.declared.post.Post.{Post as ModelPost};
 ghost use Rattle.wfe_slots.specs.Writes.{write_phase};
-ghost use Rattle.wfe_call_rounds.specs.Rounds.{is_again};
+ghost use Rattle.wfe_call_rounds.specs.Leavings.{left as model_left};
 ghost use Rattle.wfe_call_rounds.specs.Steps.{came};
-ghost use Rattle.wfe_msqueue.specs.Enqueues.{LedWithin, at_of, kept_of, led, next_of, ran};
+ghost use Rattle.wfe_msqueue.specs.Enqueues.{LedWithin, at_of, kept_of, led, ran};
 
 use super::links::{link_to, tell_link};
+use wfe_call_rounds::{Over, RoundEnd, no_room};
 use wfe_core::{AllocateEnd, Answer, Event, Op, Post, ProtectEnd, Root, Told};
 use wfe_slots::{Row, WriteRow};
 
@@ -47,7 +47,7 @@ impl Kept {
                 self.tail = slot;
                 Some(Enqueued::Goes(EnqueueAt::LoadNumber))
             }
-            Some(ProtectEnd::Null) => Some(Enqueued::Ends(EnqueueEnd::Again)),
+            Some(ProtectEnd::Null) => Some(Enqueued::Ends(RoundEnd::Again)),
             None => None,
         }
     }
@@ -100,18 +100,6 @@ impl Kept {
     }
 }
 
-// How a round ends in which no row was free: the second walk of a call answers.
-#[inline(always)]
-fn no_room(walked: bool) -> EnqueueEnd
-    ensures { next_of result ≡ model_no_room walked }
-{
-    if walked {
-        EnqueueEnd::Answers(Answer::Full)
-    } else {
-        EnqueueEnd::MakeRoom
-    }
-}
-
 // The step to come. A slot is the new row's.
 #[derive(Clone, Copy)]
 pub enum EnqueueAt {
@@ -123,33 +111,25 @@ pub enum EnqueueAt {
     ExchangeTail { slot: u32 },
 }
 
-// How a round of an enqueue ends: another round, at once or after a scan, or the answer.
-#[derive(Clone, Copy)]
-pub enum EnqueueEnd {
-    Again,
-    MakeRoom,
-    Answers(Answer),
-}
-
-impl EnqueueEnd {
-    // Another round comes at once.
-    #[inline(always)]
-    pub fn is_again(&self) -> bool
-        ensures { result ≡ is_again (next_of self.now) }
-    {
-        matches!(self, EnqueueEnd::Again)
-    }
-}
-
 // What a step leads to: the work's next one; a row to be filled; the round's end, where index 0 is to be
-// cleared, and where nothing is any more; or the answer.
-#[derive(Clone, Copy)]
+// cleared; or what comes where the round or the call is over.
 pub enum Enqueued {
     Goes(EnqueueAt),
     Fills,
-    Ends(EnqueueEnd),
-    Closed(EnqueueEnd),
-    Answers(Answer),
+    Ends(RoundEnd),
+    Passes(Over),
+}
+
+// What comes where a round ends has made a step.
+#[inline(always)]
+pub fn left(over: Option<Over>) -> Option<Enqueued>
+    ensures turn { (kept : EnqueueKept) (post : ModelPost) (desk : Desk) (told : List ModelEvent) (phase : Phase) → model_left (Enqueues kept) over post desk told phase ≡ ran kept result post desk told phase }
+    ensures within { (kept : EnqueueKept) → IfSome result (λ step. LedWithin kept step) }
+{
+    match over {
+        Some(over) => Some(Enqueued::Passes(over)),
+        None => None,
+    }
 }
 
 impl EnqueueAt {
@@ -208,7 +188,7 @@ impl EnqueueAt {
                     return Enqueued::Goes(EnqueueAt::PassTail { next: found });
                 }
                 if kept.number == post.layout.config().last_version {
-                    return Enqueued::Ends(EnqueueEnd::Answers(Answer::Spent {
+                    return Enqueued::Ends(RoundEnd::Answers(Answer::Spent {
                         number: kept.number,
                     }));
                 }
@@ -217,11 +197,11 @@ impl EnqueueAt {
             EnqueueAt::PassTail { next } => {
                 let slot = (next - 1) as u32;
                 tell_link(told, Root::Tail, slot, found == link_to(kept.tail));
-                Enqueued::Ends(EnqueueEnd::Again)
+                Enqueued::Ends(RoundEnd::Again)
             }
             EnqueueAt::ExchangeNext { slot } => {
                 if found != 0 {
-                    return Enqueued::Ends(EnqueueEnd::Again);
+                    return Enqueued::Ends(RoundEnd::Again);
                 }
                 tell_queued(told, kept, slot);
                 kept.taken = None;
@@ -229,7 +209,7 @@ impl EnqueueAt {
             }
             EnqueueAt::ExchangeTail { slot } => {
                 tell_link(told, Root::Tail, slot, found == link_to(kept.tail));
-                Enqueued::Ends(EnqueueEnd::Answers(Answer::Queued {
+                Enqueued::Ends(RoundEnd::Answers(Answer::Queued {
                     number: kept.number + 1,
                 }))
             }

@@ -9,7 +9,6 @@ mod enqueue;
 mod enqueue_at;
 mod enqueue_state;
 mod links;
-mod then;
 
 pub use dequeue::Dequeue;
 pub use enqueue::Enqueue;

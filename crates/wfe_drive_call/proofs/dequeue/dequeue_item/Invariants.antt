@@ -9,8 +9,8 @@ use Rattle.wfe_drive_runs.specs.drive_words.Path.{Leads}
 use Rattle.wfe_drive_runs.specs.Pieces.{IsFree}
 use Rattle.wfe_drive_call.proofs.dequeue.dequeue_item.Given as goal
 
-abbrev pub invariant-loop-words : goal.invariant-loop-words
-invariant-loop-words g l =
+abbrev pub invariant-loop-answer : goal.invariant-loop-answer
+invariant-loop-answer g l =
     let words = g.W.Words in
     record {
       valid : words.valid l.words;
@@ -21,5 +21,5 @@ invariant-loop-words g l =
           (at_phase (first_phase Dequeue l.fn.post) l.fn.post l.fn.desk) (at_phase (round Dequeues l.post) l.post l.desk);
     }
 
-abbrev pub decreases-loop-words : goal.decreases-loop-words
-decreases-loop-words g l = g.W.Words.rest l.words
+abbrev pub decreases-loop-answer : goal.decreases-loop-answer
+decreases-loop-answer g l = g.W.Words.rest l.words

@@ -2,7 +2,7 @@
 use Rattle.std.proofs.Common.{refl}
 use Rattle.wfe_core.specs.Calls.{Dequeues}
 use Rattle.wfe_core.specs.DeskHeld.{desk_of}
-use Rattle.wfe_drive_call.specs.Taking.{next_of}
+use Rattle.wfe_drive_runs.specs.call_rounds.Endings.{next_of}
 use Rattle.wfe_drive_call.proofs.Taking.{head_held, head_null}
 use Rattle.wfe_drive_runs.proofs.Followings.{room_as}
 use Rattle.wfe_drive_runs.proofs.drive_words.Leading.{here_on, then_leads}

@@ -1,24 +1,17 @@
 -- A get that begins is at its first step, and what its code has made the call has made.
-use Rattle.std.proofs.Common.{ap, refl, sym, ◌∙◌, ◌≡◌}
-use Rattle.wfe_core.specs.words.declared.config.Config.{Config}
-use Rattle.wfe_core.specs.words.declared.config.SchemeKind.TheVariants as kinds
+use Rattle.std.proofs.Common.{ap, refl, sym, ◌≡◌}
 use Rattle.wfe_core.specs.defs.declared.call.Call.TheVariants as calls
 use Rattle.wfe_core.specs.Calls.{Idle}
 use Rattle.wfe_core.specs.DeskHeld.{desk_of}
 use Rattle.wfe_core.specs.Desks.{Desk, Notes, no_notes}
 use Rattle.wfe_core.specs.declared.desk.Desk.{Desk as HeldDesk}
 use Rattle.wfe_drive_runs.specs.drive_words.Called.{at_phase}
+use Rattle.wfe_drive_runs.proofs.drive_words.ByIndex.{clears_else}
 use Rattle.wfe_drive_runs.proofs.drive_words.Makes.{Over, called_by, here_begun, over_by, starts_at}
 use Rattle.wfe_drive_call.proofs.drive.drive_get.Goals as goal
 
 pub start-requires-clause-idle : goal.start-requires-clause-idle
 start-requires-clause-idle g c = starts_at (g.W.Words.at c.args.words.now) c.args.post.now c.args.desk.now (calls.Get c.args.key) c.requires.here refl
-
-pub get_he_in-requires-clause-here : goal.get_he_in-requires-clause-here
-get_he_in-requires-clause-here g c =
-    let desk : HeldDesk = record c.args.desk.now { notes = c.clear.new.self } in
-    let cleared : desk_of desk ≡ record (desk_of c.args.desk.now) { notes = no_notes } = ap (λ (notes : Notes). let held : Desk = record (desk_of c.args.desk.now) { notes = notes } in held) c.clear.ensures.empty in
-    here_begun (g.W.Words.at c.args.words.now) (g.W.Words.at c.start.new.self) (calls.Get c.args.key) c.args.post.now c.args.desk.now desk _ c.requires.here c.start.ensures.at refl refl refl cleared
 
 pub get_free-requires-clause-here : goal.get_free-requires-clause-here
 get_free-requires-clause-here g c =
@@ -26,37 +19,9 @@ get_free-requires-clause-here g c =
     let cleared : desk_of desk ≡ record (desk_of c.args.desk.now) { notes = no_notes } = ap (λ (notes : Notes). let held : Desk = record (desk_of c.args.desk.now) { notes = notes } in held) c.clear.ensures.empty in
     here_begun (g.W.Words.at c.args.words.now) (g.W.Words.at c.start.new.self) (calls.Get c.args.key) c.args.post.now c.args.desk.now desk _ c.requires.here c.start.ensures.at refl refl refl cleared
 
-pub get_wfe_in-requires-clause-here : goal.get_wfe_in-requires-clause-here
-get_wfe_in-requires-clause-here g c =
-    let desk : HeldDesk = record c.args.desk.now { notes = c.clear.new.self } in
-    let cleared : desk_of desk ≡ record (desk_of c.args.desk.now) { notes = no_notes } = ap (λ (notes : Notes). let held : Desk = record (desk_of c.args.desk.now) { notes = notes } in held) c.clear.ensures.empty in
-    here_begun (g.W.Words.at c.args.words.now) (g.W.Words.at c.start.new.self) (calls.Get c.args.key) c.args.post.now c.args.desk.now desk _ c.requires.here c.start.ensures.at refl refl refl cleared
-
-pub returns-in-He : goal.returns-in-He
-returns-in-He g c =
-    let words = g.W.Words in
-    let kind : c.args.post.now.layout.config.scheme ≡ kinds.He = ap (λ (config : Config). config.scheme) (sym c.config.ensures) ∙ c.in-He.is in
-    let desk : HeldDesk = record c.args.desk.now { notes = c.clear.new.self } in
-    let cleared : desk_of desk ≡ record (desk_of c.args.desk.now) { notes = no_notes } = ap (λ (notes : Notes). let held : Desk = record (desk_of c.args.desk.now) { notes = notes } in held) c.clear.ensures.empty in
-    let called =
-    called_by (words.at c.args.words.now) (words.at c.start.new.self) (words.at c.get_he_in.new.words) (words.stands c.args.words.now) (words.stands c.start.new.self) (words.stands c.get_he_in.new.words) (calls.Get c.args.key) c.get_he_in.result c.args.post.now c.args.desk.now desk _
-    (at_phase Idle c.get_he_in.new.post c.get_he_in.new.desk) c.start.ensures.at refl c.start.ensures.stands refl cleared c.get_he_in.ensures.made in
-    let over : Over (words.at c.get_he_in.new.words) (calls.Get c.args.key) c.get_he_in.result c.args.post.now c.get_he_in.new.post c.get_he_in.new.desk =
-    over_by (words.at c.args.words.now) (words.at c.get_he_in.new.words) (words.stands c.args.words.now) (words.stands c.get_he_in.new.words) (calls.Get c.args.key) c.get_he_in.result c.args.post.now c.args.desk.now c.get_he_in.new.post c.get_he_in.new.desk refl c.requires.here called in
-    record {
-      valid = c.get_he_in.ensures.valid;
-      same = words.same_on _ _ _ c.start.ensures.same c.get_he_in.ensures.same;
-      here = over.here;
-      room = c.get_he_in.ensures.room;
-      place = over.place;
-      suits = over.suits;
-      called = called;
-    }
-
 pub returns-in-Ibr : goal.returns-in-Ibr
 returns-in-Ibr g c =
     let words = g.W.Words in
-    let kind : c.args.post.now.layout.config.scheme ≡ kinds.Ibr = ap (λ (config : Config). config.scheme) (sym c.config.ensures) ∙ c.in-Ibr.is in
     let desk : HeldDesk = record c.args.desk.now { notes = c.clear.new.self } in
     let cleared : desk_of desk ≡ record (desk_of c.args.desk.now) { notes = no_notes } = ap (λ (notes : Notes). let held : Desk = record (desk_of c.args.desk.now) { notes = notes } in held) c.clear.ensures.empty in
     let called =
@@ -74,49 +39,30 @@ returns-in-Ibr g c =
       called = called;
     }
 
-pub returns-in-Wfe : goal.returns-in-Wfe
-returns-in-Wfe g c =
-    let words = g.W.Words in
-    let kind : c.args.post.now.layout.config.scheme ≡ kinds.Wfe = ap (λ (config : Config). config.scheme) (sym c.config.ensures) ∙ c.in-Wfe.is in
-    let desk : HeldDesk = record c.args.desk.now { notes = c.clear.new.self } in
-    let cleared : desk_of desk ≡ record (desk_of c.args.desk.now) { notes = no_notes } = ap (λ (notes : Notes). let held : Desk = record (desk_of c.args.desk.now) { notes = notes } in held) c.clear.ensures.empty in
-    let called =
-    called_by (words.at c.args.words.now) (words.at c.start.new.self) (words.at c.get_wfe_in.new.words) (words.stands c.args.words.now) (words.stands c.start.new.self) (words.stands c.get_wfe_in.new.words) (calls.Get c.args.key) c.get_wfe_in.result c.args.post.now c.args.desk.now desk _
-    (at_phase Idle c.get_wfe_in.new.post c.get_wfe_in.new.desk) c.start.ensures.at refl c.start.ensures.stands refl cleared c.get_wfe_in.ensures.made in
-    let over : Over (words.at c.get_wfe_in.new.words) (calls.Get c.args.key) c.get_wfe_in.result c.args.post.now c.get_wfe_in.new.post c.get_wfe_in.new.desk =
-    over_by (words.at c.args.words.now) (words.at c.get_wfe_in.new.words) (words.stands c.args.words.now) (words.stands c.get_wfe_in.new.words) (calls.Get c.args.key) c.get_wfe_in.result c.args.post.now c.args.desk.now c.get_wfe_in.new.post c.get_wfe_in.new.desk refl c.requires.here called in
-    record {
-      valid = c.get_wfe_in.ensures.valid;
-      same = words.same_on _ _ _ c.start.ensures.same c.get_wfe_in.ensures.same;
-      here = over.here;
-      room = c.get_wfe_in.ensures.room;
-      place = over.place;
-      suits = over.suits;
-      called = called;
-    }
+pub get_by_index-requires-clause-clears : goal.get_by_index-requires-clause-clears
+get_by_index-requires-clause-clears g c = clears_else c.args.post.now.layout.config c.config.result (sym c.config.ensures) c.in_default.not-Ibr
 
-pub get_hp_in-requires-clause-here : goal.get_hp_in-requires-clause-here
-get_hp_in-requires-clause-here g c =
+pub get_by_index-requires-clause-here : goal.get_by_index-requires-clause-here
+get_by_index-requires-clause-here g c =
     let desk : HeldDesk = record c.args.desk.now { notes = c.clear.new.self } in
     let cleared : desk_of desk ≡ record (desk_of c.args.desk.now) { notes = no_notes } = ap (λ (notes : Notes). let held : Desk = record (desk_of c.args.desk.now) { notes = notes } in held) c.clear.ensures.empty in
     here_begun (g.W.Words.at c.args.words.now) (g.W.Words.at c.start.new.self) (calls.Get c.args.key) c.args.post.now c.args.desk.now desk _ c.requires.here c.start.ensures.at refl refl refl cleared
 
-pub returns-in-Hp : goal.returns-in-Hp
-returns-in-Hp g c =
+pub returns-in_default : goal.returns-in_default
+returns-in_default g c =
     let words = g.W.Words in
-    let kind : c.args.post.now.layout.config.scheme ≡ kinds.Hp = ap (λ (config : Config). config.scheme) (sym c.config.ensures) ∙ c.in-Hp.is in
     let desk : HeldDesk = record c.args.desk.now { notes = c.clear.new.self } in
     let cleared : desk_of desk ≡ record (desk_of c.args.desk.now) { notes = no_notes } = ap (λ (notes : Notes). let held : Desk = record (desk_of c.args.desk.now) { notes = notes } in held) c.clear.ensures.empty in
     let called =
-    called_by (words.at c.args.words.now) (words.at c.start.new.self) (words.at c.get_hp_in.new.words) (words.stands c.args.words.now) (words.stands c.start.new.self) (words.stands c.get_hp_in.new.words) (calls.Get c.args.key) c.get_hp_in.result c.args.post.now c.args.desk.now desk _
-    (at_phase Idle c.get_hp_in.new.post c.get_hp_in.new.desk) c.start.ensures.at refl c.start.ensures.stands refl cleared c.get_hp_in.ensures.made in
-    let over : Over (words.at c.get_hp_in.new.words) (calls.Get c.args.key) c.get_hp_in.result c.args.post.now c.get_hp_in.new.post c.get_hp_in.new.desk =
-    over_by (words.at c.args.words.now) (words.at c.get_hp_in.new.words) (words.stands c.args.words.now) (words.stands c.get_hp_in.new.words) (calls.Get c.args.key) c.get_hp_in.result c.args.post.now c.args.desk.now c.get_hp_in.new.post c.get_hp_in.new.desk refl c.requires.here called in
+    called_by (words.at c.args.words.now) (words.at c.start.new.self) (words.at c.get_by_index.new.words) (words.stands c.args.words.now) (words.stands c.start.new.self) (words.stands c.get_by_index.new.words) (calls.Get c.args.key) c.get_by_index.result c.args.post.now c.args.desk.now desk _
+    (at_phase Idle c.get_by_index.new.post c.get_by_index.new.desk) c.start.ensures.at refl c.start.ensures.stands refl cleared c.get_by_index.ensures.made in
+    let over : Over (words.at c.get_by_index.new.words) (calls.Get c.args.key) c.get_by_index.result c.args.post.now c.get_by_index.new.post c.get_by_index.new.desk =
+    over_by (words.at c.args.words.now) (words.at c.get_by_index.new.words) (words.stands c.args.words.now) (words.stands c.get_by_index.new.words) (calls.Get c.args.key) c.get_by_index.result c.args.post.now c.args.desk.now c.get_by_index.new.post c.get_by_index.new.desk refl c.requires.here called in
     record {
-      valid = c.get_hp_in.ensures.valid;
-      same = words.same_on _ _ _ c.start.ensures.same c.get_hp_in.ensures.same;
+      valid = c.get_by_index.ensures.valid;
+      same = words.same_on _ _ _ c.start.ensures.same c.get_by_index.ensures.same;
       here = over.here;
-      room = c.get_hp_in.ensures.room;
+      room = c.get_by_index.ensures.room;
       place = over.place;
       suits = over.suits;
       called = called;

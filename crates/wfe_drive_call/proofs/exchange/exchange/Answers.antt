@@ -22,8 +22,8 @@ overflow_add-post g c =
     let few : c.args.post.now.steps < 2 ^ 62 = (c.step-found.ensures.steps _ asks).few in
     omega (arith, few)
 
-pub overflow_add-version : goal.overflow_add-version
-overflow_add-version g c =
+pub overflow_add-answer : goal.overflow_add-answer
+overflow_add-answer g c =
     let kept = kept_of c.args.kept.now in
     let desk = desk_of c.args._desk.now in
     let asks = work_asks kept (ExchangeRoot c.args.slot) c.args.post.now desk c.swap_root.result c.requires.here c.swap_root.ensures in

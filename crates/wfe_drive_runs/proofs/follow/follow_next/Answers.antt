@@ -3,74 +3,15 @@ use Rattle.std.proofs.Common.{ap, sym, ◌∙◌, ◌≡◌}
 use Rattle.wfe_core.specs.words.Schemes.{has_one_interval}
 use Rattle.wfe_core.specs.words.declared.config.Config.{Config}
 use Rattle.wfe_core.specs.words.declared.config.SchemeKind.{SchemeKind}
-use Rattle.wfe_core.specs.words.declared.config.SchemeKind.TheVariants.{He, Hp, Ibr, Wfe}
+use Rattle.wfe_core.specs.words.declared.config.SchemeKind.TheVariants.{Ibr}
 use Rattle.wfe_core.specs.Calls.{Runs}
 use Rattle.wfe_core.specs.Dequeue.{follow_base}
 use Rattle.wfe_drive_words.specs.Called.{at_phase}
 use Rattle.wfe_drive_runs.proofs.Followings.{room_as, so_from}
 use Rattle.wfe_drive_runs.proofs.Spanning.{free_kept, free_without}
+use Rattle.wfe_drive_words.proofs.ByIndex.{clears_else}
 use Rattle.wfe_drive_words.proofs.Leading.{here_as}
 use Rattle.wfe_drive_runs.proofs.follow.follow_next.Goals as goal
-
-pub follow_wfe-requires-clause-scheme : goal.follow_wfe-requires-clause-scheme
-follow_wfe-requires-clause-scheme g c = ap (λ (config : Config). config.scheme) (sym c.config.ensures) ∙ c.in-Wfe.is
-
-pub follow_wfe-requires-clause-here : goal.follow_wfe-requires-clause-here
-follow_wfe-requires-clause-here g c =
-    let kind : c.args.post.now.layout.config.scheme ≡ Wfe = ap (λ (config : Config). config.scheme) (sym c.config.ensures) ∙ c.in-Wfe.is in
-    let (why, h) = c.requires.here in
-    (why, here_as _ _ (ap (λ (scheme : SchemeKind). at_phase (Runs why (follow_base scheme c.args.parent)) c.args.post.now c.args.desk.now) kind) h)
-
-pub returns-in-Wfe-clause-free : goal.returns-in-Wfe-clause-free
-returns-in-Wfe-clause-free g c = free_without c.args.post.now c.follow_wfe.new.post c.follow_wfe.ensures.layout (ap has_one_interval (ap (λ (config : Config). config.scheme) (sym c.config.ensures) ∙ c.in-Wfe.is))
-
-pub returns-in-Wfe-clause-leads : goal.returns-in-Wfe-clause-leads
-returns-in-Wfe-clause-leads g c = λ why h.
-    let kind : c.args.post.now.layout.config.scheme ≡ Wfe = ap (λ (config : Config). config.scheme) (sym c.config.ensures) ∙ c.in-Wfe.is in
-    let is = ap (λ (scheme : SchemeKind). at_phase (Runs why (follow_base scheme c.args.parent)) c.args.post.now c.args.desk.now) kind in
-    so_from _ _ (sym is) (c.follow_wfe.ensures.leads why (here_as _ _ is h))
-
-pub follow_he-requires-clause-scheme : goal.follow_he-requires-clause-scheme
-follow_he-requires-clause-scheme g c = ap (λ (config : Config). config.scheme) (sym c.config.ensures) ∙ c.in-He.is
-
-pub follow_he-requires-clause-here : goal.follow_he-requires-clause-here
-follow_he-requires-clause-here g c =
-    let kind : c.args.post.now.layout.config.scheme ≡ He = ap (λ (config : Config). config.scheme) (sym c.config.ensures) ∙ c.in-He.is in
-    let (why, h) = c.requires.here in
-    (why, here_as _ _ (ap (λ (scheme : SchemeKind). at_phase (Runs why (follow_base scheme c.args.parent)) c.args.post.now c.args.desk.now) kind) h)
-
-pub returns-in-He-clause-room : goal.returns-in-He-clause-room
-returns-in-He-clause-room g c = room_as c.follow_he.ensures.layout c.requires.room
-
-pub returns-in-He-clause-free : goal.returns-in-He-clause-free
-returns-in-He-clause-free g c = free_without c.args.post.now c.follow_he.new.post c.follow_he.ensures.layout (ap has_one_interval (ap (λ (config : Config). config.scheme) (sym c.config.ensures) ∙ c.in-He.is))
-
-pub returns-in-He-clause-leads : goal.returns-in-He-clause-leads
-returns-in-He-clause-leads g c = λ why h.
-    let kind : c.args.post.now.layout.config.scheme ≡ He = ap (λ (config : Config). config.scheme) (sym c.config.ensures) ∙ c.in-He.is in
-    let is = ap (λ (scheme : SchemeKind). at_phase (Runs why (follow_base scheme c.args.parent)) c.args.post.now c.args.desk.now) kind in
-    so_from _ _ (sym is) (c.follow_he.ensures.leads why (here_as _ _ is h))
-
-pub follow_hp-requires-clause-scheme : goal.follow_hp-requires-clause-scheme
-follow_hp-requires-clause-scheme g c = ap (λ (config : Config). config.scheme) (sym c.config.ensures) ∙ c.in-Hp.is
-
-pub follow_hp-requires-clause-here : goal.follow_hp-requires-clause-here
-follow_hp-requires-clause-here g c =
-    let kind : c.args.post.now.layout.config.scheme ≡ Hp = ap (λ (config : Config). config.scheme) (sym c.config.ensures) ∙ c.in-Hp.is in
-    let (why, h) = c.requires.here in
-    (why, here_as _ _ (ap (λ (scheme : SchemeKind). at_phase (Runs why (follow_base scheme c.args.parent)) c.args.post.now c.args.desk.now) kind) h)
-
-pub returns-in-Hp-clause-room : goal.returns-in-Hp-clause-room
-returns-in-Hp-clause-room g c = room_as c.follow_hp.ensures.layout c.requires.room
-
-pub returns-in-Hp-clause-free : goal.returns-in-Hp-clause-free
-returns-in-Hp-clause-free g c = free_without c.args.post.now c.follow_hp.new.post c.follow_hp.ensures.layout (ap has_one_interval (ap (λ (config : Config). config.scheme) (sym c.config.ensures) ∙ c.in-Hp.is))
-
-pub returns-in-Hp-clause-leads : goal.returns-in-Hp-clause-leads
-returns-in-Hp-clause-leads g c = λ why h.
-    let kind : c.args.post.now.layout.config.scheme ≡ Hp = ap (λ (config : Config). config.scheme) (sym c.config.ensures) ∙ c.in-Hp.is in
-    let is = ap (λ (scheme : SchemeKind). at_phase (Runs why (follow_base scheme c.args.parent)) c.args.post.now c.args.desk.now) kind in
-    so_from _ _ (sym is) (c.follow_hp.ensures.leads why (here_as _ _ is h))
 
 pub follow_ibr-requires-clause-scheme : goal.follow_ibr-requires-clause-scheme
 follow_ibr-requires-clause-scheme g c = ap (λ (config : Config). config.scheme) (sym c.config.ensures) ∙ c.in-Ibr.is
@@ -95,3 +36,9 @@ returns-in-Ibr-clause-leads g c = λ why h.
     let kind : c.args.post.now.layout.config.scheme ≡ Ibr = ap (λ (config : Config). config.scheme) (sym c.config.ensures) ∙ c.in-Ibr.is in
     let is = ap (λ (scheme : SchemeKind). at_phase (Runs why (follow_base scheme c.args.parent)) c.args.post.now c.args.desk.now) kind in
     so_from _ _ (sym is) (c.follow_ibr.ensures.leads why (here_as _ _ is h))
+
+pub follow_by_index-requires-clause-clears : goal.follow_by_index-requires-clause-clears
+follow_by_index-requires-clause-clears g c = clears_else c.args.post.now.layout.config c.config.result (sym c.config.ensures) c.in_default.not-Ibr
+
+pub returns-in_default-clause-free : goal.returns-in_default-clause-free
+returns-in_default-clause-free g c = free_without c.args.post.now c.follow_by_index.new.post c.follow_by_index.ensures.layout (clears_else c.args.post.now.layout.config c.config.result (sym c.config.ensures) c.in_default.not-Ibr)

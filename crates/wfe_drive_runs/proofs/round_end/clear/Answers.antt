@@ -3,10 +3,13 @@ use Rattle.std.proofs.Common.{arith, refl, ◌<◌, ◌^◌}
 use Rattle.wfe_core.specs.Calls.{Runs}
 use Rattle.wfe_core.specs.Phases.Base.{Clear}
 use Rattle.wfe_core.specs.Posts.{stands}
+use Rattle.wfe_core.specs.Rounds.{scheme_of}
+use Rattle.wfe_core.specs.words.Schemes.{publishes_rows}
 use Rattle.wfe_drive_words.specs.drive_cells.Unit.{kept_desk}
 use Rattle.wfe_drive_words.specs.Path.{stepped}
 use Rattle.wfe_drive_runs.specs.Pieces.{seat_of}
 use Rattle.wfe_drive_runs.proofs.Closing.{clear_quiet}
+use Rattle.wfe_drive_words.proofs.Getting.{clear_stores}
 use Rattle.wfe_drive_words.proofs.Leading.{few_here}
 use Rattle.wfe_drive_runs.proofs.Turning.{asks_seat, may_here, turns_once}
 use Rattle.wfe_drive_runs.proofs.round_end.clear.Goals as goal
@@ -24,7 +27,7 @@ publish_as-requires-clause-index g c =
 pub step-requires-clause-asks : goal.step-requires-clause-asks
 step-requires-clause-asks g c =
     let (why, desk, h) = c.requires.here in
-    (_, asks_seat (seat_of (Runs why (Clear c.args.rows c.args.index)) c.args.post.now desk) h refl c.publish_as.ensures)
+    (_, asks_seat (seat_of (Runs why (Clear (publishes_rows (scheme_of c.args.post.now)) c.args.index)) c.args.post.now desk) h refl (clear_stores c.args.post.now c.args.post.now c.args.index c.publishes_rows.result c.publish_as.result refl c.publishes_rows.ensures c.publish_as.ensures))
 
 pub bounds-post-index : goal.bounds-post-index
 bounds-post-index g c =
@@ -40,8 +43,8 @@ overflow_add-post g c =
 
 pub returns-clause-turns : goal.returns-clause-turns
 returns-clause-turns g c = λ why desk h.
-    let seat = seat_of (Runs why (Clear c.args.rows c.args.index)) c.args.post.now desk in (
+    let seat = seat_of (Runs why (Clear (publishes_rows (scheme_of c.args.post.now)) c.args.index)) c.args.post.now desk in (
       _,
-      clear_quiet (kept_desk desk) c.args.index (stands c.args.post.now c.args.index) c.args.rows (stepped c.args.post.now),
-      turns_once seat (c.step.ensures.steps _ (asks_seat seat h refl c.publish_as.ensures)),
+      clear_quiet (kept_desk desk) c.args.index (stands c.args.post.now c.args.index) (publishes_rows (scheme_of c.args.post.now)) (stepped c.args.post.now),
+      turns_once seat (c.step.ensures.steps _ (asks_seat seat h refl (clear_stores c.args.post.now c.args.post.now c.args.index c.publishes_rows.result c.publish_as.result refl c.publishes_rows.ensures c.publish_as.ensures))),
     )

@@ -14,11 +14,11 @@ use Rattle.wfe_drive_runs.proofs.round_end.close.Goals as goal
 pub clear-requires-clause-here : goal.clear-requires-clause-here
 clear-requires-clause-here g c =
     let (task, next, desk, i, h) = c.requires.here in
-    (Clears task next, desk, here_as _ _ (clears_is task next c.args.post.now desk c.args.rows i c.requires.clears c.requires.rows) h)
+    (Clears task next, desk, here_as _ _ (clears_is task next c.args.post.now desk i c.requires.clears) h)
 
 pub returns-clause-turns : goal.returns-clause-turns
 returns-clause-turns g c = λ task next desk i h.
-    let is = clears_is task next c.args.post.now desk c.args.rows i c.requires.clears c.requires.rows in
+    let is = clears_is task next c.args.post.now desk i c.requires.clears in
     let (told, quiet, x) = c.clear.ensures.turns (Clears task next) desk (here_as _ _ is h) in
     let post = c.clear.new.post in
     let same = closed_noted task next post (kept_desk desk) told ∙ ap (λ (d : Desk). seat_after (closed task next post d [])) quiet in

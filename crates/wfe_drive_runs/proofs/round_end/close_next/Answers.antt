@@ -1,12 +1,12 @@
 -- Under 2GE nothing is to be done on the words; else index 1 is cleared, and index 0 comes after it.
-use Rattle.std.proofs.Common.{None, ap, arith, false, refl, sym, true, ◌∙◌}
+use Rattle.std.proofs.Common.{None, ap, arith, refl, sym, ◌∙◌}
 use Rattle.wfe_core.specs.Calls.{ClearsNext, Dequeues}
-use Rattle.wfe_core.specs.words.Schemes.{has_one_interval, publishes_rows}
 use Rattle.wfe_core.specs.words.declared.config.Config.{Config}
 use Rattle.wfe_core.specs.Posts.{withdrawn}
 use Rattle.wfe_core.specs.declared.post.Post.{Post}
 use Rattle.wfe_drive_runs.specs.Pieces.{clearing_at}
 use Rattle.wfe_drive_runs.proofs.Closing.{clearing_noted, clears_next_is}
+use Rattle.wfe_drive_words.proofs.ByIndex.{clears_else}
 use Rattle.wfe_drive_words.proofs.Leading.{here_as, leads_as, leads_from, leads_none}
 use Rattle.wfe_drive_runs.proofs.Spanning.{free_without, kept_set, next_clears}
 use Rattle.wfe_drive_runs.proofs.round_end.close_next.Goals as goal
@@ -24,56 +24,17 @@ returns-in-Ibr-clause-leads g c = λ next desk h.
 pub clear-requires-clause-here : goal.clear-requires-clause-here
 clear-requires-clause-here g c =
     let (next, desk, h) = c.requires.here in
-    (ClearsNext next, desk, here_as _ _ (clears_next_is next c.args.post.now desk false (ap has_one_interval (ap (λ (config : Config). config.scheme) (sym c.config.ensures) ∙ c.in-He.is)) (sym (ap publishes_rows (ap (λ (config : Config). config.scheme) (sym c.config.ensures) ∙ c.in-He.is)))) h)
+    (ClearsNext next, desk, here_as _ _ (clears_next_is next c.args.post.now desk (clears_else c.args.post.now.layout.config c.config.result (sym c.config.ensures) c.in_default.not-Ibr)) h)
 
-pub returns-in-He-clause-layout : goal.returns-in-He-clause-layout
-returns-in-He-clause-layout g c = ap (λ (post : Post). post.layout) c.clear.ensures.post
+pub returns-in_default-clause-layout : goal.returns-in_default-clause-layout
+returns-in_default-clause-layout g c = ap (λ (post : Post). post.layout) c.clear.ensures.post
 
-pub returns-in-He-clause-free : goal.returns-in-He-clause-free
-returns-in-He-clause-free g c =
-    free_without c.args.post.now c.clear.new.post (ap (λ (post : Post). post.layout) c.clear.ensures.post) (ap has_one_interval (ap (λ (config : Config). config.scheme) (sym c.config.ensures) ∙ c.in-He.is))
+pub returns-in_default-clause-free : goal.returns-in_default-clause-free
+returns-in_default-clause-free g c = free_without c.args.post.now c.clear.new.post (ap (λ (post : Post). post.layout) c.clear.ensures.post) (clears_else c.args.post.now.layout.config c.config.result (sym c.config.ensures) c.in_default.not-Ibr)
 
-pub returns-in-He-clause-leads : goal.returns-in-He-clause-leads
-returns-in-He-clause-leads g c = λ next desk h.
-    let is = clears_next_is next c.args.post.now desk false (ap has_one_interval (ap (λ (config : Config). config.scheme) (sym c.config.ensures) ∙ c.in-He.is)) (sym (ap publishes_rows (ap (λ (config : Config). config.scheme) (sym c.config.ensures) ∙ c.in-He.is))) in
+pub returns-in_default-clause-leads : goal.returns-in_default-clause-leads
+returns-in_default-clause-leads g c = λ next desk h.
+    let is = clears_next_is next c.args.post.now desk (clears_else c.args.post.now.layout.config c.config.result (sym c.config.ensures) c.in_default.not-Ibr) in
     let (told, quiet, x) = c.clear.ensures.turns (ClearsNext next) desk (here_as _ _ is h) in
     let post = c.clear.new.post in
-    leads_from _ _ (sym is) (leads_as _ _ (clearing_noted Dequeues next post desk told ∙ ap (clearing_at Dequeues next post) quiet) x.leads)
-
-pub clear-requires-in-Wfe-clause-here : goal.clear-requires-in-Wfe-clause-here
-clear-requires-in-Wfe-clause-here g c =
-    let (next, desk, h) = c.requires.here in
-    (ClearsNext next, desk, here_as _ _ (clears_next_is next c.args.post.now desk false (ap has_one_interval (ap (λ (config : Config). config.scheme) (sym c.config.ensures) ∙ c.in-Wfe.is)) (sym (ap publishes_rows (ap (λ (config : Config). config.scheme) (sym c.config.ensures) ∙ c.in-Wfe.is)))) h)
-
-pub returns-in-Wfe-clause-layout : goal.returns-in-Wfe-clause-layout
-returns-in-Wfe-clause-layout g c = ap (λ (post : Post). post.layout) c.clear-in-Wfe.ensures.post
-
-pub returns-in-Wfe-clause-free : goal.returns-in-Wfe-clause-free
-returns-in-Wfe-clause-free g c =
-    free_without c.args.post.now c.clear-in-Wfe.new.post (ap (λ (post : Post). post.layout) c.clear-in-Wfe.ensures.post) (ap has_one_interval (ap (λ (config : Config). config.scheme) (sym c.config.ensures) ∙ c.in-Wfe.is))
-
-pub returns-in-Wfe-clause-leads : goal.returns-in-Wfe-clause-leads
-returns-in-Wfe-clause-leads g c = λ next desk h.
-    let is = clears_next_is next c.args.post.now desk false (ap has_one_interval (ap (λ (config : Config). config.scheme) (sym c.config.ensures) ∙ c.in-Wfe.is)) (sym (ap publishes_rows (ap (λ (config : Config). config.scheme) (sym c.config.ensures) ∙ c.in-Wfe.is))) in
-    let (told, quiet, x) = c.clear-in-Wfe.ensures.turns (ClearsNext next) desk (here_as _ _ is h) in
-    let post = c.clear-in-Wfe.new.post in
-    leads_from _ _ (sym is) (leads_as _ _ (clearing_noted Dequeues next post desk told ∙ ap (clearing_at Dequeues next post) quiet) x.leads)
-
-pub clear-requires-in-Hp-clause-here : goal.clear-requires-in-Hp-clause-here
-clear-requires-in-Hp-clause-here g c =
-    let (next, desk, h) = c.requires.here in
-    (ClearsNext next, desk, here_as _ _ (clears_next_is next c.args.post.now desk true (ap has_one_interval (ap (λ (config : Config). config.scheme) (sym c.config.ensures) ∙ c.in-Hp.is)) (sym (ap publishes_rows (ap (λ (config : Config). config.scheme) (sym c.config.ensures) ∙ c.in-Hp.is)))) h)
-
-pub returns-in-Hp-clause-layout : goal.returns-in-Hp-clause-layout
-returns-in-Hp-clause-layout g c = ap (λ (post : Post). post.layout) c.clear-in-Hp.ensures.post
-
-pub returns-in-Hp-clause-free : goal.returns-in-Hp-clause-free
-returns-in-Hp-clause-free g c =
-    free_without c.args.post.now c.clear-in-Hp.new.post (ap (λ (post : Post). post.layout) c.clear-in-Hp.ensures.post) (ap has_one_interval (ap (λ (config : Config). config.scheme) (sym c.config.ensures) ∙ c.in-Hp.is))
-
-pub returns-in-Hp-clause-leads : goal.returns-in-Hp-clause-leads
-returns-in-Hp-clause-leads g c = λ next desk h.
-    let is = clears_next_is next c.args.post.now desk true (ap has_one_interval (ap (λ (config : Config). config.scheme) (sym c.config.ensures) ∙ c.in-Hp.is)) (sym (ap publishes_rows (ap (λ (config : Config). config.scheme) (sym c.config.ensures) ∙ c.in-Hp.is))) in
-    let (told, quiet, x) = c.clear-in-Hp.ensures.turns (ClearsNext next) desk (here_as _ _ is h) in
-    let post = c.clear-in-Hp.new.post in
     leads_from _ _ (sym is) (leads_as _ _ (clearing_noted Dequeues next post desk told ∙ ap (clearing_at Dequeues next post) quiet) x.leads)

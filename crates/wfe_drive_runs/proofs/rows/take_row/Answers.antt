@@ -158,7 +158,7 @@ returns-clause-ends g c = λ why h.
     let x2 = c.step-post.ensures.steps _ (asks_seat last (here_on h y) refl c.store_birth.ensures) in
     let ending : Ending = Allocated (allocate_ends.Given post.cursor c.step-birth.result) in
     let left : ℕ → Post = λ cursor. record post { steps = post.steps + 2 + 1; cursor = cursor } in
-    let cursor : c.slot_after-post.result ≡ next_slot post.layout.config.slots post.cursor = c.slot_after-post.ensures ∙ ap (λ (config : Config). next_slot config.slots post.cursor) c.config.ensures in
+    let cursor : c.slot_after-post.result ≡ next_slot post.layout.config.slots post.cursor = c.slot_after-post.ensures.next ∙ ap (λ (config : Config). next_slot config.slots post.cursor) c.config.ensures in
     let noted : desk_of c.note_given.new.desk ≡ given_desk why post desk c.step-birth.result = ap desk_of c.note_given.ensures in
     let is = ap (λ (n : ℕ). resume why ending (left n) (given_desk why post desk c.step-birth.result) []) (sym cursor) ∙ ap (λ (d : Desk). resume why ending (left c.slot_after-post.result) d []) (sym noted) in
     record { before = desk_of c.note_given.new.desk; told = []; noted = refl; turns = then_turns y (turns_as _ _ is (turns_once last x2)) }

@@ -1,31 +1,29 @@
-use Rattle.std.proofs.Common.{◌≡◌}
-use Rattle.wfe_core.specs.Calls.{Changes, Fills}
-use Rattle.wfe_core.specs.Phases.Ending.{Done}
-use Rattle.wfe_slots.specs.Writes.{write_phase}
+use Rattle.std.proofs.Common.{arith, ◌∙◌}
 use Rattle.wfe_core.specs.DeskHeld.{desk_of}
-use Rattle.wfe_bucketmap_read.specs.call_rounds.Rounds.{close_at}
-use Rattle.wfe_bucketmap.specs.Changes.{kept_of, next_of}
-use Rattle.wfe_bucketmap.proofs.Turns.{closes_with, closed_with, runs_end}
+use Rattle.wfe_call_rounds.proofs.Leaves.{keeps_more, keeps_on}
+use Rattle.wfe_call_rounds.proofs.Ran.{answers_steps, goes_steps}
 use Rattle.wfe_bucketmap.proofs.change.ChangeBucket.step.Goals as goal
 
-pub returns-then-take_close-clause-steps : goal.returns-then-take_close-clause-steps
-returns-then-take_close-clause-steps g c =
-    let s : c.take_close.new.post.layout.config.scheme ≡ g.S.Scheme.kind = rw c.take_close.ensures.layout c.requires.scheme in
-    rw c.in-Closes.is (
-    closed_with (Changes (kept_of c.args.self.now.kept)) (next_of c.in-Closes.ending) g.S.Scheme.kind c.is_again.result (close_at g.S.Clear.Machine.phase g.S.Finish.Machine.phase c.in-Closes.closing) c.args.post.now c.take_close.new.post (desk_of c.args.desk.now) c.take_close.new.told c.args.found c.closed.result _ c.requires.scheme c.is_again.ensures c.take_close.ensures.post c.take_close.ensures.told c.if-take_close.ensures.next (c.closed.ensures.steps c.take_close.new.post (desk_of c.args.desk.now) c.take_close.new.told s)
-    )
+pub returns-in-None-clause-steps : goal.returns-in-None-clause-steps
+returns-in-None-clause-steps g c = goes_steps _ _ _ _ _ c.in-None.ensures.turn
 
-pub returns-else-take_close-clause-steps : goal.returns-else-take_close-clause-steps
-returns-else-take_close-clause-steps g c =
-    rw c.in-Closes.is (
-    closes_with (Changes (kept_of c.args.self.now.kept)) (next_of c.in-Closes.ending) g.S.Scheme.kind c.is_again.result (close_at g.S.Clear.Machine.phase g.S.Finish.Machine.phase c.in-Closes.closing) (close_at g.S.Clear.Machine.phase g.S.Finish.Machine.phase c.take_close.new.closing) c.args.post.now c.take_close.new.post (desk_of c.args.desk.now) c.take_close.new.told c.args.found c.requires.scheme c.is_again.ensures c.take_close.ensures.post c.take_close.ensures.told c.if-take_close.ensures.next
-    )
+pub returns-in-None-clause-kept : goal.returns-in-None-clause-kept
+returns-in-None-clause-kept g c = keeps_more _ _ _ _ _ 3 4 c.run.ensures.kept (omega arith)
 
-pub returns-in_ok-take-in-Writes-clause-steps : goal.returns-in_ok-take-in-Writes-clause-steps
-returns-in_ok-take-in-Writes-clause-steps g c =
-    let post = c.take-in-Writes.new._post in
-    let told = c.take-in-Writes.new._told in
-    let desk = desk_of c.args.desk.now in
-    rw c.in-Writes.is (
-    runs_end (Fills (Changes (kept_of c.args.self.now.kept))) (write_phase c.in-Writes.machine) Done c.args.post.now post desk told c.args.found c.written.result _ c.take-in-Writes.ensures.post c.take-in-Writes.ensures.told c.in_ok-take-in-Writes.ensures.outcome (c.written.ensures post desk told)
-    )
+pub returns-in-Stands-clause-steps : goal.returns-in-Stands-clause-steps
+returns-in-Stands-clause-steps g c = rw (c.stand.ensures.at, c.stand.ensures.kept) (goes_steps _ _ _ _ _ (c.in-Some.ensures.turn ∙ c.in-Stands.ensures.turn (desk_of c.run.new.desk)))
+
+pub returns-in-Stands-clause-kept : goal.returns-in-Stands-clause-kept
+returns-in-Stands-clause-kept g c = keeps_on _ c.run.new.post _ _ _ c.run.new.told _ 3 4 c.run.ensures.kept c.lead.ensures.seat
+
+pub returns-in-Begins-clause-steps : goal.returns-in-Begins-clause-steps
+returns-in-Begins-clause-steps g c = rw (c.stand-in-Begins.ensures.at, c.stand-in-Begins.ensures.kept) (goes_steps _ _ _ _ _ (c.in-Some.ensures.turn ∙ c.in-Begins.ensures.turn (desk_of c.run.new.desk)))
+
+pub returns-in-Begins-clause-kept : goal.returns-in-Begins-clause-kept
+returns-in-Begins-clause-kept g c = keeps_on _ c.run.new.post _ _ _ c.run.new.told _ 3 4 c.run.ensures.kept c.lead.ensures.seat
+
+pub returns-in-Answers-clause-steps : goal.returns-in-Answers-clause-steps
+returns-in-Answers-clause-steps g c = answers_steps _ _ _ _ _ _ (c.in-Some.ensures.turn ∙ c.in-Answers.ensures.turn (desk_of c.run.new.desk))
+
+pub returns-in-Answers-clause-kept : goal.returns-in-Answers-clause-kept
+returns-in-Answers-clause-kept g c = keeps_on _ c.run.new.post _ _ _ c.run.new.told _ 3 4 c.run.ensures.kept c.lead.ensures.seat

@@ -1,7 +1,7 @@
 use Rattle.std.proofs.Common.{arith, ◌∙◌}
 use Rattle.wfe_core.specs.DeskHeld.{desk_of}
+use Rattle.wfe_call_rounds.proofs.Leaves.{keeps_more, keeps_on}
 use Rattle.wfe_call_rounds.proofs.Ran.{answers_steps, goes_steps}
-use Rattle.wfe_msqueue.proofs.Turns.{keeps_more, keeps_on}
 use Rattle.wfe_msqueue.proofs.dequeue.Dequeue.step.Goals as goal
 
 pub returns-in-None-clause-steps : goal.returns-in-None-clause-steps
@@ -15,6 +15,12 @@ returns-in-Stands-clause-steps g c = rw (c.stand.ensures.at, c.stand.ensures.kep
 
 pub returns-in-Stands-clause-kept : goal.returns-in-Stands-clause-kept
 returns-in-Stands-clause-kept g c = keeps_on _ c.run.new.post _ _ _ c.run.new.told _ 3 5 c.run.ensures.kept c.lead.ensures.seat
+
+pub returns-in-Begins-clause-steps : goal.returns-in-Begins-clause-steps
+returns-in-Begins-clause-steps g c = rw c.stand-in-Begins.ensures.at (goes_steps _ _ _ _ _ (c.in-Some.ensures.turn ∙ c.in-Begins.ensures.turn (desk_of c.run.new.desk)))
+
+pub returns-in-Begins-clause-kept : goal.returns-in-Begins-clause-kept
+returns-in-Begins-clause-kept g c = keeps_on _ c.run.new.post _ _ _ c.run.new.told _ 3 5 c.run.ensures.kept c.lead.ensures.seat
 
 pub returns-in-Answers-clause-steps : goal.returns-in-Answers-clause-steps
 returns-in-Answers-clause-steps g c = answers_steps _ _ _ _ _ _ (c.in-Some.ensures.turn ∙ c.in-Answers.ensures.turn (desk_of c.run.new.desk))

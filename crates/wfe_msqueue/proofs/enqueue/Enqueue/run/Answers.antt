@@ -5,6 +5,7 @@ use Rattle.wfe_core.specs.DeskHeld.{desk_of}
 use Rattle.wfe_core.specs.Rounds.{round}
 use Rattle.wfe_core.specs.Steps.{phase_turn}
 use Rattle.wfe_call_rounds.specs.Rounds.{opening_base}
+use Rattle.wfe_call_rounds.proofs.Leaves.{leave_plausible, leave_ready}
 use Rattle.wfe_call_rounds.proofs.Ran.{open_came}
 use Rattle.wfe_call_rounds.proofs.Taken.{starts_at}
 use Rattle.wfe_msqueue.specs.Enqueues.{kept_of}
@@ -45,3 +46,14 @@ returns-in-Opens-clause-turn g c =
 
 pub returns-in-Works-clause-turn : goal.returns-in-Works-clause-turn
 returns-in-Works-clause-turn g c = rw c.in-Works.is (c.take.ensures.turn (desk_of c.args.desk.now))
+
+pub take_leave-requires-clause-ready : goal.take_leave-requires-clause-ready
+take_leave-requires-clause-ready g c = leave_ready _ _ (Enqueues (kept_of c.args.self.now.kept)) c.in-Leaves.at _ _ (rw c.in-Leaves.is at c.requires.ready)
+
+pub take_leave-requires-clause-plausible : goal.take_leave-requires-clause-plausible
+take_leave-requires-clause-plausible g c = leave_plausible _ _ (Enqueues (kept_of c.args.self.now.kept)) c.in-Leaves.at _ _ (rw c.in-Leaves.is at c.requires.plausible)
+
+pub returns-in-Leaves-clause-turn : goal.returns-in-Leaves-clause-turn
+returns-in-Leaves-clause-turn g c =
+    let kept = kept_of c.args.self.now.kept in
+    rw c.in-Leaves.is (c.take_leave.ensures.turn (Enqueues kept) ∙ c.left.ensures.turn kept c.take_leave.new.post (desk_of c.take_leave.new.desk) c.take_leave.new.told _)
