@@ -50,7 +50,7 @@ class Record:
             self.seats[i] = dict(
                 open=False, began=None, begun=0, left=False, adopted=False, given=None, linked=False, unused=False, cuts=[],
                 retired=0, gave=False, blocks=0, due=None, since=0, togo=0, moves=0, rooted=False, null=False, backs=0,
-                read=[], scans=False, raised=0, spanned=False, withdrawal=False, reserves={}, tried={}, own_last={},
+                read=[], scans=False, raised=0, spanned=False, withdrawal=False, reserves={}, tried={}, under_way=set(), own_last={},
                 own_rising={}, hazards={}, own_hazard={}, cut_at={})
         return self.seats[i]
 
@@ -250,7 +250,7 @@ def numbers(r, i, e):
 
 def moves(r, i, e):
     s = r.seat(i)
-    return e[0] != "end" or (s["moves"] <= 1 if s["began"] == ("advance",) else s["moves"] == 0)
+    return s["moves"] == 0 if e[0] == "era" else e[0] != "end" or s["began"] == ("advance",) or s["moves"] == 0
 
 
 def advances(r, i, e):
@@ -266,7 +266,7 @@ def retires(r, i, e):
     if e[0] != "retire":
         return True
     cut = r.seat(i)["cut_at"].get(e[1])
-    return (e[2] == r.birth.get(e[1], 1) and cut is not None
+    return (e[2] == r.birth.get(e[1], 1) and e[1] in r.taken[-1] and cut is not None
             and any(r.clocks[p] == e[3] for p in range(cut, len(r.entries) + 1)))
 
 
@@ -426,7 +426,7 @@ def asks(r, i, e):
     if r.config["scheme"] != "wfe" or e[0] != "reserve" or e[1] != ("h", i) or e[2] is None:
         return True
     s = r.seat(i)
-    return all(n == 0 or (r.config["tries"] + 1 <= n and s["own_rising"].get(j, True)) for j, n in s["tried"].items())
+    return all(r.config["tries"] + 1 <= s["tried"][j] and s["own_rising"].get(j, True) for j in s["under_way"])
 
 
 def ends(r, i, e):
@@ -492,7 +492,10 @@ def tell(r, i, e):
                 j = guard[2]
                 if span is None:
                     s["reserves"][j], s["tried"][j], s["own_rising"][j] = 0, 0, True
+                    s["under_way"].discard(j)
                 else:
+                    if old is None:
+                        s["under_way"].add(j)
                     s["reserves"][j] = s["reserves"].get(j, 0) + 1
                     s["tried"][j] = s["tried"].get(j, 0) + 1
                     last = s["own_last"].get(j)
@@ -590,6 +593,7 @@ def tell(r, i, e):
     if kind in ("held", "null", "copied"):
         j = e[2] if kind == "copied" else e[1]
         s["tried"][j], s["own_last"][j], s["own_rising"][j], s["own_hazard"][j] = 0, None, True, None
+        s["under_way"].discard(j)
     r.due, r.last = due, e
     r.entries.append((i, e))
     for history, value in ((r.taken, taken), (r.buckets, bucket), (r.heads, head), (r.tails, tail), (r.clocks, clock),

@@ -14,6 +14,7 @@ pub mod Links
 pub mod Lists
 pub mod Meets
 pub mod Notes
+pub mod Reports
 pub mod Roots
 pub mod Runs
 pub mod Says

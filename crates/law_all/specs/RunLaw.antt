@@ -277,7 +277,7 @@ pub record VersionsLaw (c : Config) (logs : List (List Group)) (closed : AtClose
   pub reads : (before : List Group) (group : Group) → IsCall logs before group → ReadsRight c made group.call group.answer
 
 -- A seat's versions of a bucket, but those of its looks, never fall, and a change has a greater one than all that it told before; its looks before
--- have told none that is later than the one before the change.
+-- have told none that is later than the one before the change. A hold finds nothing only in a bucket of which its seat has told no version.
 pub record RisesLaw (c : Config) (logs : List (List Group)) : Type 0 where
   pub never_fall :
       (one two : Group) (b low high : ℕ)
@@ -296,6 +296,12 @@ pub record RisesLaw (c : Config) (logs : List (List Group)) : Type 0 where
       → IsCall logs before group
       → is_change_of c.buckets b version group ≡ true
       → looked_in c.buckets b before ≤ version - 1
+  pub unseen :
+      (before : List Group) (group : Group) (key : ℕ)
+      → IsCall logs before group
+      → group.call ≡ calls.Hold key
+      → group.answer ≡ answers.Nothing
+      → seen_in c.buckets (bucket_of c.buckets key) before ≡ 0
 
 -- What is kept at indexes from 2 on.
 
@@ -365,8 +371,8 @@ QueuesRight c queued calls.Dequeue (answers.Taken number value clock) = slice_ge
 QueuesRight c queued call answer = Unit {0}
 
 -- Values are queued under the numbers from 1 on, each once, and taken under the numbers from 1 on, each once and with the value that was
--- queued; both rise within a seat. What is left has the other numbers, in order. A seat finds the queue empty only where what it has
--- queued was taken.
+-- queued; both rise within a seat, and what it queues has a greater number than all that it has taken. What is left has the other numbers,
+-- in order. A seat finds the queue empty only where what it has queued was taken.
 pub record QueueLaw (c : Config) (logs : List (List Group)) (closed : AtClose) (queued : List ℕ) (taken : ℕ) : Type 0 where
   pub most : taken ≤ length queued
   pub once_queued : (number : ℕ) → total_of (is_queued_as number) logs ≡ once_up_to (length queued) number
@@ -374,6 +380,7 @@ pub record QueueLaw (c : Config) (logs : List (List Group)) (closed : AtClose) (
   pub right : (before : List Group) (group : Group) → IsCall logs before group → QueuesRight c queued group.call group.answer
   pub queued_rise : (one two : Group) (low high : ℕ) → InOrder logs one two → is_queued_as low one ≡ true → is_queued_as high two ≡ true → low < high
   pub taken_rise : (one two : Group) (low high : ℕ) → InOrder logs one two → is_taken_as low one ≡ true → is_taken_as high two ≡ true → low < high
+  pub taken_first : (one two : Group) (low high : ℕ) → InOrder logs one two → is_taken_as low one ≡ true → is_queued_as high two ≡ true → low < high
   pub left : closed.queue ≡ numbered_from taken (drop taken queued)
   pub empty : (one two : Group) (number : ℕ) → InOrder logs one two → is_queued_as number one ≡ true → two.answer ≡ answers.Empty → number ≤ taken
 

@@ -55,6 +55,7 @@ pub record Agrees (c : Config) (p : Past) (logs : List (List Group)) : Type 0 wh
   pub queue : (before : List Group) (group : Group) → IsCall logs before group → QueuesRight c (queued_of p) group.call group.answer
   pub queued_rise : (one two : Group) (low high : ℕ) → InOrder logs one two → is_queued_as low one ≡ true → is_queued_as high two ≡ true → low < high
   pub taken_rise : (one two : Group) (low high : ℕ) → InOrder logs one two → is_taken_as low one ≡ true → is_taken_as high two ≡ true → low < high
+  pub taken_first : (one two : Group) (low high : ℕ) → InOrder logs one two → is_taken_as low one ≡ true → is_queued_as high two ≡ true → low < high
   pub empty : (one two : Group) (number : ℕ) → InOrder logs one two → is_queued_as number one ≡ true → two.answer ≡ answers.Empty → number ≤ taken_of p
 
 abbrev pub RunsAgree : Type 0

@@ -26,6 +26,8 @@ use Rattle.laws.specs.words.Config.{bad_field}
 use Rattle.laws.specs.words.declared.config.Config.{Config}
 use Rattle.laws.specs.words.declared.config.SchemeKind.{SchemeKind}
 use Rattle.laws.specs.words.declared.config.SchemeKind.TheVariants.{He, Hp, Ibr, Wfe}
+use Rattle.law_printed.specs.lines.records.record_words.Within.{Small}
+use Rattle.wfe_trace.specs.Fits.{NumberFits}
 use Rattle.wfe_server_out.proofs.Sizes.{sized_along}
 use Rattle.wfe_server_out.proofs.Texts.{heard_of-append, text_of-append}
 use Rattle.wfe_outside.specs.declared.watcher.WatchRow.{WatchRow}
@@ -33,6 +35,7 @@ use Rattle.wfe_trace.specs.Record.{header_line}
 use Rattle.wfe_trace.specs.Setting.{scheme_version}
 use Rattle.law_printed.specs.Printed.{IsKept, IsPutOut, PrintsLawful, WritesLawful}
 use Rattle.law_printed.proofs.First.{history_good}
+use Rattle.law_printed.proofs.ReadBack.Ranges.{small_in_range}
 use Rattle.law_printed.proofs.Pieces.{AreIn, entries_in, printed_of, texts_along}
 use Rattle.law_printed.proofs.Tables.{lines_texts}
 use Rattle.law_printed.proofs.Verdicts.{found_of}
@@ -84,11 +87,13 @@ body_printed given watched text is =
     let config : Config = given.config in
     let r : Past = given_record given in
     let lines : List Piece = lines_out (no_lines given.version config) given.lines in
+    let small : Small config = small_in_range config is.config in
+    let seats : NumberFits config.seats = let l = small.seats in omega arith in
     let known : AreIn given.version config (past_entries r) =
     entries_in given.version config r is.begins.names (each_of_entries (ranges_ok config) r is.kept.ranges) (each_of_entries (guards_ok config) r is.kept.guards) (all_of given watched text is) in
     printed_of given.version config (body_of given watched) (sized_along lines (Text watched ∷ []) is.sized tt)
     (subst (AreIn given.version config) (sym (body_heard given watched ∙ is.record_is)) known)
-    (texts_along given.version config lines (Text watched ∷ []) (lines_texts given.version (no_lines given.version config) given.lines) (is.rows, tt))
+    (texts_along given.version config lines (Text watched ∷ []) (lines_texts given.version (no_lines given.version config) given.lines seats) (is.rows, tt))
 
 whole_of : (given : Given) (watched text : List ℕ) → IsPutOut given watched text → length text ≤ 1073741824 → IsWhole given.version given.config (body_of given watched) text
 whole_of given watched text is short = record {

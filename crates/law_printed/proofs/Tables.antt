@@ -30,7 +30,7 @@ line_is first others = refl
 pub one_line : (first : List ℕ) (others : List (List ℕ)) → line_of first others ≡ lines_text ((first ++ spaced others) ∷ [])
 one_line first others = line_is first others ∙ sym (append-nil ((first ++ spaced others) ++ codes "\n"))
 
-counts_line : (version : ℕ) (config : Config) (seat : Option ℕ) (retired back waiting : ℕ) → IsCounted config seat → NumberFits retired → NumberFits back → NumberFits waiting
+counts_line : (version : ℕ) (config : Config) (seat : Option ℕ) (retired back waiting : ℕ) → IsCounted seat → NumberFits retired → NumberFits back → NumberFits waiting
     → IsPrinted version config (Text (table_line seat retired back waiting))
 counts_line version config seat retired back waiting seated r b w =
     let words : List (List ℕ) = seat_word seat ∷ codes "retired" ∷ decimal retired ∷ codes "back" ∷ decimal back ∷ codes "waiting" ∷ decimal waiting ∷ [] in (
@@ -88,14 +88,14 @@ none_fit : (seats : ℕ) → CountsFit (no_lists seats)
 none_fit zero = tt
 none_fit (suc seats) = (omega arith, none_fit seats)
 
-seats_texts : (version : ℕ) (config : Config) (seat : ℕ) (rows : List WatchRow) (waiting : List ℕ) → seat + length rows ≤ config.seats → RowsCapped rows → CountsFit waiting → TextsAre version config (seat_lines seat rows waiting)
+seats_texts : (version : ℕ) (config : Config) (seat : ℕ) (rows : List WatchRow) (waiting : List ℕ) → NumberFits (seat + length rows) → RowsCapped rows → CountsFit waiting → TextsAre version config (seat_lines seat rows waiting)
 seats_texts version config seat [] waiting within few counts = tt
 seats_texts version config seat (row ∷ rows) waiting within few counts = (
   counts_line version config (Some seat) row.b row.c (waiting_at waiting seat) (omega (arith, within)) few.0.0 few.0.1 (fit_at waiting seat counts),
   seats_texts version config (seat + 1) rows waiting (omega (arith, within)) few.1 counts,
 )
 
-table_texts : (version : ℕ) (config : Config) (rows : List WatchRow) (waiting : List ℕ) → length rows ≤ config.seats → RowsCapped rows → CountsFit waiting → TextsAre version config (table_pieces rows waiting)
+table_texts : (version : ℕ) (config : Config) (rows : List WatchRow) (waiting : List ℕ) → NumberFits (length rows) → RowsCapped rows → CountsFit waiting → TextsAre version config (table_pieces rows waiting)
 table_texts version config rows waiting within few counts =
     texts_along version config (seat_lines 0 rows waiting) (Text (total_line rows waiting) ∷ []) (seats_texts version config 0 rows waiting (omega (arith, within)) few counts)
     (counts_line version config None _ _ _ tt (omega arith) (omega arith) (capped_fits _), tt)
@@ -115,16 +115,16 @@ made_texts version config made [] = tt
 made_texts version config made (item ∷ items) =
     texts_along version config (fit_pieces made.world item (fits made.world item)) (made_pieces (did made item) items) (fit_texts version config made.world item (fits made.world item)) (made_texts version config (did made item) items)
 
-line_texts : (version : ℕ) (line : Command) (given : Given) → TextsAre version given.config (line_pieces line given)
-line_texts version (commands.Call seat call) given = tt
-line_texts version (commands.Step seat units) given = made_texts version given.config (given_made given) (items_of given.config.seats (commands.Step seat units))
-line_texts version (commands.Run seat) given = made_texts version given.config (given_made given) (items_of given.config.seats (commands.Run seat))
-line_texts version commands.Table given =
+line_texts : (version : ℕ) (line : Command) (given : Given) → NumberFits given.config.seats → TextsAre version given.config (line_pieces line given)
+line_texts version (commands.Call seat call) given fits = tt
+line_texts version (commands.Step seat units) given fits = made_texts version given.config (given_made given) (items_of given.config.seats (commands.Step seat units))
+line_texts version (commands.Run seat) given fits = made_texts version given.config (given_made given) (items_of given.config.seats (commands.Run seat))
+line_texts version commands.Table given fits =
     let told : List Entry = past_entries (given_record given) in
-    table_texts version given.config (given_garbage given) (given_waiting given) (omega (arith, length-garbage_rows given.config.seats told)) (garbage_capped given.config.seats told) (told_fits (no_lists given.config.seats) told (none_fit given.config.seats))
-line_texts version commands.End given = made_texts version given.config (given_made given) (items_of given.config.seats commands.End)
+    table_texts version given.config (given_garbage given) (given_waiting given) (omega (arith, fits, length-garbage_rows given.config.seats told)) (garbage_capped given.config.seats told) (told_fits (no_lists given.config.seats) told (none_fit given.config.seats))
+line_texts version commands.End given fits = made_texts version given.config (given_made given) (items_of given.config.seats commands.End)
 
 -- what lines put out
-pub lines_texts : (version : ℕ) (given : Given) (lines : List Command) → TextsAre version given.config (lines_out given lines)
-lines_texts version given [] = tt
-lines_texts version given (line ∷ lines) = texts_along version given.config (line_pieces line given) (lines_out (with_line line given) lines) (line_texts version line given) (lines_texts version (with_line line given) lines)
+pub lines_texts : (version : ℕ) (given : Given) (lines : List Command) → NumberFits given.config.seats → TextsAre version given.config (lines_out given lines)
+lines_texts version given [] fits = tt
+lines_texts version given (line ∷ lines) fits = texts_along version given.config (line_pieces line given) (lines_out (with_line line given) lines) (line_texts version line given fits) (lines_texts version (with_line line given) lines fits)

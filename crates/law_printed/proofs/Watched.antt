@@ -16,19 +16,19 @@ lines-along : (xs ys : List (List ℕ)) → lines_text (xs ++ ys) ≡ lines_text
 lines-along [] ys = refl
 lines-along (x ∷ xs) ys = ap (λ (t : List ℕ). (x ++ codes "\n") ++ t) (lines-along xs ys) ∙ sym (append_assoc (x ++ codes "\n") (lines_text xs) (lines_text ys))
 
-shown_along : (config : Config) (xs ys : List (List ℕ)) → AreShown config xs → AreShown config ys → AreShown config (xs ++ ys)
-shown_along config [] ys one two = two
-shown_along config (x ∷ xs) ys one two = (one.0, shown_along config xs ys one.1 two)
+shown_along : (xs ys : List (List ℕ)) → AreShown xs → AreShown ys → AreShown (xs ++ ys)
+shown_along [] ys one two = two
+shown_along (x ∷ xs) ys one two = (one.0, shown_along xs ys one.1 two)
 
 -- a text that is lines of counts or rows
-abbrev IsLines : Config → List ℕ → Type 0
-IsLines config bytes = (lines : List (List ℕ)) × (bytes ≡ lines_text lines) × AreShown config lines
+abbrev IsLines : List ℕ → Type 0
+IsLines bytes = (lines : List (List ℕ)) × (bytes ≡ lines_text lines) × AreShown lines
 
-both_lines : (config : Config) (bytes more : List ℕ) → IsLines config bytes → IsLines config more → IsLines config (bytes ++ more)
-both_lines config bytes more one two = (
+both_lines : (bytes more : List ℕ) → IsLines bytes → IsLines more → IsLines (bytes ++ more)
+both_lines bytes more one two = (
   one.0 ++ two.0,
   ap (λ (t : List ℕ). t ++ more) one.1 ∙ ap (λ (t : List ℕ). lines_text one.0 ++ t) two.1 ∙ sym (lines-along one.0 two.0),
-  shown_along config one.0 two.0 one.2 two.2,
+  shown_along one.0 two.0 one.2 two.2,
 )
 
 abbrev row_words : (place : ℕ) → WatchRow → List (List ℕ)
@@ -44,10 +44,10 @@ abbrev AllFit : List WatchRow → Type 0
 AllFit [] = Unit {0}
 AllFit (row ∷ rows) = RowFits row × AllFit rows
 
-rows_lines : (config : Config) (place : ℕ) (rows : List WatchRow) → NumberFits place → AllFit rows → IsLines config (rows_text place rows)
-rows_lines config place [] fit fits = ([], refl, tt)
-rows_lines config place (row ∷ rows) fit fits =
-    let later : IsLines config (rows_text place rows) = rows_lines config place rows fit fits.1 in (
+rows_lines : (place : ℕ) (rows : List WatchRow) → NumberFits place → AllFit rows → IsLines (rows_text place rows)
+rows_lines place [] fit fits = ([], refl, tt)
+rows_lines place (row ∷ rows) fit fits =
+    let later : IsLines (rows_text place rows) = rows_lines place rows fit fits.1 in (
       row_line place row ∷ later.0,
       ap (λ (t : List ℕ). t ++ rows_text place rows) (row_is place row) ∙ ap (λ (t : List ℕ). (row_line place row ++ codes "\n") ++ t) later.1,
       (inr (record { place = place; a = row.a; b = row.b; c = row.c; text = row_is place row; place_fits = fit; a_fits = fits.0.0; b_fits = fits.0.1; c_fits = fits.0.2 }), later.2),
@@ -61,15 +61,15 @@ watcher_fits : {W : Type 0} (shown : W → ℕ) (shows : W → ℕ → WatchRow)
 watcher_fits shown shows watcher fits = range_fits (shows watcher) 0 (shown watcher) (λ row less. fits row (omega (arith, less)))
 
 -- the rows of watchers from a place on
-from_lines : {W : Type 0} (shown : W → ℕ) (shows : W → ℕ → WatchRow) (config : Config) (place : ℕ) (watchers : List W)
+from_lines : {W : Type 0} (shown : W → ℕ) (shows : W → ℕ → WatchRow) (place : ℕ) (watchers : List W)
     → ((n : ℕ) (watcher : W) → slice_get watchers n ≡ Some watcher → NumberFits (place + n) × RowsFit shown shows watcher)
-    → IsLines config (watch_from (rows_of shown shows) place watchers)
-from_lines shown shows config place [] fits = ([], refl, tt)
-from_lines shown shows config place (watcher ∷ watchers) fits =
+    → IsLines (watch_from (rows_of shown shows) place watchers)
+from_lines shown shows place [] fits = ([], refl, tt)
+from_lines shown shows place (watcher ∷ watchers) fits =
     let first : NumberFits (place + 0) × RowsFit shown shows watcher = fits 0 watcher refl in
-    both_lines config (rows_text place (rows_of shown shows watcher)) (watch_from (rows_of shown shows) (place + 1) watchers)
-    (rows_lines config place (rows_of shown shows watcher) (omega (arith, first.0)) (watcher_fits shown shows watcher first.1))
-    (from_lines shown shows config (place + 1) watchers (λ n w at. let h : NumberFits (place + suc n) × RowsFit shown shows w = fits (suc n) w at in (omega (arith, h.0), h.1)))
+    both_lines (rows_text place (rows_of shown shows watcher)) (watch_from (rows_of shown shows) (place + 1) watchers)
+    (rows_lines place (rows_of shown shows watcher) (omega (arith, first.0)) (watcher_fits shown shows watcher first.1))
+    (from_lines shown shows (place + 1) watchers (λ n w at. let h : NumberFits (place + suc n) × RowsFit shown shows w = fits (suc n) w at in (omega (arith, h.0), h.1)))
 
 pub watched_printed : {W : Type 0} (shown : W → ℕ) (shows : W → ℕ → WatchRow) (version : ℕ) (config : Config) (watchers : List W) → WatchersFit shown shows watchers → IsPrinted version config (Text (watch_text shown shows watchers))
-watched_printed shown shows version config watchers fits = from_lines shown shows config 0 watchers (λ n watcher at. let h = fits n watcher at in (omega (arith, h.0), h.1))
+watched_printed shown shows version config watchers fits = from_lines shown shows 0 watchers (λ n watcher at. let h = fits n watcher at in (omega (arith, h.0), h.1))

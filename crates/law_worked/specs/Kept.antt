@@ -90,7 +90,7 @@ kept_table =
     ∷ row Moves [] (22 ∷ []) (22 ∷ []) [] []
     ∷ row Advances [] [] [] [] []
     ∷ row Births [] [] [] [] []
-    ∷ row Retires (17 ∷ []) [] [] (17 ∷ 21 ∷ []) []
+    ∷ row Retires (3 ∷ 17 ∷ []) [] [] (3 ∷ 17 ∷ 21 ∷ []) []
     ∷ row Current [] [] [] (1 ∷ 9 ∷ 13 ∷ 32 ∷ []) []
     ∷ row Single [] [] [] [] []
     ∷ row Rising [] [] [] [] []

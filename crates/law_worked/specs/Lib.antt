@@ -14,6 +14,7 @@ pub mod Moved
 pub mod PutThenGet
 pub mod Queued
 pub mod Refusals
+pub mod RightEdits
 pub mod RunRecords
 pub mod Spent
 pub mod Twice

@@ -51,7 +51,7 @@ moved_table =
     ∷ row Due [] [] [] (0 ∷ 1 ∷ 5 ∷ 8 ∷ []) []
     ∷ row Room [] [] [] [] []
     ∷ row Eras (2 ∷ []) (2 ∷ 6 ∷ []) [] (2 ∷ 6 ∷ []) []
-    ∷ row Moves (1 ∷ 5 ∷ []) (2 ∷ 6 ∷ []) [] (1 ∷ 5 ∷ []) []
+    ∷ row Moves (1 ∷ 5 ∷ []) (2 ∷ 6 ∷ []) (5 ∷ []) (1 ∷ 5 ∷ []) []
     ∷ row Advances [] [] [] [] []
     ∷ row Births [] [] [] [] []
     ∷ row Retires [] [] [] [] []

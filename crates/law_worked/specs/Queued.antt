@@ -104,7 +104,7 @@ queued_table =
     ∷ row Moves [] [] [] [] []
     ∷ row Advances [] [] [] [] []
     ∷ row Births [] [] [] [] []
-    ∷ row Retires (26 ∷ 40 ∷ []) [] [] (26 ∷ 32 ∷ 40 ∷ 46 ∷ []) []
+    ∷ row Retires (3 ∷ 26 ∷ 40 ∷ []) [] [] (3 ∷ 26 ∷ 32 ∷ 40 ∷ 46 ∷ []) []
     ∷ row Current [] [] [] (1 ∷ 11 ∷ 21 ∷ 23 ∷ 35 ∷ 37 ∷ 49 ∷ 51 ∷ []) []
     ∷ row Single [] [] [] [] []
     ∷ row Rising [] [] [] [] []

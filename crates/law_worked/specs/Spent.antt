@@ -103,7 +103,7 @@ spent_table =
     ∷ row Moves [] [] [] [] []
     ∷ row Advances [] [] [] [] []
     ∷ row Births [] [] [] [] []
-    ∷ row Retires (18 ∷ []) [] [] (18 ∷ 22 ∷ []) []
+    ∷ row Retires (8 ∷ 18 ∷ []) [] [] (8 ∷ 18 ∷ 22 ∷ []) []
     ∷ row Current [] [] [] (1 ∷ 6 ∷ 14 ∷ 25 ∷ 31 ∷ 37 ∷ 47 ∷ []) []
     ∷ row Single [] [] [] [] []
     ∷ row Rising [] [] [] [] []

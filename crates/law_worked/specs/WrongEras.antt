@@ -15,6 +15,7 @@ use Rattle.law_worked.specs.Intervals.{intervals, intervals_setting}
 use Rattle.law_worked.specs.Kept.{kept, kept_setting}
 use Rattle.law_worked.specs.Moved.{moved, moved_setting}
 use Rattle.law_worked.specs.PutThenGet.{put_then_get, put_then_get_setting}
+use Rattle.law_worked.specs.Spent.{spent, spent_setting}
 
 abbrev pub wrong_eras : List Wrong
 wrong_eras =
@@ -25,13 +26,17 @@ wrong_eras =
     -- a get moves the clock
     ∷ wrong put_then_get_setting.config put_then_get (Before 14 (said 0 (events.Era 2)) ∷ []) (Moves ∷ [])
     -- an advance moves the clock twice
-    ∷ wrong moved_setting.config moved (Before 3 (said 1 (events.Era 3)) ∷ Until 4 ∷ []) (Moves ∷ [])
+    ∷ wrong moved_setting.config moved (Before 3 (said 1 (events.Era 3)) ∷ Until 3 ∷ []) (Moves ∷ [])
     -- a put moves the clock twice before its scan
-    ∷ wrong full_setting.config full (Before 29 (said 0 (events.Era 3)) ∷ Until 37 ∷ []) (Moves ∷ [])
+    ∷ wrong full_setting.config full (Before 29 (said 0 (events.Era 3)) ∷ Until 29 ∷ []) (Moves ∷ [])
+    -- a put ends without the scan for which it has moved the clock
+    ∷ wrong put_then_get_setting.config put_then_get (Before 7 (said 0 (events.Era 2)) ∷ Until 8 ∷ []) (Moves ∷ [])
     -- a birth era was never the clock in the call
     ∷ wrong kept_setting.config kept (Instead 15 (said 0 (events.Give 1 2)) ∷ Until 16 ∷ []) (Births ∷ [])
     -- a row is retired with another birth era
     ∷ wrong kept_setting.config kept (Instead 21 (said 0 (events.Retire 0 0 1)) ∷ []) (Retires ∷ [])
+    -- a row is retired that is free
+    ∷ wrong spent_setting.config spent (Before 22 (said 0 (events.Unused 0)) ∷ Until 23 ∷ []) (Retires ∷ [])
     -- a retire era was the clock before the cut alone
     ∷ wrong helped_setting.config helped (Instead 26 (said 2 (events.Retire 0 1 2)) ∷ []) (Retires ∷ [])
     -- an era is published that was the clock before the call alone

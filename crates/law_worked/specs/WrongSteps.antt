@@ -41,6 +41,8 @@ wrong_steps =
     ∷ wrong intervals_setting.config intervals (Instead 17 (said 1 (events.Held 0 0 8)) ∷ []) (Raises ∷ [])
     -- a protection asks for help before its tries have failed
     ∷ wrong helped_setting.config helped (Without 14 ∷ []) (Asks ∷ [])
+    -- help is asked for in a protection that begins once its word publishes nothing
+    ∷ wrong helped_setting.config helped (Before 3 (said 2 (events.Reserve (guards.Index 2 0) None)) ∷ Before 3 (said 2 (events.Reserve (guards.Index 2 0) (from_to 1 1))) ∷ Before 3 (said 2 (events.Reserve (guards.Helper 2) (from_to 1 1))) ∷ Until 3 ∷ []) (Asks ∷ [])
     -- a protection asks for help after two tries at one era, with a hand-over between
     ∷ wrong helped_setting.config helped (Until 9 ∷ Before 9 (said 1 (events.Begin calls.Advance)) ∷ Before 9 (said 1 (events.Reserve (guards.Helper 1) (from_to 1 1))) ∷ Before 9 (said 3 (events.Begin calls.Advance)) ∷ Before 9 (said 3 (events.Era 2)) ∷ Before 9 (said 0 (events.Begin (calls.Hold 7))) ∷ Before 9 (said 0 (events.Reserve (guards.Index 0 2) (from_to 2 2))) ∷ Before 9 (said 1 (events.Reserve (guards.Index 0 2) (from_to 1 1))) ∷ Before 9 (said 0 (events.Reserve (guards.Index 0 2) (from_to 2 2))) ∷ Before 9 (said 0 (events.Reserve (guards.Helper 0) (from_to 2 2))) ∷ Without 8 ∷ []) (Asks ∷ [])
     -- a release takes two steps

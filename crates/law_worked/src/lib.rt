@@ -15,6 +15,7 @@ ghost use Rattle.law_worked.specs.Moved.{MovedWorked};
 ghost use Rattle.law_worked.specs.PutThenGet.{PutThenGetWorked};
 ghost use Rattle.law_worked.specs.Queued.{QueuedWorked};
 ghost use Rattle.law_worked.specs.Refusals.{ReadersJudge};
+ghost use Rattle.law_worked.specs.RightEdits.{RightEditsTaken};
 ghost use Rattle.law_worked.specs.Spent.{SpentWorked};
 ghost use Rattle.law_worked.specs.WrongAnswers.{WrongAnswersRefused};
 ghost use Rattle.law_worked.specs.WrongEras.{WrongErasRefused};
@@ -70,6 +71,11 @@ pub fn spent_numbers_are_worked()
 /// Another seat moves the clock first, and then the clock has come to its last era.
 pub fn a_clock_that_others_move_is_worked()
     ensures { MovedWorked }
+{}
+
+/// Worked records, changed at a few lines, that each law takes.
+pub fn other_records_are_taken()
+    ensures { RightEditsTaken }
 {}
 
 /// Worked records, each wrong by a sentence on answers: the laws that refuse each of them.

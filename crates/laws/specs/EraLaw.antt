@@ -11,7 +11,7 @@ use Rattle.wfe_words.specs.Schemes.{has_one_interval, is_wfe, publishes_rows, mo
 use Rattle.wfe_words.specs.declared.config.Config.{Config}
 use Rattle.wfe_words.specs.declared.config.SchemeKind.{SchemeKind}
 use Rattle.laws.specs.ScanLaw.{Blocks, blocks_of}
-use Rattle.laws.specs.StateAt.{birth_of, clock_of, value_of, is_index, seat_of, was_clock, cuts, has_cut, has_told, began_of}
+use Rattle.laws.specs.StateAt.{birth_of, clock_of, value_of, is_index, seat_of, was_clock, cuts, has_cut, has_told, taken_at, began_of}
 
 -- The clock is moved to the next era, up to the last one.
 abbrev pub era_ok : (last_era : ℕ) → Test
@@ -22,10 +22,12 @@ abbrev pub is_of_advance : Option Call → Bool
 is_of_advance (Some calls.Advance) = true
 is_of_advance call = false
 
--- The clock is moved only by an Advance, once, or in a call before one of its blocks, once for each: where a call ends, each era that it
--- told has had a block after it, but for one of an Advance.
+-- The clock is moved only by an Advance, once, or in a call before one of its blocks, once for each: an era is told only where the call
+-- has told none, or a block came after it; and where a call ends, each era that it told has had a block after it, but for one of an
+-- Advance.
 abbrev pub moves_right : Option Call → Event → Blocks → Bool
-moves_right call (events.End steps answer) blocks = if is_of_advance call then nat_le blocks.moves 1 else blocks.moves == 0
+moves_right call (events.Era era) blocks = blocks.moves == 0
+moves_right call (events.End steps answer) blocks = is_of_advance call || blocks.moves == 0
 moves_right call event blocks = true
 
 abbrev pub moves_ok : Config → Test
@@ -46,10 +48,12 @@ abbrev pub birth_ok : Test
 birth_ok p i (events.Give slot birth) = was_clock (begins i) birth p
 birth_ok p i event = true
 
--- a row is retired with its birth era, and with a retire era that was the clock at a position after the seat has told its cut
-abbrev pub retire_ok : Test
-retire_ok p i (events.Retire slot birth retire) = birth == birth_of slot p && (has_cut i slot p && was_clock (own i (cuts slot)) retire p)
-retire_ok p i event = true
+-- a row that is taken is retired, with its birth era, and with a retire era that was the clock at a position after the seat has told its
+-- cut
+abbrev pub retire_ok : (slots : ℕ) → Test
+retire_ok slots p i (events.Retire slot birth retire) =
+    birth == birth_of slot p && (taken_at slots slot p && (has_cut i slot p && was_clock (own i (cuts slot)) retire p))
+retire_ok slots p i event = true
 
 -- the upper end of what a guard is told to publish was the clock at a position of the call that tells it, unless a copy tells it
 abbrev pub upper_current : (seat : ℕ) → Option Interval → Past → Bool
@@ -114,8 +118,8 @@ pub record EraLaw (config : Config) (r : Past) : Type 0 where
   pub advances : moves_clock config.scheme ≡ false → EachEntry advances_ok r
   -- a row's birth era was the clock at a position of the call that the row is given to
   pub births : EachEntry birth_ok r
-  -- a row is retired with its birth era, and a retire era that was the clock at a position after its cut
-  pub retires : EachEntry retire_ok r
+  -- a row that is taken is retired, with its birth era, and a retire era that was the clock at a position after its cut
+  pub retires : EachEntry (retire_ok config.slots) r
   -- the upper end of what a guard is told to publish was the clock at a position of the call that tells it; in a copy it may be the
   -- interval that the index word publishes from which it copies
   pub current : EachEntry current_ok r

@@ -41,7 +41,7 @@ pub record Fits (version : ℕ) (config : Config) (p : Past) (i : ℕ) (event : 
   pub moves : moves_ok config p i event ≡ true
   pub advances : moves_clock config.scheme ≡ false → advances_ok p i event ≡ true
   pub births : birth_ok p i event ≡ true
-  pub retires : retire_ok p i event ≡ true
+  pub retires : retire_ok config.slots p i event ≡ true
   pub current : current_ok p i event ≡ true
   pub single : single_ok config.scheme p i event ≡ true
   pub rising : rising_ok config.scheme p i event ≡ true

@@ -12,13 +12,13 @@ use Rattle.laws.specs.StateAt.Given.{InHand, Placed, Without}
 use Rattle.laws.specs.Lists.{has_slot, list_of}
 use Rattle.laws.specs.StateAt.{Given, began_of, retires_of, cut_at, given_of, head_at, next_at, retired_at, tail_at, taken_at, was_given}
 
--- A row is given only where it is free, and told Unused or Back only where it is taken. A seat tells Back only of a row of its own
--- list, and retires only a row that it has cut and not retired since.
+-- A row is given only where it is free, and told Unused or Back, or retired, only where it is taken. A seat tells Back only of a row of
+-- its own list, and retires only a row that it has cut and not retired since.
 abbrev pub once_ok : ℕ → Test
 once_ok slots p i (events.Give slot birth) = not (taken_at slots slot p)
 once_ok slots p i (events.Unused slot) = taken_at slots slot p
 once_ok slots p i (events.Back slot) = taken_at slots slot p && has_slot slot (list_of i p)
-once_ok slots p i (events.Retire slot birth retire) = cut_at i slot p
+once_ok slots p i (events.Retire slot birth retire) = taken_at slots slot p && cut_at i slot p
 once_ok slots p i event = true
 
 abbrev pub FreeLaw : ℕ → Past → Type 0
@@ -106,7 +106,7 @@ ListLaw r = EachEntry lists_ok r
 
 -- The way of a row from free to free.
 pub record HistoryRows (slots : ℕ) (r : Past) : Type 0 where
-  -- free rows are given, taken ones told unused or back; a seat tells back of its own list, and retires what it has cut
+  -- free rows are given, taken ones told unused or back, or retired; a seat tells back of its own list, and retires what it has cut
   pub free : FreeLaw slots r
   -- a row goes back only where it was retired since it went back last, so each retired row at most once
   pub back : BackOnce r

@@ -19,8 +19,8 @@ use Rattle.laws.specs.HistoryEras.{may_move}
 use Rattle.laws.specs.HistoryScans.{plain_tally}
 use Rattle.laws.specs.HistoryTurns.{turns_since}
 use Rattle.laws.specs.ScanLaw.{guards}
-use Rattle.laws.specs.StateAt.{backs_of, began_of, era_grows, is_found, is_helper, last_of, reserves_of, shown_by, shown_of, times, told, tried_of, value_of}
-use Rattle.laws.specs.StepLaw.{event_tried, few_steps, has_tried, hazards_ok, raise_ok, is_made, is_nothing}
+use Rattle.laws.specs.StateAt.{backs_of, began_of, era_grows, is_found, is_helper, last_of, own_rising_of, reserves_of, shown_by, shown_of, times, told, tried_of, value_of}
+use Rattle.laws.specs.StepLaw.{event_tried, few_steps, hazards_ok, raise_ok, is_made, is_nothing}
 
 -- so are those that a seat whose helper word publishes nothing tells of an index word, until that publishes nothing
 abbrev pub era_rises : Test
@@ -124,9 +124,14 @@ helper_ok tries j p i event = true
 abbrev pub HelperLaw : ℕ → Past → Type 0
 HelperLaw tries r = (j : ℕ) → EachEntry (helper_ok tries j) r
 
--- no protection of the seat at the index is under way where it publishes an era in a helper word, or its own tries have failed
+-- a seat has not published its index word since it published nothing, or told what a protection ends with or a copy; or it has more
+-- often than it has tries, at eras that rose
+abbrev pub has_risen : (tries seat index : ℕ) → Past → Bool
+has_risen tries i j p = tried_of i j p == 0 || (nat_le (tries + 1) (tried_of i j p) && own_rising_of i j p)
+
+-- so it is where the seat publishes an era in a helper word
 abbrev pub asks_ok : (tries index : ℕ) → Test
-asks_ok tries j p i (events.Reserve (Helper k) (Some span)) = has_tried tries i j p
+asks_ok tries j p i (events.Reserve (Helper k) (Some span)) = has_risen tries i j p
 asks_ok tries j p i event = true
 
 abbrev pub AskLaw : ℕ → Past → Type 0

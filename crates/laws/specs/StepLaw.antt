@@ -10,10 +10,11 @@ use Rattle.model_record.specs.defs.declared.call.Call.{Call}
 use Rattle.model_record.specs.defs.declared.event.Event.TheVariants as events
 use Rattle.model_record.specs.defs.declared.event.Event.{Event}
 use Rattle.model_record.specs.defs.declared.event.Guard.TheVariants.{Helper, Index}
+use Rattle.model_record.specs.defs.declared.lifetime.Interval.{Interval}
 use Rattle.wfe_words.specs.Schemes.{has_one_interval, is_he, is_ibr, is_wfe, publishes_rows}
 use Rattle.wfe_words.specs.declared.config.Config.{Config}
 use Rattle.laws.specs.ScanLaw.{guards}
-use Rattle.laws.specs.StateAt.{backs_of, began_of, hazards_of, is_found, is_helper, is_row, own_hazard_of, own_rising_of, raised_of, reserves_of, rising_of, tried_of, value_of}
+use Rattle.laws.specs.StateAt.{backs_of, began_of, hazards_of, is_found, is_helper, is_index_word, is_row, own_hazard_of, own_rising_of, raised_of, reserves_of, rising_of, tried_of, value_of}
 
 -- with so many tries: three steps more at index 1, whose row stands only after the head was loaded again
 abbrev pub few_steps : ℕ → Event → Bool
@@ -87,9 +88,23 @@ shows_another p event = true
 abbrev pub hazards_ok : Test
 hazards_ok p i event = number_loaded (λ j. hazards_of i j p) event && shows_another p event
 
+-- what an event of seat i, after its index word published this, makes of whether a protection is under way there: it begins where the
+-- word goes from nothing to an interval, and is over with nothing and with a Held, a Null or a copy
+abbrev pub under_way_by : (seat index : ℕ) → (there : Option Interval) → Event → (before : Bool) → Bool
+under_way_by i j there (events.Reserve guard span) before = if is_index_word i j guard then is_some span && (before || is_none there) else before
+under_way_by i j there (events.Held index slot steps) before = if index == j then false else before
+under_way_by i j there (events.Null index steps) before = if index == j then false else before
+under_way_by i j there (events.Copied from index slot) before = if index == j then false else before
+under_way_by i j there event before = before
+
+-- a protection of seat i at its index j is under way
+abbrev pub is_under_way : (seat index : ℕ) → Past → Bool
+is_under_way i j Start = false
+is_under_way i j (Then p k event) = if i == k then under_way_by i j (value_of (Index i j) p) event (is_under_way i j p) else is_under_way i j p
+
 -- no protection of seat i at the index is under way, or it has published more often than it has tries, at eras that rose
 abbrev pub has_tried : (tries seat index : ℕ) → Past → Bool
-has_tried tries i j p = tried_of i j p == 0 || (nat_le (tries + 1) (tried_of i j p) && own_rising_of i j p)
+has_tried tries i j p = not (is_under_way i j p) || (nat_le (tries + 1) (tried_of i j p) && own_rising_of i j p)
 
 -- so it is where a seat publishes an era in its own helper word
 abbrev pub ask_ok : (tries index : ℕ) → Test

@@ -62,7 +62,7 @@ pub record FitsContents (config : Config) (p : Past) (i : ℕ) (event : Event) :
 pub record FitsTimes (config : Config) (p : Past) (i : ℕ) (event : Event) : Type 0 where
   pub sources : sources_ok config p i event ≡ true
   pub births : birth_ok p i event ≡ true
-  pub retires : retire_ok p i event ≡ true
+  pub retires : retire_ok config.slots p i event ≡ true
   pub current : current_ok p i event ≡ true
   pub room : (s : ℕ) → s ≤ config.slots → room_ok config s p i event ≡ true
 

@@ -8,7 +8,8 @@ use Rattle.laws.specs.defs.declared.lifetime.Interval.{Interval}
 use Rattle.laws.specs.records.Record.{Past}
 use Rattle.laws.specs.records.Record.Past.{Then}
 use Rattle.laws.specs.words.declared.config.Config.{Config}
-use Rattle.laws.specs.StateAt.{tried_of, value_of}
+use Rattle.laws.specs.StateAt.{value_of}
+use Rattle.laws.specs.StepLaw.{is_under_way}
 use Rattle.laws.specs.Ranges.{EntryIn}
 use Rattle.wfe_check_calls.specs.declared.word.Place.{Place}
 use Rattle.wfe_check_calls.specs.declared.word.Word.{Word}
@@ -148,11 +149,11 @@ past_place config i j (Some place) range past =
     let below : place.index < config.indexes = range place refl in
     second_no (place.seat == i) (place.index == j) (grind (arith, nat_tests))
 
-pub tried_beyond : (config : Config) (i j k : ℕ) (p : Past) (event : Event) → EntryIn config k event → config.indexes ≤ j → tried_of i j p ≡ 0 →
-    tried_of i j (Then p k event) ≡ 0
-tried_beyond config i j k p event range past none =
+pub idle_beyond : (config : Config) (i j k : ℕ) (p : Past) (event : Event) → EntryIn config k event → config.indexes ≤ j → is_under_way i j p ≡ false →
+    is_under_way i j (Then p k event) ≡ false
+idle_beyond config i j k p event range past none =
     let apart : is_place i j (named_place k event) ≡ false = past_place config i j (named_place k event) (λ place e. (place_in config k event place range e).1) past in
-    ap (λ (w : Word). w.tried) (word_apart i j k p event apart) ∙ none
+    ap (λ (w : Word). w.under_way) (word_apart i j k p event apart) ∙ none
 
 -- seats
 pub seat_own : (i : ℕ) (p : Past) (event : Event) → seat_of i (Then p i event) ≡ seat_by i (is_some (value_of (Helper i) p)) event (seat_of i p)

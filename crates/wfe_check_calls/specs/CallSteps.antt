@@ -1,8 +1,8 @@
 -- What is kept of steps is what the record says of them.
-use Rattle.std.specs.Prelude.{ℕ, List, ◌≡◌, ◌<◌, ◌≤◌, ◌+◌, ◌*◌, slice_index_or}
+use Rattle.std.specs.Prelude.{ℕ, List, false, ◌≡◌, ◌<◌, ◌≤◌, ◌+◌, ◌*◌, slice_index_or}
 use Rattle.laws.specs.records.Record.{Past}
 use Rattle.laws.specs.words.declared.config.Config.{Config}
-use Rattle.laws.specs.StateAt.{tried_of}
+use Rattle.laws.specs.StepLaw.{is_under_way}
 use Rattle.wfe_check_calls.specs.declared.seat_steps.Seat.{Seat}
 use Rattle.wfe_check_calls.specs.declared.step_count.Steps.{Steps}
 use Rattle.wfe_check_calls.specs.declared.word.Word.{Word}
@@ -17,9 +17,9 @@ HasWords config words p = (i j : ℕ) (d : Word) → i < config.seats → j < 8 
 abbrev pub HasSeats : Config → List Seat → Past → Type 0
 HasSeats config seats p = (i : ℕ) (d : Seat) → i < config.seats → slice_index_or seats i d ≡ seat_of i p
 
--- So it is under this setting and after this record. Of words past the setting's indexes nothing was tried.
+-- So it is under this setting and after this record. At words past the setting's indexes no protection is under way.
 pub record IsSteps (config : Config) (steps : Steps) (p : Past) : Type 0 where
   pub setting : steps.config ≡ config
   pub words : HasWords config steps.words.items p
   pub seats : HasSeats config steps.seats.items p
-  pub beyond : (i j : ℕ) → config.indexes ≤ j → tried_of i j p ≡ 0
+  pub beyond : (i j : ℕ) → config.indexes ≤ j → is_under_way i j p ≡ false

@@ -161,14 +161,15 @@ impl Blocks {
         }
     }
 
-    /// Whether the call's seat may tell the event: where the call ends each era that it told has had a
-    /// block after it, but for one of an advance.
+    /// Whether the call's seat may tell the event: where it tells an era, and where the call ends, each era
+    /// that it told before has had a block after it; but for one of an advance, where that ends.
     pub fn moves_fit(self, call: Option<Call>, event: &Event) -> bool
         ensures { result ≡ moves_right call event.now (shown_blocks self) }
     {
         match event {
+            Event::Era { .. } => self.moves == 0,
             Event::End { .. } => match call {
-                Some(Call::Advance) => self.moves <= 1,
+                Some(Call::Advance) => true,
                 _ => self.moves == 0,
             },
             _ => true,

@@ -1,5 +1,5 @@
 // What a record says of an index word, with the changes that an event makes that speaks of it.
-ghost use Rattle.std.specs.Prelude.{◌≡◌, ◌+◌, ◌==◌, ◌||◌, ◌&&◌, nat_le, IfOk, ℕ};
+ghost use Rattle.std.specs.Prelude.{◌≡◌, ◌+◌, ◌==◌, ◌||◌, ◌&&◌, nat_le, not, IfOk, ℕ};
 ghost use Rattle.laws.specs.StateAt.{era_grows as does_grow, one_more as with_one_more, rises_on as does_rise};
 ghost use Rattle.laws.specs.StepLaw.{number_loaded};
 ghost use Rattle.wfe_check_calls.specs.Places.{named_place as place_named};
@@ -24,12 +24,14 @@ pub(crate) struct Word {
     pub reserves: u64,
     // Whether the eras that it has published since it published nothing rose, whoever told them.
     pub rising: bool,
-    // The intervals that its seat has told in the protection that is under way there.
+    // The intervals that its seat has told since it told none, or what a protection ends with, or a copy.
     pub tried: u64,
     // The last of these.
     pub own_last: Option<Interval>,
     // Whether these rose.
     pub own_rising: bool,
+    // Whether a protection is under way there: its seat told the first of them where the word published nothing.
+    pub under_way: bool,
     // The rows that its seat has told since it told none.
     pub hazards: u64,
     // The last row that its seat has told in the protection that is under way there.
@@ -88,6 +90,7 @@ impl Word {
             tried: 0,
             own_last: None,
             own_rising: true,
+            under_way: false,
             hazards: 0,
             own_hazard: None,
         }
@@ -100,6 +103,7 @@ impl Word {
             tried: 0,
             own_last: None,
             own_rising: true,
+            under_way: false,
             own_hazard: None,
             ..self
         }
@@ -122,6 +126,7 @@ impl Word {
                 tried: one_more(span, self.tried)?,
                 own_last: span,
                 own_rising: rises_on(self.own_last, span, self.own_rising),
+                under_way: span.is_some() && (self.under_way || last.is_none()),
                 ..self
             })
         } else {
@@ -164,9 +169,9 @@ impl Word {
     /// Whether no protection is under way there, or it has published more often than it has tries, at eras
     /// that rose.
     pub fn has_tried(self, tries: u32) -> bool
-        ensures { result ≡ (self.tried == 0 || (nat_le (tries + 1) self.tried && self.own_rising)) }
+        ensures { result ≡ (not self.under_way || (nat_le (tries + 1) self.tried && self.own_rising)) }
     {
-        self.tried == 0 || (self.tried > u64::from(tries) && self.own_rising)
+        !self.under_way || (self.tried > u64::from(tries) && self.own_rising)
     }
 
     /// Whether a protection at the word may end with the event, where each try takes three steps.

@@ -17,8 +17,8 @@ use Rattle.wfe_record_words.specs.Within.{Small}
 use Rattle.wfe_record_words.specs.Reader.{any_number, first, given, number_below, whole, word}
 use Rattle.wfe_record_words.proofs.Joined.{given-some, same_found, then_sound}
 use Rattle.wfe_record_words.proofs.Lines.{line_by_words, words_by_line}
-use Rattle.wfe_record_words.proofs.Parts.{below-read, below-word, chosen, long_reads, same_some}
-use Rattle.wfe_record_words.proofs.Plain.{long_plain, seat_plain}
+use Rattle.wfe_record_words.proofs.Parts.{any-word, below-word, chosen, long_reads, same_some}
+use Rattle.wfe_record_words.proofs.Plain.{long_plain}
 use Rattle.wfe_record_words.specs.HeaderReader.{exactly}
 use Rattle.wfe_record.specs.Entry.{IsEntry}
 use Rattle.wfe_record.specs.Reader.{entry_in}
@@ -84,22 +84,20 @@ not_name w name n is fits none = not-by w name n (bytes_eq w name) refl is fits 
 
 -- Lines of counts.
 
-counted-sound : (config : Config) (w : List ℕ) (u : Unit {0}) → counted_in config w ≡ Some u → (seat : Option ℕ) × (w ≡ seat_word seat) × IsCounted config seat
+counted-sound : (w : List ℕ) (u : Unit {0}) → counted_in w ≡ Some u → (seat : Option ℕ) × (w ≡ seat_word seat) × IsCounted seat
 unfolding counted_in
-counted-sound config w u h =
-    chosen {A = Unit {0}} (λ v. (seat : Option ℕ) × (w ≡ seat_word seat) × IsCounted config seat) (bytes_eq w (codes "all")) (Some tt) (given (number_below config.seats w) (λ s. Some tt))
+counted-sound w u h =
+    chosen {A = Unit {0}} (λ v. (seat : Option ℕ) × (w ≡ seat_word seat) × IsCounted seat) (bytes_eq w (codes "all")) (Some tt) (given (any_number w) (λ s. Some tt))
     (λ t v f. (None, (bytes_eq-Decides w (codes "all")).0 t, tt))
     (λ v f.
-    let (s, e, f1) = given-some (number_below config.seats w) (λ s. Some tt) v f in
-    let (text, less) = below-word config.seats w s e in
-    (Some s, text, less)) u h
+    let (s, e, f1) = given-some (any_number w) (λ s. Some tt) v f in
+    let (text, fits) = any-word w s e in
+    (Some s, text, fits)) u h
 
-counted-read : (config : Config) → Small config → (seat : Option ℕ) → IsCounted config seat → counted_in config (seat_word seat) ≡ Some tt
+counted-read : (seat : Option ℕ) → IsCounted seat → counted_in (seat_word seat) ≡ Some tt
 unfolding counted_in
-counted-read config small None is = refl
-counted-read config small (Some s) is =
-    let l = small.seats in
-    rw (not_name (decimal s) (codes "all") s refl (omega arith) refl, below-read config.seats s (omega arith) is) refl
+counted-read None is = refl
+counted-read (Some s) is = rw (not_name (decimal s) (codes "all") s refl is refl, any-read s is) refl
 
 abbrev table_words : Option ℕ → ℕ → ℕ → ℕ → List (List ℕ)
 table_words seat retired back waiting = seat_word seat ∷ codes "retired" ∷ decimal retired ∷ codes "back" ∷ decimal back ∷ codes "waiting" ∷ decimal waiting ∷ []
@@ -108,28 +106,28 @@ table-words : (seat : Option ℕ) (retired back waiting : ℕ) (w0 w1 w3 w5 : Li
     → w0 ∷ w1 ∷ decimal retired ∷ w3 ∷ decimal back ∷ w5 ∷ decimal waiting ∷ rest ≡ table_words seat retired back waiting
 table-words seat retired back waiting w0 w1 w3 w5 rest e0 e1 e3 e5 none = rw (e0, e1, e3, e5, none) refl
 
-record CountsAt (config : Config) (ws : List (List ℕ)) (kind : Kind) : Type 0 where
+record CountsAt (ws : List (List ℕ)) (kind : Kind) : Type 0 where
   seat : Option ℕ
   retired : ℕ
   back : ℕ
   waiting : ℕ
   are : ws ≡ table_words seat retired back waiting
-  seated : IsCounted config seat
+  seated : IsCounted seat
   retired_fits : NumberFits retired
   back_fits : NumberFits back
   waiting_fits : NumberFits waiting
   is : kinds.Shown ≡ kind
 
-counts-sound : (config : Config) (ws : List (List ℕ)) (kind : Kind) → counts config ws ≡ Some (kind, []) → CountsAt config ws kind
-counts-sound config ws kind h =
-    word_then (counted_in config) ws _ (kind, []) (λ v. CountsAt config v kind) h (λ w0 u0 v0 e0 h0.
-    word_then (exactly (codes "retired")) v0 _ (kind, []) (λ v. CountsAt config (w0 ∷ v) kind) h0 (λ w1 u1 v1 e1 h1.
-    then_sound long_reads v1 _ (kind, []) (λ v. CountsAt config (w0 ∷ w1 ∷ v) kind) h1 (λ retired v2 i2 h2.
-    word_then (exactly (codes "back")) v2 _ (kind, []) (λ v. CountsAt config (w0 ∷ w1 ∷ decimal retired ∷ v) kind) h2 (λ w3 u3 v3 e3 h3.
-    then_sound long_reads v3 _ (kind, []) (λ v. CountsAt config (w0 ∷ w1 ∷ decimal retired ∷ w3 ∷ v) kind) h3 (λ back v4 i4 h4.
-    word_then (exactly (codes "waiting")) v4 _ (kind, []) (λ v. CountsAt config (w0 ∷ w1 ∷ decimal retired ∷ w3 ∷ decimal back ∷ v) kind) h4 (λ w5 u5 v5 e5 h5.
-    then_sound long_reads v5 _ (kind, []) (λ v. CountsAt config (w0 ∷ w1 ∷ decimal retired ∷ w3 ∷ decimal back ∷ w5 ∷ v) kind) h5 (λ waiting v6 i6 h6.
-    let (seat, is, seated) = counted-sound config w0 u0 e0 in
+counts-sound : (ws : List (List ℕ)) (kind : Kind) → counts ws ≡ Some (kind, []) → CountsAt ws kind
+counts-sound ws kind h =
+    word_then counted_in ws _ (kind, []) (λ v. CountsAt v kind) h (λ w0 u0 v0 e0 h0.
+    word_then (exactly (codes "retired")) v0 _ (kind, []) (λ v. CountsAt (w0 ∷ v) kind) h0 (λ w1 u1 v1 e1 h1.
+    then_sound long_reads v1 _ (kind, []) (λ v. CountsAt (w0 ∷ w1 ∷ v) kind) h1 (λ retired v2 i2 h2.
+    word_then (exactly (codes "back")) v2 _ (kind, []) (λ v. CountsAt (w0 ∷ w1 ∷ decimal retired ∷ v) kind) h2 (λ w3 u3 v3 e3 h3.
+    then_sound long_reads v3 _ (kind, []) (λ v. CountsAt (w0 ∷ w1 ∷ decimal retired ∷ w3 ∷ v) kind) h3 (λ back v4 i4 h4.
+    word_then (exactly (codes "waiting")) v4 _ (kind, []) (λ v. CountsAt (w0 ∷ w1 ∷ decimal retired ∷ w3 ∷ decimal back ∷ v) kind) h4 (λ w5 u5 v5 e5 h5.
+    then_sound long_reads v5 _ (kind, []) (λ v. CountsAt (w0 ∷ w1 ∷ decimal retired ∷ w3 ∷ decimal back ∷ w5 ∷ v) kind) h5 (λ waiting v6 i6 h6.
+    let (seat, is, seated) = counted-sound w0 u0 e0 in
     let (same, none) = same_found h6 in
     record {
       seat = seat;
@@ -144,9 +142,9 @@ counts-sound config ws kind h =
       is = same;
     })))))))
 
-table-sound : (version : ℕ) (config : Config) (bytes name : List ℕ) (rest : List (List ℕ)) → words bytes ≡ name ∷ rest → name ≡ codes "table" → (kind : Kind) → whole (counts config rest) ≡ Some kind → IsKind version config bytes kind
+table-sound : (version : ℕ) (config : Config) (bytes name : List ℕ) (rest : List (List ℕ)) → words bytes ≡ name ∷ rest → name ≡ codes "table" → (kind : Kind) → whole (counts rest) ≡ Some kind → IsKind version config bytes kind
 table-sound version config bytes name rest e is kind h =
-    let found = counts-sound config rest kind (whole_is (counts config rest) kind h) in
+    let found = counts-sound rest kind (whole_is (counts rest) kind h) in
     subst (IsKind version config bytes) found.is (inl (record {
       seat = found.seat;
       retired = found.retired;
@@ -159,21 +157,21 @@ table-sound version config bytes name rest e is kind h =
       waiting_fits = found.waiting_fits;
     }))
 
-counted-plain : (config : Config) → Small config → (seat : Option ℕ) → IsCounted config seat → lacks 32 (seat_word seat) ≡ true
-counted-plain config small None is = refl
-counted-plain config small (Some s) is = seat_plain config small s is
+counted-plain : (seat : Option ℕ) → IsCounted seat → lacks 32 (seat_word seat) ≡ true
+counted-plain None is = refl
+counted-plain (Some s) is = long_plain s is
 
-table-words-known : (version : ℕ) (config : Config) → Small config → (seat : Option ℕ) (retired back waiting : ℕ) → IsCounted config seat → NumberFits retired → NumberFits back → NumberFits waiting
+table-words-known : (version : ℕ) (config : Config) (seat : Option ℕ) (retired back waiting : ℕ) → IsCounted seat → NumberFits retired → NumberFits back → NumberFits waiting
     → kind_in version config (codes "table" ∷ table_words seat retired back waiting) ≡ Some kinds.Shown
 unfolding kind_by exactly
-table-words-known version config small seat retired back waiting seated fits1 fits2 fits3 =
-    rw (counted-read config small seat seated, any-read retired fits1, any-read back fits2, any-read waiting fits3) refl
+table-words-known version config seat retired back waiting seated fits1 fits2 fits3 =
+    rw (counted-read seat seated, any-read retired fits1, any-read back fits2, any-read waiting fits3) refl
 
-table-known : (version : ℕ) (config : Config) (bytes : List ℕ) → Small config → IsCounts config bytes → kind_in version config (words bytes) ≡ Some kinds.Shown
-table-known version config bytes small is =
+table-known : (version : ℕ) (config : Config) (bytes : List ℕ) → IsCounts bytes → kind_in version config (words bytes) ≡ Some kinds.Shown
+table-known version config bytes is =
     let e = words_of bytes (codes "table") (table_words is.seat is.retired is.back is.waiting) refl
-    (counted-plain config small is.seat is.seated, (refl, (long_plain is.retired is.retired_fits, (refl, (long_plain is.back is.back_fits, (refl, (long_plain is.waiting is.waiting_fits, tt))))))) is.text in
-    ap (kind_in version config) e ∙ table-words-known version config small is.seat is.retired is.back is.waiting is.seated is.retired_fits is.back_fits is.waiting_fits
+    (counted-plain is.seat is.seated, (refl, (long_plain is.retired is.retired_fits, (refl, (long_plain is.back is.back_fits, (refl, (long_plain is.waiting is.waiting_fits, tt))))))) is.text in
+    ap (kind_in version config) e ∙ table-words-known version config is.seat is.retired is.back is.waiting is.seated is.retired_fits is.back_fits is.waiting_fits
 
 -- Lines of a watcher's row.
 
@@ -337,7 +335,7 @@ kind-by-sound : (version : ℕ) (config : Config) → Small config → (bytes na
 unfolding kind_by
 kind-by-sound version config small bytes name rest e kind h =
     let P : Kind → Type 0 = IsKind version config bytes in
-    chosen P (bytes_eq name (codes "table")) (whole (counts config rest)) _ (λ t. table-sound version config bytes name rest e ((bytes_eq-Decides name (codes "table")).0 t))
+    chosen P (bytes_eq name (codes "table")) (whole (counts rest)) _ (λ t. table-sound version config bytes name rest e ((bytes_eq-Decides name (codes "table")).0 t))
     (chosen P (bytes_eq name (codes "watch")) (whole (row rest)) _ (λ t. watch-sound version config bytes name rest e ((bytes_eq-Decides name (codes "watch")).0 t))
     (chosen P (bytes_eq name (codes "done")) (whole (ending rest)) _ (λ t. done-sound version config bytes name rest e ((bytes_eq-Decides name (codes "done")).0 t))
     (chosen P (bytes_eq name (codes "bad")) (whole (refusal rest)) _ (λ t. bad-sound version config bytes name rest e ((bytes_eq-Decides name (codes "bad")).0 t))
@@ -351,7 +349,7 @@ kind-sound version config bytes kind small h =
 kind-known : (version : ℕ) (config : Config) (bytes : List ℕ) (kind : Kind) → Small config → IsKind version config bytes kind → kind_in version config (words bytes) ≡ Some kind
 kind-known version config bytes (kinds.Entry seat event) small is = event-known version config small bytes seat event is
 kind-known version config bytes kinds.Shown small is = elim is [
-  | inl counts ↦ table-known version config bytes small counts
+  | inl counts ↦ table-known version config bytes counts
   | inr row ↦ watch-known version config bytes row
 ]
 kind-known version config bytes kinds.Last small is = elim is [

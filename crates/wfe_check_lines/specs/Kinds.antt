@@ -3,21 +3,21 @@ use Rattle.std.specs.Prelude.{ℕ, List, Option, Some, None, codes, if◌then◌
 use Rattle.std.specs.Str.{bytes_eq}
 use Rattle.wfe_words.specs.declared.config.Config.{Config}
 use Rattle.wfe_defs.specs.declared.event.Event.{Event}
-use Rattle.wfe_record.specs.record_words.Reader.{Read, given, ◌>>=◌, done, first, whole, word, long, number_below}
+use Rattle.wfe_record.specs.record_words.Reader.{Read, given, ◌>>=◌, any_number, done, first, whole, word, long}
 use Rattle.wfe_record.specs.record_words.HeaderReader.{exactly}
 use Rattle.wfe_record.specs.Reader.{entry_in}
 use Rattle.laws.specs.Ranges.{EntryIn}
 use Rattle.wfe_check_lines.specs.declared.kind.Kind.{Kind}
 use Rattle.wfe_check_lines.specs.declared.kind.Kind.TheVariants as kinds
 
--- of which seat a line of counts is: of one, or of all
-unfoldable pub counted_in : Config → List ℕ → Option (Unit {0})
-counted_in config w = if bytes_eq w (codes "all") then Some tt else given (number_below config.seats w) (λ seat. Some tt)
+-- of which seat a line of counts is: of one, whichever, or of all
+unfoldable pub counted_in : List ℕ → Option (Unit {0})
+counted_in w = if bytes_eq w (codes "all") then Some tt else given (any_number w) (λ seat. Some tt)
 
 -- counts of rows: how many were retired, went back, and wait
-abbrev pub counts : Config → Read Kind
-counts config = do
-  seat ← word (counted_in config)
+abbrev pub counts : Read Kind
+counts = do
+  seat ← word counted_in
   retired_name ← word (exactly (codes "retired"))
   retired ← long
   back_name ← word (exactly (codes "back"))
@@ -71,7 +71,7 @@ entry_kind (Some entry) = Some (kinds.Entry entry.0 entry.1)
 -- by a line's first word, the words after it, and all words
 unfoldable pub kind_by : ℕ → Config → (name : List ℕ) → (rest all : List (List ℕ)) → Option Kind
 kind_by version config name rest all =
-    if bytes_eq name (codes "table") then whole (counts config rest) else
+    if bytes_eq name (codes "table") then whole (counts rest) else
     if bytes_eq name (codes "watch") then whole (row rest) else
     if bytes_eq name (codes "done") then whole (ending rest) else
     if bytes_eq name (codes "bad") then whole (refusal rest) else entry_kind (entry_in version config all)

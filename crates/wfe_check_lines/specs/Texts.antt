@@ -6,26 +6,26 @@ use Rattle.wfe_trace.specs.Fits.{NumberFits}
 use Rattle.wfe_trace.specs.Record.{bad_line, table_line, watch_line}
 use Rattle.wfe_trace.specs.Words.{words}
 use Rattle.wfe_record.specs.Entry.{IsEntry}
-use Rattle.wfe_record.specs.record_words.Within.{IsSeat, Small}
+use Rattle.wfe_record.specs.record_words.Within.{Small}
 use Rattle.wfe_record.specs.record_words.Header.{IsHeader}
 use Rattle.wfe_record.specs.record_words.HeaderReader.{header_in}
 use Rattle.wfe_check_lines.specs.Kinds.{kind_in}
 use Rattle.wfe_check_lines.specs.declared.kind.Kind.{Kind}
 use Rattle.wfe_check_lines.specs.declared.kind.Kind.TheVariants as kinds
 
--- one of the setting's seats, or all
-abbrev pub IsCounted : Config → Option ℕ → Type 0
-IsCounted config None = Unit {0}
-IsCounted config (Some seat) = IsSeat config seat
+-- a seat, whichever, or all
+abbrev pub IsCounted : Option ℕ → Type 0
+IsCounted None = Unit {0}
+IsCounted (Some seat) = NumberFits seat
 
--- the bytes are a line of counts, of one of the setting's seats or of all
-pub record IsCounts (config : Config) (bytes : List ℕ) : Type 0 where
+-- the bytes are a line of counts, of a seat or of all; as text alone, whatever seats the setting has
+pub record IsCounts (bytes : List ℕ) : Type 0 where
   pub seat : Option ℕ
   pub retired : ℕ
   pub back : ℕ
   pub waiting : ℕ
   pub text : table_line seat retired back waiting ≡ bytes ++ codes "\n"
-  pub seated : IsCounted config seat
+  pub seated : IsCounted seat
   pub retired_fits : NumberFits retired
   pub back_fits : NumberFits back
   pub waiting_fits : NumberFits waiting
@@ -52,7 +52,7 @@ pub record IsRefusal (bytes : List ℕ) : Type 0 where
 -- the bytes are a line of this kind, in a record of the version and the setting
 abbrev pub IsKind : ℕ → Config → List ℕ → Kind → Type 0
 IsKind version config bytes (kinds.Entry seat event) = IsEntry version config bytes seat event
-IsKind version config bytes kinds.Shown = IsCounts config bytes ⊎ IsRow bytes
+IsKind version config bytes kinds.Shown = IsCounts bytes ⊎ IsRow bytes
 IsKind version config bytes kinds.Last = (bytes ≡ codes "done") ⊎ IsRefusal bytes
 
 -- the kind that is read in a line's words is the one that the line is of

@@ -6,7 +6,8 @@ ghost use Rattle.wfe_check_lines.specs.Kinds.{KindIn, counted_in, counts as coun
 
 use wfe_defs::Event;
 use wfe_record::read_event;
-use wfe_record_words::{Words, exactly, number_below};
+use wfe_record_words::{Words, exactly};
+use wfe_trace::number_of;
 use wfe_words::Config;
 
 /// What a line of a record after its first one is.
@@ -20,23 +21,23 @@ pub enum Kind {
     Last,
 }
 
-// Of which seat a line of counts is: of one, or of all.
-#[tactic(auto, unfolding(crate::specs::Kinds::counted_in))]
-fn counted(word: &[u8], config: &Config) -> Option<()>
-    ensures { result ≡ counted_in config.now word.now }
+// Of which seat a line of counts is: of one, whichever, or of all.
+#[tactic(auto, unfolding(crate::specs::Kinds::counted_in, wfe_record_words::specs::Reader::any_number))]
+fn counted(word: &[u8]) -> Option<()>
+    ensures { result ≡ counted_in word.now }
 {
     if word == b"all".as_slice() {
         return Some(());
     }
-    number_below(word, config.seats as u64)?;
+    number_of(word)?;
     Some(())
 }
 
 // The words after `table`.
-fn counts(line: &mut Words<'_>, config: &Config) -> Option<Kind>
-    ensures { option_map (λ kind. (kind, line.new)) result ≡ counts_of config.now line.old }
+fn counts(line: &mut Words<'_>) -> Option<Kind>
+    ensures { option_map (λ kind. (kind, line.new)) result ≡ counts_of line.old }
 {
-    counted(line.first()?, config)?;
+    counted(line.first()?)?;
     exactly(line.first()?, b"retired")?;
     line.long()?;
     exactly(line.first()?, b"back")?;
@@ -108,7 +109,7 @@ fn named(
     ensures within { IfSome result (λ kind. KindIn config.now kind) }
 {
     if name == b"table".as_slice() {
-        let kind = counts(line, config)?;
+        let kind = counts(line)?;
         whole(line, kind)
     } else if name == b"watch".as_slice() {
         let kind = row(line)?;

@@ -89,17 +89,18 @@ and-true false = refl
 -- the tests of an entry
 fits_here : (config : Config) (p : Past) (times : Times) (i : ℕ) (event : Event) (birth : ℕ) (source : Option Interval) → IsTimes config times p →
     i < config.seats → EventIn config event → IsBirth event birth p → IsSource i source p →
-    fits_at times i event birth source ≡ (sources_ok config p i event && (birth_ok p i event && (retire_ok p i event && current_ok p i event)))
+    fits_at times i event birth source ≡ (sources_ok config p i event && (birth_ok p i event && (retire_ok config.slots p i event && current_ok p i event)))
 fits_here config p times i (events.Held index slot steps) birth source is h low b s =
     ap (λ x. not (is_of_root index) || x) (had_is config p times i (Some slot) is h low.1) ∙ and-true _
 fits_here config p times i (events.Null index steps) birth source is h low b s =
     ap (λ x. not (is_of_root index) || x) (had_is config p times i None is h tt) ∙ and-true _
 fits_here config p times i (events.Give slot era) birth source is h low b s = clock_is config p times i era is h ∙ and-true _
 fits_here config p times i (events.Retire slot era retire) birth source is h low b s =
-    ap (λ n. era == n && cut_at times i slot retire) b
-    ∙ ap (λ n. era == birth_of slot p && (nat_lt 0 n && clock_since n times.clock retire)) (is.cut i slot h low)
-    ∙ ap (λ n. era == birth_of slot p && (nat_lt 0 (cut_clock i slot p) && clock_since (cut_clock i slot p) n retire)) is.clock
-    ∙ ap (λ x. era == birth_of slot p && x) (cut_is i slot retire p)
+    ap (λ n. era == n && ((row_at times.rows.items slot).taken && cut_at times i slot retire)) b
+    ∙ ap (λ x. era == birth_of slot p && (x && cut_at times i slot retire)) (is.row slot low).taken
+    ∙ ap (λ n. era == birth_of slot p && (taken_at config.slots slot p && (nat_lt 0 n && clock_since n times.clock retire))) (is.cut i slot h low)
+    ∙ ap (λ n. era == birth_of slot p && (taken_at config.slots slot p && (nat_lt 0 (cut_clock i slot p) && clock_since (cut_clock i slot p) n retire))) is.clock
+    ∙ ap (λ x. era == birth_of slot p && (taken_at config.slots slot p && x)) (cut_is i slot retire p)
     ∙ and-true _
 fits_here config p times i (events.Reserve guard span) birth source is h low b s =
     ap (λ x. x || copied_at (seat_at times.seats.items i).call span source) (upper_is config p times i span is h)
@@ -109,7 +110,7 @@ fits_here config p times i event birth source is h low b s = refl
 
 pub fits_is : (config : Config) (p : Past) (times : Times) (i : ℕ) (event : Event) (birth : ℕ) (source : Option Interval) → IsTimes config times p →
     EntryIn times.config i event → IsBirth event birth p → IsSource i source p →
-    fits_at times i event birth source ≡ (sources_ok config p i event && (birth_ok p i event && (retire_ok p i event && current_ok p i event)))
+    fits_at times i event birth source ≡ (sources_ok config p i event && (birth_ok p i event && (retire_ok config.slots p i event && current_ok p i event)))
 fits_is config p times i event birth source is range b s =
     let within : EntryIn config i event = subst (λ (c : Config). EntryIn c i event) is.setting range in
     fits_here config p times i event birth source is within.seated within.within b s

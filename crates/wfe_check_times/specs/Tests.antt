@@ -45,7 +45,7 @@ abbrev pub fits_at : Times → (seat : ℕ) → Event → (birth : ℕ) → (sou
 fits_at times i (events.Held index slot steps) birth source = not (is_of_root index) || had_at times i (Some slot)
 fits_at times i (events.Null index steps) birth source = not (is_of_root index) || had_at times i None
 fits_at times i (events.Give slot era) birth source = clock_at times i era
-fits_at times i (events.Retire slot era retire) birth source = era == birth && cut_at times i slot retire
+fits_at times i (events.Retire slot era retire) birth source = era == birth && ((row_at times.rows.items slot).taken && cut_at times i slot retire)
 fits_at times i (events.Reserve guard span) birth source = upper_at times i span || copied_at (seat_at times.seats.items i).call span source
 fits_at times i event birth source = true
 

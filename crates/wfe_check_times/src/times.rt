@@ -15,7 +15,7 @@ ghost use Rattle.wfe_check_rows.specs.Positions.{entries as entries_of};
 ghost use Rattle.wfe_check_times.specs.Roots.{RowIn, last_row};
 ghost use Rattle.wfe_check_times.specs.Steps.{IsFound, IsNext, cut_after};
 ghost use Rattle.wfe_check_times.specs.Tests.{AreAmong, IsBirth, IsSource, IsSought, clock_at, copied_at, cut_at, fits_at, had_at, room_at, upper_at, was_last_at, was_taken_at};
-ghost use Rattle.wfe_check_times.specs.Times.{IsSized, IsTimes, seat_at};
+ghost use Rattle.wfe_check_times.specs.Times.{IsSized, IsTimes, row_at, seat_at};
 
 use crate::grid::Grid;
 use crate::had::{place_of, tell_had};
@@ -151,7 +151,7 @@ impl Times {
         requires range { EntryIn self.now.config seat event.now }
         ensures { (config : Config) (p : Past) → IsTimes config self.now p → IsBirth event.now birth p → IsSource seat source p
             → result ≡ (sources_ok config p seat event.now
-            && (birth_ok p seat event.now && (retire_ok p seat event.now && current_ok p seat event.now))) }
+            && (birth_ok p seat event.now && (retire_ok config.slots p seat event.now && current_ok p seat event.now))) }
     {
         self.fits_cells(seat, event, birth, source)
     }
@@ -170,7 +170,7 @@ impl Times {
                 slot,
                 birth: era,
                 retire,
-            } => era == birth && self.was_cut(seat, slot, retire),
+            } => era == birth && (self.is_taken(slot) && self.was_cut(seat, slot, retire)),
             Event::Reserve { span, .. } => {
                 self.is_current(seat, span) || self.is_copied(seat, span, source)
             }
@@ -198,6 +198,15 @@ impl Times {
     {
         let cell = self.seats[seat as usize];
         cell.clock <= u64::from(era) && u64::from(era) <= self.clock
+    }
+
+    // Whether the row is taken.
+    fn is_taken(&self, slot: u32) -> bool
+        requires sized { IsSized self.now }
+        requires slot { slot ≤ self.now.config.slots }
+        ensures { result ≡ (row_at self.now.rows.items slot).taken }
+    {
+        self.rows[slot as usize].taken
     }
 
     // Whether the seat has cut the row, and the era was the clock at a position after that.

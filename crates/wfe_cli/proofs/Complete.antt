@@ -6,11 +6,11 @@ use Rattle.wfe_trace.specs.declared.item.Mode.TheVariants as modes
 use Rattle.wfe_trace.specs.declared.reason.BadLine.{BadLine}
 use Rattle.wfe_trace.specs.declared.reason.Status.{Status}
 use Rattle.wfe_trace.specs.declared.reason.Status.TheVariants as statuses
-use Rattle.wfe_server.specs.server_replay.Replay.{Replays, IsRefused, came, whole}
-use Rattle.wfe_server.specs.server_replay.Given.{Given, keeper}
-use Rattle.wfe_server.specs.server_replay.Sunk.{Outside}
-use Rattle.wfe_server.specs.server_replay.Trace.{Progress, progress_start, after_bytes, finished, ◌>>=◌}
-use Rattle.wfe_server.proofs.server_replay.Bytes.{after_bytes-append, after_bytes-bad}
+use Rattle.wfe_server_gen.specs.server_replay.Replay.{Replays, IsRefused, came, whole}
+use Rattle.wfe_server_gen.specs.server_replay.Given.{Given, keeper}
+use Rattle.wfe_server_gen.specs.server_replay.Sunk.{Outside}
+use Rattle.wfe_server_gen.specs.server_replay.Trace.{Progress, progress_start, after_bytes, finished, ◌>>=◌}
+use Rattle.wfe_server_gen.proofs.server_replay.Bytes.{after_bytes-append, after_bytes-bad}
 use Rattle.wfe_defs.specs.declared.call.Call.{Call}
 
 -- a bad line among the first bytes is one of the whole

@@ -2,22 +2,22 @@
 use Rattle.wfe_server_out.specs.Heard.{Hears, Seen}
 use Rattle.std.proofs.Common.{Bool, List, None, Option, Some, [], ap, append-nil, codes, refl, subst, ℕ, ◌++◌, ◌∙◌, ◌≡◌, ◌∷◌, true}
 use Rattle.wfe_defs.specs.Entry.{Entry, entry}
-use Rattle.wfe_server.specs.Generated.{Generates}
-use Rattle.wfe_server.specs.Turns.{generated, trace_of}
+use Rattle.wfe_server_gen.specs.Generated.{Generates}
+use Rattle.wfe_server_gen.specs.Turns.{generated, trace_of}
 use Rattle.wfe_server_out.specs.Pieces.{Piece, Text, heard_of}
 use Rattle.wfe_server_out.proofs.Texts.{heard_of-append}
 use Rattle.wfe_trace.specs.Record.{bad_line as bad_text}
 use Rattle.wfe_trace.specs.declared.reason.Status.{Status}
 use Rattle.wfe_trace.specs.declared.reason.Status.TheVariants as statuses
-use Rattle.wfe_server.specs.server_replay.Given.{Given, IsTakenIn, given_out, given_record, items, layout_of, partial_out, past_entries}
-use Rattle.wfe_server.specs.server_replay.Replay.{IsStopped, Replays, Says, all_lines, closed_lines}
-use Rattle.wfe_server.specs.server_replay.Sunk.{Outside}
-use Rattle.wfe_server.proofs.server_replay.Lines.{good_taken}
-use Rattle.wfe_server.proofs.server_replay.Parts.{all_taken}
-use Rattle.wfe_server.proofs.server_replay.Plays.{valid_of}
-use Rattle.wfe_server_run.proofs.all.Whole.{histories_are_lawful}
-use Rattle.wfe_server.specs.server_replay.history.Record.{Past}
-use Rattle.wfe_server.specs.server_replay.history.Record.Past.{Start, Then}
+use Rattle.wfe_server_gen.specs.server_replay.Given.{Given, IsTakenIn, given_out, given_record, items, layout_of, partial_out, past_entries}
+use Rattle.wfe_server_gen.specs.server_replay.Replay.{IsStopped, Replays, Says, all_lines, closed_lines}
+use Rattle.wfe_server_gen.specs.server_replay.Sunk.{Outside}
+use Rattle.wfe_server_gen.proofs.server_replay.Lines.{good_taken}
+use Rattle.wfe_server_gen.proofs.server_replay.Parts.{all_taken}
+use Rattle.wfe_server_gen.proofs.server_replay.Plays.{valid_of}
+use Rattle.wfe_server.proofs.all.Whole.{histories_are_lawful}
+use Rattle.wfe_server_gen.specs.server_replay.history.Record.{Past}
+use Rattle.wfe_server_gen.specs.server_replay.history.Record.Past.{Start, Then}
 use Rattle.wfe_trace.specs.words.Place.{is_valid}
 use Rattle.law_printed.specs.ListCounts.Counted.{waiting_of}
 use Rattle.law_printed.specs.watch.Lists.{lists_after, no_lists, waiting_at, waiting_in}

@@ -4,15 +4,15 @@ use Rattle.std.proofs.Common.{Bool, List, [], Option, Some, inr, ℕ, ◌≡◌,
 use Rattle.std.proofs.KnownBytes.{Consumes-nil}
 use Rattle.wfe_cli.specs.declared.job.Job.{Job}
 use Rattle.wfe_cli.specs.declared.job.Job.TheVariants as jobs
-use Rattle.wfe_server.specs.Generated.{Generates}
-use Rattle.wfe_server.proofs.History.{generated_taken}
+use Rattle.wfe_server_gen.specs.Generated.{Generates}
+use Rattle.wfe_server_gen.proofs.History.{generated_taken}
 use Rattle.wfe_server_out.proofs.Hearing.{hears_some_none}
-use Rattle.wfe_server.proofs.server_replay.Says.{stopped_before}
+use Rattle.wfe_server_gen.proofs.server_replay.Says.{stopped_before}
 use Rattle.wfe_trace.specs.declared.reason.Status.{Status}
 use Rattle.wfe_trace.specs.declared.reason.Status.TheVariants as statuses
-use Rattle.wfe_server.specs.server_replay.Replay.{Replays}
-use Rattle.wfe_server.specs.server_replay.Sunk.{Outside}
-use Rattle.wfe_server_run.specs.Runs.{Runs}
+use Rattle.wfe_server_gen.specs.server_replay.Replay.{Replays}
+use Rattle.wfe_server_gen.specs.server_replay.Sunk.{Outside}
+use Rattle.wfe_server.specs.Runs.{Runs}
 use Rattle.wfe_check.specs.lines.Verdicts.{Checks}
 use Rattle.wfe_cli.specs.Command.{Does}
 use Rattle.wfe_cli.specs.Headline.{Keeps, Summarizes}

@@ -10,10 +10,10 @@ use Rattle.wfe_cli.specs.declared.job.Job.{Job}
 use Rattle.wfe_cli.specs.declared.job.Job.TheVariants as jobs
 use Rattle.wfe_defs.specs.declared.call.Call.{Call}
 use Rattle.wfe_outside.specs.declared.watcher.WatchRow.{WatchRow}
-use Rattle.wfe_server.specs.server_replay.Given.{Given, given_record}
-use Rattle.wfe_server.specs.server_replay.Replay.{Replays, Says}
-use Rattle.wfe_server.specs.server_replay.Sunk.{Outside}
-use Rattle.wfe_server.specs.server_replay.Watched.{WatchersFit, watch_text}
+use Rattle.wfe_server_gen.specs.server_replay.Given.{Given, given_record}
+use Rattle.wfe_server_gen.specs.server_replay.Replay.{Replays, Says}
+use Rattle.wfe_server_gen.specs.server_replay.Sunk.{Outside}
+use Rattle.wfe_server_gen.specs.server_replay.Watched.{WatchersFit, watch_text}
 use Rattle.wfe_server_out.specs.Heard.{Seen}
 use Rattle.wfe_trace.specs.declared.reason.Status.{Status}
 use Rattle.wfe_trace.specs.declared.reason.Status.TheVariants as statuses

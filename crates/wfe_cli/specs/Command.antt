@@ -6,15 +6,15 @@ use Rattle.wfe_check.specs.lines.Verdicts.{Checks}
 use Rattle.wfe_cli.specs.Jobs.{most_turns}
 use Rattle.wfe_cli.specs.declared.job.Job.{Job}
 use Rattle.wfe_cli.specs.declared.job.Job.TheVariants as jobs
-use Rattle.wfe_server.specs.Generated.{Generates}
+use Rattle.wfe_server_gen.specs.Generated.{Generates}
 use Rattle.wfe_trace.specs.declared.reason.Status.{Status}
 use Rattle.wfe_trace.specs.declared.reason.Status.TheVariants as statuses
 use Rattle.wfe_server_out.specs.Some.{AppendsSome}
-use Rattle.wfe_server.specs.server_replay.Given.{Given}
-use Rattle.wfe_server.specs.server_replay.Replay.{Replays, whole}
-use Rattle.wfe_server.specs.server_replay.Sunk.{Outside}
-use Rattle.wfe_server.specs.server_replay.Trace.{Progress}
-use Rattle.wfe_server_run.specs.Runs.{Runs}
+use Rattle.wfe_server_gen.specs.server_replay.Given.{Given}
+use Rattle.wfe_server_gen.specs.server_replay.Replay.{Replays, whole}
+use Rattle.wfe_server_gen.specs.server_replay.Sunk.{Outside}
+use Rattle.wfe_server_gen.specs.server_replay.Trace.{Progress}
+use Rattle.wfe_server.specs.Runs.{Runs}
 use Rattle.wfe_defs.specs.declared.call.Call.{Call}
 
 -- the calls that a replay makes: all

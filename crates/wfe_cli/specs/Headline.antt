@@ -4,17 +4,17 @@ use Rattle.law_printed.specs.Printed.{WritesLawful}
 use Rattle.std.specs.Prelude.{Bool, List, None, Ok, Option, Some, [], ℕ, ◌++◌, ◌≡◌, length, ◌<◌}
 use Rattle.std.specs.Io.KnownBytes.{Consumes, IsAtEnd}
 use Rattle.wfe_defs.specs.Entry.{Entry}
-use Rattle.wfe_server.specs.Generated.{Generates}
-use Rattle.wfe_server.specs.Turns.{generated, trace_of}
+use Rattle.wfe_server_gen.specs.Generated.{Generates}
+use Rattle.wfe_server_gen.specs.Turns.{generated, trace_of}
 use Rattle.wfe_server_out.specs.Pieces.{heard_of}
 use Rattle.wfe_trace.specs.declared.reason.BadLine.{BadLine}
 use Rattle.wfe_trace.specs.declared.reason.Status.{Status}
 use Rattle.wfe_trace.specs.declared.reason.Status.TheVariants as statuses
-use Rattle.wfe_server.specs.server_replay.Given.{Given, IsTaken, given_out, given_record, given_waiting, items, layout_of, past_entries}
-use Rattle.wfe_server.specs.server_replay.Replay.{IsCutOff, IsRefused, IsReplayed, IsStopped, all_lines, closed_lines, whole}
-use Rattle.wfe_server.specs.server_replay.Sunk.{Outside}
-use Rattle.wfe_server.specs.server_replay.Trace.{Progress}
-use Rattle.wfe_server_run.specs.all.Whole.{IsLawful}
+use Rattle.wfe_server_gen.specs.server_replay.Given.{Given, IsTaken, given_out, given_record, given_waiting, items, layout_of, past_entries}
+use Rattle.wfe_server_gen.specs.server_replay.Replay.{IsCutOff, IsRefused, IsReplayed, IsStopped, all_lines, closed_lines, whole}
+use Rattle.wfe_server_gen.specs.server_replay.Sunk.{Outside}
+use Rattle.wfe_server_gen.specs.server_replay.Trace.{Progress}
+use Rattle.wfe_server.specs.all.Whole.{IsLawful}
 use Rattle.law_printed.specs.laws.Lists.{list_of}
 use Rattle.law_printed.specs.watch.Lists.{waiting_at}
 use Rattle.wfe_defs.specs.declared.call.Call.{Call}

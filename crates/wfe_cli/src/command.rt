@@ -7,9 +7,9 @@ ghost use Rattle.wfe_cli.specs.Headline.{GivenLawful, Keeps, ReadsBack, Summariz
 ghost use Rattle.wfe_cli.specs.Jobs.{asked};
 ghost use Rattle.wfe_defs.specs.declared.call.Call.{Call};
 ghost use Rattle.wfe_outside.specs.Faults.{Rose};
-ghost use Rattle.wfe_server.specs.server_replay.Sunk.{outside};
-ghost use Rattle.wfe_server.specs.server_replay.Watched.{WatchersFit, watch_text};
-ghost use Rattle.wfe_server_run.specs.Runs.{IsComplete as IsRunWhole, Runs as RunsTrace};
+ghost use Rattle.wfe_server_gen.specs.server_replay.Sunk.{outside};
+ghost use Rattle.wfe_server_gen.specs.server_replay.Watched.{WatchersFit, watch_text};
+ghost use Rattle.wfe_server.specs.Runs.{IsComplete as IsRunWhole, Runs as RunsTrace};
 
 use crate::{Job, job_of};
 use std::alloc::Global;
@@ -18,9 +18,9 @@ use wfe_check::check;
 use wfe_drive_cells::TableCells;
 use wfe_leave::LeaveRig;
 use wfe_outside::{Sink, Source, Watcher};
-use wfe_server::{generate, replay};
+use wfe_server::{OpenGate, run};
+use wfe_server_gen::{generate, replay};
 use wfe_server_out::write_all;
-use wfe_server_run::{OpenGate, run};
 use wfe_trace::Status;
 
 // The table on which traces are played.

@@ -7,4 +7,4 @@ mod job;
 
 pub use command::{exit_number, main_call};
 pub use job::{Job, job_of};
-pub use wfe_server_run::{Gate, OpenGate, RunRecord, run, run_threads};
+pub use wfe_server::{Gate, OpenGate, RunRecord, run, run_threads};

@@ -1,10 +1,13 @@
-pub use Rattle.wfe_server_replay.proofs as server_replay
-pub mod Bare
+pub use Rattle.wfe_table.proofs.all as all
+pub mod Begun
 pub mod Calls
-pub mod Counted
-pub mod Going
-pub mod HandedBack
-pub mod History
-pub mod Staying
-pub mod Turning
-pub mod Written
+pub mod ClosedLines
+pub mod Coming
+pub mod Complete
+pub mod Parting
+pub mod Reading
+pub mod Reports
+pub mod Running
+pub mod Scripting
+pub mod Telling
+pub mod Told

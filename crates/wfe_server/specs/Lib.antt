@@ -1,6 +1,12 @@
-pub use Rattle.wfe_server_replay.specs as server_replay
-pub mod Generated
-pub mod Report
-pub mod Summary
-pub mod Tally
-pub mod Turns
+pub use Rattle.wfe_table.specs.history as history
+pub use Rattle.wfe_table.specs.all as all
+pub mod Collecting
+pub mod Comes
+pub mod Fitting
+pub mod Parted
+pub mod Prints
+pub mod Reads
+pub mod Runs
+pub mod Scripted
+pub mod Text
+pub mod Working

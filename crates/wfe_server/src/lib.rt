@@ -1,12 +1,18 @@
-//! Traces from a seed (`generator.rt`, `turn.rt`), with `replay` handed on. A generated trace is played on a table, and what is
-//! put out is how often each kind of event came.
+//! A trace's calls on threads (`worker.rt`, `serve.rt`, `report.rt`), with `replay` handed on. A worker makes the calls of each seat
+//! of a table that they share; then it prints what each made and what the table holds in the end.
 #![tactic(auto)]
 
-mod generator;
+mod events;
+mod gate;
+mod lines;
+mod reader;
 mod report;
-mod summary;
-mod table;
-mod turn;
+mod scripts;
+mod serve;
+mod threads;
+mod worker;
 
-pub use generator::generate;
+pub use gate::{Gate, OpenGate};
+pub use serve::run;
+pub use threads::{RunRecord, run_threads};
 pub use wfe_server_replay::{Rig, replay};

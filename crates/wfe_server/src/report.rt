@@ -1,66 +1,190 @@
-// The lines of a summary, to a sink.
-ghost use Rattle.std.specs.Prelude.{◌≡◌, ◌<◌, ◌≤◌, [], get_or, length};
-ghost use Rattle.wfe_server.specs.Report.{summary_lines, named, report};
+// The text of a run: the events of its seats, told to the watchers and written, and the table that
+// was left.
+ghost use Rattle.std.specs.Prelude.{◌≡◌, ◌<◌, ◌≤◌, ◌++◌, ◌^◌, [], All, codes, length, map, slice_index_or};
+ghost use Rattle.wfe_server_out.specs.Emits.{Emits, Writes};
+ghost use Rattle.wfe_server_out.specs.Heard.{boxed};
+ghost use Rattle.wfe_server_out.specs.Pieces.{told_pieces};
+ghost use Rattle.wfe_outside.specs.Faults.{Rose};
+ghost use Rattle.wfe_server_replay.specs.Sunk.{outside};
 ghost use Rattle.wfe_server_replay.specs.Watched.{watch_text};
-ghost use Rattle.wfe_server_out.specs.Emits.{Writes};
-ghost use Rattle.wfe_trace.specs.Record.{count_line};
+ghost use Rattle.wfe_table.specs.Contents.{filling_of};
+ghost use Rattle.wfe_table.specs.Closing.{closing_of};
+ghost use Rattle.wfe_server.specs.Comes.{lists_in};
+ghost use Rattle.wfe_server.specs.Prints.{Prints};
+ghost use Rattle.wfe_server.specs.Text.{bucket_lines, bucket_text, closed_text, queue_line, queue_lines, run_pieces, seat_pieces, used_line, used_lines};
+ghost use Rattle.wfe_trace.specs.Record.{header_line};
 
-use crate::summary::Summary;
+use crate::RunRecord;
+use crate::lines::{print_bucket, print_queue, print_used};
+use wfe_core::Event;
 use wfe_outside::{Failed, Sink, Watcher};
-use wfe_server_out::{put_line, write_all};
+use wfe_server_out::{Fault, put_line, tell, write_all};
 use wfe_server_replay::put_watched;
-use wfe_trace::{Line, print_count};
+use wfe_table::{BucketRow, Closed};
+use wfe_trace::{Config, Line, Status, print_header};
 
-// A name and its number, by the place of its line.
-fn count_at(summary: &Summary, place: usize) -> (&'static [u8], u64)
-    requires { place < 10 }
-    ensures value { (result.0.now, result.1) ≡ get_or (named summary.now) place ([], 0) }
-    ensures short { length result.0.now ≤ 20 }
+// Writes the line of a bucket, if it was ever changed.
+fn put_bucket<K: Sink>(sink: &mut K, bucket: u64, row: &BucketRow) -> Result<(), Failed>
+    requires { length row.now.pairs.items ≤ 14 }
+    ensures { Writes K.written K.faults K.may_stand result sink.old sink.new (bucket_text bucket (filling_of row.now)) }
 {
-    match place {
-        0 => (b"units", summary.units),
-        1 => (b"calls", summary.calls),
-        2 => (b"puts", summary.puts),
-        3 => (b"removed", summary.removed),
-        4 => (b"gots", summary.gots),
-        5 => (b"queued", summary.queued),
-        6 => (b"taken", summary.taken),
-        7 => (b"retired", summary.retired),
-        8 => (b"back", summary.back),
-        _ => (b"clock", summary.clock),
+    if row.version == 0 {
+        return Ok(());
     }
-}
-
-// Writes the line of a number.
-fn put_count<K: Sink>(name: &[u8], number: u64, sink: &mut K) -> Result<(), Failed>
-    requires { length name.now ≤ 20 }
-    ensures { Writes K.written K.faults K.may_stand result sink.old sink.new (count_line name.now number) }
-{
     let mut line = Line::new();
-    print_count(name, number, &mut line);
+    print_bucket(bucket, row.version, row.pairs.as_slice(), &mut line);
     put_line(sink, &line)
 }
 
-// Writes the lines of the numbers.
-fn put_counts<K: Sink>(summary: &Summary, sink: &mut K) -> Result<(), Failed>
-    ensures { Writes K.written K.faults K.may_stand result sink.old sink.new (summary_lines summary.now) }
+// Writes the lines of the buckets.
+fn put_buckets<K: Sink>(sink: &mut K, rows: &[BucketRow]) -> Result<(), Failed>
+    requires { All (λ row. length row.pairs.items ≤ 14) rows.now }
+    ensures { Writes K.written K.faults K.may_stand result sink.old sink.new (bucket_lines 0 (map filling_of rows.now)) }
 {
-    for place in 0..10 {
-        let (name, number) = count_at(summary, place);
-        put_count(name, number, sink)?;
+    for place in 0..rows.len() {
+        put_bucket(sink, place as u64, &rows[place])?;
     }
     Ok(())
 }
 
-/// Writes the numbers, the watchers' rows, and the last line.
-pub fn put_report<K: Sink>(
-    summary: &Summary,
-    watchers: &[Box<dyn Watcher>],
-    sink: &mut K,
-) -> Result<(), Failed>
-    ensures { Writes K.written K.faults K.may_stand result sink.old sink.new (report summary.now (watch_text shown shows watchers.now)) }
+// Writes the line of a value that is left in the queue.
+fn put_item<K: Sink>(sink: &mut K, number: u64, value: u64) -> Result<(), Failed>
+    ensures { Writes K.written K.faults K.may_stand result sink.old sink.new (queue_line number value) }
 {
-    put_counts(summary, sink)?;
+    let mut line = Line::new();
+    print_queue(number, value, &mut line);
+    put_line(sink, &line)
+}
+
+// Writes the lines of the queue.
+fn put_queue<K: Sink>(sink: &mut K, items: &[(u64, u64)]) -> Result<(), Failed>
+    ensures { Writes K.written K.faults K.may_stand result sink.old sink.new (queue_lines items.now) }
+{
+    for place in 0..items.len() {
+        let (number, value) = items[place];
+        put_item(sink, number, value)?;
+    }
+    Ok(())
+}
+
+// Writes the line of a row that is taken.
+fn put_slot<K: Sink>(sink: &mut K, slot: u32) -> Result<(), Failed>
+    ensures { Writes K.written K.faults K.may_stand result sink.old sink.new (used_line slot) }
+{
+    let mut line = Line::new();
+    print_used(slot, &mut line);
+    put_line(sink, &line)
+}
+
+// Writes the lines of the rows that are taken.
+fn put_used<K: Sink>(sink: &mut K, slots: &[u32]) -> Result<(), Failed>
+    ensures { Writes K.written K.faults K.may_stand result sink.old sink.new (used_lines slots.now) }
+{
+    for place in 0..slots.len() {
+        put_slot(sink, slots[place])?;
+    }
+    Ok(())
+}
+
+// Writes the lines of a closed table.
+fn put_closed<K: Sink>(sink: &mut K, closed: &Closed) -> Result<(), Failed>
+    requires { All (λ row. length row.pairs.items ≤ 14) closed.now.buckets.items }
+    ensures { Writes K.written K.faults K.may_stand result sink.old sink.new (closed_text (closing_of closed.now)) }
+{
+    put_buckets(sink, closed.buckets.as_slice())?;
+    put_queue(sink, closed.queue.as_slice())?;
+    put_used(sink, closed.used.as_slice())
+}
+
+// Tells the events of one of the seats, each before the next.
+fn tell_seat<K: Sink>(
+    sink: &mut K,
+    watchers: &mut [Box<dyn Watcher>],
+    seats: &[Vec<Event>],
+    seat: u32,
+) -> Result<(), Fault>
+    requires { seat < length seats.now }
+    ensures { Emits (boxed stands) K.written K.faults K.may_stand result sink.old sink.new watchers.old watchers.new (told_pieces seat (slice_index_or (lists_in seats.now) seat [])) }
+{
+    let events = seats[seat as usize].as_slice();
+    for place in 0..events.len() {
+        tell(sink, watchers, seat, &events[place])?;
+    }
+    Ok(())
+}
+
+// Tells the events of the seats, one seat after the other.
+fn tell_seats<K: Sink>(
+    sink: &mut K,
+    watchers: &mut [Box<dyn Watcher>],
+    seats: &[Vec<Event>],
+) -> Result<(), Fault>
+    requires { length seats.now < 2 ^ 32 }
+    ensures { Emits (boxed stands) K.written K.faults K.may_stand result sink.old sink.new watchers.old watchers.new (seat_pieces 0 (lists_in seats.now)) }
+{
+    for seat in 0..seats.len() as u32 {
+        tell_seat(sink, watchers, seats, seat)?;
+    }
+    Ok(())
+}
+
+// Writes the setting of a run.
+fn put_setting<K: Sink>(sink: &mut K, version: u32, config: &Config) -> Result<(), Failed>
+    ensures { Writes K.written K.faults K.may_stand result sink.old sink.new (header_line version config.now) }
+{
+    let mut line = Line::new();
+    print_header(version, config, &mut line);
+    put_line(sink, &line)
+}
+
+// Puts a run out, but for its last lines.
+fn put_run<K: Sink>(
+    sink: &mut K,
+    watchers: &mut [Box<dyn Watcher>],
+    version: u32,
+    config: &Config,
+    record: &RunRecord,
+) -> Result<(), Fault>
+    requires few { length record.now.seats.items < 2 ^ 32 }
+    requires fits { All (λ row. length row.pairs.items ≤ 14) record.now.closed.buckets.items }
+    ensures { Emits (boxed stands) K.written K.faults K.may_stand result sink.old sink.new watchers.old watchers.new
+        (run_pieces version config.now (lists_in record.now.seats.items) (closing_of record.now.closed)) }
+{
+    put_setting(sink, version, config)?;
+    tell_seats(sink, watchers, record.seats.as_slice())?;
+    put_closed(sink, &record.closed)?;
+    Ok(())
+}
+
+// Writes the last lines: the rows of the watchers, and that the work is done.
+fn put_end<K: Sink>(sink: &mut K, watchers: &[Box<dyn Watcher>]) -> Result<(), Failed>
+    ensures { Writes K.written K.faults K.may_stand result sink.old sink.new (watch_text shown shows watchers.now ++ codes "done\n") }
+{
     put_watched(sink, watchers)?;
     write_all(sink, b"done\n")
+}
+
+/// Puts a run out, and says how that went.
+pub fn print_run<K: Sink>(
+    sink: &mut K,
+    watchers: &mut [Box<dyn Watcher>],
+    version: u32,
+    config: &Config,
+    record: &RunRecord,
+) -> Status
+    requires few { length record.now.seats.items < 2 ^ 32 }
+    requires fits { All (λ row. length row.pairs.items ≤ 14) record.now.closed.buckets.items }
+    ensures prints { Prints (boxed stands) result (watch_text shown shows watchers.new) (outside (K.written sink.old) watchers.old) (outside (K.written sink.new) watchers.new)
+        (run_pieces version config.now (lists_in record.now.seats.items) (closing_of record.now.closed)) }
+    ensures later { K.faults sink.old ≤ K.faults sink.new }
+    ensures cause { result ≡ Status.WriteFault → Rose K.may_stand (K.faults sink.old) (K.faults sink.new) }
+{
+    match put_run(sink, watchers, version, config, record) {
+        Ok(()) => match put_end(sink, watchers) {
+            Ok(()) => Status::Done,
+            Err(_) => Status::WriteFault,
+        },
+        Err(Fault::Write) => Status::WriteFault,
+        Err(Fault::Memory) => Status::NoMemory,
+    }
 }

@@ -1,8 +1,9 @@
 -- Watchers that hear the same entries one after another.
-use Rattle.std.proofs.Common.{◌≡◌, ◌≢◌, ◌≤◌, ◌<◌, ◌+◌, ℕ, List, [], ◌∷◌, length, Some, slice_get, slice_set, get_or, map, refl, sym, ap, ◌∙◌, subst, arith, inl, inr, zero, suc, length-set, get_or-set_same}
-use Rattle.std.proofs.Math.Seq.{take-length}
+use Rattle.std.proofs.Common.{◌≡◌, ◌≢◌, ◌≤◌, ◌<◌, ◌+◌, ℕ, List, [], ◌∷◌, length, Some, slice_get, slice_set, get_or, map, refl, sym, ap, ◌∙◌, subst, arith, inl, inr, Bool, true, false, take, zero, suc, length-set, get_or-set_same}
+use Rattle.std.proofs.lemmas.Bool.Decides.{nat_tests}
 use Rattle.std.proofs.lemmas.Bool.{cases_lt}
 use Rattle.std.proofs.lemmas.Option.{slice_get_within, slice_get-get_or}
+use Rattle.std.specs.Prelude.{if◌then◌else◌, nat_lt}
 use Rattle.wfe_outside.specs.defs.Entry.{Entry}
 use Rattle.wfe_server_out.specs.Heard.{Gains, Hears, HearsSome, Seen}
 use Rattle.wfe_server_out.proofs.Hearing.{gains_none}
@@ -68,27 +69,32 @@ first_all seen xs few old new all first = record {
   each = λ k v w e f. let within : k < length new = slice_get_within new k w f in first.told k v w (omega arith) e f;
 }
 
--- the next one stays as it was, and it ends there
-pub first_stays : {W : Type 0} (seen : Seen W) (xs : List Entry) (i : ℕ) (old mid : List W) (d w : W) →
-    HeardFirst seen xs i old mid → i < length mid → w ≡ get_or mid i d → HearsSome seen old (slice_set mid i w) xs
-first_stays seen xs i old mid d w first within same = record {
+-- the next one stays as it was, and it ends there: those before it are ahead by this entry
+pub first_stays : {W : Type 0} (seen : Seen W) (x : Entry) (i : ℕ) (old mid : List W) (d w : W) →
+    HeardFirst seen (x ∷ []) i old mid → i < length mid → w ≡ get_or mid i d → HearsSome seen old (slice_set mid i w) (x ∷ [])
+first_stays seen x i old mid d w first within same = record {
   count = length-set mid i w ∙ first.count;
   boxes = map_set_same seen.place mid i d w (ap seen.place same) ∙ first.boxes;
-  each = λ k v x e f.
+  all = 0;
+  ahead = i;
+  each = λ k v y e f.
       elim (cases_lt k i) [
         | inl before ↦
-            (length xs, subst (Gains seen.stands v x) (sym (take-length xs)) (first.told k v x before e (sym (get_other mid i k w (λ q. absurd (omega arith))) ∙ f)))
-        | inr after ↦ elim (cases_lt i k) [
-          | inl later ↦
-              let kept : slice_get (slice_set mid i w) k ≡ slice_get old k = get_other mid i k w (λ q. absurd (omega arith)) ∙ first.rest k (omega arith) in
-              let kept_same : v ≡ x = cc in
-              (0, gains_none seen.stands v x kept_same)
-          | inr not_later ↦
-              let here : k ≡ i = omega arith in (
-                0,
-                at_turn seen xs [] i old mid d w v x first within (subst (λ j. slice_get old j ≡ Some v) here e) (subst (λ j. slice_get (slice_set mid i w) j ≡ Some x) here f)
-                    (gains_none seen.stands (get_or mid i d) w (sym same)),
-              )
-        ]
+            let less : nat_lt k i ≡ true = grind (arith, nat_tests) in
+            subst (λ (ahead : Bool). Gains seen.stands v y (take (if ahead then 1 else 0) (x ∷ []))) (sym less)
+            (first.told k v y before e (sym (get_other mid i k w (λ q. absurd (omega arith))) ∙ f))
+        | inr after ↦
+            let less : nat_lt k i ≡ false = grind (arith, nat_tests) in
+            subst (λ (ahead : Bool). Gains seen.stands v y (take (if ahead then 1 else 0) (x ∷ []))) (sym less)
+            (elim (cases_lt i k) [
+              | inl later ↦
+                  let kept : slice_get (slice_set mid i w) k ≡ slice_get old k = get_other mid i k w (λ q. absurd (omega arith)) ∙ first.rest k (omega arith) in
+                  let kept_same : v ≡ y = cc in
+                  gains_none seen.stands v y kept_same
+              | inr not_later ↦
+                  let here : k ≡ i = omega arith in
+                  at_turn seen (x ∷ []) [] i old mid d w v y first within (subst (λ j. slice_get old j ≡ Some v) here e) (subst (λ j. slice_get (slice_set mid i w) j ≡ Some y) here f)
+                  (gains_none seen.stands (get_or mid i d) w (sym same))
+            ])
       ];
 }

@@ -1,6 +1,6 @@
 -- What the watchers of a list have heard.
 use denote.RawPtr.{Ptr}
-use Rattle.std.specs.Prelude.{◌≡◌, ℕ, List, ◌++◌, length, map, take, slice_get, Some}
+use Rattle.std.specs.Prelude.{◌≡◌, ℕ, List, ◌++◌, ◌+◌, if◌then◌else◌, length, map, nat_lt, take, slice_get, Some}
 use Rattle.std.specs.declared.dyn_box.DynBox.{DynBox}
 use Rattle.wfe_outside.specs.defs.Entry.{Entry}
 
@@ -23,8 +23,15 @@ pub record Hears {W : Type 0} (seen : Seen W) (old new : List W) (heard : List E
   pub boxes : map seen.place new ≡ map seen.place old
   pub each : (k : ℕ) (v w : W) → slice_get old k ≡ Some v → slice_get new k ≡ Some w → Gains seen.stands v w heard
 
--- each watcher has heard the first of the entries, one more of them than another, and its box is the one that was at its place
+-- how many entries the k-th watcher has heard, where all have heard so many, and so many watchers are ahead: these have heard one more
+abbrev pub turns_heard : (all ahead k : ℕ) → ℕ
+turns_heard all ahead k = if nat_lt k ahead then all + 1 else all
+
+-- The watchers have heard the first of the entries, and each watcher's box is the one that was at its place. They hear an entry one after
+-- another, and the next one after that; so it is the same entries that all have heard, and the first watchers may have heard one more.
 pub record HearsSome {W : Type 0} (seen : Seen W) (old new : List W) (heard : List Entry) : Type 0 where
   pub count : length new ≡ length old
   pub boxes : map seen.place new ≡ map seen.place old
-  pub each : (k : ℕ) (v w : W) → slice_get old k ≡ Some v → slice_get new k ≡ Some w → (n : ℕ) × Gains seen.stands v w (take n heard)
+  pub all : ℕ
+  pub ahead : ℕ
+  pub each : (k : ℕ) (v w : W) → slice_get old k ≡ Some v → slice_get new k ≡ Some w → Gains seen.stands v w (take (turns_heard all ahead k) heard)

@@ -1,14 +1,14 @@
 -- What bytes in a row give, from what each gives.
 use Rattle.wfe_server_out.specs.Heard.{Seen}
-use Rattle.std.proofs.Common.{Bool, ℕ, ◌≡◌, ◌+◌, ◌<◌, List, [], ◌∷◌, ◌++◌, length, take, drop, get_or, Result, Ok, Err, refl, sym, ap, ◌∙◌, subst, append_assoc, append-nil, take-append-drop}
+use Rattle.std.proofs.Common.{Bool, true, false, Option, None, ◌==◌, ℕ, ◌≡◌, ◌+◌, ◌<◌, List, [], ◌∷◌, ◌++◌, length, take, drop, get_or, Result, Ok, Err, refl, sym, ap, ◌∙◌, subst, append_assoc, append-nil, take-append-drop}
 use Rattle.std.proofs.lemmas.List.{take_more}
 use Rattle.wfe_trace.specs.declared.reason.BadLine.{BadLine}
 use Rattle.wfe_server_replay.specs.declared.stop.Stop.{Stop}
 use Rattle.wfe_server_replay.specs.declared.stop.Stop.TheVariants as stops
 use Rattle.wfe_server_replay.specs.Playing.{Played, player}
 use Rattle.wfe_server_out.specs.Pieces.{Piece}
-use Rattle.wfe_server_replay.specs.Sunk.{Outside, Puts, PutsPart, StopsAt}
-use Rattle.wfe_server_replay.specs.Trace.{Engine, Progress, after_byte, byte_output, after_bytes, bytes_output, output_of, ◌>>=◌}
+use Rattle.wfe_server_replay.specs.Sunk.{Outside, Puts, PutsPart, StopsAt, Took}
+use Rattle.wfe_server_replay.specs.Trace.{Engine, Progress, after_byte, after_good_byte, after_line, byte_output, byte_refused, byte_taken, after_bytes, bytes_output, good_byte_output, line_output, output_of, taken_by, ◌>>=◌}
 use Rattle.wfe_server_replay.proofs.Outs.{part_first, part_then, puts_trans}
 use Rattle.wfe_outside.specs.defs.declared.call.Call.{Call}
 
@@ -89,3 +89,21 @@ pub puts-at : {S W : Type 0} (seen : Seen W) (E : Engine S) (p q : Progress S) (
 puts-at seen E p q bs i a b c within before wrote here =
     subst (Puts seen a c) (sym (ap (bytes_output E (Ok p)) (take_more bs i 0 within) ∙ bytes_output-more E p q (take i bs) (get_or bs i 0) before))
     (puts_trans seen a b c _ _ wrote here)
+
+-- a line feed gives what its line gives
+pub record IsFed {S : Type 0} (E : Engine S) (p m : Progress S) (b : ℕ) : Type 0 where
+  pub after : after_byte E p b ≡ after_line E m
+  pub output : byte_output E p b ≡ line_output E m
+
+pub is_fed : {S : Type 0} (E : Engine S) (q n : Progress (Unit {0})) (engine : Option S) (p : Progress S) (b : ℕ) (ends : Bool) → taken_by q engine ≡ p → ends ≡ true → byte_refused q b ≡ None → (b == 10) ≡ ends → n ≡ byte_taken q b ends → IsFed E p (taken_by n engine) b
+is_fed E q n engine p b false is ended good feed taken = absurd (cc)
+is_fed E q n engine p b true is ended good feed taken = record {
+  after = ap (λ (x : Progress _). after_byte E x b) (sym is) ∙ ap (after_good_byte E (taken_by q engine) b) good ∙ rw (feed, taken) refl;
+  output = ap (λ (x : Progress _). byte_output E x b) (sym is) ∙ ap (good_byte_output E (taken_by q engine) b) good ∙ rw (feed, taken) refl;
+}
+
+pub fed_took : (makes : Call → Bool) {T W : Type 0} (seen : Seen W) (r : Result T Stop) (p m now : Progress Played) (old new : Outside W) (b : ℕ) → IsFed (player makes) p m b →
+    Took seen r (after_line (player makes) m) now old new (line_output (player makes) m) → Took seen r (after_byte (player makes) p b) now old new (byte_output (player makes) p b)
+fed_took makes seen r p m now old new b fed took =
+    subst (λ verdict. Took seen r verdict now old new (byte_output (player makes) p b)) (sym fed.after)
+    (subst (λ out. Took seen r (after_line (player makes) m) now old new out) (sym fed.output) took)

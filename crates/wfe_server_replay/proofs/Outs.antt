@@ -1,15 +1,14 @@
 -- What pieces of work put out one after the other, between two states of the outside.
 use Rattle.wfe_server_out.specs.Heard.{Seen}
 use Rattle.std.proofs.Common.{Bool, List, [], ap, false, if◌then◌else◌, length, refl, subst, sym, ◌++◌, ◌==◌, ◌∙◌, ◌≡◌, ◌∷◌}
-use Rattle.std.specs.Prelude.{None, Ok, Option, Result, ℕ}
+use Rattle.std.specs.Prelude.{Ok, Option, Result, ℕ}
 use Rattle.wfe_trace.specs.declared.item.Item.{Item}
 use Rattle.wfe_trace.specs.declared.item.Item.TheVariants as items
 use Rattle.wfe_trace.specs.declared.reason.BadLine.{BadLine}
-use Rattle.wfe_trace.specs.declared.reason.Reason.{Reason}
 use Rattle.wfe_server_replay.specs.declared.stop.Stop.{Stop}
 use Rattle.wfe_server_out.specs.PutOut.{PutsOut, PutsSome}
 use Rattle.wfe_server_replay.specs.Playing.{Played, player}
-use Rattle.wfe_server_replay.specs.Trace.{Progress, after_byte, after_good_byte, after_last, after_line, byte_output, byte_refused, counted, good_byte_output, item_taken, last_output, line_item, line_out, line_output, line_read, line_taken, out_by}
+use Rattle.wfe_server_replay.specs.Trace.{Progress, after_last, after_line, item_taken, last_output, line_item, line_out, line_output, line_read, line_taken, out_by}
 use Rattle.std.specs.Io.KnownBytes.{Appends}
 use Rattle.wfe_server_out.specs.Pieces.{Piece, Text}
 use Rattle.wfe_server_out.specs.Some.{AppendsSome}
@@ -50,19 +49,6 @@ line_is makes p q item r e f h = ap (λ (x : Progress Played). out_by (player ma
 
 pub puts_of : {W : Type 0} (seen : Seen W) (old new : Option (List ℕ)) (before after : List W) (xs ys : List Piece) → xs ≡ ys → PutsOut seen old new before after xs → PutsOut seen old new before after ys
 puts_of seen old new before after xs ys e p = subst (PutsOut seen old new before after) e p
-
--- the line feed ends the line under way
-feed_took : (makes : Call → Bool) {T W : Type 0} (seen : Seen W) (r : Result T Stop) (p m now : Progress Played) (old new : Outside W) (o : Option Reason) → o ≡ byte_refused p 10 → o ≡ None → m ≡ counted p →
-    Took seen r (after_line (player makes) m) now old new (line_output (player makes) m) → Took seen r (after_byte (player makes) p 10) now old new (byte_output (player makes) p 10)
-feed_took makes seen r p m now old new o is none same took =
-    subst (λ x. Took seen r (after_good_byte (player makes) p 10 x) now old new (good_byte_output (player makes) p 10 x)) (sym none ∙ is)
-    (subst (λ (x : Progress Played). Took seen r (after_line (player makes) x) now old new (line_output (player makes) x)) same took)
-
-pub byte_took : (makes : Call → Bool) {T W : Type 0} (seen : Seen W) (r : Result T Stop) (p m now : Progress Played) (old new : Outside W) (b : ℕ) (o : Option Reason) → b ≡ 10 → o ≡ byte_refused p b → o ≡ None → m ≡ counted p →
-    Took seen r (after_line (player makes) m) now old new (line_output (player makes) m) → Took seen r (after_byte (player makes) p b) now old new (byte_output (player makes) p b)
-byte_took makes seen r p m now old new b o ten is none same took =
-    subst (λ (x : ℕ). Took seen r (after_byte (player makes) p x) now old new (byte_output (player makes) p x)) (sym ten)
-    (feed_took makes seen r p m now old new o (is ∙ ap (byte_refused p) ten) none same took)
 
 -- bytes after the last line feed are a line
 pub last_took : (makes : Call → Bool) {T W : Type 0} (seen : Seen W) (r : Result T Stop) (p now : Progress Played) (old new : Outside W) (none : Bool) → (length p.line == 0) ≡ none → none ≡ false →

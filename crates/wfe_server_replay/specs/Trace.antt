@@ -29,6 +29,10 @@ pub record Progress (S : Type 0) : Type 0 where
   pub ended : Bool
   pub engine : Option S
 
+-- the bytes of a trace, and the engine that takes its lines
+abbrev pub taken_by : {S : Type 0} → Progress (Unit {0}) → Option S → Progress S
+taken_by p engine = record { reading = p.reading; line = p.line; count = p.count; ended = p.ended; engine = engine }
+
 -- no byte came
 abbrev pub progress_start : {S : Type 0} → Mode → Progress S
 progress_start mode = record { reading = reading_start mode; line = []; count = 0; ended = false; engine = None }
@@ -132,6 +136,11 @@ byte_refused p b =
 -- one more byte is counted
 abbrev pub counted : {S : Type 0} → Progress S → Progress S
 counted p = record p { count = p.count + 1 }
+
+-- a byte is taken, which ends the line under way or is one more of it
+abbrev pub byte_taken : {S : Type 0} → Progress S → ℕ → (ends : Bool) → Progress S
+byte_taken p b true = counted p
+byte_taken p b false = record (counted p) { line = p.line ++ b ∷ [] }
 
 abbrev pub after_good_byte : {S : Type 0} → Engine S → Progress S → ℕ → Option Reason → Result (Progress S) BadLine
 after_good_byte E p b (Some reason) = Err (bad_line p reason)

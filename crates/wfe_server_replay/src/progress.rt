@@ -1,11 +1,11 @@
-// A trace as its bytes come, and the table that takes its lines.
+// The table that takes a trace's lines as its bytes come.
 ghost use Rattle.wfe_server_out.specs.Emits.{Emits};
 ghost use Rattle.wfe_server_out.specs.Heard.{boxed};
-ghost use Rattle.std.specs.Prelude.{◌≡◌, ◌<◌, length, OnOk, IfOk, MatchResult, None, Some, Ok, Err, [], ◌∷◌, true};
+ghost use Rattle.std.specs.Prelude.{◌≡◌, OnOk, IfOk, None, Some, Ok, Err, [], ◌∷◌, true};
 ghost use Rattle.wfe_server_replay.specs.Opening.{FitsTable, ItemFits, MayPlay, MayTake};
 ghost use Rattle.wfe_server_replay.specs.Playing.{player};
 ghost use Rattle.wfe_server_replay.specs.Sunk.{Takes};
-ghost use Rattle.wfe_server_replay.specs.Trace.{Progress, progress_start, bad_line, refused_in, command_taken, out_in, item_taken, out_by, refused_by, line_item, line_read, after_line, line_output, byte_refused, counted, after_byte, byte_output, after_bytes, bytes_output, after_last, last_output, at_end, finished};
+ghost use Rattle.wfe_server_replay.specs.Trace.{progress_start, refused_in, command_taken, out_in, item_taken, out_by, refused_by, line_item, line_read, after_line, line_output, after_byte, byte_output, after_bytes, bytes_output, after_last, last_output, finished};
 ghost use Rattle.wfe_server_out.specs.Pieces.{Text};
 ghost use Rattle.wfe_trace.specs.Good.{is_body};
 ghost use Rattle.wfe_trace.specs.Record.{header_line};
@@ -14,35 +14,31 @@ ghost use Rattle.wfe_trace.specs.words.Config.{bad_field};
 
 use crate::play::Play;
 use crate::stop::Stop;
-use arrayvec::ArrayVec;
+use crate::trace_bytes::TraceBytes;
 use std::alloc::Global;
 use std::marker::Model;
 use wfe_drive::Engine;
 use wfe_outside::{Command, Sink, Watcher};
 use wfe_server_out::{Fault, put_line};
-use wfe_trace::{BadLine, Config, Item, Line, Mode, Reason, TraceState, print_header, read_line};
+use wfe_trace::{BadLine, Config, Item, Line, Mode, Reason, print_header};
 
 /// A trace of which some bytes came.
 #[derive(Drop)]
 pub struct Work<E: Engine> {
-    state: TraceState,
-    line: ArrayVec<u8, 200>,
-    count: u32,
-    ended: bool,
+    bytes: TraceBytes,
     play: Option<Play<E>>,
 }
 
 impl<E: Engine> Model for Work<E> {
-    ghost use Rattle.std.specs.Prelude.{◌≤◌};
     ghost use Rattle.wfe_server_replay.specs.Opening.{PlaysIn};
     ghost use Rattle.wfe_server_replay.specs.Playing.{Played};
-    ghost use Rattle.wfe_server_replay.specs.Trace.{Progress};
+    ghost use Rattle.wfe_server_replay.specs.Trace.{Progress, taken_by};
 
     ghost Value = { Progress Played };
 
-    ghost view = { λ w. record { reading = w.state; line = w.line.items; count = w.count; ended = w.ended; engine = w.play } };
+    ghost view = { λ w. taken_by w.bytes w.play };
 
-    ghost invariant = { λ w. (w.count ≤ 16777216) × PlaysIn w.state w.play };
+    ghost invariant = { λ w. PlaysIn w.bytes.reading w.play };
 }
 
 impl<E: Engine> Work<E> {
@@ -51,38 +47,8 @@ impl<E: Engine> Work<E> {
         ensures { result ≡ progress_start Mode.Replay }
     {
         Work {
-            state: TraceState::new(Mode::Replay),
-            line: ArrayVec::new(),
-            count: 0,
-            ended: false,
+            bytes: TraceBytes::new(Mode::Replay),
             play: None,
-        }
-    }
-
-    // The line under way is bad.
-    fn bad(&self, reason: Reason) -> BadLine
-        ensures { result ≡ bad_line self.now reason }
-    {
-        BadLine {
-            line: self.state.lines().saturating_add(1),
-            reason,
-        }
-    }
-
-    // Why the next byte is bad, whatever it ends.
-    fn refused(&self, byte: u8) -> Option<Reason>
-        ensures { result ≡ byte_refused self.now byte }
-    {
-        if self.count >= 16_777_216 {
-            Some(Reason::LongTrace)
-        } else if self.ended {
-            Some(Reason::AfterEnd)
-        } else if byte == b'\n' {
-            None
-        } else if self.line.len() >= 200 {
-            Some(Reason::LongLine)
-        } else {
-            None
         }
     }
 
@@ -133,7 +99,7 @@ impl<E: Engine> Work<E> {
         ensures emits { Emits (boxed stands) K.written K.faults K.may_stand result sink.old sink.new watchers.old watchers.new
             (out_in (player E.taken) command self.old.engine) }
     {
-        self.ended = matches!(command, Command::End);
+        self.bytes.note(&command);
         if let Some(play) = &mut self.play {
             play.perform(command, sink, watchers)?;
         }
@@ -176,13 +142,12 @@ impl<E: Engine> Work<E> {
         ensures after { OnOk result (self.new ≡ line_read self.old) }
         ensures may { IfOk result (MayTake E.taken self.new) }
     {
-        let line = self.state.lines().saturating_add(1);
-        let item = read_line(&mut self.state, self.line.as_slice())?;
-        if let Some(reason) = self.refuses(&item) {
-            return Err(BadLine { line, reason });
+        let line = self.bytes.number();
+        let item = self.bytes.read()?;
+        match self.refuses(&item) {
+            Some(reason) => Err(BadLine { line, reason }),
+            None => Ok(item),
         }
-        self.line.clear();
-        Ok(item)
     }
 
     // Takes the line under way, which is whole.
@@ -205,14 +170,6 @@ impl<E: Engine> Work<E> {
         }
     }
 
-    // One more byte came.
-    fn count_byte(&mut self)
-        requires { self.old.count < 16777216 }
-        ensures { self.new ≡ counted self.old }
-    {
-        self.count += 1;
-    }
-
     /// Takes one byte of the trace.
     pub fn take_byte<K: Sink>(
         &mut self,
@@ -224,17 +181,11 @@ impl<E: Engine> Work<E> {
         ensures { Takes (boxed stands) K.written K.faults K.may_stand result sink.old sink.new watchers.old watchers.new
             (after_byte (player E.taken) self.old byte) self.new (byte_output (player E.taken) self.old byte) }
     {
-        if let Some(reason) = self.refused(byte) {
-            return Err(Stop::Bad {
-                bad: self.bad(reason),
-            });
+        match self.bytes.push(byte) {
+            Ok(true) => self.take_line(alloc, sink, watchers),
+            Ok(false) => Ok(()),
+            Err(bad) => Err(Stop::Bad { bad }),
         }
-        self.count_byte();
-        if byte == b'\n' {
-            return self.take_line(alloc, sink, watchers);
-        }
-        self.line.push(byte);
-        Ok(())
     }
 
     /// Takes the next bytes of the trace, up to the first that is bad.
@@ -267,21 +218,10 @@ impl<E: Engine> Work<E> {
         ensures { Takes (boxed stands) K.written K.faults K.may_stand result sink.old sink.new watchers.old watchers.new
             (after_last (player E.taken) self.old) self.new (last_output (player E.taken) self.old) }
     {
-        if self.line.is_empty() {
+        if self.bytes.between_lines() {
             return Ok(());
         }
         self.take_line(alloc, sink, watchers)
-    }
-
-    // Whether the line `end` came.
-    fn check_end(&self) -> Result<(), BadLine>
-        ensures { MatchResult result (λ _. at_end self.now ≡ Ok self.now) (λ bad. at_end self.now ≡ Err bad) }
-    {
-        if self.ended {
-            Ok(())
-        } else {
-            Err(self.bad(Reason::NoEnd))
-        }
     }
 
     /// Takes the end of the input.
@@ -298,7 +238,7 @@ impl<E: Engine> Work<E> {
             Ok(()) => {}
             Err(stop) => return Err(stop),
         }
-        match self.check_end() {
+        match self.bytes.check_end() {
             Ok(()) => Ok(()),
             Err(bad) => Err(Stop::Bad { bad }),
         }

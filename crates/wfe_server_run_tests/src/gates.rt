@@ -1,8 +1,8 @@
 // Two workers on one table, of which one waits for the other's call: a hold and a put of one key, in both
 // orders.
 ghost use Rattle.std.specs.Prelude.{◌≡◌, ◌∷◌, [], IfOk, length};
-ghost use Rattle.wfe_server_run.specs.Comes.{lists_in};
-ghost use Rattle.wfe_server_run.specs.Fitting.{AllBegin};
+ghost use Rattle.wfe_server.specs.Comes.{lists_in};
+ghost use Rattle.wfe_server.specs.Fitting.{AllBegin};
 ghost use Rattle.wfe_trace.specs.words.declared.config.Config.{Config as Setting};
 
 use std::alloc::Global;
@@ -11,7 +11,7 @@ use std::sync::atomic::{AtomicU64, Ordering};
 use std::test::Fail;
 use std::thread;
 use wfe_outside::{Call, Event, MemSink, MemSource, Watcher};
-use wfe_server_run::{Gate, RunRecord, run, run_threads};
+use wfe_server::{Gate, RunRecord, run, run_threads};
 use wfe_trace::{Config, SchemeKind, Status};
 
 // A table with room for two seats.

@@ -6,7 +6,7 @@ use std::test::Fail;
 use std::thread;
 use std::thread::Threads;
 use wfe_outside::{MemSink, MemSource, Watcher};
-use wfe_server_run::{Gate, run};
+use wfe_server::{Gate, run};
 use wfe_trace::Status;
 
 // Each scheme, with the first version whose traces have both it and conditional puts, and the steps of such

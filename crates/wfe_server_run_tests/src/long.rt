@@ -3,7 +3,7 @@
 use std::process::Abort;
 use std::test::Fail;
 use wfe_outside::{MemSink, MemSource, Watcher};
-use wfe_server_run::{OpenGate, run};
+use wfe_server::{OpenGate, run};
 use wfe_trace::{Status, number_of};
 
 const SETTING: &[u8] =

@@ -3,7 +3,7 @@
 use std::alloc::Global;
 use wfe_drive_cells::TableCells;
 use wfe_outside::{Sink, Source, WatchRow, Watcher};
-use wfe_server::{Rig, replay};
+use wfe_server_gen::{Rig, replay};
 use wfe_trace::Status;
 use wfe_watch::Reading;
 

@@ -2,7 +2,7 @@
 use std::test::Fail;
 use wfe_drive_cells::TableCells;
 use wfe_outside::{MemSink, MemSource, Watcher};
-use wfe_server::{Rig, replay};
+use wfe_server_gen::{Rig, replay};
 use wfe_trace::Status;
 use wfe_watch::{GarbageCounter, KeyCounter};
 

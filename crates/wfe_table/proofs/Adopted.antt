@@ -26,8 +26,8 @@ use Rattle.wfe_drive_rule.specs.Handles.{IsTracked}
 use Rattle.wfe_drive_rule.specs.Views.{Handle, Track, own}
 use Rattle.wfe_drive_rule.specs.drive_cells.Unit.{SeatView, shown}
 use Rattle.wfe_drive_rule.specs.inv.rows.Facts.{Listing}
-use Rattle.wfe_table.specs.Calls.{IsMade}
-use Rattle.wfe_table.specs.Places.{Adoption, Missed, Took, notes_over, over_view, post_over}
+use Rattle.wfe_table.specs.Calls.{IsMade, IsMissed}
+use Rattle.wfe_table.specs.Places.{Adoption, Found, Missed, Took, notes_over, over_view, post_over}
 use Rattle.wfe_table.specs.Public.{SeatNow}
 use Rattle.wfe_table.specs.Sound.{IsMet}
 use Rattle.wfe_table.proofs.Made.{made_by, met_more}
@@ -74,16 +74,21 @@ pub took_adopts : (place count : ℕ) (old : Track) (list : List Lifetime) (new 
 took_adopts place count old list new is t =
     record { ops = t.ops; ends = subst (λ (n : ℕ). Ends (names.Adopt place) (answers.Adopted n) t.ops old.local (own new.0).local) (sym is) t.ends; more = t.more; grows = t.grows }
 
-pub missed_adopts : (place found : ℕ) (old : Track) (new : Handle) → Missed place found old new → Adoption place (not_taken found) old (own new.0)
-missed_adopts place found old new m = record { ops = m.ops; ends = m.ends; more = m.more; grows = m.grows }
+pub missed_adopts : (place found : ℕ) (old : Track) (new : Handle) → found ≢ 1 → Missed place found old new → Found place found old (own new.0)
+missed_adopts place found old new apart m = record {
+  adoption = record { ops = m.ops; ends = m.ends; more = m.more; grows = m.grows };
+  exchange = m.exchange;
+  word = m.word;
+  apart = apart;
+}
 
 -- whichever was answered
 abbrev pub IsTold : (place : ℕ) (old new : Track) → Result ℕ ℕ → Type 0
-IsTold place old new result = MatchResult result (λ count. Adoption place (answers.Adopted count) old new) (λ found. (found ≢ 1) × Adoption place (not_taken found) old new)
+IsTold place old new result = MatchResult result (λ count. Adoption place (answers.Adopted count) old new) (λ found. Found place found old new)
 
 adoption_of : (place : ℕ) (old new : Track) (result : Result ℕ ℕ) → IsTold place old new result → (answer : Answer) × Adoption place answer old new
 adoption_of place old new (Ok count) h = (answers.Adopted count, h)
-adoption_of place old new (Err found) h = (not_taken found, h.1)
+adoption_of place old new (Err found) h = (not_taken found, h.adoption)
 
 pub told_there : (place : ℕ) (old new : Track) (result : Result ℕ ℕ) → IsTold place old new result → departs new.local.call ≡ false
 told_there place old new result h = let a = adoption_of place old new result h in adopts_there place a.0 a.1.ops old.local new.local a.1.ends
@@ -97,8 +102,13 @@ pub told_layout : (place : ℕ) (old new : Track) (result : Result ℕ ℕ) → 
 told_layout place old new result h = (adoption_of place old new result h).1.ends.left.place.layout
 
 abbrev pub IsAnswered : (layout : Layout) (old new : SeatNow) (place : ℕ) → Result ℕ ℕ → Type 0
-IsAnswered layout old new place result = MatchResult result (λ count. IsMade layout old new (names.Adopt place) (answers.Adopted count)) (λ found. (found ≢ 1) × IsMade layout old new (names.Adopt place) (not_taken found))
+IsAnswered layout old new place result = MatchResult result (λ count. IsMade layout old new (names.Adopt place) (answers.Adopted count)) (λ found. IsMissed layout old new place found)
 
 pub told_made : (layout : Layout) (old new : SeatNow) (place : ℕ) (result : Result ℕ ℕ) → IsTracked layout new.track → IsTold place old.track new.track result → IsAnswered layout old new place result
 told_made layout old new place (Ok count) t a = made_by layout old new (names.Adopt place) (answers.Adopted count) a.ops a.more t a.ends a.grows
-told_made layout old new place (Err found) t a = (a.0, made_by layout old new (names.Adopt place) (not_taken found) a.1.ops a.1.more t a.1.ends a.1.grows)
+told_made layout old new place (Err found) t a = record {
+  made = made_by layout old new (names.Adopt place) (not_taken found) a.adoption.ops a.adoption.more t a.adoption.ends a.adoption.grows;
+  exchange = a.exchange;
+  word = a.word;
+  apart = a.apart;
+}

@@ -7,16 +7,17 @@ use Rattle.wfe_core.specs.defs.declared.call.Answer.{Answer}
 use Rattle.wfe_core.specs.defs.declared.call.Call.{Call}
 use Rattle.wfe_core.specs.words.declared.layout.Layout.{Layout}
 use Rattle.wfe_drive_rule.specs.drive_cells.Unit.{SeatView, shown}
+use Rattle.law_all.specs.Logs.Reports.{IsReported}
 use Rattle.law_all.specs.Logs.Versions.{Counts, met_by, met_in}
-use Rattle.law_all.proofs.Logs.LastScans.{record_reads}
+use Rattle.law_all.proofs.Logs.Reports.{records_report}
 use Rattle.law_all.proofs.Logs.Meets.{logs_extend}
 use Rattle.law_all.proofs.Records.{logs_answer}
-use Rattle.law_all.proofs.held.scans.Placing.Keeps.{records_refuse}
+use Rattle.law_all.proofs.Whole.{histories_are_lawful}
 use Rattle.wfe_drive_call.specs.drive_words.Called.{Called, Ends, Here, LeadsTo}
 use Rattle.wfe_drive_call.specs.drive_words.Comes.{departs}
 use Rattle.wfe_drive_rule.specs.Handles.{IsResting, IsSeated, IsTracked}
 use Rattle.wfe_drive_rule.specs.Views.{Handle, call_in, entered, own, seat_of, standing}
-use Rattle.wfe_drive_rule.specs.history.History.{Item}
+use Rattle.wfe_drive_rule.specs.history.History.{Item, record_of}
 use Rattle.wfe_drive_rule.proofs.Seated.{resting_slot}
 use Rattle.wfe_table.specs.Calls.{IsMade, group_of}
 use Rattle.wfe_table.specs.Public.{SeatNow}
@@ -76,8 +77,9 @@ made_by layout old new call answer ops more t ends grows = record {
   grows = grows;
   tracked = t;
   answered = logs_answer layout new.track.past (seat_of new.track) old.track.local.log [] (group_of call answer new) t.valid (ap (λ (l : Local). l.log) t.stood ∙ ends.left.log);
-  refuses = records_refuse layout new.track.past t.valid;
-  reads = record_reads layout new.track.past (seat_of new.track) t.valid ∙ ap (λ (l : Local). l.desk.report.read) t.stood;
+  lawful = histories_are_lawful layout new.track.past t.valid;
+  reported = subst (λ (l : Local). IsReported layout (seat_of new.track) (record_of layout new.track.past) l.desk.report) t.stood
+      (records_report layout new.track.past (seat_of new.track) t.valid (ap (λ (l : Local). busy_in l.phase) t.stood ∙ ap busy_in ends.left.idle));
 }
 
 -- the handle's slot is that of its seat's number, on a table of this layout

@@ -116,6 +116,8 @@ missed place found old one two exchange begins past asked s apart rests =
     let o_at : o.phase ≡ Works (Keeping (TakeList place)) = ap (λ (k : Local). k.phase) s.given.comes.stands ∙ at in
     record {
       ops = (exchange, found) ∷ [];
+      exchange = exchange;
+      word = refl;
       ends = ends_by l (names.Adopt place) (not_taken found) [] one two exchange found (sym begins) (ap busy_in at) asked s (misses_answers o place found o_at apart) rests;
       here = ap shown (sym rests ∙ s.next) ∙ misses_ends o place found o_at apart ∙ ap ended (s.given.comes.stands ∙ begins);
       more = s.more;

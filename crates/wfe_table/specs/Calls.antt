@@ -1,16 +1,17 @@
 -- A call that was made on a seat of a shared table, and the answers that its caller is given.
-use Rattle.std.specs.Prelude.{List, None, Option, Some, ℕ, ◌++◌, ◌≡◌}
-use Rattle.wfe_core.specs.Guards.{guards}
+use Rattle.std.specs.Prelude.{List, None, Option, Some, ℕ, [], ◌∷◌, ◌++◌, ◌≡◌, ◌≢◌}
 use Rattle.wfe_core.specs.Locals.{Group}
 use Rattle.wfe_core.specs.declared.op.Op.{Op}
 use Rattle.wfe_core.specs.defs.declared.call.Answer.{Answer}
 use Rattle.wfe_core.specs.defs.declared.call.Answer.TheVariants as answers
 use Rattle.wfe_core.specs.defs.declared.call.Call.{Call}
+use Rattle.wfe_core.specs.defs.declared.call.Call.TheVariants as calls
+use Rattle.wfe_core.specs.Keep.{not_taken}
 use Rattle.wfe_core.specs.words.declared.layout.Layout.{Layout}
 use Rattle.wfe_drive_rule.specs.history.History.{Item, record_of}
-use Rattle.laws.specs.HistoryAnswers.{RefusalLaw}
-use Rattle.laws.specs.StateAt.{read_of}
 use Rattle.law_all.specs.Logs.Records.{IsAnswered}
+use Rattle.law_all.specs.Logs.Reports.{IsReported}
+use Rattle.law_all.specs.Whole.{IsLawful}
 use Rattle.wfe_drive_call.specs.drive_words.Called.{Ends}
 use Rattle.wfe_drive_rule.specs.Handles.{IsTracked}
 use Rattle.wfe_drive_rule.specs.Views.{seat_of}
@@ -41,11 +42,19 @@ pub record IsMade (layout : Layout) (old new : SeatNow) (call : Call) (answer : 
   pub tracked : IsTracked layout new.track
   -- the answer says what is so by the record of that history: see the texts of `law_logs`
   pub answered : IsAnswered layout.config (seat_of new.track) (record_of layout new.track.past) old.track.local.log (group_of call answer new)
-  -- by the same record only a call that is answered Done, Queued or Taken has told a change, or a link that is not to the tail: a call
-  -- that is refused leaves map and queue as they were without it
-  pub refuses : RefusalLaw (record_of layout new.track.past)
-  -- the report shows the guards that the seat's last block read, by the same record
-  pub reads : read_of (guards layout.config) (seat_of new.track) (record_of layout new.track.past) ≡ new.track.local.desk.report.read
+  -- that history keeps all laws, of its record and of its turns, with what histories keep beyond them. So a call that is refused leaves
+  -- map and queue as they were without it, a call that answers Full lacked nothing but a row, and one that holds nothing found a bucket
+  -- that was never changed
+  pub lawful : IsLawful layout new.track.past
+  -- by its record the report shows the guards that the seat's last block read, how many rows went back after it, and how many stayed
+  pub reported : IsReported layout (seat_of new.track) (record_of layout new.track.past) new.track.local.desk.report
+
+-- the seat took over no list, since the exchange of its place word, its one operation, found this word
+pub record IsMissed (layout : Layout) (old new : SeatNow) (place found : ℕ) : Type 0 where
+  pub made : IsMade layout old new (calls.Adopt place) (not_taken found)
+  pub exchange : Op
+  pub word : made.ops ≡ (exchange, found) ∷ []
+  pub apart : found ≢ 1
 
 -- refusals as answers
 abbrev pub put_answer : PutRefusal → Answer

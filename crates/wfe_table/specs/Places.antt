@@ -1,6 +1,6 @@
 -- What the calls of seats that leave, and of those that take over their lists, come to: the seat as its code has it, and by which
 -- operations.
-use Rattle.std.specs.Prelude.{List, [], length, ℕ, ◌++◌, ◌≡◌}
+use Rattle.std.specs.Prelude.{List, [], ◌∷◌, length, ℕ, ◌++◌, ◌≡◌, ◌≢◌}
 use Rattle.wfe_core.specs.defs.declared.call.Answer.{Answer}
 use Rattle.wfe_core.specs.defs.declared.call.Answer.TheVariants as answers
 use Rattle.wfe_core.specs.defs.declared.call.Call.TheVariants as names
@@ -39,6 +39,13 @@ pub record Adoption (place : ℕ) (answer : Answer) (old new : Track) : Type 0 w
   pub more : List Item
   pub grows : new.past ≡ old.past ++ more
 
+-- none was: the one operation found this word
+pub record Found (place found : ℕ) (old new : Track) : Type 0 where
+  pub adoption : Adoption place (not_taken found) old new
+  pub exchange : Op
+  pub word : adoption.ops ≡ (exchange, found) ∷ []
+  pub apart : found ≢ 1
+
 -- a list was taken over, by two steps
 pub record Took (place : ℕ) (old : Track) (list : List Lifetime) (new : Handle) : Type 0 where
   pub ops : List (Op × ℕ)
@@ -49,9 +56,11 @@ pub record Took (place : ℕ) (old : Track) (list : List Lifetime) (new : Handle
   -- no row is twice in both lists together
   pub listing : Listing old.local.post.layout.config.slots (old.local.desk.list ++ list)
 
--- none was left, by one step
+-- none was left, by one step, which found this word
 pub record Missed (place found : ℕ) (old : Track) (new : Handle) : Type 0 where
   pub ops : List (Op × ℕ)
+  pub exchange : Op
+  pub word : ops ≡ (exchange, found) ∷ []
   pub ends : Ends (names.Adopt place) (not_taken found) ops old.local (own new.0).local
   pub here : shown (own new.0).local ≡ over_view old.local old.local.desk.list 1
   pub more : List Item

@@ -1,9 +1,8 @@
 // The calls of seats that leave, and of those that take over what they left.
-ghost use Rattle.std.specs.Prelude.{◌≡◌, ◌≢◌, ◌<◌, MatchResult};
-ghost use Rattle.wfe_core.specs.Keep.{not_taken};
+ghost use Rattle.std.specs.Prelude.{◌≡◌, ◌<◌, MatchResult};
 ghost use Rattle.wfe_core.specs.defs.declared.call.Answer.TheVariants as answers;
 ghost use Rattle.wfe_core.specs.defs.declared.call.Call.TheVariants as calls;
-ghost use Rattle.wfe_table.specs.Calls.{IsMade};
+ghost use Rattle.wfe_table.specs.Calls.{IsMade, IsMissed};
 ghost use Rattle.wfe_table.specs.Public.{IsOf, steps_of};
 
 use crate::seat::Seat;
@@ -19,7 +18,7 @@ impl Shared {
         ensures of { IsOf seat.new self.now }
         ensures made { MatchResult result
             (λ count. IsMade self.now.layout seat.old seat.new (calls.Adopt place) (answers.Adopted count))
-            (λ found. (found ≢ 1) × IsMade self.now.layout seat.old seat.new (calls.Adopt place) (not_taken found)) }
+            (λ found. IsMissed self.now.layout seat.old seat.new place found) }
         ensures bound { MatchResult result (λ _. steps_of seat.new ≡ 2) (λ _. steps_of seat.new ≡ 1) }
     {
         seat.take(&self.ledger.shared, place)

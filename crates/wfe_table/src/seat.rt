@@ -1,6 +1,5 @@
 // A seat of the shared table, in the hands of one thread at a time.
-ghost use Rattle.std.specs.Prelude.{◌≡◌, ◌≢◌, ◌<◌, ◌≤◌, ◌%◌, ◌∷◌, [], All, IfOk, IfSome, MatchResult, true, Some, None};
-ghost use Rattle.wfe_core.specs.Keep.{not_taken};
+ghost use Rattle.std.specs.Prelude.{◌≡◌, ◌<◌, ◌≤◌, ◌%◌, ◌∷◌, [], All, IfOk, IfSome, MatchResult, true, Some, None};
 ghost use Rattle.wfe_core.specs.words.Place.{is_valid};
 ghost use Rattle.wfe_core.specs.Held.{notes_of, report_of};
 ghost use Rattle.wfe_core.specs.Locals.{may_begin, stays};
@@ -11,7 +10,7 @@ ghost use Rattle.wfe_drive_rule.specs.Handles.{IsGathered, IsResting, IsSeated, 
 ghost use Rattle.wfe_drive_rule.specs.Views.{fresh_track, own, seat_of};
 ghost use Rattle.wfe_drive_rule.specs.history.History.{record_of};
 ghost use Rattle.wfe_table.specs.Backs.{WentBack};
-ghost use Rattle.wfe_table.specs.Calls.{IsMade};
+ghost use Rattle.wfe_table.specs.Calls.{IsMade, IsMissed};
 ghost use Rattle.wfe_table.specs.Public.{SeatNow};
 ghost use Rattle.wfe_table.specs.Sound.{IsMet};
 
@@ -170,7 +169,7 @@ impl Seat {
         ensures layout { self.new.track.local.post.layout ≡ self.old.track.local.post.layout }
         ensures made { MatchResult result
             (λ count. IsMade ledger.now.key self.old self.new (AdoptCall place) (AdoptedAnswer count))
-            (λ found. (found ≢ 1) × IsMade ledger.now.key self.old self.new (AdoptCall place) (not_taken found)) }
+            (λ found. IsMissed ledger.now.key self.old self.new place found) }
     {
         take_list(
             ledger,

@@ -3,7 +3,6 @@ ghost use Rattle.std.specs.Prelude.{◌≡◌, ◌≢◌, ◌<◌, ◌≤◌, �
 ghost use Rattle.wfe_core.specs.Calls.{Idle};
 ghost use Rattle.wfe_core.specs.DeskHeld.{HasRoom};
 ghost use Rattle.wfe_core.specs.Held.{notes_of};
-ghost use Rattle.wfe_core.specs.Keep.{not_taken};
 ghost use Rattle.wfe_core.specs.defs.declared.call.Answer.TheVariants as answers;
 ghost use Rattle.wfe_core.specs.defs.declared.call.Call.TheVariants as calls;
 ghost use Rattle.wfe_core.specs.words.Place.Place.{PlaceOf};
@@ -14,7 +13,7 @@ ghost use Rattle.wfe_drive_rule.specs.drive_cells.Unit.{shown};
 ghost use Rattle.wfe_drive_rule.specs.Handles.{IsResting, IsSeated, IsSized};
 ghost use Rattle.wfe_drive_rule.specs.Views.{own};
 ghost use Rattle.wfe_drive_rule.specs.inv.rows.Facts.{Listing};
-ghost use Rattle.wfe_table.specs.Places.{Adoption, Missed, Took, notes_over, post_over};
+ghost use Rattle.wfe_table.specs.Places.{Adoption, Found, Missed, Took, notes_over, post_over};
 
 use wfe_core::{Call, Desk, Post, RetireList};
 use wfe_drive_rule::{Handle, Ledger, adopt_list, begin, mark_place};
@@ -45,7 +44,7 @@ pub(crate) fn take_list(
     ensures room { HasRoom desk.new post.new.layout }
     ensures made { MatchResult result
         (λ count. Adoption place (answers.Adopted count) (own handle.old.me.0) (own handle.new.me.0))
-        (λ found. (found ≢ 1) × Adoption place (not_taken found) (own handle.old.me.0) (own handle.new.me.0)) }
+        (λ found. Found place found (own handle.old.me.0) (own handle.new.me.0)) }
 {
     let word = post.layout.place(place);
     match take_on(ledger, handle, post.seat as usize, word, place) {

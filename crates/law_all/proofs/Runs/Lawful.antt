@@ -98,6 +98,7 @@ by_parts add agree keep tick list layout items rest =
         right = says.queue;
         queued_rise = says.queued_rise;
         taken_rise = says.taken_rise;
+        taken_first = says.taken_first;
         left = refl;
         empty = says.empty;
       };

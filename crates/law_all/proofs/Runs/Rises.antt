@@ -11,7 +11,7 @@ use Rattle.law_all.specs.inv.model.words.declared.config.Config.{Config}
 use Rattle.law_all.specs.inv.model.words.declared.layout.Layout.{Layout}
 use Rattle.law_all.specs.laws.StateAt.{bucket_of}
 use Rattle.law_all.specs.Logs.Answered.{Says}
-use Rattle.law_all.specs.Logs.Versions.{Counts, counts_of, met_in, number_by, number_queued, number_taken, version_by, version_told}
+use Rattle.law_all.specs.Logs.Versions.{Counts, counts_of, met_in, number_by, number_queued, number_taken, seen_in, version_by, version_told}
 use Rattle.law_all.specs.inv.history.History.{Item, record_of}
 use Rattle.law_all.specs.inv.history.Record.{Past}
 use Rattle.law_all.proofs.Logs.Meets.{logs_extend, version_met}
@@ -42,7 +42,7 @@ pub met_queued : (n number : ℕ) (before : List Group) (group : Group) → is_q
 met_queued n number before group h =
     ap (λ (x : Counts). x.queued) (logs_extend n before group) ∙ number_last number (number_queued group.call group.answer) (met_in n before).queued h
 
-met_taken : (n number : ℕ) (before : List Group) (group : Group) → is_taken_as number group ≡ true → (met_in n (before ++ group ∷ [])).taken ≡ number
+pub met_taken : (n number : ℕ) (before : List Group) (group : Group) → is_taken_as number group ≡ true → (met_in n (before ++ group ∷ [])).taken ≡ number
 met_taken n number before group h =
     ap (λ (x : Counts). x.taken) (logs_extend n before group) ∙ number_last number (number_taken group.call group.answer) (met_in n before).taken h
 
@@ -75,7 +75,7 @@ change_later c from r (calls.Remove key) (answers.Done told clock) b version s h
 change_later c from r call answer b version s h = absurd (cc)
 
 -- so were a number queued and a number taken
-queued_later : (c : Config) (from : Counts) (r : Past) (call : Call) (answer : Answer) (number : ℕ) → Says c from r call answer
+pub queued_later : (c : Config) (from : Counts) (r : Past) (call : Call) (answer : Answer) (number : ℕ) → Says c from r call answer
     → has_number number (number_queued call answer) ≡ true → from.queued < number
 queued_later c from r (calls.Enqueue value) (answers.Queued told) number s h = subst (λ (x : ℕ). from.queued < x) (number_is told number h) s.since
 queued_later c from r call answer number s h = absurd (cc)
@@ -84,6 +84,10 @@ taken_later : (c : Config) (from : Counts) (r : Past) (call : Call) (answer : An
     → has_number number (number_taken call answer) ≡ true → from.taken < number
 taken_later c from r calls.Dequeue (answers.Taken told value clock) number s h = subst (λ (x : ℕ). from.taken < x) (number_is told number h) s.since
 taken_later c from r call answer number s h = absurd (cc)
+
+-- of a bucket that was not changed a seat has told no version
+none_seen : (seen count : ℕ) → seen ≤ count → count ≡ 0 → seen ≡ 0
+none_seen seen count h e = omega (arith, h, e)
 
 -- two calls of one seat
 at_most : (low met from high : ℕ) → met ≡ low → met ≤ from → from ≤ high → low ≤ high
@@ -112,6 +116,14 @@ rises layout items rest = record {
       let looked = looked_before layout items a.seat b before group rest a.is in
       let later = change_later layout.config (counts_of a.is.begun.from) r group.call group.answer b version a.is.says k in
       omega (arith, looked, later);
+  unseen = λ before group key h e none.
+      let c : Config = layout.config in
+      let b : ℕ = bucket_of c.buckets key in
+      let a : Called layout items before group = called layout items before group rest.valid h in
+      let from : Counts = counts_of a.is.begun.from in
+      let said : Says c from a.is.end.at (calls.Hold key) answers.Nothing =
+      subst (λ (answer : Answer). Says c from a.is.end.at (calls.Hold key) answer) none (subst (λ (call : Call). Says c from a.is.end.at call group.answer) e a.is.said) in
+      none_seen (seen_in c.buckets b before) (from.versions b) (a.is.before_it.versions b) said;
 }
 
 pub queued_rise : (layout : Layout) (items : List Item) → AtRest layout items → (one two : Group) (low high : ℕ) → InOrder (logs_of layout items) one two

@@ -39,20 +39,20 @@ module _ (version : ℕ) (config : Config) (small : Small config) where
       let found : Some kind ≡ kind_in version config (words line) = sym ((kinds_are_texts version config line kind small).1 known) in
       ap (λ t. told_after t line) is ∙ body_line (within_body version config entries count) line version config (Some kind) refl found
 
-  counts_is : (line : List ℕ) → IsCounts config line → IsNarrow 200 line
+  counts_is : (line : List ℕ) → IsCounts line → IsNarrow 200 line
   counts_is line is =
       subst (IsNarrow 200) (append_cancel_right (codes "table" ++ spaced (seat_word is.seat ∷ codes "retired" ∷ decimal is.retired ∷ codes "back" ∷ decimal is.back ∷ codes "waiting" ∷ decimal is.waiting ∷ [])) line (codes "\n") is.text)
-      (counts_narrow is.seat is.retired is.back is.waiting (counted_fits config small is.seat is.seated) is.retired_fits is.back_fits is.waiting_fits)
+      (counts_narrow is.seat is.retired is.back is.waiting (counted_fits is.seat is.seated) is.retired_fits is.back_fits is.waiting_fits)
 
   row_is : (line : List ℕ) → IsRow line → IsNarrow 200 line
   row_is line is =
       subst (IsNarrow 200) (append_cancel_right (codes "watch" ++ spaced (decimal is.place ∷ decimal is.a ∷ decimal is.b ∷ decimal is.c ∷ [])) line (codes "\n") is.text)
       (row_narrow is.place is.a is.b is.c is.place_fits is.a_fits is.b_fits is.c_fits)
 
-  shown_is : (line : List ℕ) → IsCounts config line ⊎ IsRow line → IsNarrow 200 line
+  shown_is : (line : List ℕ) → IsCounts line ⊎ IsRow line → IsNarrow 200 line
   shown_is line is = elim is [ inl counts ↦ counts_is line counts | inr row ↦ row_is line row ]
 
-  shown_comes : (lines : List (List ℕ)) (r : Reading) (entries : Past) (count : ℕ) → AreShown config lines → r.line ≡ [] → r.told ≡ within_body version config entries count → r.count + length (lines_text lines) ≤ 1073741824
+  shown_comes : (lines : List (List ℕ)) (r : Reading) (entries : Past) (count : ℕ) → AreShown lines → r.line ≡ [] → r.told ≡ within_body version config entries count → r.count + length (lines_text lines) ≤ 1073741824
       → Comes r (lines_text lines) (within_body version config entries count)
   shown_comes [] r entries count are line told few = comes_none r (within_body version config entries count) line told
   shown_comes (line ∷ lines) r entries count are empty told few =
@@ -73,7 +73,7 @@ module _ (version : ℕ) (config : Config) (small : Small config) where
       (entry_narrow x.seat x.event (seat_fits config small x.seat seated) (event_fits config small version x.event is)) (omega (arith, one))
       (kind_told r.told line (kinds.Entry x.seat x.event) entries count told (record { text = refl; seated = seated; within = is }))
 
-  after_shown : (r : Reading) (bytes : List ℕ) (lines : List (List ℕ)) (entries : Past) (count : ℕ) → bytes ≡ lines_text lines → AreShown config lines → r.line ≡ [] → r.told ≡ within_body version config entries count
+  after_shown : (r : Reading) (bytes : List ℕ) (lines : List (List ℕ)) (entries : Past) (count : ℕ) → bytes ≡ lines_text lines → AreShown lines → r.line ≡ [] → r.told ≡ within_body version config entries count
       → r.count + length bytes ≤ 1073741824 → Comes r bytes (within_body version config entries count)
   after_shown r bytes lines entries count same are line told few =
       subst (λ t. Comes r t (within_body version config entries count)) (sym same) (shown_comes lines r entries count are line told (subst (λ (t : List ℕ). r.count + length t ≤ 1073741824) same few))

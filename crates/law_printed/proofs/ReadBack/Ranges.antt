@@ -1,5 +1,5 @@
 -- The numbers of a record's lines have 64 bits.
-use Rattle.std.proofs.Common.{ℕ, ◌≡◌, Option, None, arith, rules}
+use Rattle.std.proofs.Common.{ℕ, ◌≡◌, Option, None, Some, arith, rules}
 use Rattle.std.proofs.lemmas.Bool.Decides.{nat_tests}
 use Rattle.laws.specs.words.declared.config.Config.{Config}
 use Rattle.laws.specs.words.Config.{bad_field}
@@ -61,5 +61,6 @@ module _ (config : Config) (small : Small config) where
   pub event_fits : (version : ℕ) (event : Event) → IsEvent version config event → EventFits event
   event_fits version event is = search (rules, short_fits, seat_fits, index_fits, slot_fits, bucket_fits, guard_fits, row_fits, span_fits, root_fits, call_fits version, answer_fits version)
 
-  pub counted_fits : (seat : Option ℕ) → IsCounted config seat → ValueFits seat
-  counted_fits seat is = search (rules, seat_fits)
+pub counted_fits : (seat : Option ℕ) → IsCounted seat → ValueFits seat
+counted_fits None is = tt
+counted_fits (Some seat) is = is

@@ -26,13 +26,13 @@ lines_text [] = []
 lines_text (line ∷ lines) = (line ++ codes "\n") ++ lines_text lines
 
 -- lines of counts or of watchers' rows
-abbrev pub AreShown : Config → List (List ℕ) → Type 0
-AreShown config [] = Unit {0}
-AreShown config (line ∷ lines) = (IsCounts config line ⊎ IsRow line) × AreShown config lines
+abbrev pub AreShown : List (List ℕ) → Type 0
+AreShown [] = Unit {0}
+AreShown (line ∷ lines) = (IsCounts line ⊎ IsRow line) × AreShown lines
 
 -- what a piece puts out is lines of a record of the version and the setting: the line of an entry, or lines of counts or rows
 abbrev pub IsPrinted : ℕ → Config → Piece → Type 0
-IsPrinted version config (Text bytes) = (lines : List (List ℕ)) × (bytes ≡ lines_text lines) × AreShown config lines
+IsPrinted version config (Text bytes) = (lines : List (List ℕ)) × (bytes ≡ lines_text lines) × AreShown lines
 IsPrinted version config (Says x) = IsSeat config x.seat × IsEvent version config x.event
 
 abbrev pub ArePrinted : ℕ → Config → List Piece → Type 0

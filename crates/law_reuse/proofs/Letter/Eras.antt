@@ -9,7 +9,7 @@ use Rattle.laws.specs.HistoryEras as strong
 use Rattle.laws.specs.HistoryEras.{HistoryEras, span_ok, span_grows}
 use Rattle.laws.specs.HistoryRows.{once_ok}
 use Rattle.laws.specs.ScanLaw.{guards}
-use Rattle.laws.specs.StateAt.{birth_of, clock_of, cut_at, cut_by, cuts, has_cut, value_of, was_clock}
+use Rattle.laws.specs.StateAt.{birth_of, clock_of, cut_at, cut_by, cuts, has_cut, taken_at, value_of, was_clock}
 use Rattle.laws.specs.HistoryTable.{guards_ok, is_guard}
 use Rattle.laws.specs.defs.declared.event.Event.{Event}
 use Rattle.laws.specs.defs.declared.event.Event.TheVariants as events
@@ -55,9 +55,11 @@ cut_before : (i s : ℕ) (p : Past) → cut_at i s p ≡ true → has_cut i s p 
 cut_before i s Start h = absurd (cc)
 cut_before i s (Then p k event) h = cut_entry i s k p event (i == k) refl (cut_before i s p) h
 
-retire_part : (slots : ℕ) (p : Past) (i : ℕ) (event : Event) → strong.birth_ok p i event ≡ true → once_ok slots p i event ≡ true → strong.retire_current p i event ≡ true → weak.retire_ok p i event ≡ true
+retire_part : (slots : ℕ) (p : Past) (i : ℕ) (event : Event) → strong.birth_ok p i event ≡ true → once_ok slots p i event ≡ true → strong.retire_current p i event ≡ true → weak.retire_ok slots p i event ≡ true
 retire_part slots p i (events.Retire slot birth retire) h g k =
-    both (birth == birth_of slot p) (has_cut i slot p && was_clock (own i (cuts slot)) retire p) h (both (has_cut i slot p) (was_clock (own i (cuts slot)) retire p) (cut_before i slot p g) k)
+    both (birth == birth_of slot p) (taken_at slots slot p && (has_cut i slot p && was_clock (own i (cuts slot)) retire p)) h
+    (both (taken_at slots slot p) (has_cut i slot p && was_clock (own i (cuts slot)) retire p) (first_of (taken_at slots slot p) (cut_at i slot p) g)
+    (both (has_cut i slot p) (was_clock (own i (cuts slot)) retire p) (cut_before i slot p (rest_of (taken_at slots slot p) (cut_at i slot p) g)) k))
 retire_part slots p i event h g k = refl
 
 current_part : (p : Past) (i : ℕ) (event : Event) → strong.reserve_current p i event ≡ true → weak.current_ok p i event ≡ true
@@ -111,7 +113,7 @@ eras config r low c o g h =
       moves = entries_of_each (moves_ok config) r (moves_kept config r low c);
       advances = h.advances;
       births = entries_of_each weak.birth_ok r (each_weaker strong.birth_current weak.birth_ok birth_part r (each_of_entries strong.birth_current r h.births_current));
-      retires = entries_of_each weak.retire_ok r (each_three strong.birth_ok (once_ok config.slots) strong.retire_current weak.retire_ok (retire_part config.slots) r (each_of_entries strong.birth_ok r h.births) (each_of_entries (once_ok config.slots) r o) (each_of_entries strong.retire_current r h.retires_current));
+      retires = entries_of_each (weak.retire_ok config.slots) r (each_three strong.birth_ok (once_ok config.slots) strong.retire_current (weak.retire_ok config.slots) (retire_part config.slots) r (each_of_entries strong.birth_ok r h.births) (each_of_entries (once_ok config.slots) r o) (each_of_entries strong.retire_current r h.retires_current));
       current = entries_of_each weak.current_ok r (each_weaker strong.reserve_current weak.current_ok current_part r (each_of_entries strong.reserve_current r h.reserves_current));
       single = entries_of_each (weak.single_ok config.scheme) r (each_weaker (strong.era_ok config) (weak.single_ok config.scheme) (single_part config) r n);
       rising = entries_of_each (weak.rising_ok config.scheme) r (each_both (guards_ok config) strong.span_rises (weak.rising_ok config.scheme) (rising_part config) r (each_of_entries (guards_ok config) r g) (each_of_entries strong.span_rises r h.spans_rise));

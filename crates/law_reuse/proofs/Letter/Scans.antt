@@ -23,7 +23,7 @@ use Rattle.laws.specs.words.declared.config.Config.{Config}
 
 -- the eras that a call has told and that no block has taken are as few as they may be where it ends
 abbrev few_moves : Option Call → Blocks → Bool
-few_moves call y = if is_of_advance call then nat_le y.moves 1 else y.moves == 0
+few_moves call y = is_of_advance call || y.moves == 0
 
 -- a block is awaited: it may begin, and once it has, none is due; it is one for a row where the call still seeks one
 record Awaits (all : ℕ) (call : Option Call) (seeks : Bool) (y : Blocks) : Type 0 where
@@ -49,7 +49,7 @@ record Agrees (all : ℕ) (call : Option Call) (busy : Bool) (retires : ℕ) (se
 few_of_none : (call : Option Call) (y : Blocks) → y.moves ≡ 0 → few_moves call y ≡ true
 few_of_none call y e = rw e (by (is_of_advance call))
   where
-    by : (b : Bool) → (if b then nat_le 0 1 else 0 == 0) ≡ true
+    by : (b : Bool) → (b || 0 == 0) ≡ true
     by true = refl
     by false = refl
 
@@ -146,7 +146,7 @@ retire_fits all every call seeks y false g d s = (s.whole, s.scanned, s.few)
 -- the clock is moved
 era_fits : (all : ℕ) (call : Option Call) (retires : ℕ) (seeks : Bool) (course : Course) (y : Blocks) → may_move course ≡ true → Fits all call retires seeks course y → Fits all call retires seeks (moved_course course) (record y { moves = y.moves + 1 })
 era_fits all call retires seeks Plain y h f = absurd (cc)
-era_fits all call retires seeks Advancing y h f = (f.0, f.1, rw (f.2, f.3) refl)
+era_fits all call retires seeks Advancing y h f = (f.0, f.1, rw f.2 refl)
 era_fits all call retires seeks MayScan y h f = (record { whole = f.0.whole; begins = f.0.begins; scanned = f.0.scanned; seeking = f.0.seeking }, rw f.2 (omega arith), λ e. absurd (cc))
 era_fits all call retires seeks (MustScan true) y h f = (record { whole = f.0.whole; begins = f.0.begins; scanned = f.0.scanned; seeking = f.0.seeking }, rw (f.2 refl) (omega arith), λ e. absurd (cc))
 era_fits all call retires seeks (MustScan false) y h f = absurd (cc)
@@ -321,12 +321,23 @@ room_part config s p i (events.Saw guard slot) h g a =
     room_right (guards config) (began_of i p) (retires_of i p) (search_of i p).seeks (plain_tally config.every i p).course (blocks_of config i p) (was_taken config.slots i s p) h a.fits g
 room_part config s p i event h g a = refl
 
--- the eras told have had their blocks where a call ends
-move_part : (config : Config) (p : Past) (i : ℕ) (event : Event) → plain_scans_ok config p i event ≡ true → At config i p → moves_ok config p i event ≡ true
-move_part config p i (events.End steps answer) h a =
+-- the clock is moved only where each era told before has had its block
+era_none : (all : ℕ) (call : Option Call) (retires : ℕ) (seeks : Bool) (course : Course) (y : Blocks) → may_move course ≡ true → Fits all call retires seeks course y → (y.moves == 0) ≡ true
+era_none all call retires seeks Plain y h f = absurd (cc)
+era_none all call retires seeks Advancing y h f = rw f.3 refl
+era_none all call retires seeks MayScan y h f = rw f.2 refl
+era_none all call retires seeks (MustScan true) y h f = rw (f.2 refl) refl
+era_none all call retires seeks (MustScan false) y h f = absurd (cc)
+era_none all call retires seeks (Reading reads) y h f = absurd (cc)
+
+-- the eras told have had their blocks where another is told, and where a call ends
+move_part : (config : Config) (p : Past) (i : ℕ) (event : Event) → plain_scans_ok config p i event ≡ true → plain_moves_ok config p i event ≡ true → At config i p → moves_ok config p i event ≡ true
+move_part config p i (events.Era era) h m a =
+    era_none (guards config) (began_of i p) (retires_of i p) (search_of i p).seeks (plain_tally config.every i p).course (blocks_of config i p) m a.fits
+move_part config p i (events.End steps answer) h m a =
     let t : Settled (began_of i p) (blocks_of config i p) = settled (guards config) (began_of i p) (retires_of i p) (search_of i p).seeks (plain_tally config.every i p).course (blocks_of config i p) h a.fits in
     t.few
-move_part config p i event h a = refl
+move_part config p i event h m a = refl
 
 -- so at each entry
 each_course : (config : Config) (weak : Test) → 0 < guards config → ((p : Past) (i : ℕ) (event : Event) → plain_scans_ok config p i event ≡ true → At config i p → weak p i event ≡ true) → (r : Past) → Courses config r → Each weak r
@@ -337,7 +348,9 @@ pub blocks_kept : (config : Config) (r : Past) → 0 < guards config → Courses
 blocks_kept config r low c = each_course config (blocks_ok config) low (block_part config) r c
 
 pub moves_kept : (config : Config) (r : Past) → 0 < guards config → Courses config r → Each (moves_ok config) r
-moves_kept config r low c = each_course config (moves_ok config) low (move_part config) r c
+moves_kept config Start low c = tt
+moves_kept config (Then p i event) low c =
+    (move_part config p i event c.scans.0 c.moves.0 (agrees_at config i p low (before_last config p i event c)), moves_kept config p low (before_last config p i event c))
 
 pub rooms_kept : (config : Config) (s : ℕ) (r : Past) → 0 < guards config → Courses config r → Each (strong.room_ok config.slots s) r → Each (room_ok config s) r
 rooms_kept config s Start low c h = tt

@@ -1,11 +1,11 @@
 -- The steps of protections and calls, from what histories keep.
 use Rattle.std.proofs.Common.{ℕ, ◌≡◌, Bool, true, false, refl, None, Some, Option, arith}
 use Rattle.std.proofs.lemmas.Bool.Decides.{nat_tests}
-use Rattle.std.specs.Prelude.{◌==◌, nat_le, not, if◌then◌else◌}
+use Rattle.std.specs.Prelude.{◌==◌, ◌&&◌, ◌||◌, ◌+◌, is_none, nat_le, not, if◌then◌else◌}
 use Rattle.laws.proofs.records.defs.Facts.{or_more}
 use Rattle.laws.specs.HistorySteps as strong
 use Rattle.laws.specs.HistorySteps.{is_era_spent}
-use Rattle.laws.specs.StateAt.{began_of, backs_of}
+use Rattle.laws.specs.StateAt.{began_of, backs_of, is_index_word, own_rising_of, tried_by, tried_of, value_of}
 use Rattle.laws.specs.StepLaw as weak
 use Rattle.laws.specs.defs.Bounds.{clock_most}
 use Rattle.laws.specs.defs.declared.call.Answer.{Answer}
@@ -13,8 +13,10 @@ use Rattle.laws.specs.defs.declared.call.Call.{Call}
 use Rattle.laws.specs.defs.declared.call.Call.TheVariants as calls
 use Rattle.laws.specs.defs.declared.event.Event.{Event}
 use Rattle.laws.specs.defs.declared.event.Event.TheVariants as events
-use Rattle.laws.specs.defs.declared.event.Guard.TheVariants.{Helper}
+use Rattle.laws.specs.defs.declared.event.Guard.TheVariants.{Helper, Index}
+use Rattle.laws.specs.defs.declared.lifetime.Interval.{Interval}
 use Rattle.laws.specs.records.Record.{Past, Each}
+use Rattle.laws.specs.records.Record.Past.{Start, Then}
 use Rattle.laws.specs.words.Schemes.{is_wfe}
 use Rattle.laws.specs.words.declared.config.Config.{Config}
 use Rattle.law_reuse.proofs.Letter.Each.{each_weaker}
@@ -52,9 +54,45 @@ end_part config p i event h = refl
 pub ends_kept : (config : Config) (r : Past) → Each (strong.end_ok config) r → Each (weak.end_ok config) r
 ends_kept config r h = each_weaker (strong.end_ok config) (weak.end_ok config) (end_part config) r h
 
+-- a protection is over
+over_one : (here was : Bool) (n : ℕ) → (was ≡ true → (n == 0) ≡ false) → (if here then false else was) ≡ true → ((if here then 0 else n) == 0) ≡ false
+over_one true was n f h = absurd (cc)
+over_one false was n f h = f h
+
+-- a protection that is under way has published its index word
+tried_by_one : (i j : ℕ) (there : Option Interval) (event : Event) (was : Bool) (n : ℕ) → (was ≡ true → (n == 0) ≡ false) → weak.under_way_by i j there event was ≡ true → (tried_by i j event n == 0) ≡ false
+tried_by_one i j there (events.Reserve guard None) was n f h = by (is_index_word i j guard) h
+  where
+    by : (here : Bool) → (if here then false else was) ≡ true → ((if here then 0 else n) == 0) ≡ false
+    by true e = absurd (cc)
+    by false e = f e
+tried_by_one i j there (events.Reserve guard (Some span)) was n f h = by (is_index_word i j guard) h
+  where
+    by : (here : Bool) → (if here then was || is_none there else was) ≡ true → ((if here then n + 1 else n) == 0) ≡ false
+    by true e = grind (arith, nat_tests)
+    by false e = f e
+tried_by_one i j there (events.Held index slot steps) was n f h = over_one (index == j) was n f h
+tried_by_one i j there (events.Null index steps) was n f h = over_one (index == j) was n f h
+tried_by_one i j there (events.Copied from index slot) was n f h = over_one (index == j) was n f h
+tried_by_one i j there event was n f h = f h
+
+tried_entry : (i j k : ℕ) (p : Past) (event : Event) (same : Bool) → (i == k) ≡ same → (weak.is_under_way i j p ≡ true → (tried_of i j p == 0) ≡ false) → weak.is_under_way i j (Then p k event) ≡ true → (tried_of i j (Then p k event) == 0) ≡ false
+tried_entry i j k p event true e f h = rw e (tried_by_one i j (value_of (Index i j) p) event (weak.is_under_way i j p) (tried_of i j p) f (rw e at h))
+tried_entry i j k p event false e f h = rw e (f (rw e at h))
+
+tried_before : (i j : ℕ) (p : Past) → weak.is_under_way i j p ≡ true → (tried_of i j p == 0) ≡ false
+tried_before i j Start h = absurd (cc)
+tried_before i j (Then p k event) h = tried_entry i j k p event (i == k) refl (tried_before i j p) h
+
+unless_none : (under none enough : Bool) → (under ≡ true → none ≡ false) → (none || enough) ≡ true → (not under || enough) ≡ true
+unless_none false none enough f h = refl
+unless_none true none enough f h = let n : none ≡ false = f refl in rw n at h
+
 -- a helper word that is the seat's own
 ask_part : (tries j : ℕ) (p : Past) (i : ℕ) (event : Event) → strong.asks_ok tries j p i event ≡ true → weak.ask_ok tries j p i event ≡ true
-ask_part tries j p i (events.Reserve (Helper k) (Some span)) h = or_more (not (k == i)) (weak.has_tried tries i j p) h
+ask_part tries j p i (events.Reserve (Helper k) (Some span)) h =
+    or_more (not (k == i)) (weak.has_tried tries i j p)
+    (unless_none (weak.is_under_way i j p) (tried_of i j p == 0) (nat_le (tries + 1) (tried_of i j p) && own_rising_of i j p) (tried_before i j p) h)
 ask_part tries j p i event h = refl
 
 pub asks_kept : (tries j : ℕ) (r : Past) → Each (strong.asks_ok tries j) r → Each (weak.ask_ok tries j) r

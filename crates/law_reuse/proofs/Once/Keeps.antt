@@ -187,7 +187,10 @@ once_still slots p i event (events.Back slot) h c =
     both (taken_by slot event (taken_at slots slot p)) (has_slot slot (list_of i (Then p i event)))
     (taken_quiet slot event (taken_at slots slot p) h ∙ first_of (taken_at slots slot p) (has_slot slot (list_of i p)) c)
     (list_still i slot event p h (rest_of (taken_at slots slot p) (has_slot slot (list_of i p)) c))
-once_still slots p i event (events.Retire slot birth retire) h c = cut_still i i slot event p h c
+once_still slots p i event (events.Retire slot birth retire) h c =
+    both (taken_by slot event (taken_at slots slot p)) (cut_at i slot (Then p i event))
+    (taken_quiet slot event (taken_at slots slot p) h ∙ first_of (taken_at slots slot p) (cut_at i slot p) c)
+    (cut_still i i slot event p h (rest_of (taken_at slots slot p) (cut_at i slot p) c))
 once_still slots p i event other h c = c
 
 once_kind : (slots : ℕ) → OfKind is_of_rows (once_ok slots)
@@ -219,7 +222,8 @@ once_move w i birth v p (Appends slot) n f h = tt
 once_move w i birth v p (Pops slot next) n f h = tt
 once_move w i birth v p (Reads slot born) n f h = tt
 once_move w i birth v p (Seals slot born retire) n f h = tt
-once_move w i birth v p (Lists slot born retire) n f h = h.cuts i slot (ap (is_cut i) f ∙ same_number i)
+once_move w i birth v p (Lists slot born retire) n f h =
+    both (taken_at w.layout.config.slots slot p) (cut_at i slot p) (h.taken slot ∙ ap is_taken f) (h.cuts i slot (ap (is_cut i) f ∙ same_number i))
 once_move w i birth v p (Returns slot) n f h =
     both (taken_at w.layout.config.slots slot p) (has_slot slot (list_of i p)) (h.taken slot ∙ ap is_taken f.1) (ap (has_slot slot) (h.lists i) ∙ in_own w i slot f.0 v n f.1)
 once_move w i birth v p (Adopts from) n f h = tt

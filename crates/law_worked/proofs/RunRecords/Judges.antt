@@ -8,15 +8,18 @@ use Rattle.std.specs.Prelude.{count_by, filter, if◌then◌else◌, nat_le, nat
 use Rattle.law_all.proofs.inv.model.Facts.{both, by_cases}
 use Rattle.law_all.specs.inv.model.Locals.{Group}
 use Rattle.law_all.specs.inv.model.defs.Pairs.{pairs_after}
+use Rattle.law_all.specs.inv.model.defs.declared.call.Answer.{Answer}
 use Rattle.law_all.specs.inv.model.defs.declared.call.Answer.TheVariants as answers
+use Rattle.law_all.specs.inv.model.defs.declared.call.Call.{Call}
+use Rattle.law_all.specs.inv.model.defs.declared.call.Call.TheVariants as calls
 use Rattle.law_all.specs.inv.model.defs.declared.call.ClockMove.{ClockMove}
 use Rattle.law_all.specs.inv.model.defs.declared.fold.Change.{Change}
 use Rattle.law_all.specs.inv.model.words.Schemes.{moves}
 use Rattle.law_all.specs.laws.AnswerLaw.{retires_for, suits}
 use Rattle.law_all.specs.laws.StateAt.{bucket_of, is_among, numbered_from, one}
-use Rattle.law_all.specs.Logs.Versions.{version_told}
+use Rattle.law_all.specs.Logs.Versions.{seen_in, version_told}
 use Rattle.law_all.specs.RunLaw as law
-use Rattle.law_worked.specs.RunRecords.Readers.{Bullet, Holds, ReadersJudge, Sentence, adopted_by, adopted_ok, back_ok, bare_ok, bullets, change_in, changes_rise_ok, clock_ok, each_below, each_call, each_pair, empty_ok, final_ok, full_ok, if_some_ok, keeps_ok, kept_ok, later_ok, made_in, moved_by, never_fall_ok, once_ok, parted_ok, plain_ok, queued_by, queued_in, queues_ok, reads, reads_ok, rises_ok, same_numbers, same_ok, same_pairs, sentences_of, spent_ok, taken_by, taken_in, takes, tellers, versions_ok}
+use Rattle.law_worked.specs.RunRecords.Readers.{Bullet, Holds, ReadersJudge, Sentence, adopted_by, adopted_ok, back_ok, bare_ok, bullets, change_in, changes_rise_ok, clock_ok, each_below, each_call, each_pair, empty_ok, final_ok, full_ok, if_some_ok, keeps_ok, kept_ok, later_ok, made_in, moved_by, never_fall_ok, once_ok, parted_ok, plain_ok, queued_by, queued_in, queues_ok, reads, reads_ok, rises_ok, same_numbers, same_ok, same_pairs, sentences_of, spent_ok, taken_by, taken_in, takes, tellers, unseen_ok, versions_ok}
 use Rattle.law_worked.specs.RunRecords.Runs.{Run}
 use Rattle.law_worked.proofs.RunRecords.Keeps.{Later, Same, decides_keeps, decides_later, decides_same}
 use Rattle.law_worked.proofs.RunRecords.Made.{changes_told, keeps_of, made_is, queued_is, reads_of, taken_is}
@@ -219,6 +222,22 @@ after_looks_all run =
     (λ before group. Later run.config.buckets (law.is_change group) before (version_told group.call group.answer))
     (λ before group. decides_later run.config.buckets (law.is_change group) before (version_told group.call group.answer)) run.logs
 
+-- where a hold finds nothing
+abbrev Unseen : (n : ℕ) → (before : List Group) → Call → Answer → Type 0
+Unseen n before call answer = (key : ℕ) → call ≡ calls.Hold key → answer ≡ answers.Nothing → seen_in n (bucket_of n key) before ≡ 0
+
+decides_unseen : (n : ℕ) (before : List Group) (call : Call) (answer : Answer) → Decides (unseen_ok n before call answer) (Unseen n before call answer)
+decides_unseen n before (calls.Hold key) answers.Nothing = (
+  (λ t other e none. let same : key ≡ other = cc in subst (λ (x : ℕ). seen_in n (bucket_of n x) before ≡ 0) same ((Decides-eqb (seen_in n (bucket_of n key) before) 0).0 t)),
+  (λ f. (Decides-eqb (seen_in n (bucket_of n key) before) 0).1 (f key refl refl)),
+)
+decides_unseen n before call answer = ((λ t key e none. absurd (cc)), (λ f. refl))
+
+unseen_all : (run : Run) → Decides (reads run Sentence.Unseen) (EachCall run (λ before group. Unseen run.config.buckets before group.call group.answer))
+unseen_all run =
+    decides_call (λ before group. unseen_ok run.config.buckets before group.call group.answer) (λ before group. Unseen run.config.buckets before group.call group.answer)
+    (λ before group. decides_unseen run.config.buckets before group.call group.answer) run.logs
+
 rises : (run : Run) → Decides (takes run Bullet.Rises) (Holds run Bullet.Rises)
 rises run = (
   (λ e.
@@ -226,11 +245,13 @@ rises run = (
         never_fall = λ one two b low high k. (never_fall_all run).0 (part run Bullet.Rises 0 Sentence.NeverFall e refl) one two k b low high;
         changes_rise = λ one two b low high k. (changes_rise_all run).0 (part run Bullet.Rises 1 Sentence.ChangesRise e refl) one two k b low high;
         after_looks = λ before group b version k. (after_looks_all run).0 (part run Bullet.Rises 2 Sentence.AfterLooks e refl) before group k b version;
+        unseen = λ before group key k. (unseen_all run).0 (part run Bullet.Rises 3 Sentence.Unseen e refl) before group k key;
       }),
   (λ h.
       both (reads run Sentence.NeverFall) _ ((never_fall_all run).1 (λ one two k b low high. h.never_fall one two b low high k))
       (both (reads run Sentence.ChangesRise) _ ((changes_rise_all run).1 (λ one two k b low high. h.changes_rise one two b low high k))
-      (both (reads run Sentence.AfterLooks) _ ((after_looks_all run).1 (λ before group k b version. h.after_looks before group b version k)) refl))),
+      (both (reads run Sentence.AfterLooks) _ ((after_looks_all run).1 (λ before group k b version. h.after_looks before group b version k))
+      (both (reads run Sentence.Unseen) _ ((unseen_all run).1 (λ before group k key. h.unseen before group key k)) refl)))),
 )
 
 -- What is kept.
@@ -284,6 +305,11 @@ taken_all run =
     decides_pair (λ one two. rises_ok (taken_by one) (taken_by two)) (λ one two. LessBy (taken_by one) (taken_by two))
     (λ one two. decides_numbers (taken_by one) (taken_by two)) run.logs
 
+first_all : (run : Run) → Decides (reads run Sentence.TakenFirst) ((one two : Group) → law.InOrder run.logs one two → LessBy (taken_by one) (queued_by two))
+first_all run =
+    decides_pair (λ one two. rises_ok (taken_by one) (queued_by two)) (λ one two. LessBy (taken_by one) (queued_by two))
+    (λ one two. decides_numbers (taken_by one) (queued_by two)) run.logs
+
 empty_all : (run : Run) (taken : ℕ)
     → Decides (each_pair (λ one two. empty_ok taken (queued_by one) two.answer) run.logs)
     (EachPair run (λ one two. (number : ℕ) → law.has_number number (queued_by one) ≡ true → two.answer ≡ answers.Empty → number ≤ taken))
@@ -301,10 +327,11 @@ queue_told run e =
       right = (right_all run (queued_in run.logs)).0 (part run Bullet.Queue 3 Sentence.Right e refl);
       queued_rise = λ one two low high k. (queued_all run).0 (part run Bullet.Queue 4 Sentence.QueuedRise e refl) one two k low high;
       taken_rise = λ one two low high k. (taken_all run).0 (part run Bullet.Queue 5 Sentence.TakenRise e refl) one two k low high;
+      taken_first = λ one two low high k. (first_all run).0 (part run Bullet.Queue 6 Sentence.TakenFirst e refl) one two k low high;
       left =
           (decides_pairs run.closed.queue (numbered_from (taken_in run.logs) (drop (taken_in run.logs) (queued_in run.logs)))).0
-          (part run Bullet.Queue 6 Sentence.Left e refl);
-      empty = λ one two number k. (empty_all run (taken_in run.logs)).0 (part run Bullet.Queue 7 Sentence.Empty e refl) one two k number;
+          (part run Bullet.Queue 7 Sentence.Left e refl);
+      empty = λ one two number k. (empty_all run (taken_in run.logs)).0 (part run Bullet.Queue 8 Sentence.Empty e refl) one two k number;
     }
 
 queue_taken : (run : Run) → law.QueueLaw run.config run.logs run.closed (queued_in run.logs) (taken_in run.logs) → takes run Bullet.Queue ≡ true
@@ -315,9 +342,10 @@ queue_taken run h =
     (both (reads run Sentence.Right) _ ((right_all run (queued_in run.logs)).1 h.right)
     (both (reads run Sentence.QueuedRise) _ ((queued_all run).1 (λ one two k low high. h.queued_rise one two low high k))
     (both (reads run Sentence.TakenRise) _ ((taken_all run).1 (λ one two k low high. h.taken_rise one two low high k))
+    (both (reads run Sentence.TakenFirst) _ ((first_all run).1 (λ one two k low high. h.taken_first one two low high k))
     (both (reads run Sentence.Left) _
     ((decides_pairs run.closed.queue (numbered_from (taken_in run.logs) (drop (taken_in run.logs) (queued_in run.logs)))).1 h.left)
-    (both (reads run Sentence.Empty) _ ((empty_all run (taken_in run.logs)).1 (λ one two k number. h.empty one two number k)) refl)))))))
+    (both (reads run Sentence.Empty) _ ((empty_all run (taken_in run.logs)).1 (λ one two k number. h.empty one two number k)) refl))))))))
 
 queue : (run : Run) → Decides (takes run Bullet.Queue) (Holds run Bullet.Queue)
 queue run = (

@@ -1,5 +1,6 @@
 -- The laws that refuse each wrong record compute.
 use Rattle.std.proofs.Common.{refl}
+use Rattle.law_worked.specs.RightEdits.{RightEditsTaken}
 use Rattle.law_worked.specs.WrongAnswers.{WrongAnswersRefused}
 use Rattle.law_worked.specs.WrongEras.{WrongErasRefused}
 use Rattle.law_worked.specs.WrongHolds.{WrongHoldsRefused}
@@ -9,6 +10,9 @@ use Rattle.law_worked.specs.WrongScans.{WrongScansRefused}
 use Rattle.law_worked.specs.WrongSteps.{WrongStepsRefused}
 use Rattle.law_worked.specs.WrongTurns.{WrongTurnsRefused}
 use Rattle.law_worked.specs.WrongValues.{WrongValuesRefused}
+
+pub right_edits : RightEditsTaken
+right_edits = refl
 
 pub wrong_answers : WrongAnswersRefused
 wrong_answers = refl

@@ -73,7 +73,7 @@ at_version_table =
     ∷ row Moves [] [] [] [] []
     ∷ row Advances [] [] [] [] []
     ∷ row Births [] [] [] [] []
-    ∷ row Retires (19 ∷ []) [] [] (19 ∷ 23 ∷ []) []
+    ∷ row Retires (3 ∷ 19 ∷ []) [] [] (3 ∷ 19 ∷ 23 ∷ []) []
     ∷ row Current [] [] [] (1 ∷ 9 ∷ 15 ∷ []) []
     ∷ row Single [] [] [] [] []
     ∷ row Rising [] [] [] [] []

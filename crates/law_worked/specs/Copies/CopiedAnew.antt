@@ -97,7 +97,7 @@ copied_anew_table =
     ∷ row Moves (33 ∷ []) (34 ∷ []) [] (33 ∷ []) []
     ∷ row Advances [] [] [] [] []
     ∷ row Births [] [] [] [] []
-    ∷ row Retires (21 ∷ []) [] [] (21 ∷ 25 ∷ []) []
+    ∷ row Retires (3 ∷ 21 ∷ []) [] [] (3 ∷ 21 ∷ 25 ∷ []) []
     ∷ row Current (30 ∷ []) [] (29 ∷ []) (1 ∷ 9 ∷ 13 ∷ 17 ∷ 30 ∷ 43 ∷ []) []
     ∷ row Single [] [] [] [] []
     ∷ row Rising [] [] [] [] []

@@ -94,7 +94,7 @@ kept_twice_table =
     ∷ row Moves [] (25 ∷ []) (25 ∷ []) [] []
     ∷ row Advances [] [] [] [] []
     ∷ row Births [] [] [] [] []
-    ∷ row Retires (20 ∷ []) [] [] (20 ∷ 24 ∷ []) []
+    ∷ row Retires (3 ∷ 20 ∷ []) [] [] (3 ∷ 20 ∷ 24 ∷ []) []
     ∷ row Current [] [] [] (1 ∷ 9 ∷ 16 ∷ 36 ∷ []) []
     ∷ row Single [] [] [] [] []
     ∷ row Rising (6 ∷ []) (1 ∷ 9 ∷ 16 ∷ []) [] (6 ∷ 23 ∷ 36 ∷ []) []

@@ -9,7 +9,7 @@ use Rattle.wfe_core.specs.Guards.{from_to}
 use Rattle.model_history.specs.Among.{said}
 use Rattle.law_worked.specs.Edited.{Wrong, wrong, named_by, refused_by}
 use Rattle.law_worked.specs.Edited.Edit.{Before, Instead, Until}
-use Rattle.law_worked.specs.Judges.Law.{Eras, Advances, Births, Retires, Guards, Kinds, Named, Ranges}
+use Rattle.law_worked.specs.Judges.Law.{Eras, Moves, Advances, Births, Retires, Guards, Kinds, Named, Ranges}
 use Rattle.law_worked.specs.PutThenGet.{put_then_get as eras_get, put_then_get_setting as eras_get_setting}
 use Rattle.law_worked.specs.Kept.{kept as eras_kept, kept_setting as eras_kept_setting}
 use Rattle.law_worked.specs.Hazards.PutThenGet.{put_then_get, put_then_get_setting}
@@ -22,9 +22,9 @@ wrong_hazards =
     -- a get moves the clock
     ∷ wrong put_then_get_setting.config put_then_get (Before 11 (said 0 (events.Era 2)) ∷ Until 11 ∷ []) (Advances ∷ [])
     -- an advance moves the clock twice
-    ∷ wrong seen_setting.config seen (Before 61 (said 1 (events.Era 3)) ∷ Until 61 ∷ []) (Advances ∷ [])
+    ∷ wrong seen_setting.config seen (Before 61 (said 1 (events.Era 3)) ∷ Until 61 ∷ []) (Moves ∷ Advances ∷ [])
     -- an advance moves the clock twice, with another seat between
-    ∷ wrong seen_setting.config seen (Before 61 (said 0 (events.Begin calls.Scan)) ∷ Before 61 (said 1 (events.Era 3)) ∷ Until 61 ∷ []) (Advances ∷ [])
+    ∷ wrong seen_setting.config seen (Before 61 (said 0 (events.Begin calls.Scan)) ∷ Before 61 (said 1 (events.Era 3)) ∷ Until 61 ∷ []) (Moves ∷ Advances ∷ [])
     -- the clock is moved by two eras
     ∷ wrong seen_setting.config seen (Instead 60 (said 1 (events.Era 3)) ∷ Until 61 ∷ []) (Eras ∷ [])
     -- the clock is moved past its last era

@@ -101,7 +101,7 @@ handed_over_table =
     ∷ row Moves [] [] [] [] []
     ∷ row Advances [] [] [] [] []
     ∷ row Births [] [] [] [] []
-    ∷ row Retires (15 ∷ []) [] [] (15 ∷ 19 ∷ []) []
+    ∷ row Retires (5 ∷ 15 ∷ []) [] [] (5 ∷ 15 ∷ 19 ∷ []) []
     ∷ row Current [] [] [] (3 ∷ 11 ∷ 22 ∷ 26 ∷ []) []
     ∷ row Single [] [] [] [] []
     ∷ row Rising [] [] [] [] []

@@ -98,7 +98,7 @@ passed_on_table =
     ∷ row Moves [] [] [] [] []
     ∷ row Advances [] [] [] [] []
     ∷ row Births [] [] [] [] []
-    ∷ row Retires (13 ∷ []) [] [] (13 ∷ 17 ∷ []) []
+    ∷ row Retires (3 ∷ 13 ∷ []) [] [] (3 ∷ 13 ∷ 17 ∷ []) []
     ∷ row Current [] [] [] (1 ∷ 9 ∷ 20 ∷ []) []
     ∷ row Single [] [] [] [] []
     ∷ row Rising (6 ∷ 16 ∷ []) (1 ∷ 9 ∷ 20 ∷ []) [] (6 ∷ 16 ∷ 29 ∷ []) []

@@ -43,10 +43,6 @@ loose =
     ∷ then_call 0 (group (calls.Get 0) (answers.Got 5 None) (notes 9 None false None (0 ∷ []) 0)) (closing (λ t. record t { used = 1 ∷ 3 ∷ 4 ∷ 5 ∷ [] }) shared)
     -- a seat finds the queue empty, and takes a value after that which it has queued before
     ∷ of_queue (queues_one ∷ group calls.Dequeue answers.Empty (notes 11 None false None [] 0) ∷ takes_one ∷ [])
-    -- a seat takes a value before it queues it
-    ∷ of_queue (takes_one ∷ queues_one ∷ [])
-    -- a hold finds no row in a bucket that its seat has changed
-    ∷ then_call 0 (group (calls.Hold 0) answers.Nothing no_notes) shared
     -- a call finds a list taken over that its seat takes over after that
     ∷ answering 1 0 answers.AdoptedBefore handed
     -- a seat takes a list over, and then finds that it was not left

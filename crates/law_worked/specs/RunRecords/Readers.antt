@@ -301,6 +301,11 @@ abbrev pub if_some_ok : (ℕ → Bool) → Option ℕ → Bool
 if_some_ok test None = true
 if_some_ok test (Some number) = test number
 
+-- a hold that finds nothing, in a table with so many buckets: its seat has told no version of the bucket
+abbrev pub unseen_ok : (buckets : ℕ) → (before : List Group) → Call → Answer → Bool
+unseen_ok n before (calls.Hold key) answers.Nothing = seen_in n (bucket_of n key) before == 0
+unseen_ok n before call answer = true
+
 -- The sentences of the law of runs, under the names that they have in the records of its bullets, or others where two have one name.
 
 pub data Sentence : Type 0 where
@@ -323,6 +328,7 @@ pub data Sentence : Type 0 where
   NeverFall : Sentence
   ChangesRise : Sentence
   AfterLooks : Sentence
+  Unseen : Sentence
   -- of what is kept
   KeptRight : Sentence
   Same : Sentence
@@ -333,6 +339,7 @@ pub data Sentence : Type 0 where
   Right : Sentence
   QueuedRise : Sentence
   TakenRise : Sentence
+  TakenFirst : Sentence
   Left : Sentence
   Empty : Sentence
   -- of rows
@@ -381,6 +388,7 @@ reads run Sentence.ChangesRise =
     each_pair (λ one two. changes_rise_ok run.config.buckets one two) run.logs
 reads run Sentence.AfterLooks =
     each_call (λ before group. later_ok run.config.buckets (law.is_change group) before (version_told group.call group.answer)) run.logs
+reads run Sentence.Unseen = each_call (λ before group. unseen_ok run.config.buckets before group.call group.answer) run.logs
 reads run Sentence.KeptRight = each_call (λ before group. keeps_ok run.config (made_in run.config.buckets run.logs) before group.call group.answer) run.logs
 reads run Sentence.Same =
     each_two (λ early one before two. same_ok early (law.look_made one.call one.answer) before (law.look_made two.call two.answer)) run.logs
@@ -390,6 +398,7 @@ reads run Sentence.OnceTaken = once_ok taken_by (taken_in run.logs) run.logs
 reads run Sentence.Right = each_call (λ before group. queues_ok run.config (queued_in run.logs) group.call group.answer) run.logs
 reads run Sentence.QueuedRise = each_pair (λ one two. rises_ok (queued_by one) (queued_by two)) run.logs
 reads run Sentence.TakenRise = each_pair (λ one two. rises_ok (taken_by one) (taken_by two)) run.logs
+reads run Sentence.TakenFirst = each_pair (λ one two. rises_ok (taken_by one) (queued_by two)) run.logs
 reads run Sentence.Left = same_pairs run.closed.queue (numbered_from (taken_in run.logs) (drop (taken_in run.logs) (queued_in run.logs)))
 reads run Sentence.Empty = each_pair (λ one two. empty_ok (taken_in run.logs) (queued_by one) two.answer) run.logs
 reads run Sentence.Used = same_numbers run.closed.used (filter (λ slot. is_among slot run.closed.used) (range_with_len 0 (run.config.slots + 1)))
@@ -442,11 +451,11 @@ abbrev pub sentences_of : Bullet → List Sentence
 sentences_of Bullet.Answers =
     Sentence.Seats ∷ Sentence.Suits ∷ Sentence.Allowed ∷ Sentence.Full ∷ Sentence.Retires ∷ Sentence.Clock ∷ Sentence.Counted ∷ Sentence.Bare ∷ []
 sentences_of Bullet.Versions = Sentence.Buckets ∷ Sentence.Version ∷ Sentence.Once ∷ Sentence.Pairs ∷ Sentence.Reads ∷ []
-sentences_of Bullet.Rises = Sentence.NeverFall ∷ Sentence.ChangesRise ∷ Sentence.AfterLooks ∷ []
+sentences_of Bullet.Rises = Sentence.NeverFall ∷ Sentence.ChangesRise ∷ Sentence.AfterLooks ∷ Sentence.Unseen ∷ []
 sentences_of Bullet.Keeps = Sentence.KeptRight ∷ Sentence.Same ∷ []
 sentences_of Bullet.Queue =
     Sentence.MostTaken ∷ Sentence.OnceQueued ∷ Sentence.OnceTaken ∷ Sentence.Right
-    ∷ Sentence.QueuedRise ∷ Sentence.TakenRise ∷ Sentence.Left ∷ Sentence.Empty ∷ []
+    ∷ Sentence.QueuedRise ∷ Sentence.TakenRise ∷ Sentence.TakenFirst ∷ Sentence.Left ∷ Sentence.Empty ∷ []
 sentences_of Bullet.Rows = Sentence.Used ∷ Sentence.Balance ∷ []
 sentences_of Bullet.Lists =
     Sentence.Plain ∷ Sentence.Early ∷ Sentence.Late ∷ Sentence.Kept ∷ Sentence.LeftCount ∷ Sentence.TakenCount

@@ -8,7 +8,7 @@ use Rattle.law_all.specs.inv.model.defs.declared.call.Call.TheVariants as calls
 use Rattle.law_all.specs.inv.model.defs.declared.call.ClockMove.TheVariants as moves
 use Rattle.law_worked.specs.RunRecords.Readers.{Bullet, Sentence}
 use Rattle.law_worked.specs.RunRecords.Refusals.{AreRefused, Wrong, wrong}
-use Rattle.law_worked.specs.RunRecords.Runs.{answering, before_call, closing, group, life, notes, then_call}
+use Rattle.law_worked.specs.RunRecords.Runs.{answering, before_call, closing, group, life, notes, then_call, without_call}
 use Rattle.law_worked.specs.RunRecords.Shared.{shared}
 use Rattle.law_worked.specs.RunRecords.Spent.{spent}
 
@@ -52,6 +52,11 @@ wrong_queues =
     (before_call 0 2 (group calls.Dequeue (answers.Taken 2 12 (moves.EraSpent 3)) (notes 18 None false (life 1 1 3) [] 0))
     ∷ closing (λ t. record t { queue = [] }) ∷ [])
     Bullet.Queue (Sentence.TakenRise ∷ [])
+    -- a seat takes a value before it queues it
+    ∷ wrong shared
+    (before_call 0 2 (group calls.Dequeue (answers.Taken 1 71 (moves.Other 4)) (notes 28 None false (life 5 1 2) (1 ∷ 5 ∷ []) 0))
+    ∷ without_call 0 5 ∷ [])
+    Bullet.Queue (Sentence.TakenFirst ∷ [])
     -- a value that is left is not in the queue
     ∷ wrong shared (closing (λ t. record t { queue = [] }) ∷ []) Bullet.Queue (Sentence.Left ∷ [])
     -- a value that is left has another number

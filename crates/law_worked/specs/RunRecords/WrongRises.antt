@@ -37,6 +37,8 @@ wrong_rises =
     (before_call 0 1 (group (calls.Look 2 0) (answers.Looked 7 3 (Some 11)) no_notes)
     ∷ before_call 0 1 (group (calls.Hold 0) (answers.Holding 7) no_notes) ∷ [])
     Bullet.Rises (Sentence.AfterLooks ∷ [])
+    -- a hold finds nothing in a bucket of which its seat told a version before
+    ∷ wrong shared (then_call 1 (group (calls.Hold 2) answers.Nothing no_notes) ∷ []) Bullet.Rises (Sentence.Unseen ∷ [])
     -- a put at a version is stale at an earlier one than its seat told before
     ∷ wrong kept (answering 1 4 (answers.Stale 0) ∷ []) Bullet.Rises (Sentence.NeverFall ∷ []) ∷ []
 

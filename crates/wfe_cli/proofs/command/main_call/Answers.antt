@@ -4,7 +4,7 @@ use Rattle.wfe_cli.proofs.Headline.{given_lawful, keeps_of}
 use Rattle.wfe_cli.proofs.Jobs.{checks_as, nothing_checked, nothing_kept, nothing_run, nothing_summarized, replays_as, runs_as, summarizes_as, unread_by, untold_by}
 use Rattle.wfe_cli.proofs.ReadBack.{reads_back_as}
 use Rattle.wfe_check.proofs.lines.Answered.{answered}
-use Rattle.wfe_server_run.proofs.Complete.{complete as run_whole}
+use Rattle.wfe_server.proofs.Complete.{complete as run_whole}
 use Rattle.wfe_cli.proofs.command.main_call.Goals as goal
 
 pub returns-in-Ok-Some-clause-replays : goal.returns-in-Ok-Some-clause-replays

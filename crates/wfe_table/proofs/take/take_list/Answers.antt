@@ -80,4 +80,4 @@ returns-in-Ok-clause-made c = took_adopts c.args.place c.len.result (own c.args.
 pub returns-in-Err-clause-made : goal.returns-in-Err-clause-made
 returns-in-Err-clause-made c =
     let missed = c.in-Err.ensures.missed in
-    (missed.0, missed_adopts c.args.place _ (own c.args.handle.now.me.0) c.take_on.new.handle.me missed.1)
+    missed_adopts c.args.place _ (own c.args.handle.now.me.0) c.take_on.new.handle.me missed.0 missed.1

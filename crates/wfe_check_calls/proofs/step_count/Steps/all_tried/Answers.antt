@@ -1,4 +1,4 @@
-use Rattle.std.proofs.Common.{ℕ, ◌≡◌, below_more, true, sym, ap, ◌∙◌, ◌==◌, ◌+◌, ◌&&◌, ◌||◌, nat_le}
+use Rattle.std.proofs.Common.{ℕ, ◌≡◌, below_more, true, sym, ap, ◌∙◌, ◌+◌, ◌&&◌, ◌||◌, nat_le, not}
 use Rattle.laws.specs.StepLaw.{has_tried}
 use Rattle.laws.specs.words.declared.config.Config.{Config}
 use Rattle.wfe_check_calls.specs.declared.word.Word.{Word}
@@ -6,10 +6,10 @@ use Rattle.wfe_check_calls.proofs.step_count.Steps.all_tried.Goals as goal
 
 -- a word's own test under the setting's tries
 tried_is : (tries own_tries : ℕ) (word kept : Word) → own_tries ≡ tries → kept ≡ word →
-    ((kept.tried == 0) || (nat_le (own_tries + 1) kept.tried && kept.own_rising)) ≡ ((word.tried == 0) || (nat_le (tries + 1) word.tried && word.own_rising))
+    (not kept.under_way || (nat_le (own_tries + 1) kept.tried && kept.own_rising)) ≡ (not word.under_way || (nat_le (tries + 1) word.tried && word.own_rising))
 tried_is tries own_tries word kept e w =
-    ap (λ n. (kept.tried == 0) || (nat_le (n + 1) kept.tried && kept.own_rising)) e
-    ∙ ap (λ (v : Word). (v.tried == 0) || (nat_le (tries + 1) v.tried && v.own_rising)) w
+    ap (λ n. not kept.under_way || (nat_le (n + 1) kept.tried && kept.own_rising)) e
+    ∙ ap (λ (v : Word). not v.under_way || (nat_le (tries + 1) v.tried && v.own_rising)) w
 
 pub loop-index-preserved : goal.loop-index-preserved
 loop-index-preserved c config p s =
