@@ -1,32 +1,66 @@
 #!/usr/bin/env python3
-"""How many calls a second threads make on one shared table, beside a plain Rust program of the same algorithm.
+"""How many calls a second threads make on one shared table, beside plain Rust with the same steps and crossbeam's epochs.
 
 Run it at the top of the repository, once `./build wfe_speed` has made the program:
 bench/threads.py [--calls N] [--repeats R] [--threads 1,2,4] [--profile | --builds]
 
-The plain program is `bench/plain`, built here with `rustc` at its highest level. Both make the same calls: gets alone
-(`reads`), nine gets and a put (`mixed`), puts alone (`puts`), and an enqueue and a dequeue by turns (`pairs`), under
-each scheme. A time is the best of the repeats, in which the programs take turns, without what a run of one call takes.
-Ratios are to one thread of the same program, and to the plain program at the same work, scheme and threads; of puts,
-also to the plain program's map on epochs. With --profile it counts instructions a call on one thread with callgrind.
-With --builds it times puts of the plain program alone, as it is and with weaker orders of its steps and with its words
-apart (`bench/plain/table.rs`), beside the map on epochs.
+The proved program is `wfe_speed`. The plain one is `bench/plain`, built here with `rustc` at its highest level in two
+placements: dense, each word beside the next, and placed, where the clock, the words of seats and the queue's head and
+tail have a line of the cache each. The third is a map and a queue on crossbeam-epoch, built with `cargo` from the source
+that Debian's librust-crossbeam-epoch-dev installs, and left out where there is none. All make the same calls: gets alone
+(`reads`), nine gets and a put (`mixed`), puts alone (`puts`), and an enqueue and a dequeue by turns (`pairs`), those of
+the table under each scheme. It prints
+
+- million calls a second: the median of the bursts, each a run of its own in which a thread makes N calls (of reads and
+  mixed four times as many), without what a run of one call takes; the programs take turns in each repeat;
+- ratios of these medians: of each program to itself on one thread, to the plain program placed, and to crossbeam's; and
+  the most rows that a seat's retire list had in the plain program's bursts, which the proved one doesn't tell.
+
+With --profile it counts instructions a call on one thread with callgrind instead. With --builds it times puts of the
+plain program alone, as it is, with weaker orders of its steps and in each placement (`bench/plain/table.rs`), beside a
+map on epochs of its own that needs no package. It fails where a call is refused.
 """
 import argparse
+import datetime
+import glob
+import json
 import os
+import platform
 import re
+import shutil
+import statistics
 import subprocess
 import sys
 import tempfile
 import time
 
 SCHEMES = ("he", "ibr", "wfe", "hp")
-WORKS = ("reads", "mixed", "puts", "pairs")
+# How many times the calls of a burst are made of each work: a get is over sooner than a put.
+WORKS = {"reads": 4, "mixed": 4, "puts": 1, "pairs": 1}
+# The programs whose medians are compared.
+BESIDE = (("proved", "placed"), ("proved", "crossbeam"), ("placed", "crossbeam"))
 TOP = os.path.dirname(os.path.dirname(os.path.realpath(__file__)))
-OURS = f"{TOP}/crates/wfe_speed/out/wfe_speed"
+PROVED = f"{TOP}/crates/wfe_speed/out/wfe_speed"
+REGISTRY = "/usr/share/cargo/registry"
+MANIFEST = f"""[package]
+name = "plain"
+version = "0.0.0"
+edition = "2024"
+[[bin]]
+name = "plain"
+path = {json.dumps(f"{TOP}/bench/plain/main.rs")}
+[features]
+crossbeam = []
+[dependencies]
+crossbeam-epoch = "0.9"
+crossbeam-utils = "0.8"
+[lints.rust]
+unexpected_cfgs = "allow"
+"""
 
 
 def built_plain(folder, *choices):
+    """The plain program with these choices of `bench/plain/table.rs`."""
     program = f"{folder}/plain{''.join(choices)}"
     words = [word for choice in choices for word in ("--cfg", choice)]
     subprocess.run(["rustc", "--edition", "2024", "-C", "opt-level=3", *words, "-o", program, f"{TOP}/bench/plain/main.rs"],
@@ -34,28 +68,155 @@ def built_plain(folder, *choices):
     return program
 
 
-def seconds(program, *words):
-    """The seconds of one run, in which each call was answered as it had to be."""
+def built_crossbeam(folder):
+    """The plain program that has crossbeam's epochs too, and their version, or none and why."""
+    if not glob.glob(f"{REGISTRY}/crossbeam-epoch-0.9.*"):
+        return None, f"{REGISTRY} has no crossbeam-epoch (apt-get install librust-crossbeam-epoch-dev)"
+    if shutil.which("cargo") is None:
+        return None, "there is no cargo"
+    os.mkdir(f"{folder}/crossbeam")
+    with open(f"{folder}/crossbeam/Cargo.toml", "w", encoding="utf-8") as manifest:
+        manifest.write(MANIFEST)
+    made = subprocess.run(["cargo", "build", "--quiet", "--release", "--offline", "--features", "crossbeam", "--target-dir", "target",
+                           "--config", 'source.crates-io.replace-with="debian"',
+                           "--config", f"source.debian.directory={json.dumps(REGISTRY)}"],
+                          cwd=f"{folder}/crossbeam", capture_output=True, text=True, check=False)
+    if made.returncode:
+        return None, f"cargo did not build it: {' '.join(made.stderr.split())}"
+    with open(f"{folder}/crossbeam/Cargo.lock", encoding="utf-8") as lock:
+        version = re.search(r'name = "crossbeam-epoch"\nversion = "(.*)"', lock.read())
+    return f"{folder}/crossbeam/target/release/plain", f"crossbeam-epoch {version[1]}"
+
+
+def burst(program, work, threads, calls):
+    """The seconds of one run, in which each call was answered as it had to be, and the longest retire list where it tells."""
+    file, scheme = program
+    words = [file, scheme, work, str(threads), str(calls)]
     start = time.perf_counter()
-    ran = subprocess.run([program, *map(str, words)], capture_output=True, text=True, check=True)
+    ran = subprocess.run(words, capture_output=True, text=True, check=True)
     took = time.perf_counter() - start
-    if not re.fullmatch(r"\d+ calls, 0 refused\n", ran.stdout):
-        sys.exit(f"{program} {words}: {ran.stdout}{ran.stderr}")
-    return took
+    told = re.fullmatch(r"\d+ calls, 0 refused(?:, (\d+) rows in the longest retire list)?\n", ran.stdout)
+    if not told:
+        sys.exit(f"{words}: {ran.stdout}{ran.stderr}")
+    return took, int(told[1] or 0)
 
 
-def rates(programs, work, threads, calls, repeats):
-    """Calls a second of each program, where a program is its file and its scheme."""
-    best = {it: [float("inf"), float("inf")] for it in programs}
-    for _ in range(repeats):
-        for it in programs:
-            for place, count in enumerate((1, calls)):
-                best[it][place] = min(best[it][place], seconds(*it, work, threads, count))
-    return {it: threads * (calls - 1) / (long - short) for it, (short, long) in best.items()}
+class Bursts:
+    """What the bursts of one program at one work on so many threads came to."""
+
+    def __init__(self, program, work, threads, calls):
+        self.asked = program, work, threads
+        self.calls = calls
+        self.empty, self.full, self.longest = [], [], 0
+
+    def run(self):
+        """One more burst, and a run of one call."""
+        self.empty.append(burst(*self.asked, 1)[0])
+        took, longest = burst(*self.asked, self.calls)
+        self.full.append(took)
+        self.longest = max(self.longest, longest)
+
+    def rates(self):
+        """Calls a second of each burst: `inf` shows that it had too few to be timed."""
+        empty = statistics.median(self.empty)
+        calls = self.asked[2] * (self.calls - 1)
+        return [calls / (full - empty) if full > empty else float("inf") for full in self.full]
+
+    def median(self):
+        """Calls a second of the burst in the middle."""
+        return statistics.median(self.rates())
+
+    def shown(self):
+        """Million calls a second: the median, the lowest and the highest."""
+        rates = self.rates()
+        median, low, high = (f"{it / 1e6:.3g}" for it in (statistics.median(rates), min(rates), max(rates)))
+        return f"{median} ({low}-{high})"
+
+
+def measured(programs, work, options, times=1):
+    """The bursts of these programs at one work, by program and threads. The programs take turns."""
+    found = {(it, threads): Bursts(it, work, threads, times * options.calls) for threads in options.threads for it in programs}
+    for _ in range(options.repeats):
+        for it in found.values():
+            it.run()
+    return found
+
+
+def print_row(cells):
+    """A row of a table, which shows at once how far a long run is."""
+    print("|", " | ".join(cells), "|", flush=True)
+
+
+def print_head(title, cells):
+    """A title, and the head of its table."""
+    print(f"\n{title}\n")
+    print_row(cells)
+    print("|" + "---|" * len(cells), flush=True)
+
+
+def print_machine(options):
+    """When and on what the bursts are run."""
+    with open("/proc/cpuinfo", encoding="utf-8") as lines:
+        model = re.search(r"model name\s*: (.*)", lines.read())
+    rustc = subprocess.run(["rustc", "--version"], capture_output=True, text=True, check=True).stdout.split(" (")[0].strip()
+    print(f"{datetime.date.today()}, {model[1] if model else platform.machine()}, {os.cpu_count()} processors, "
+          f"load before {os.getloadavg()[0]:.2f}, {rustc}; --calls {options.calls} --repeats {options.repeats}", flush=True)
+
+
+def columns(folder):
+    """The file of each program, by its name in the tables."""
+    found = {"proved": PROVED, "dense": built_plain(folder), "placed": built_plain(folder, "placed")}
+    crossbeam, told = built_crossbeam(folder)
+    if crossbeam:
+        found["crossbeam"] = crossbeam
+        print(f"crossbeam: {told}")
+    else:
+        print(f"crossbeam is left out: {told}")
+    return found
+
+
+def named(files, scheme):
+    """The programs of a scheme: a file, and the word with which it is called."""
+    return {name: (file, name if name == "crossbeam" else scheme) for name, file in files.items()}
+
+
+def print_rates(files, options):
+    """Prints the first table, each work as soon as it is done, and hands on what it found."""
+    print_head("Million calls a second: median (lowest-highest)", ["work", "scheme", "threads", *files])
+    found = {}
+    for work, times in WORKS.items():
+        programs = dict.fromkeys(it for scheme in SCHEMES for it in named(files, scheme).values())
+        found[work] = measured(programs, work, options, times)
+        for scheme in SCHEMES:
+            for threads in options.threads:
+                cells = [found[work][it, threads].shown() for it in named(files, scheme).values()]
+                print_row([work, f"`{scheme}`", str(threads), *cells])
+    return found
+
+
+def ratio(bursts, over, under):
+    """The ratio of two medians, where both were measured."""
+    return f"{bursts[over].median() / bursts[under].median():.2f}" if under in bursts else ""
+
+
+def print_ratios(files, found, options):
+    """Prints the second table, from what the first one found."""
+    pairs = [it for it in BESIDE if it[1] in files]
+    print_head("Ratios of these medians, and rows in the longest retire list",
+               ["work", "scheme", "threads", *(f"{it} to 1 thread" for it in files), *(f"{over} to {under}" for over, under in pairs),
+                "list"])
+    for work, bursts in found.items():
+        for scheme in SCHEMES:
+            programs = named(files, scheme)
+            for threads in options.threads:
+                scaled = [ratio(bursts, (it, threads), (it, 1)) for it in programs.values()]
+                beside = [ratio(bursts, (programs[over], threads), (programs[under], threads)) for over, under in pairs]
+                longest = max(bursts[programs[it], threads].longest for it in ("dense", "placed"))
+                print_row([work, f"`{scheme}`", str(threads), *scaled, *beside, str(longest)])
 
 
 def instructions(program, scheme, work, calls):
-    """Instructions that one thread takes for so many calls."""
+    """Instructions that one thread takes for a call."""
     counts = []
     for count in (1, calls):
         with tempfile.NamedTemporaryFile() as out:
@@ -66,56 +227,54 @@ def instructions(program, scheme, work, calls):
     return (counts[1] - counts[0]) / (calls - 1)
 
 
-def print_rates(plain, options):
-    print("| work | scheme | threads | calls/s | to 1 thread | to plain | to epochs |\n|---|---|---|---|---|---|---|")
+def print_profile(folder):
+    """Prints instructions a call of the proved program and of the plain one in both placements."""
+    files = PROVED, built_plain(folder), built_plain(folder, "placed")
+    print_head("Instructions a call on one thread",
+               ["work", "scheme", "proved", "dense", "placed", "proved to dense", "proved to placed"])
     for work in WORKS:
         for scheme in SCHEMES:
-            one = None
-            for threads in options.threads:
-                programs = [(OURS, scheme), (plain, scheme)] + [(plain, "epochs")] * (work != "pairs")
-                got = list(rates(programs, work, threads, options.calls, options.repeats).values())
-                one = one or got[0]
-                beside = f"{got[0] / got[2]:.2f}" if len(got) > 2 else ""
-                print(f"| {work} | `{scheme}` | {threads} | {got[0]:,.0f} | {got[0] / one:.2f} | {got[0] / got[1]:.2f} | {beside} |",
-                      flush=True)
-
-
-def print_profile(plain):
-    print("| work | scheme | instructions a call | of the plain program | ratio |\n|---|---|---|---|---|")
-    for work in WORKS:
-        for scheme in SCHEMES:
-            ours, theirs = (instructions(it, scheme, work, 20_001) for it in (OURS, plain))
-            print(f"| {work} | `{scheme}` | {ours:,.0f} | {theirs:,.0f} | {ours / theirs:.1f} |", flush=True)
+            counts = [instructions(file, scheme, work, 20_001) for file in files]
+            print_row([work, f"`{scheme}`", *(f"{it:,.0f}" for it in counts), *(f"{counts[0] / it:.2f}" for it in counts[1:])])
 
 
 def print_builds(folder, options):
-    print("| threads | order of steps | words | puts/s | to epochs |\n|---|---|---|---|---|")
-    builds = [built_plain(folder, *it) for it in ((), ("weak",), ("apart",), ("weak", "apart"))]
-    names = ("one for all | side by side", "weak | side by side", "one for all | apart", "weak | apart")
+    """Prints puts of each build of the plain program under Hazard Eras."""
+    builds = {(order or "one for all", words or "dense"): (built_plain(folder, *filter(None, (order, words))), "he")
+              for words in ("", "placed", "apart") for order in ("", "weak")}
+    epochs = (builds["one for all", "dense"][0], "epochs")
+    found = measured([*builds.values(), epochs], "puts", options)
+    print_head("Million puts a second: median (lowest-highest)", ["threads", "order of steps", "words", "puts", "to epochs"])
     for threads in options.threads:
-        programs = [(it, "he") for it in builds] + [(builds[0], "epochs")]
-        *got, epochs = rates(programs, "puts", threads, options.calls, options.repeats).values()
-        for name, rate in zip(names, got):
-            print(f"| {threads} | {name} | {rate:,.0f} | {rate / epochs:.2f} |", flush=True)
+        for (order, words), build in builds.items():
+            print_row([str(threads), order, words, found[build, threads].shown(), ratio(found, (build, threads), (epochs, threads))])
 
 
-def main():
+def asked():
+    """The options."""
     parser = argparse.ArgumentParser(description=__doc__, formatter_class=argparse.RawDescriptionHelpFormatter)
     parser.add_argument("--calls", type=int, default=1_000_000)
-    parser.add_argument("--repeats", type=int, default=5)
+    parser.add_argument("--repeats", type=int, default=7)
     parser.add_argument("--threads", type=lambda text: [int(it) for it in text.split(",")], default=[1, 2, 4])
     parser.add_argument("--profile", action="store_true")
     parser.add_argument("--builds", action="store_true")
-    options = parser.parse_args()
-    if not options.builds and not os.path.exists(OURS):
+    return parser.parse_args()
+
+
+def main():
+    options = asked()
+    if not options.builds and not os.path.exists(PROVED):
         sys.exit("./build wfe_speed makes the program first")
     with tempfile.TemporaryDirectory() as folder:
+        if options.profile:
+            print_profile(folder)
+            return
+        print_machine(options)
         if options.builds:
             print_builds(folder, options)
-        elif options.profile:
-            print_profile(built_plain(folder))
-        else:
-            print_rates(built_plain(folder), options)
+            return
+        files = columns(folder)
+        print_ratios(files, print_rates(files, options), options)
 
 
 if __name__ == "__main__":

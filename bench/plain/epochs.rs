@@ -1,20 +1,14 @@
 //! A map on epochs: the same buckets, whose rows are boxes that are freed two epochs after they were
 //! replaced. Reads are ordered as libraries of epochs order them.
 
-use crate::table::{BUCKETS, EVERY, PAIRS};
+use crate::boxed::Boxed;
+use crate::table::{BUCKETS, EVERY};
 use std::ptr;
 use std::sync::atomic::{
     AtomicPtr, AtomicU64,
     Ordering::{AcqRel, Acquire, Relaxed, Release, SeqCst},
     fence,
 };
-
-#[derive(Clone)]
-struct Row {
-    version: u64,
-    count: usize,
-    pairs: [(u64, u64); PAIRS as usize],
-}
 
 #[repr(align(128))]
 struct Pin(AtomicU64);
@@ -23,14 +17,14 @@ struct Pin(AtomicU64);
 pub struct EpochMap {
     epoch: AtomicU64,
     pins: Vec<Pin>,
-    roots: Vec<AtomicPtr<Row>>,
+    roots: Vec<AtomicPtr<Boxed>>,
 }
 
 /// A thread's place.
 pub struct EpochSeat {
     number: usize,
     retired: u64,
-    list: Vec<(u64, *mut Row)>,
+    list: Vec<(u64, *mut Boxed)>,
 }
 
 // The rows of the list are the seat's alone.
@@ -71,12 +65,7 @@ impl EpochMap {
         self.pin(seat);
         let row = self.roots[(key % BUCKETS as u64) as usize].load(Acquire);
         // The row is not freed while this seat is pinned.
-        let found = unsafe { row.as_ref() }.and_then(|row| {
-            row.pairs[..row.count]
-                .iter()
-                .find(|pair| pair.0 == key)
-                .map(|pair| pair.1)
-        });
+        let found = unsafe { row.as_ref() }.and_then(|row| row.get(key));
         self.unpin(seat);
         found
     }
@@ -87,7 +76,7 @@ impl EpochMap {
         let done = loop {
             let old = root.load(Acquire);
             // The row is not freed while this seat is pinned.
-            let Some(row) = changed(unsafe { old.as_ref() }, key, value) else {
+            let Some(row) = Boxed::changed(unsafe { old.as_ref() }, key, value) else {
                 break None;
             };
             let version = row.version;
@@ -106,7 +95,7 @@ impl EpochMap {
         Some(version)
     }
 
-    fn retire(&self, seat: &mut EpochSeat, row: *mut Row) {
+    fn retire(&self, seat: &mut EpochSeat, row: *mut Boxed) {
         seat.list.push((self.epoch.load(SeqCst), row));
         seat.retired += 1;
         if seat.retired % EVERY == 0 {
@@ -136,23 +125,4 @@ impl EpochMap {
             stays
         });
     }
-}
-
-fn changed(old: Option<&Row>, key: u64, value: u64) -> Option<Row> {
-    let mut row = old.cloned().unwrap_or(Row {
-        version: 0,
-        count: 0,
-        pairs: [(0, 0); PAIRS as usize],
-    });
-    row.version += 1;
-    if let Some(pair) = row.pairs[..row.count].iter_mut().find(|pair| pair.0 == key) {
-        pair.1 = value;
-        return Some(row);
-    }
-    if row.count == PAIRS as usize {
-        return None;
-    }
-    row.pairs[row.count] = (key, value);
-    row.count += 1;
-    Some(row)
 }

@@ -90,8 +90,12 @@ pub fn retire<S: Scheme>(table: &Table, seat: &mut Seat, slot: usize) {
     }
 }
 
-/// Gives the retired rows back that no guard keeps.
+/// Gives the retired rows back that no guard keeps. Retirements seldom come here, and those that don't take more
+/// instructions where this is compiled into them.
+#[inline(never)]
 pub fn scan<S: Scheme>(table: &Table, seat: &mut Seat) {
+    // Only a scan makes the list shorter, so it is longest where one begins.
+    seat.longest = seat.longest.max(seat.list.len());
     S::read_guards(table, seat);
     let report = &seat.report;
     seat.list.retain(|life| {

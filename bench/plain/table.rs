@@ -5,14 +5,24 @@ use std::sync::atomic::{
     Ordering::{AcqRel, Acquire, Release, SeqCst},
 };
 
-// The plain program has the order of the proved one, and each word beside the next. Two builds of it show what other
-// choices would gain: with `--cfg weak` only what publishes an era or a link is in one order with all steps, and with
-// `--cfg apart` words that seats share, and rows, have lines of the cache of their own, and seats look for rows from
-// places apart.
+// The plain program has the order of the proved one, and each word beside the next. Other builds of it show what other
+// choices would gain: with `--cfg weak` only what publishes an era or a link is in one order with all steps; with
+// `--cfg placed` the clock, the words of seats and the queue's head and tail have a line of the cache each; and with
+// `--cfg apart` each word before the rows, and each row, has two, and seats look for rows from places apart.
 const LOAD: Ordering = if cfg!(weak) { Acquire } else { SeqCst };
 const STORE: Ordering = if cfg!(weak) { Release } else { SeqCst };
 const CHANGE: Ordering = if cfg!(weak) { AcqRel } else { SeqCst };
-const LINE: usize = 16;
+// From a word that seats wait for to the next, in words.
+const BUSY: usize = if cfg!(apart) {
+    16
+} else if cfg!(placed) {
+    8
+} else {
+    1
+};
+// From a root, a word of claims or a lifetime to the next, and from a row to the next.
+const DENSE: usize = if cfg!(apart) { 16 } else { 1 };
+const ROW: usize = if cfg!(apart) { 16 } else { PLACES };
 
 /// Protections of a seat.
 pub const INDEXES: usize = 3;
@@ -46,7 +56,7 @@ impl Table {
             words: Box::new([]),
             seats,
         };
-        let count = table.place(table.row(SLOTS + 1, 0));
+        let count = table.row(SLOTS + 1, 0);
         table.words = (0..count).map(|_| AtomicU64::new(0)).collect();
         table.store(table.clock(), 1);
         table.store(table.head(), SLOTS as u64 + 1);
@@ -61,59 +71,47 @@ impl Table {
     }
 
     pub fn helper(&self, seat: usize) -> usize {
-        1 + seat
+        BUSY * (1 + seat)
     }
 
     pub fn index(&self, seat: usize, index: usize) -> usize {
-        1 + self.seats + seat * INDEXES + index
+        BUSY * (1 + self.seats + seat * INDEXES + index)
     }
 
     pub fn interval(&self, seat: usize) -> usize {
-        1 + self.seats * (1 + INDEXES) + seat
+        BUSY * (1 + self.seats * (1 + INDEXES) + seat)
     }
 
     pub fn request(&self, seat: usize) -> usize {
-        1 + self.seats * (2 + INDEXES) + seat
+        BUSY * (1 + self.seats * (2 + INDEXES) + seat)
     }
 
     pub fn bucket(&self, bucket: usize) -> usize {
-        1 + self.seats * (3 + INDEXES) + bucket
+        BUSY * (1 + self.seats * (3 + INDEXES)) + DENSE * bucket
     }
 
     pub fn head(&self) -> usize {
-        self.bucket(BUCKETS)
+        self.bucket(BUCKETS - 1) + BUSY
     }
 
     pub fn tail(&self) -> usize {
-        self.head() + 1
+        self.head() + BUSY
     }
 
     pub fn claim(&self, slot: usize) -> usize {
-        self.head() + 2 + slot / 64
+        self.tail() + BUSY + DENSE * (slot / 64)
     }
 
     pub fn life(&self, slot: usize) -> usize {
-        self.head() + 2 + CLAIMS + slot
+        self.claim(0) + DENSE * (CLAIMS + slot)
     }
 
     pub fn row(&self, slot: usize, place: usize) -> usize {
-        self.head() + 2 + CLAIMS + SLOTS + 1 + slot * PLACES + place
-    }
-
-    // Where a word lies: a line is 16 words here, and a row's words are fewer.
-    fn place(&self, word: usize) -> usize {
-        let rows = self.row(0, 0);
-        if !cfg!(apart) {
-            word
-        } else if word < rows {
-            word * LINE
-        } else {
-            (rows + (word - rows) / PLACES) * LINE + (word - rows) % PLACES
-        }
+        self.life(SLOTS + 1) + ROW * slot + place
     }
 
     fn word(&self, word: usize) -> &AtomicU64 {
-        &self.words[self.place(word)]
+        &self.words[word]
     }
 
     pub fn load(&self, word: usize) -> u64 {
@@ -153,7 +151,7 @@ pub struct Lifetime {
     pub retire: u64,
 }
 
-/// A thread's place in the table.
+/// A thread's place in the table. It lies on its thread's stack, and so apart from the others in each build.
 pub struct Seat {
     pub number: usize,
     pub cursor: usize,
@@ -162,6 +160,8 @@ pub struct Seat {
     pub span: Option<(u64, u64)>,
     pub retired: u64,
     pub list: Vec<Lifetime>,
+    /// How long the list was at most.
+    pub longest: usize,
     /// What the last scan read.
     pub report: Vec<(u64, u64)>,
 }
@@ -170,11 +170,16 @@ impl Seat {
     pub fn new(number: usize, seats: usize) -> Seat {
         Seat {
             number,
-            cursor: if cfg!(apart) { number * SLOTS / seats } else { 0 },
+            cursor: if cfg!(apart) {
+                number * SLOTS / seats
+            } else {
+                0
+            },
             tags: [0; INDEXES],
             span: None,
             retired: 0,
             list: Vec::with_capacity(SLOTS + 1),
+            longest: 0,
             report: Vec::with_capacity(seats * (1 + INDEXES)),
         }
     }

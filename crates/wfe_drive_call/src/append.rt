@@ -7,7 +7,6 @@ ghost use Rattle.wfe_core.specs.Enqueue.{at_next};
 ghost use Rattle.wfe_core.specs.Memory.{Cas as Exchanges, numbered};
 ghost use Rattle.wfe_core.specs.Ready.{SlotFits};
 ghost use Rattle.wfe_core.specs.Valid.{IsValid};
-ghost use Rattle.wfe_drive_call.specs.Ending.{IsStill};
 ghost use Rattle.wfe_drive_call.specs.Items.{kept_of};
 ghost use Rattle.wfe_drive_runs.specs.call_rounds.Endings.{next_of};
 ghost use Rattle.wfe_drive_runs.specs.drive_words.Called.{Here};
@@ -70,7 +69,6 @@ pub fn append<W: Words>(words: &mut W, post: &mut Post, item: &mut Item, slot: u
     ensures rest { W.rest words.new ≤ W.rest words.old }
     ensures layout { post.new.layout ≡ post.old.layout }
     ensures standing { post.new.standing ≡ post.old.standing }
-    ensures still { IsStill (next_of result) }
     ensures leads { (desk : ModelDesk) → Here (W.at words.old) (seat_of (Works (Enqueuing (kept_of item.old) (ExchangeNext slot))) post.old desk)
         → Leads (W.at words.old) (W.at words.new) (W.stands words.old) (W.stands words.new) (seat_of (Works (Enqueuing (kept_of item.old) (ExchangeNext slot))) post.old desk)
         (clearing_at (Enqueues (kept_of item.new)) (next_of result) post.new desk) }

@@ -8,7 +8,6 @@ ghost use Rattle.wfe_drive_runs.specs.drive_words.Called.{Here, at_phase};
 ghost use Rattle.wfe_drive_runs.specs.drive_words.Path.{Closes, Leads};
 ghost use Rattle.wfe_drive_runs.specs.Pieces.{IsFree};
 ghost use Rattle.wfe_drive_call.specs.Changing.{clears_at, first_kept, kept_of};
-ghost use Rattle.wfe_drive_call.specs.Ending.{IsStill};
 
 use crate::ending::end_round;
 use crate::fill::fill_row;
@@ -35,7 +34,6 @@ fn make_round<W: Words>(
     ensures room { HasRoom desk.new post.new.layout }
     ensures layout { post.new.layout ≡ post.old.layout }
     ensures free { IsFree post.new }
-    ensures still { IsStill (next_of result) }
     ensures leads { Leads (W.at words.old) (W.at words.new) (W.stands words.old) (W.stands words.new)
         (at_phase (round (Changes (kept_of kept.old)) post.old) post.old desk.old) (clears_at (kept_of kept.new) (next_of result) post.new (desk_of desk.new)) }
 {

@@ -6,7 +6,6 @@ ghost use Rattle.wfe_core.specs.Calls.{Dequeues, Dequeuing, Idle, LoadTail, Work
 ghost use Rattle.wfe_core.specs.DeskHeld.{HasRoom, desk_of};
 ghost use Rattle.wfe_core.specs.Rounds.{round};
 ghost use Rattle.wfe_core.specs.Steps.{first_phase};
-ghost use Rattle.wfe_drive_call.specs.Ending.{IsStill};
 ghost use Rattle.wfe_drive_runs.specs.call_rounds.Endings.{next_of};
 ghost use Rattle.wfe_drive_runs.specs.drive_words.Called.{Here, at_phase};
 ghost use Rattle.wfe_drive_runs.specs.drive_words.Path.{Closes, Leads};
@@ -52,7 +51,6 @@ fn take_item<W: Words>(words: &mut W, post: &mut Post, desk: &mut Desk) -> Round
     ensures room { HasRoom desk.new post.new.layout }
     ensures layout { post.new.layout ≡ post.old.layout }
     ensures free { IsFree post.new }
-    ensures still { IsStill (next_of result) }
     ensures leads { Leads (W.at words.old) (W.at words.new) (W.stands words.old) (W.stands words.new)
         (at_phase (round Dequeues post.old) post.old desk.old) (clearing_at Dequeues (next_of result) post.new (desk_of desk.new)) }
 {
@@ -80,7 +78,6 @@ fn take_next<W: Words>(words: &mut W, post: &mut Post, desk: &mut Desk, head: u3
     ensures room { HasRoom desk.new post.new.layout }
     ensures layout { post.new.layout ≡ post.old.layout }
     ensures free { IsFree post.new }
-    ensures still { IsStill (next_of result) }
     ensures leads { Leads (W.at words.old) (W.at words.new) (W.stands words.old) (W.stands words.new)
         (at_phase (Works (Dequeuing (LoadTail head))) post.old desk.old) (clearing_next_at (next_of result) post.new (desk_of desk.new)) }
 {

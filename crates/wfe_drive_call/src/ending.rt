@@ -4,7 +4,6 @@ ghost use Rattle.wfe_core.specs.defs.declared.call.ClockMove.TheVariants.{Still 
 ghost use Rattle.wfe_core.specs.Calls.{Answering, Idle, MakeRoom as MakeRoomNext, Retiring, Task};
 ghost use Rattle.wfe_core.specs.DeskHeld.{HasRoom, desk_of};
 ghost use Rattle.wfe_core.specs.Rounds.{index_of, round, taken_of, with_clock as model_with_clock};
-ghost use Rattle.wfe_drive_call.specs.Ending.{IsStill};
 ghost use Rattle.wfe_drive_runs.specs.call_rounds.Endings.{next_of};
 ghost use Rattle.wfe_drive_runs.specs.drive_words.Called.{Here, at_phase};
 ghost use Rattle.wfe_drive_runs.specs.drive_words.Path.{Closes, Leads};
@@ -76,13 +75,12 @@ fn retire_cut<W: Words>(
     requires valid { W.valid words.old }
     requires free { IsFree post.old }
     requires room { HasRoom desk.old post.old.layout }
-    requires still { model_with_clock answer StillMove ≡ answer }
-    requires here { (task : Task) × (index_of task ≡ 0) × Here (W.at words.old) (clearing_at task (Retiring slot answer) post.old (desk_of desk.old)) }
+    requires here { (task : Task) × (index_of task ≡ 0) × Here (W.at words.old) (clearing_at task (Retiring slot (model_with_clock answer StillMove)) post.old (desk_of desk.old)) }
     ensures valid { W.valid words.new }
     ensures same { W.same words.old words.new }
     ensures room { HasRoom desk.new post.new.layout }
-    ensures closes { (task : Task) → index_of task ≡ 0 → Here (W.at words.old) (clearing_at task (Retiring slot answer) post.old (desk_of desk.old))
-        → Closes result (W.at words.old) (W.at words.new) (W.stands words.old) (W.stands words.new) (clearing_at task (Retiring slot answer) post.old (desk_of desk.old)) (at_phase Idle post.new desk.new) }
+    ensures closes { (task : Task) → index_of task ≡ 0 → Here (W.at words.old) (clearing_at task (Retiring slot (model_with_clock answer StillMove)) post.old (desk_of desk.old))
+        → Closes result (W.at words.old) (W.at words.new) (W.stands words.old) (W.stands words.new) (clearing_at task (Retiring slot (model_with_clock answer StillMove)) post.old (desk_of desk.old)) (at_phase Idle post.new desk.new) }
 {
     close_round(words, post);
     let clock = retire(words, post, desk, slot);
@@ -102,7 +100,6 @@ pub fn end_round<W: Words>(
     requires valid { W.valid words.old }
     requires free { IsFree post.old }
     requires room { HasRoom desk.old post.old.layout }
-    requires still { IsStill (next_of ending) }
     requires here { (task : Task) × (index_of task ≡ 0) × (taken_of task ≡ taken) × Here (W.at words.old) (clearing_at task (next_of ending) post.old (desk_of desk.old)) }
     ensures valid { W.valid words.new }
     ensures same { W.same words.old words.new }

@@ -9,7 +9,6 @@ ghost use Rattle.wfe_drive_runs.specs.call_rounds.Endings.{next_of};
 ghost use Rattle.wfe_drive_runs.specs.drive_words.Called.{Here};
 ghost use Rattle.wfe_drive_runs.specs.drive_words.Path.{Leads};
 ghost use Rattle.wfe_drive_call.specs.Changing.{clears_at, kept_of, works_at};
-ghost use Rattle.wfe_drive_call.specs.Ending.{IsStill};
 
 use crate::kept::Kept;
 use wfe_core::{Answer, ClockMove, Desk, Op, Post};
@@ -47,7 +46,6 @@ pub fn exchange<W: Words>(
     ensures same { W.same words.old words.new }
     ensures rest { W.rest words.new < W.rest words.old }
     ensures post { post.new ≡ record post.old { steps = post.old.steps + 1 } }
-    ensures still { IsStill (next_of result) }
     ensures leads { Leads (W.at words.old) (W.at words.new) (W.stands words.old) (W.stands words.new)
         (works_at (kept_of kept.old) (ExchangeRoot slot) post.old (desk_of _desk.now)) (clears_at (kept_of kept.new) (next_of result) post.new (desk_of _desk.now)) }
 {

@@ -7,7 +7,6 @@ ghost use Rattle.wfe_drive_runs.specs.drive_words.Called.{Here};
 ghost use Rattle.wfe_drive_runs.specs.drive_words.Path.{Leads};
 ghost use Rattle.wfe_drive_runs.specs.Pieces.{IsFree};
 ghost use Rattle.wfe_drive_call.specs.Changing.{clears_at, fills_at, kept_of, writes_at};
-ghost use Rattle.wfe_drive_call.specs.Ending.{IsStill};
 
 use crate::exchange::exchange;
 use crate::kept::Kept;
@@ -73,7 +72,6 @@ fn link_row<W: Words>(
     ensures rest { W.rest words.new < W.rest words.old }
     ensures layout { post.new.layout ≡ post.old.layout }
     ensures free { IsFree post.new }
-    ensures still { IsStill (next_of result) }
     ensures leads { Leads (W.at words.old) (W.at words.new) (W.stands words.old) (W.stands words.new)
         (writes_at (kept_of kept.old) slot 1 post.old (desk_of _desk.now)) (clears_at (kept_of kept.new) (next_of result) post.new (desk_of _desk.now)) }
 {
@@ -101,7 +99,6 @@ pub fn fill_row<W: Words>(
     ensures room { HasRoom desk.new post.new.layout }
     ensures layout { post.new.layout ≡ post.old.layout }
     ensures free { IsFree post.new }
-    ensures still { IsStill (next_of result) }
     ensures leads { Leads (W.at words.old) (W.at words.new) (W.stands words.old) (W.stands words.new)
         (fills_at (with_change (kept_of kept.old)) (filling (with_change (kept_of kept.old))) post.old (desk_of desk.old)) (clears_at (kept_of kept.new) (next_of result) post.new (desk_of desk.new)) }
 {

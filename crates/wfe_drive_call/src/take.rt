@@ -8,7 +8,6 @@ ghost use Rattle.wfe_core.specs.Dequeue.{follow_base};
 ghost use Rattle.wfe_core.specs.Memory.{Cas as Exchanges, Load as Loads, numbered};
 ghost use Rattle.wfe_core.specs.Ready.{SlotFits};
 ghost use Rattle.wfe_core.specs.Valid.{IsValid};
-ghost use Rattle.wfe_drive_call.specs.Ending.{IsStill};
 ghost use Rattle.wfe_drive_runs.specs.call_rounds.Endings.{next_of};
 ghost use Rattle.wfe_drive_runs.specs.drive_words.Called.{Here};
 ghost use Rattle.wfe_drive_runs.specs.drive_words.Path.{Leads};
@@ -64,7 +63,6 @@ pub fn take<W: Words>(words: &mut W, post: &mut Post, head: u32, next: u32) -> R
     ensures same { W.same words.old words.new }
     ensures rest { W.rest words.new ≤ W.rest words.old }
     ensures post { post.new ≡ record post.old { steps = post.old.steps + 3 } }
-    ensures still { IsStill (next_of result) }
     ensures leads { (desk : ModelDesk) → Here (W.at words.old) (seat_of (Works (Dequeuing (TakeNumber head next))) post.old desk)
         → Leads (W.at words.old) (W.at words.new) (W.stands words.old) (W.stands words.new) (seat_of (Works (Dequeuing (TakeNumber head next))) post.old desk)
         (clearing_next_at (next_of result) post.new desk) }

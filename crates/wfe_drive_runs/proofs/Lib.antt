@@ -1,3 +1,4 @@
+pub use Rattle.wfe_call_rounds.proofs as call_rounds
 pub use Rattle.wfe_drive_words.proofs as drive_words
 pub mod Claiming
 pub mod Closing

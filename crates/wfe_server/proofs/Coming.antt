@@ -32,7 +32,6 @@ use Rattle.wfe_table.specs.Closing.{IsLeft, closing_of, track_of}
 use Rattle.wfe_table.proofs.LeftWords.{closing_is}
 use Rattle.wfe_table.specs.Public.{IsOf, SeatNow, TableNow, new_seat}
 use Rattle.wfe_server.specs.history.History.{Item, record_of, world_of}
-use Rattle.wfe_server.specs.history.Record.{Past}
 use Rattle.wfe_server.specs.Comes.{Comes, layout_by, lists_in}
 use Rattle.wfe_server.specs.Parted.{IsDone, IsOutcome, IsParted}
 use Rattle.wfe_server.specs.declared.worker.Worked.{Worked}

@@ -1,5 +1,5 @@
 -- What the workers of all seats made, and its parts.
-use Rattle.std.specs.Prelude.{Err, List, Ok, Result, [], length, map, slice_index_or, ℕ, ◌<◌, ◌≡◌}
+use Rattle.std.specs.Prelude.{Err, List, Ok, Result, [], length, map, slice_index_or, ◌<◌, ◌≡◌}
 use Rattle.std.specs.declared.alloc.Global.{Global}
 use Rattle.std.specs.declared.vec.Vec.{Vec}
 use Rattle.wfe_core.specs.defs.declared.call.Call.{Call}

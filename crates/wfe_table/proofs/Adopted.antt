@@ -30,7 +30,7 @@ use Rattle.wfe_table.specs.Calls.{IsMade, IsMissed}
 use Rattle.wfe_table.specs.Places.{Adoption, Found, Missed, Took, notes_over, over_view, post_over}
 use Rattle.wfe_table.specs.Public.{SeatNow}
 use Rattle.wfe_table.specs.Sound.{IsMet}
-use Rattle.wfe_table.proofs.Made.{made_by, met_more}
+use Rattle.wfe_table.proofs.Made.{made_by, made_over, met_more}
 
 -- the seat is as its code has it, once a call that noted nothing has left this list
 abbrev view_of : Post → List Lifetime → Report → Notes → SeatView
@@ -109,6 +109,6 @@ told_made layout old new place (Ok count) t a = made_by layout old new (names.Ad
 told_made layout old new place (Err found) t a = record {
   made = made_by layout old new (names.Adopt place) (not_taken found) a.adoption.ops a.adoption.more t a.adoption.ends a.adoption.grows;
   exchange = a.exchange;
-  word = a.word;
+  word = made_over layout old new (names.Adopt place) (not_taken found) a.adoption.ops a.adoption.more t a.adoption.ends a.adoption.grows ∙ a.word;
   apart = a.apart;
 }

@@ -1,6 +1,7 @@
 -- How many steps a call takes by which a seat takes over a list, whatever the other seats do meanwhile.
 use Rattle.std.proofs.Common.{Bool, List, [], ap, arith, false, length, length-append, refl, subst, sym, true, ℕ, ◌+◌, ◌++◌, ◌∙◌, ◌∷◌, ◌≡◌}
-use Rattle.std.specs.Prelude.{Err, MatchResult, Ok, Result, if◌then◌else◌, ◌==◌, ◌≢◌}
+use Rattle.std.specs.Prelude.{Err, MatchResult, Ok, Result, if◌then◌else◌, ◌==◌}
+use Rattle.wfe_core.proofs.Facts.{false_by, number_is}
 use Rattle.wfe_core.specs.defs.declared.call.Answer.{Answer}
 use Rattle.wfe_core.specs.defs.declared.call.Answer.TheVariants as answers
 use Rattle.wfe_core.specs.defs.declared.call.Call.TheVariants as names
@@ -11,7 +12,7 @@ use Rattle.wfe_core.specs.Keep.{not_taken}
 use Rattle.wfe_core.specs.Locals.{Local, after, begun, busy_in, turn}
 use Rattle.wfe_drive_call.specs.drive_words.Comes.{lent}
 use Rattle.wfe_drive_call.specs.drive_words.Ran.{Performs, Ran}
-use Rattle.wfe_table.specs.Calls.{IsMade}
+use Rattle.wfe_table.specs.Calls.{IsMade, IsMissed}
 use Rattle.wfe_table.specs.Public.{SeatNow, steps_of}
 
 -- a seat without a call performs nothing
@@ -103,7 +104,11 @@ unadopted_bounded : (layout : Layout) (old new : SeatNow) (place found : ℕ) �
 unadopted_bounded layout old new place found m = adopt_steps layout old new place (not_taken found) m ∙ missed_by found
 
 -- so it is with what came of it
-pub adopt_bound : (layout : Layout) (old new : SeatNow) (place : ℕ) (r : Result ℕ ℕ) → MatchResult r (λ count. IsMade layout old new (names.Adopt place) (answers.Adopted count)) (λ found. (found ≢ 1) × IsMade layout old new (names.Adopt place) (not_taken found))
+pub adopt_bound : (layout : Layout) (old new : SeatNow) (place : ℕ) (r : Result ℕ ℕ) → MatchResult r (λ count. IsMade layout old new (names.Adopt place) (answers.Adopted count)) (λ found. IsMissed layout old new place found)
     → MatchResult r (λ count. steps_of new ≡ 2) (λ found. steps_of new ≡ 1)
 adopt_bound layout old new place (Ok count) m = adopted_bounded layout old new place count m
-adopt_bound layout old new place (Err found) m = unadopted_bounded layout old new place found m.1
+adopt_bound layout old new place (Err found) m = unadopted_bounded layout old new place found m.made
+
+-- a word that is not 0, where no list was taken over, is that of a list that had been before
+pub adopted_before : (found : ℕ) → (found ≡ 0 → ⊥) → not_taken found ≡ answers.AdoptedBefore
+adopted_before found other = let apart : (found == 0) ≡ false = false_by (found == 0) (λ e. other (number_is found 0 e)) in rw apart refl

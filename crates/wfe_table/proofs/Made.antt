@@ -1,10 +1,11 @@
 -- A call that a seat has made on the shared table: the seat after it is sound, and what its record says.
-use Rattle.std.proofs.Common.{List, [], ap, false, subst, sym, ℕ, ◌++◌, ◌∙◌, ◌≡◌}
+use Rattle.std.proofs.Common.{List, [], ap, false, refl, subst, sym, true, ℕ, ◌++◌, ◌∙◌, ◌≡◌}
 use Rattle.wfe_core.specs.Locals.{Group, Local, busy_in}
 use Rattle.wfe_core.specs.declared.op.Op.{Op}
 use Rattle.wfe_core.specs.declared.post.Post.{Post}
 use Rattle.wfe_core.specs.defs.declared.call.Answer.{Answer}
 use Rattle.wfe_core.specs.defs.declared.call.Call.{Call}
+use Rattle.wfe_core.specs.words.Place.{is_valid}
 use Rattle.wfe_core.specs.words.declared.layout.Layout.{Layout}
 use Rattle.wfe_drive_rule.specs.drive_cells.Unit.{SeatView, shown}
 use Rattle.law_all.specs.Logs.Reports.{IsReported}
@@ -19,7 +20,7 @@ use Rattle.wfe_drive_rule.specs.Handles.{IsResting, IsSeated, IsTracked}
 use Rattle.wfe_drive_rule.specs.Views.{Handle, call_in, entered, own, seat_of, standing}
 use Rattle.wfe_drive_rule.specs.history.History.{Item, record_of}
 use Rattle.wfe_drive_rule.proofs.Seated.{resting_slot}
-use Rattle.wfe_table.specs.Calls.{IsMade, group_of}
+use Rattle.wfe_table.specs.Calls.{IsLawfulPast, IsMade, group_of}
 use Rattle.wfe_table.specs.Public.{SeatNow}
 use Rattle.wfe_table.specs.Sound.{IsMet}
 
@@ -67,6 +68,10 @@ met_more buckets call answer before after ops list more ends m f =
     let e : met_in buckets after.log ≡ met_by buckets call answer (met_in buckets before.log) = ap (met_in buckets) ends.left.log ∙ logs_extend buckets before.log group in
     subst (λ (met : Counts). IsMet buckets met more) (sym e) (f (met_in buckets before.log) m)
 
+is_lawful : (layout : Layout) (past : List Item) → is_valid layout ≡ true → IsLawfulPast layout past
+unfolding IsLawfulPast
+is_lawful layout past valid = histories_are_lawful layout past valid
+
 -- what the record of the seat's history says of the call
 pub made_by : (layout : Layout) (old new : SeatNow) (call : Call) (answer : Answer) (ops : List (Op × ℕ)) (more : List Item) → IsTracked layout new.track → Ends call answer ops old.track.local new.track.local
     → new.track.past ≡ old.track.past ++ more → IsMade layout old new call answer
@@ -77,10 +82,16 @@ made_by layout old new call answer ops more t ends grows = record {
   grows = grows;
   tracked = t;
   answered = logs_answer layout new.track.past (seat_of new.track) old.track.local.log [] (group_of call answer new) t.valid (ap (λ (l : Local). l.log) t.stood ∙ ends.left.log);
-  lawful = histories_are_lawful layout new.track.past t.valid;
+  lawful = is_lawful layout new.track.past t.valid;
   reported = subst (λ (l : Local). IsReported layout (seat_of new.track) (record_of layout new.track.past) l.desk.report) t.stood
       (records_report layout new.track.past (seat_of new.track) t.valid (ap (λ (l : Local). busy_in l.phase) t.stood ∙ ap busy_in ends.left.idle));
 }
+
+-- its operations are these
+pub made_over : (layout : Layout) (old new : SeatNow) (call : Call) (answer : Answer) (ops : List (Op × ℕ)) (more : List Item) (t : IsTracked layout new.track) (ends : Ends call answer ops old.track.local new.track.local)
+    (grows : new.track.past ≡ old.track.past ++ more) → (made_by layout old new call answer ops more t ends grows).ops ≡ ops
+unfolding made_by
+made_over layout old new call answer ops more t ends grows = refl
 
 -- the handle's slot is that of its seat's number, on a table of this layout
 pub seated_as : (layout : Layout) (slot : ℕ) (post : Post) (handle : Handle) → IsSeated layout slot handle → post.layout ≡ layout → slot ≡ post.seat → IsSeated post.layout post.seat handle

@@ -30,6 +30,10 @@ use Rattle.wfe_table.specs.declared.calls.EnqueueRefusal.TheVariants as enqueues
 abbrev pub group_of : Call → Answer → SeatNow → Group
 group_of call answer seat = record { call = call; answer = answer; notes = seat.track.local.desk.notes }
 
+-- the history keeps all laws. (It unfolds where it is named, so that a search among a call's clauses need not go through all laws.)
+unfoldable pub IsLawfulPast : Layout → List Item → Type 0
+IsLawfulPast layout past = IsLawful layout past
+
 -- the seat made this call, and was answered so
 pub record IsMade (layout : Layout) (old new : SeatNow) (call : Call) (answer : Answer) : Type 0 where
   -- its operations, each with what it found, are the machine's, each a step of the seat in a World to which a history comes; the
@@ -45,7 +49,7 @@ pub record IsMade (layout : Layout) (old new : SeatNow) (call : Call) (answer : 
   -- that history keeps all laws, of its record and of its turns, with what histories keep beyond them. So a call that is refused leaves
   -- map and queue as they were without it, a call that answers Full lacked nothing but a row, and one that holds nothing found a bucket
   -- that was never changed
-  pub lawful : IsLawful layout new.track.past
+  pub lawful : IsLawfulPast layout new.track.past
   -- by its record the report shows the guards that the seat's last block read, how many rows went back after it, and how many stayed
   pub reported : IsReported layout (seat_of new.track) (record_of layout new.track.past) new.track.local.desk.report
 

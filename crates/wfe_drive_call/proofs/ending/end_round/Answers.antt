@@ -1,5 +1,5 @@
 -- Each ending, at the state that it is of.
-use Rattle.std.proofs.Common.{ap, subst, sym, ◌≡◌}
+use Rattle.std.proofs.Common.{ap, sym, ◌≡◌}
 use Rattle.wfe_core.specs.Calls.{Task}
 use Rattle.wfe_core.specs.DeskHeld.{desk_of}
 use Rattle.wfe_core.specs.Desks.{Desk}
@@ -8,7 +8,6 @@ use Rattle.wfe_drive_runs.specs.Pieces.{clearing_at}
 use Rattle.wfe_drive_runs.specs.call_rounds.Endings.{next_of}
 use Rattle.wfe_drive_runs.specs.call_rounds.declared.ending.RoundEnd.{RoundEnd}
 use Rattle.wfe_drive_runs.proofs.drive_words.Leading.{closes_from, here_as, leads_from}
-use Rattle.wfe_drive_call.specs.Ending.{IsStill}
 use Rattle.wfe_drive_call.proofs.ending.end_round.Goals as goal
 
 at-end : (task : Task) (post : Post) (desk : Desk) {a b : RoundEnd} → a ≡ b → clearing_at task (next_of a) post desk ≡ clearing_at task (next_of b) post desk
@@ -45,9 +44,6 @@ pub returns-in-Answers-clause-ends : goal.returns-in-Answers-clause-ends
 returns-in-Answers-clause-ends g c = λ task zero took here.
     let is = at-end task c.args.post.now (desk_of c.args.desk.now) c.in-Answers.is in
     closes_from _ _ (sym is) (c.answer_call.ensures.closes task zero took (here_as _ _ is here))
-
-pub retire_cut-requires-clause-still : goal.retire_cut-requires-clause-still
-retire_cut-requires-clause-still g c = subst (λ (end : RoundEnd). IsStill (next_of end)) c.in-Retires.is c.requires.still
 
 pub retire_cut-requires-clause-here : goal.retire_cut-requires-clause-here
 retire_cut-requires-clause-here g c =

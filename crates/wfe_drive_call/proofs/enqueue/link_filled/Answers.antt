@@ -1,7 +1,6 @@
 -- The row is filled and then linked.
 use Rattle.wfe_core.specs.DeskHeld.{desk_of}
 use Rattle.wfe_drive_runs.proofs.drive_words.Leading.{here_on, then_leads}
-use Rattle.wfe_drive_call.proofs.RoundEnding.{room_still}
 use Rattle.wfe_drive_call.proofs.enqueue.link_filled.Goals as goal
 
 pub append-requires-clause-here : goal.append-requires-clause-here
@@ -14,6 +13,3 @@ pub returns-in-Some-clause-leads : goal.returns-in-Some-clause-leads
 returns-in-Some-clause-leads g c =
     let x = c.in-Some.ensures.leads in
     then_leads x (c.append.ensures.leads (desk_of c.fill.new.desk) (here_on c.requires.here x))
-
-pub returns-in-None-clause-still : goal.returns-in-None-clause-still
-returns-in-None-clause-still g c = room_still c.args.item.now.walked c.no_room.ensures

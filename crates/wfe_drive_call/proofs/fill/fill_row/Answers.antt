@@ -5,7 +5,6 @@ use Rattle.wfe_core.specs.Change.{filling}
 use Rattle.wfe_core.specs.DeskHeld.{desk_of}
 use Rattle.wfe_drive_runs.proofs.drive_words.Leading.{here_as, here_on, leads_as, leads_from, then_leads}
 use Rattle.wfe_drive_call.specs.Changing.{clears_at, fills_at, kept_of}
-use Rattle.wfe_drive_call.proofs.RoundEnding.{room_still}
 use Rattle.wfe_drive_call.proofs.Standing.{ready_here}
 use Rattle.wfe_drive_call.proofs.fill.fill_row.Goals as goal
 
@@ -32,6 +31,3 @@ returns-in-None-clause-leads g c =
 
 pub returns-in-Some-clause-same : goal.returns-in-Some-clause-same
 returns-in-Some-clause-same g c = g.W.Words.same_on _ _ _ c.in-Some.ensures.same c.link_row.ensures.same
-
-pub returns-in-None-clause-still : goal.returns-in-None-clause-still
-returns-in-None-clause-still g c = room_still (kept_of c.change.new.self).walked c.no_room.ensures

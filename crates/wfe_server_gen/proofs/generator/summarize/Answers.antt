@@ -1,4 +1,6 @@
 use Rattle.std.proofs.Common.{◌∙◌}
+use Rattle.wfe_server_out.proofs.Hearing.{hears_some_none}
+use Rattle.wfe_server_out.proofs.Texts.{on_err}
 use Rattle.wfe_server_gen.proofs.History.{generated_counted, generated_heard, generated_some, generated_taken}
 use Rattle.wfe_server_gen.proofs.generator.summarize.Goals as goal
 
@@ -18,6 +20,9 @@ returns-in-Ok-clause-counted g c =
 
 pub returns-in-Ok-clause-heard : goal.returns-in-Ok-clause-heard
 returns-in-Ok-clause-heard g c = generated_heard _ _ _ _ _ c.args.seed c.args.turns c.in_ok-table.table.played c.in_ok-table.ensures.played c.in-Ok.ensures.ok
+
+pub returns-in_err-table-clause-some : goal.returns-in_err-table-clause-some
+returns-in_err-table-clause-some g c = on_err c.from_residual.result (hears_some_none _ c.args.watchers.now _)
 
 pub returns-clause-some : goal.returns-clause-some
 returns-clause-some g c = generated_some _ _ _ c.args.seed c.args.turns c.in_ok-table.table.played c.in_ok-table.ensures.played c.in-Err.ensures.err
