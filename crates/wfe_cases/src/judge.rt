@@ -108,29 +108,76 @@ fn entries_in(record: &[u8]) -> usize {
         .count()
 }
 
-// Hands the record of a replay that came to its end to a check, which has to find it lawful.
-fn read_back<R: Threads + Sync + AllocGlobal>(
+// Plays the command over these bytes, whole, and says what is wrong with what came of it, if anything is.
+fn played<R: Threads + Sync + AllocGlobal>(
     rt: &R,
-    kind: &Kind,
+    words: &[String],
+    folder: &str,
+    input: &[u8],
     due: &[u8],
 ) -> io::Result<Option<String>> {
-    if kind.folder != "replay" || status_of(kind.folder, last_line(due)) > 0 {
-        return Ok(None);
-    }
-    let mut words = Vec::new(rt.alloc());
-    words.push(String::from_str(rt.alloc(), "check")?)?;
-    let Ok(source) = CleanSource::new(rt.alloc(), due) else {
+    let Ok(source) = CleanSource::new(rt.alloc(), input) else {
         return Err(AllocError.into());
     };
-    let found = play(rt, &words, source, MORE)?;
-    let want = format!(in rt.alloc(); "lawful {}\n", entries_in(due))?;
-    match fault(rt, "check", &found, want.as_bytes())? {
+    let found = play(rt, words, source, due.len().saturating_add(MORE))?;
+    Ok(fault(rt, folder, &found, due)?)
+}
+
+// The same, with a byte at a time.
+fn dripped<R: Threads + Sync + AllocGlobal>(
+    rt: &R,
+    words: &[String],
+    folder: &str,
+    input: &[u8],
+    due: &[u8],
+) -> io::Result<Option<String>> {
+    let Ok(inner) = CleanSource::new(rt.alloc(), input) else {
+        return Err(AllocError.into());
+    };
+    let found = play(rt, words, Drip { inner }, due.len().saturating_add(MORE))?;
+    Ok(fault(rt, folder, &found, due)?)
+}
+
+// What is wrong, and where.
+fn with_place<R: AllocGlobal>(
+    rt: &R,
+    place: &str,
+    wrong: Option<String>,
+) -> io::Result<Option<String>> {
+    match wrong {
         None => Ok(None),
-        Some(text) => Ok(Some(format!(in rt.alloc(); "its record is checked, and {text}")?)),
+        Some(text) => Ok(Some(format!(in rt.alloc(); "{place}, {text}")?)),
     }
 }
 
-// Plays a case whose files are there: whole, and where the command reads, byte by byte.
+// Hands a record to a check, which has to find it lawful.
+fn checked<R: Threads + Sync + AllocGlobal>(rt: &R, record: &[u8]) -> io::Result<Option<String>> {
+    let mut words = Vec::new(rt.alloc());
+    words.push(String::from_str(rt.alloc(), "check")?)?;
+    let want = format!(in rt.alloc(); "lawful {}\n", entries_in(record))?;
+    played(rt, &words, "check", record, want.as_bytes())
+}
+
+// Plays a case once more, where its command reads: byte by byte; and hands on the record of a replay that came to its end.
+fn played_again<R: Threads + Sync + AllocGlobal>(
+    rt: &R,
+    kind: &Kind,
+    words: &[String],
+    input: &[u8],
+    due: &[u8],
+) -> io::Result<Option<String>> {
+    let wrong = dripped(rt, words, kind.folder, input, due)?;
+    if wrong.is_some() {
+        return with_place(rt, "byte by byte", wrong);
+    }
+    if kind.folder != "replay" || status_of(kind.folder, last_line(due)) > 0 {
+        return Ok(None);
+    }
+    let wrong = checked(rt, due)?;
+    with_place(rt, "its record is checked", wrong)
+}
+
+// Plays a case whose files are there.
 fn judged<R: Threads + Sync + AllocGlobal>(
     rt: &R,
     kind: &Kind,
@@ -138,25 +185,11 @@ fn judged<R: Threads + Sync + AllocGlobal>(
     due: &[u8],
 ) -> io::Result<Option<String>> {
     let words = words_of(rt, kind, input)?;
-    let room = due.len().saturating_add(MORE);
-    let Ok(source) = CleanSource::new(rt.alloc(), input) else {
-        return Err(AllocError.into());
-    };
-    let found = play(rt, &words, source, room)?;
-    if let Some(text) = fault(rt, kind.folder, &found, due)? {
-        return Ok(Some(text));
+    let wrong = played(rt, &words, kind.folder, input, due)?;
+    if wrong.is_some() || kind.has_words {
+        return Ok(wrong);
     }
-    if kind.has_words {
-        return Ok(None);
-    }
-    let Ok(inner) = CleanSource::new(rt.alloc(), input) else {
-        return Err(AllocError.into());
-    };
-    let found = play(rt, &words, Drip { inner }, room)?;
-    match fault(rt, kind.folder, &found, due)? {
-        None => read_back(rt, kind, due),
-        Some(text) => Ok(Some(format!(in rt.alloc(); "byte by byte, {text}")?)),
-    }
+    played_again(rt, kind, &words, input, due)
 }
 
 /// Says what is wrong with a case, if anything is.

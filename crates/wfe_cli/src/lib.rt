@@ -3,8 +3,7 @@
 #![tactic(auto)]
 
 mod command;
-mod job;
 
 pub use command::{exit_number, main_call};
-pub use job::{Job, job_of};
+pub use wfe_cli_job::{Job, job_of};
 pub use wfe_server::{Gate, OpenGate, RunRecord, run, run_threads};

@@ -31,7 +31,7 @@ use Rattle.wfe_drive_cells.specs.Operations.{answered, performed, word_in}
 use Rattle.wfe_drive_cells.specs.Unit.{SeatView, Shows, TableView, asked, fresh_seat, kept_desk, seat_at, shown, shown_in, turned, with_seat}
 use Rattle.wfe_drive_cells.proofs.Bridge.{length-performed, memory-performed, word_in-numbered}
 use Rattle.wfe_drive_cells.proofs.Units.{busy-shown}
-use Rattle.wfe_drive.specs.SeatLeaving.{is_marking, leaving, let_seat, let_turn, lets_go, seat_let, told_let, words_let}
+use Rattle.wfe_drive_seat.specs.Leaving.{is_marking, leaving, let_seat, let_turn, lets_go, seat_let, told_let, words_let}
 use Rattle.law_reuse.specs.inv.Inv.{Inv}
 use Rattle.law_reuse.proofs.shapes.Leaving.{next_stands}
 use Rattle.wfe_drive.specs.Bare.{bare, is_of_seat, is_place}

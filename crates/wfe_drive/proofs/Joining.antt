@@ -13,7 +13,7 @@ use Rattle.wfe_core.specs.World.{World, is_busy}
 use Rattle.wfe_core.specs.declared.post.Post.{Post}
 use Rattle.wfe_drive_cells.specs.Unit.{SeatView, Shows, TableView, fresh_seat, seat_at, shown, shown_in}
 use Rattle.wfe_drive_cells.proofs.Units.{busy-shown}
-use Rattle.wfe_drive.specs.SeatLeaving.{MayMove, gaining_seat, given_seat}
+use Rattle.wfe_drive_seat.specs.Leaving.{MayMove, gaining_seat, given_seat}
 use Rattle.law_reuse.specs.inv.Inv.{Inv}
 use Rattle.law_reuse.specs.inv.Joins.{Adds, joined}
 use Rattle.law_reuse.specs.inv.rows.Facts.{Listing}

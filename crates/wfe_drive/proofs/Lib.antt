@@ -6,12 +6,8 @@ pub mod Bare
 pub mod Clearing
 pub mod Dropping
 pub mod Joining
-pub mod Leaving
-pub mod Left
 pub mod Lists
 pub mod Loosening
-pub mod Moving
 pub mod Off
 pub mod Reached
-pub mod Rows
 pub mod Staying

@@ -4,7 +4,7 @@ use Rattle.std.specs.Prelude.{Bool, false, true, ℕ}
 use Rattle.wfe_core.specs.declared.op.Op.{Op}
 use Rattle.wfe_drive_cells.specs.Operations.{performed}
 use Rattle.wfe_drive_cells.specs.Unit.{TableView, seat_at, with_seat}
-use Rattle.wfe_drive.specs.SeatLeaving.{joined_views, seat_let, words_let}
+use Rattle.wfe_drive_seat.specs.Leaving.{joined_views, seat_let, words_let}
 
 -- the table once something was let go, and where nothing is left
 abbrev pub after_clear : (more : Bool) → TableView → ℕ → TableView

@@ -4,8 +4,4 @@ pub use Rattle.law_reuse.specs.Heard
 pub use Rattle.wfe_drive_cells.specs as drive_cells
 pub mod Bare
 pub mod Leaving
-pub mod Letting
 pub mod Reached
-pub mod SeatLeaving
-pub mod Seats
-pub mod Sound

@@ -3,13 +3,10 @@
 #![tactic(auto)]
 
 mod engine;
-mod letting;
 mod rig;
-mod seat;
 mod worlds;
 
 pub use engine::Engine;
 pub use rig::Rig;
-pub use seat::{Engaged, SeatState, move_list};
 pub use wfe_drive_cells::{Cells, MakeCells, PlainCells};
 pub use worlds::{none_has_left, tables_stay};

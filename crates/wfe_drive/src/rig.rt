@@ -10,15 +10,15 @@ ghost use Rattle.wfe_core.specs.declared.post.Post.{Post};
 ghost use Rattle.wfe_drive.specs.Bare.{bare, is_place};
 ghost use Rattle.wfe_drive.specs.Reached.{first_table, units_left};
 ghost use Rattle.wfe_drive.specs.Leaving.{after_clear, after_join, after_place};
-ghost use Rattle.wfe_drive.specs.SeatLeaving.{lets_go, told_let};
-ghost use Rattle.wfe_drive.specs.Seats.{Suits, engaged_phase, is_engaged};
+ghost use Rattle.wfe_drive_seat.specs.Leaving.{lets_go, told_let};
+ghost use Rattle.wfe_drive_seat.specs.Seats.{Suits, engaged_phase, is_engaged};
 
-use crate::{Engaged, SeatState, move_list};
 use std::alloc::Global;
 use std::marker::Model;
 use wfe_call_any::{HeCall, HpCall, IbrCall, WfeCall};
 use wfe_core::{Answer, Call, CallMachine, Layout, NoMemory, Op, SchemeKind, Told};
 use wfe_drive_cells::Cells;
+use wfe_drive_seat::{Engaged, SeatState, move_list};
 
 type State = SeatState<HeCall, IbrCall, WfeCall, HpCall>;
 

@@ -1,7 +1,5 @@
 pub use Rattle.wfe_drive_runs.proofs.drive_words as drive_words
 pub use Rattle.wfe_drive_runs.proofs as drive_runs
-pub mod Appending
-pub mod Noted
 pub mod RoundOpening
 pub mod RowFilling
 pub mod RowReading

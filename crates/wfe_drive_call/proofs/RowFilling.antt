@@ -12,7 +12,7 @@ use Rattle.wfe_core.specs.Rounds.{clearing}
 use Rattle.wfe_core.specs.declared.desk.Desk.{Desk as HeldDesk}
 use Rattle.wfe_core.specs.declared.post.Post.{Post}
 use Rattle.wfe_drive_runs.specs.drive_words.drive_cells.Unit.{kept_desk, seat_after}
-use Rattle.wfe_drive_call.proofs.Noted.{ends_noted}
+use Rattle.wfe_drive_runs.proofs.Noted.{ends_noted}
 use Rattle.wfe_drive_call.specs.Changing.{clears_at, fills_at, read_at, writes_at}
 
 -- the change is refused, or a row is filled

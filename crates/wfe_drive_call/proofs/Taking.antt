@@ -23,9 +23,9 @@ use Rattle.wfe_core.specs.Rounds.{clearing_next}
 use Rattle.wfe_core.specs.declared.post.Post.{Post}
 use Rattle.wfe_drive_runs.specs.drive_words.drive_cells.Unit.{SeatView, kept_desk, seat_after}
 use Rattle.wfe_drive_runs.specs.Pieces.{clearing_next_at, LeadsSo, clearing_at, end_of}
-use Rattle.wfe_drive_call.proofs.Appending.{link_quiet}
+use Rattle.wfe_drive_runs.proofs.Appending.{link_quiet}
 use Rattle.wfe_drive_runs.proofs.Closing.{clearing_next_noted}
-use Rattle.wfe_drive_call.proofs.Noted.{ends_noted, next_noted}
+use Rattle.wfe_drive_runs.proofs.Noted.{ends_noted, next_noted}
 
 -- the tail was moved on
 pub swung : (next : ℕ) (same : Bool) (post : Post) (desk : Desk) → seat_after (clearing_next Again post (kept_desk desk) (told_link roots.Tail next same)) ≡ clearing_next_at Again post desk

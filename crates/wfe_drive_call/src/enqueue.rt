@@ -7,18 +7,16 @@ ghost use Rattle.wfe_core.specs.DeskHeld.{HasRoom, desk_of};
 ghost use Rattle.wfe_core.specs.Enqueue.{filling};
 ghost use Rattle.wfe_core.specs.Rounds.{round};
 ghost use Rattle.wfe_core.specs.Steps.{first_phase};
-ghost use Rattle.wfe_drive_call.specs.Items.{kept_of};
+ghost use Rattle.wfe_drive_runs.specs.Items.{kept_of};
 ghost use Rattle.wfe_drive_runs.specs.call_rounds.Endings.{next_of};
 ghost use Rattle.wfe_drive_runs.specs.drive_words.Called.{Here, at_phase};
 ghost use Rattle.wfe_drive_runs.specs.drive_words.Path.{Closes, Leads};
 ghost use Rattle.wfe_drive_runs.specs.Pieces.{IsFree, clearing_at};
 
-use crate::append::{append, pass_tail, read_tail};
 use crate::ending::end_round;
-use crate::item::Item;
 use crate::item_row::fill;
 use wfe_core::{Answer, Desk, Post, Root};
-use wfe_drive_runs::{RoundEnd, Words, no_room, open_round};
+use wfe_drive_runs::{Item, RoundEnd, Words, append, no_room, open_round, pass_tail, read_tail};
 
 /// Makes an enqueue from its first step to its answer. Under 2GE its seat keeps no row.
 #[inline(always)]

@@ -4,13 +4,12 @@ ghost use Rattle.wfe_core.specs.Calls.{Enqueues, Enqueuing, ExchangeNext, Fills,
 ghost use Rattle.wfe_core.specs.DeskHeld.{HasRoom, desk_of};
 ghost use Rattle.wfe_core.specs.Enqueue.{filling, new_item};
 ghost use Rattle.wfe_core.specs.WriteRow.{writing};
-ghost use Rattle.wfe_drive_call.specs.Items.{filled_at, kept_of};
+ghost use Rattle.wfe_drive_runs.specs.Items.{filled_at, kept_of};
 ghost use Rattle.wfe_drive_runs.specs.drive_words.Called.{Here, at_phase};
 ghost use Rattle.wfe_drive_runs.specs.drive_words.Path.{Leads};
 
-use crate::item::Item;
 use wfe_core::{AllocateEnd, Desk, Post};
-use wfe_drive_runs::{Words, take_row, write_item};
+use wfe_drive_runs::{Item, Words, take_row, write_item};
 
 // Answers the row that has the item now, or none where no row was free.
 #[inline(always)]

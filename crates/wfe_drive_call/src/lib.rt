@@ -4,7 +4,6 @@
 //! its row, and links an item or takes one. What is rare is handed to a machine in a loop of its own.
 #![tactic(auto)]
 
-mod append;
 mod change;
 mod dequeue;
 mod drive;
@@ -12,7 +11,6 @@ mod ending;
 mod enqueue;
 mod exchange;
 mod fill;
-mod item;
 mod item_row;
 mod kept;
 mod opening;

@@ -2,7 +2,7 @@
 // start words of a small table, and of the words that puts leave.
 ghost use Rattle.std.specs.Prelude.{◌≡◌, IfOk, length};
 ghost use Rattle.wfe_core.specs.words.Place.{words};
-ghost use Rattle.wfe_table.specs.ClosedTable.{IsReached};
+ghost use Rattle.wfe_table.specs.closed.ClosedTable.{IsReached};
 
 use crate::atomic::load;
 use crate::calls::{done, make, moved};

@@ -1,9 +1,11 @@
 pub use Rattle.wfe_call_rounds.proofs as call_rounds
 pub use Rattle.wfe_drive_words.proofs as drive_words
+pub mod Appending
 pub mod Claiming
 pub mod Closing
 pub mod Followings
 pub mod Holds
+pub mod Noted
 pub mod Readying
 pub mod Rounding
 pub mod Spanning

@@ -1,6 +1,6 @@
 //! Pieces of threads' calls (`opening.rt`, `rows.rt`, `retirement.rt`). They are on the words of one seat: runs of a machine, a
 //! protection by which the seat is as the model's, the beginning and the end of a round, a row taken and written, and a
-//! retirement. Each serves every call.
+//! retirement, and a row linked after the tail (`tail.rt`). Each serves every call.
 #![tactic(auto)]
 
 mod base_run;
@@ -8,22 +8,26 @@ mod fill;
 mod follow;
 mod followed_run;
 mod hold;
+mod item;
 mod opening;
 mod retirement;
 mod round_end;
 mod rows;
 mod span;
+mod tail;
 mod tidy_run;
 
 pub use base_run::run;
 pub use fill::{store_cell, write_item};
 pub use follow::follow_next;
 pub use hold::hold_by_index;
+pub use item::Item;
 pub use opening::open_round;
 pub use retirement::retire;
 pub use round_end::{close_again, close_next, close_round};
 pub use rows::{give_up, take_row};
 pub use span::{close_span, hold_ibr, open_span};
+pub use tail::{append, pass_tail, read_tail};
 pub use tidy_run::tidy;
 pub use wfe_call_rounds::{RoundEnd, no_room, with_clock};
 pub use wfe_drive_words::{

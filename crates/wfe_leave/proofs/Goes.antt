@@ -25,7 +25,7 @@ use Rattle.wfe_drive_cells.specs.Operations.{answered, performed}
 use Rattle.wfe_drive_cells.specs.Unit.{IsUnit, SeatView, TableView, answer_in, asked, bare_seat, fresh_seat, handed_by, handed, lent_seat, may_adopt, seat_after, seat_at, turned, unit_turn, with_seat}
 use Rattle.wfe_drive_cells.proofs.Units.{own_turn, own_unit}
 use Rattle.wfe_drive.specs.inv.Places.{is_leaving}
-use Rattle.wfe_drive.specs.SeatLeaving.{gaining_seat, given_seat, leaving, let_seat, let_turn}
+use Rattle.wfe_drive_seat.specs.Leaving.{gaining_seat, given_seat, leaving, let_seat, let_turn}
 use Rattle.wfe_leave.specs.declared.part.Part.{Part}
 use Rattle.wfe_leave.specs.declared.part.Part.TheVariants.{Marks, Over, Parts, Stays, Takes}
 use Rattle.wfe_leave.specs.Parts.{AdoptUnit, CallUnit, ClearUnit, LeaveUnit, MarkUnit, MissUnit, at_steps, is_left, is_stays, laid, laid_seat, leaving_words, list_count, marking_words, overlay, part_at, quiet_desk, taking_found, taking_words, with_words}

@@ -17,7 +17,7 @@ use Rattle.wfe_core.specs.Rounds.{scheme_of}
 use Rattle.wfe_core.specs.Steps.{call_op, phase_turn}
 use Rattle.wfe_core.specs.declared.post.Post.{Post}
 use Rattle.wfe_drive_cells.specs.Unit.{SeatView, answer_in, seat_after}
-use Rattle.wfe_drive.specs.SeatLeaving.{is_marking, let_seat}
+use Rattle.wfe_drive_seat.specs.Leaving.{is_marking, let_seat}
 use Rattle.wfe_drive.specs.inv.Places.{is_leaving}
 use Rattle.wfe_leave.specs.declared.part.Part.TheVariants.{Parts}
 use Rattle.wfe_leave.specs.Parts.{at_steps, laid_seat, quiet_desk}

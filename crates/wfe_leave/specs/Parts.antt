@@ -18,7 +18,7 @@ use Rattle.wfe_core.specs.Locals.{busy_in}
 use Rattle.wfe_drive_cells.specs.Operations.{answered, performed}
 use Rattle.wfe_drive_cells.specs.Unit.{IsUnit, SeatView, TableView, after_start, is_gone, may_adopt, seat_at, with_seat}
 use Rattle.wfe_drive.specs.Bare.{bare}
-use Rattle.wfe_drive.specs.SeatLeaving.{lets_go, seat_let, told_let, words_let}
+use Rattle.wfe_drive_seat.specs.Leaving.{lets_go, seat_let, told_let, words_let}
 use Rattle.wfe_drive.specs.Leaving.{after_join}
 use Rattle.wfe_leave.specs.Comes.{Comes}
 use Rattle.wfe_leave.specs.declared.part.Part.{Part}

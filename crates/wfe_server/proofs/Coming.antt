@@ -21,10 +21,10 @@ use Rattle.wfe_core.specs.words.Place.{Place, layout_of}
 use Rattle.wfe_core.specs.words.Place.Place.{Bucket as BucketPlace, Row}
 use Rattle.wfe_core.specs.words.declared.config.Config.{Config}
 use Rattle.wfe_core.specs.words.declared.layout.Layout.{Layout}
-use Rattle.wfe_table.specs.Contents.{IsReadable, filling_by, filling_in, filling_of, pair_in}
-use Rattle.wfe_table.specs.declared.closed.BucketRow.{BucketRow}
-use Rattle.wfe_table.specs.declared.closed.Closed.{Closed}
-use Rattle.wfe_table.proofs.ClosedTable.{reached_readable}
+use Rattle.wfe_table.specs.closed.Contents.{IsReadable, filling_by, filling_in, filling_of, pair_in}
+use Rattle.wfe_table.specs.closed.declared.closed.BucketRow.{BucketRow}
+use Rattle.wfe_table.specs.closed.declared.closed.Closed.{Closed}
+use Rattle.wfe_table_end.proofs.ClosedTable.{reached_readable}
 use Rattle.wfe_table.specs.rule.drive_cells.Memory.{memory}
 use Rattle.wfe_table.specs.rule.Rule.{Follows}
 use Rattle.wfe_table.specs.rule.Views.{Track, seat_of}

@@ -1,7 +1,6 @@
 pub use Rattle.wfe_table.proofs.all as all
 pub mod Begun
 pub mod Calls
-pub mod ClosedLines
 pub mod Coming
 pub mod Complete
 pub mod Parting

@@ -4,7 +4,6 @@
 
 mod events;
 mod gate;
-mod lines;
 mod reader;
 mod report;
 mod scripts;

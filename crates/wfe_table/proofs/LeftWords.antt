@@ -4,10 +4,10 @@ use Rattle.std.proofs.lemmas.List.{take_all}
 use mathlib.Core.Option.{some}
 use lib.ListN.{get_elem?}
 use Rattle.wfe_core.specs.words.declared.layout.Layout.{Layout}
-use Rattle.wfe_table.specs.ClosedTable.{IsClosed, Reaches}
-use Rattle.wfe_table.specs.Contents.{IsRead}
-use Rattle.wfe_table.specs.Room.{Words}
-use Rattle.wfe_table.specs.declared.closed.Closed.{Closed}
+use Rattle.wfe_table_end.specs.ClosedTable.{IsClosed, Reaches}
+use Rattle.wfe_table_end.specs.Contents.{IsRead}
+use Rattle.wfe_table_end.specs.Room.{Words}
+use Rattle.wfe_table_end.specs.declared.closed.Closed.{Closed}
 use Rattle.wfe_drive_rule.specs.Ended.{Ended}
 use Rattle.wfe_drive_rule.specs.Views.{Track}
 use Rattle.wfe_drive_rule.specs.history.History.{Item, record_of}

@@ -4,9 +4,9 @@ use Rattle.wfe_core.specs.words.declared.layout.Layout.{Layout}
 use Rattle.wfe_core.specs.World.{is_busy}
 use Rattle.law_all.specs.RunLaw.{AtClose, RunLaw}
 use Rattle.law_all.specs.Runs.{logs_of}
-use Rattle.wfe_table.specs.ClosedTable.{IsClosed, Reaches}
-use Rattle.wfe_table.specs.Contents.{IsRead, filling_of}
-use Rattle.wfe_table.specs.declared.closed.Closed.{Closed}
+use Rattle.wfe_table_end.specs.ClosedTable.{IsClosed, Reaches}
+use Rattle.wfe_table_end.specs.Contents.{IsRead, filling_of}
+use Rattle.wfe_table_end.specs.declared.closed.Closed.{Closed}
 use Rattle.wfe_drive_rule.specs.Rule.{Follows}
 use Rattle.wfe_drive_rule.specs.Views.{Track, seat_of}
 use Rattle.wfe_drive_rule.specs.history.History.{Item, record_of, world_of}

@@ -1,7 +1,7 @@
 // Closing a shared table, once its threads are done.
 ghost use Rattle.std.specs.Prelude.{◌≡◌, ◌≤◌, ◌<◌, [], All, IfErr, IfOk, length, map, take};
 ghost use Rattle.std.specs.Slots.{IsFull, slots_items};
-ghost use Rattle.wfe_table.specs.ClosedTable.{IsReached};
+ghost use Rattle.wfe_table_end.specs.ClosedTable.{IsReached};
 ghost use Rattle.wfe_drive_rule.specs.Ended.{Ended};
 ghost use Rattle.wfe_drive_rule.specs.Handles.{IsGathered, IsSized};
 ghost use Rattle.wfe_table.specs.Closing.{IsHandedBack, IsLeft, track_of};
@@ -9,10 +9,10 @@ ghost use Rattle.wfe_table.specs.Public.{IsOf};
 
 use crate::seat::Seat;
 use crate::shared::Shared;
-use crate::{Closed, ClosedRoom};
 use std::alloc::Global;
 use wfe_core::Layout;
 use wfe_drive_rule::{Handle, Ledger, OwnedLedger, finish, take_in};
+use wfe_table_end::{Closed, ClosedRoom};
 
 /// Why a table was not closed. All that was handed in comes back as it was.
 #[derive(Drop)]

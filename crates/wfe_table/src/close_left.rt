@@ -8,9 +8,9 @@ use crate::close::{gathered, read_end};
 use crate::left::LeftSeat;
 use crate::seat::Seat;
 use crate::shared::Shared;
-use crate::{Closed, ClosedRoom};
 use std::alloc::Global;
 use wfe_drive_rule::{Handle, Ledger, take_in};
+use wfe_table_end::{Closed, ClosedRoom};
 
 /// Why a table was not closed. All that was handed in comes back as it was.
 #[derive(Drop)]

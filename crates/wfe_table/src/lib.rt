@@ -7,7 +7,6 @@
 mod calls;
 mod close;
 mod close_left;
-mod closed;
 mod facts;
 mod handover;
 mod leaving;
@@ -15,8 +14,6 @@ mod left;
 mod list;
 mod part;
 mod places;
-mod reading;
-mod room;
 mod seat;
 mod shared;
 mod take;
@@ -28,13 +25,12 @@ pub use calls::{
 };
 pub use close::CloseError;
 pub use close_left::CloseLeftError;
-pub use closed::{BucketRow, Closed};
 pub use facts::seats_meet_no_more_than_there_is;
 pub use handover::{AdoptEnd, adopt, leave};
 pub use left::LeftSeat;
-pub use room::ClosedRoom;
 pub use seat::Seat;
 pub use shared::{MakeError, Shared};
 pub use wfe_core::{
     Answer, Call, ClockMove, Config, Layout, Lifetime, Notes, RetireList, ScanReport, SchemeKind,
 };
+pub use wfe_table_end::{BucketRow, Closed, ClosedRoom};

@@ -10,11 +10,11 @@ ghost use Rattle.wfe_table.specs.Public.{IsOf, new_seats};
 
 use crate::close::{gathered, read_end};
 use crate::seat::Seat;
-use crate::{Closed, ClosedRoom};
 use std::alloc::Global;
 use std::marker::Model;
 use wfe_core::{Answer, Call, Config, Layout, NoMemory};
 use wfe_drive_rule::{OwnedLedger, open, split, take_slot};
+use wfe_table_end::{Closed, ClosedRoom};
 use wfe_words::Field;
 
 /// Why a shared table was not made.

@@ -1,7 +1,7 @@
 -- A round was made and ended, and what comes after it is the answer or another round.
 use Rattle.std.proofs.Common.{refl}
 use Rattle.wfe_core.specs.Calls.{Enqueues}
-use Rattle.wfe_drive_call.specs.Items.{kept_of}
+use Rattle.wfe_drive_runs.specs.Items.{kept_of}
 use Rattle.wfe_drive_runs.proofs.drive_words.Leading.{here_on, leads_none, then_closes, then_leads}
 use Rattle.wfe_drive_call.proofs.enqueue.enqueue_item.Goals as goal
 

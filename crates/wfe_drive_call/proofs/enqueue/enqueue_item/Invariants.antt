@@ -4,7 +4,7 @@ use Rattle.wfe_core.specs.Calls.{Enqueues}
 use Rattle.wfe_core.specs.DeskHeld.{HasRoom}
 use Rattle.wfe_core.specs.Rounds.{round}
 use Rattle.wfe_core.specs.Steps.{first_phase}
-use Rattle.wfe_drive_call.specs.Items.{kept_of}
+use Rattle.wfe_drive_runs.specs.Items.{kept_of}
 use Rattle.wfe_drive_runs.specs.drive_words.Called.{at_phase}
 use Rattle.wfe_drive_runs.specs.drive_words.Path.{Leads}
 use Rattle.wfe_drive_runs.specs.Pieces.{IsFree}

@@ -4,9 +4,9 @@ use Rattle.std.proofs.Common.{ap, refl, subst, sym, ◌∙◌, ◌≡◌}
 use Rattle.wfe_core.specs.words.declared.config.Config.{Config}
 use Rattle.wfe_core.specs.Calls.{Enqueues}
 use Rattle.wfe_core.specs.DeskHeld.{desk_of}
-use Rattle.wfe_drive_call.specs.Items.{kept_of}
+use Rattle.wfe_drive_runs.specs.Items.{kept_of}
 use Rattle.wfe_drive_runs.specs.Pieces.{IsFree}
-use Rattle.wfe_drive_call.proofs.Appending.{at_last, at_passes, is_left, is_spent, tail_held, tail_null}
+use Rattle.wfe_drive_runs.proofs.Appending.{at_last, at_passes, is_left, is_spent, tail_held, tail_null}
 use Rattle.wfe_drive_runs.proofs.Spanning.{free_stays}
 use Rattle.wfe_drive_runs.proofs.drive_words.Leading.{here_on, leads_as, then_leads}
 use Rattle.wfe_drive_call.proofs.enqueue.link_item.Goals as goal

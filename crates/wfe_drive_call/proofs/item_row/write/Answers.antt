@@ -3,7 +3,7 @@ use Rattle.std.proofs.Common.{Option, ap, arith, ℕ}
 use Rattle.wfe_core.specs.Calls.{Enqueues, Enqueuing, ExchangeNext, Fills, Works}
 use Rattle.wfe_core.specs.DeskHeld.{desk_of}
 use Rattle.wfe_core.specs.Steps.{slot_in}
-use Rattle.wfe_drive_call.specs.Items.{kept_of}
+use Rattle.wfe_drive_runs.specs.Items.{kept_of}
 use Rattle.wfe_drive_runs.specs.drive_words.Called.{at_phase}
 use Rattle.wfe_drive_runs.proofs.drive_words.Leading.{leads_as}
 use Rattle.wfe_drive_runs.proofs.Turning.{may_here}

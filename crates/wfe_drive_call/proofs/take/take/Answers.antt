@@ -6,7 +6,7 @@ use Rattle.wfe_core.specs.declared.post.Post.{Post}
 use Rattle.wfe_drive_runs.specs.drive_words.drive_cells.Unit.{kept_desk, seat_after}
 use Rattle.wfe_drive_runs.specs.drive_words.Path.{stepped}
 use Rattle.wfe_drive_runs.specs.Pieces.{seat_of}
-use Rattle.wfe_drive_call.proofs.Appending.{at_steps, three}
+use Rattle.wfe_drive_runs.proofs.Appending.{at_steps, three}
 use Rattle.wfe_drive_call.proofs.Taking.{is_lost, is_taken}
 use Rattle.wfe_drive_runs.proofs.drive_words.Leading.{few_here, here_on, leads_as, then_leads}
 use Rattle.wfe_drive_runs.proofs.Turning.{asks_seat, may_here}

@@ -4,7 +4,7 @@ use Rattle.wfe_core.specs.words.Place.{is_valid}
 use Rattle.wfe_core.specs.words.declared.layout.Layout.{Layout}
 use Rattle.wfe_drive_cells.specs.Memory.{HoldsStart}
 use Rattle.wfe_drive_cells.proofs.Bridge.{memory-start}
-use Rattle.wfe_table.specs.ClosedTable.{IsReached}
+use Rattle.wfe_table.specs.closed.ClosedTable.{IsReached}
 use Rattle.wfe_drive_call_tests.proofs.closed.a_table_at_its_start_is_empty.Goals as goal
 
 start_reached : (layout : Layout) (list : List ℕ) → is_valid layout ≡ true → HoldsStart layout list → IsReached layout list

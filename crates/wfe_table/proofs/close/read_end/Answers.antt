@@ -1,7 +1,7 @@
 use Rattle.std.proofs.Common.{List, [], ap, ap₂, arith, length, subst, ℕ, ◌++◌, ◌≡◌, ◌≤◌, ◌∙◌, ◌∷◌}
 use Rattle.std.specs.Slots.{slots_items}
 use Rattle.wfe_core.specs.words.declared.layout.Layout.{Layout}
-use Rattle.wfe_table.specs.Room.{Words}
+use Rattle.wfe_table_end.specs.Room.{Words}
 use Rattle.wfe_drive_rule.specs.Ended.{Ended}
 use Rattle.wfe_table.proofs.LeftWords.{left, taken_word}
 use Rattle.wfe_table.proofs.close.read_end.Goals as goal

@@ -1,7 +1,7 @@
 -- What the table shows gives the seat's code what it needs, and calls of seats that stay come to what it leaves.
 use Rattle.std.proofs.Common.{slice_set, subst, ◌≡◌}
 use Rattle.wfe_drive_cells.specs.Unit.{TableView, seat_at}
-use Rattle.wfe_drive.specs.SeatLeaving.{lets_go, told_let}
+use Rattle.wfe_drive_seat.specs.Leaving.{lets_go, told_let}
 use Rattle.wfe_drive.specs.Leaving.{after_clear}
 use Rattle.wfe_drive.proofs.Clearing.{clear_from, parts_from}
 use Rattle.wfe_drive.proofs.rig.Rig.clear_unit.Goals as goal

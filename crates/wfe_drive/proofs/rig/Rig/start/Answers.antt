@@ -3,7 +3,7 @@ use Rattle.std.proofs.Common.{ap, subst, sym, ◌∙◌}
 use Rattle.wfe_core.specs.words.declared.layout.Layout.{Layout}
 use Rattle.wfe_core.specs.Locals.{begun_post, busy_in}
 use Rattle.wfe_drive_cells.specs.Unit.{TableView, after_start}
-use Rattle.wfe_drive.specs.Seats.{Suits}
+use Rattle.wfe_drive_seat.specs.Seats.{Suits}
 use Rattle.wfe_drive.proofs.Reached.{began_from, begun_busy, layout_from, seat_begun}
 use Rattle.wfe_drive.proofs.rig.Rig.start.Goals as goal
 

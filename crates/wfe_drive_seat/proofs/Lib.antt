@@ -1,0 +1,5 @@
+pub use Rattle.wfe_drive_cells.proofs as drive_cells
+pub mod Leaving
+pub mod Left
+pub mod Moving
+pub mod Rows

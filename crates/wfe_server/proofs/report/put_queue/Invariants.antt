@@ -1,8 +1,0 @@
--- The values before this one are written.
-use Rattle.std.proofs.Common.{drop}
-use Rattle.wfe_server.specs.Text.{queue_lines}
-use Rattle.wfe_server_out.proofs.Written.{Wrote}
-use Rattle.wfe_server.proofs.report.put_queue.Given as goal
-
-abbrev pub invariant-loop-place : goal.invariant-loop-place
-invariant-loop-place g l = Wrote g.K.Sink.written g.K.Sink.faults g.K.Sink.may_stand l.fn.sink l.sink (queue_lines l.items) (queue_lines (drop l.place l.items))
