@@ -17,7 +17,7 @@ use Rattle.wfe_core.specs.Rounds.{begin_base, finish_base, finish_span, kept_row
 use Rattle.wfe_core.specs.Steps.{changing, copying, first_phase, holding, looking_at}
 use Rattle.wfe_core.specs.declared.post.Post.{Post}
 use Rattle.wfe_drive_runs.specs.Pieces.{IsFree}
-use Rattle.wfe_drive_call.specs.Others.{is_other}
+use Rattle.wfe_drive_call.specs.Others.{is_at_index, is_other}
 
 by_base : (task : Task) (post : Post) (base : Option Base) → busy_in (round_by task post base) ≡ true
 by_base task post None = refl
@@ -96,20 +96,27 @@ other_by (names.Enqueue value) get put remove put_if enqueue dequeue = absurd (e
 other_by names.Dequeue get put remove put_if enqueue dequeue = absurd (dequeue refl)
 other_by _ get put remove put_if enqueue dequeue = refl
 
--- and each that stays is made
-pub none_other : (call : Call) → is_other call ≡ true → stays call ≡ true → ((key : ℕ) → call ≡ names.Hold key → ⊥) → (call ≡ names.Release → ⊥) → (call ≡ names.Advance → ⊥) → (call ≡ names.Scan → ⊥) → ((from index : ℕ) → call ≡ names.Copy from index → ⊥) → ((index : ℕ) → call ≡ names.DropIndex index → ⊥) → ((index key : ℕ) → call ≡ names.Look index key → ⊥) → ⊥
-none_other (names.Hold key) other there hold release advance scan copy drop look = hold key refl
-none_other names.Release other there hold release advance scan copy drop look = release refl
-none_other names.Advance other there hold release advance scan copy drop look = advance refl
-none_other names.Scan other there hold release advance scan copy drop look = scan refl
-none_other (names.Copy from index) other there hold release advance scan copy drop look = copy from index refl
-none_other (names.DropIndex index) other there hold release advance scan copy drop look = drop index refl
-none_other (names.Look index key) other there hold release advance scan copy drop look = look index key refl
-none_other (names.Get key) other there hold release advance scan copy drop look = cc
-none_other (names.Put key value) other there hold release advance scan copy drop look = cc
-none_other (names.Remove key) other there hold release advance scan copy drop look = cc
-none_other (names.PutIf key value version) other there hold release advance scan copy drop look = cc
-none_other (names.Enqueue value) other there hold release advance scan copy drop look = cc
-none_other names.Dequeue other there hold release advance scan copy drop look = cc
-none_other names.Leave other there hold release advance scan copy drop look = cc
-none_other (names.Adopt place) other there hold release advance scan copy drop look = cc
+-- and one that stays and is none of the first of these names an index
+pub at_index_by : (call : Call) → is_other call ≡ true → stays call ≡ true → ((key : ℕ) → call ≡ names.Hold key → ⊥) → (call ≡ names.Release → ⊥) → (call ≡ names.Advance → ⊥) → (call ≡ names.Scan → ⊥) → is_at_index call ≡ true
+at_index_by (names.Hold key) other there hold release advance scan = absurd (hold key refl)
+at_index_by names.Release other there hold release advance scan = absurd (release refl)
+at_index_by names.Advance other there hold release advance scan = absurd (advance refl)
+at_index_by names.Scan other there hold release advance scan = absurd (scan refl)
+at_index_by (names.Copy from index) other there hold release advance scan = refl
+at_index_by (names.DropIndex index) other there hold release advance scan = refl
+at_index_by (names.Look index key) other there hold release advance scan = refl
+at_index_by (names.Get key) other there hold release advance scan = other
+at_index_by (names.Put key value) other there hold release advance scan = other
+at_index_by (names.PutIf key value version) other there hold release advance scan = other
+at_index_by (names.Remove key) other there hold release advance scan = other
+at_index_by (names.Enqueue value) other there hold release advance scan = other
+at_index_by names.Dequeue other there hold release advance scan = other
+at_index_by names.Leave other there hold release advance scan = there
+at_index_by (names.Adopt place) other there hold release advance scan = there
+
+-- and each that does is made
+pub none_at_index : (call : Call) → is_at_index call ≡ true → ((from index : ℕ) → call ≡ names.Copy from index → ⊥) → ((index : ℕ) → call ≡ names.DropIndex index → ⊥) → ((index key : ℕ) → call ≡ names.Look index key → ⊥) → ⊥
+none_at_index (names.Copy from index) named copy drop look = copy from index refl
+none_at_index (names.DropIndex index) named copy drop look = drop index refl
+none_at_index (names.Look index key) named copy drop look = look index key refl
+none_at_index _ named copy drop look = absurd (false≢true named)

@@ -11,3 +11,10 @@ is_other (names.PutIf key value version) = false
 is_other (names.Enqueue value) = false
 is_other names.Dequeue = false
 is_other call = true
+
+-- those that name an index at which a row stays protected
+abbrev pub is_at_index : Call → Bool
+is_at_index (names.Copy from index) = true
+is_at_index (names.DropIndex index) = true
+is_at_index (names.Look index key) = true
+is_at_index call = false

@@ -6,7 +6,7 @@ ghost use Rattle.wfe_core.specs.Locals.{stays};
 ghost use Rattle.wfe_core.specs.Steps.{first_phase};
 ghost use Rattle.wfe_drive_runs.specs.drive_words.Called.{Here, Makes, at_phase};
 ghost use Rattle.wfe_drive_runs.specs.drive_words.Ran.{Answered};
-ghost use Rattle.wfe_drive_call.specs.Others.{is_other};
+ghost use Rattle.wfe_drive_call.specs.Others.{is_at_index, is_other};
 
 use wfe_call_any::{
     Advance, CopyIndex, Dequeue, DropIndex, Enqueue, Get, Hold, Look, Put, PutIf, Release, Remove,
@@ -85,6 +85,31 @@ fn drive_other<W: Words, S: Scheme>(
             let layout = post.layout;
             drive(words, Scan::new(layout), post, desk, call)
         }
+        _ => drive_at_index::<W, S>(words, post, desk, call),
+    }
+}
+
+// The same of a call on a row that an index protects, and that stays protected.
+#[inline(always)]
+fn drive_at_index<W: Words, S: Scheme>(
+    words: &mut W,
+    post: &mut Post,
+    desk: &mut Desk,
+    call: Call,
+) -> Answer
+    requires valid { W.valid words.old }
+    requires scheme { post.old.layout.config.scheme ≡ S.kind }
+    requires here { Here (W.at words.old) (at_phase (first_phase call post.old) post.old desk.old) }
+    requires named { is_at_index call ≡ true }
+    requires room { HasRoom desk.old post.old.layout }
+    ensures valid { W.valid words.new }
+    ensures same { W.same words.old words.new }
+    ensures room { HasRoom desk.new post.new.layout }
+    ensures made { Makes (λ ops l m. Answered l ops result m) (W.at words.old) (W.at words.new)
+        (W.stands words.old) (W.stands words.new)
+        (at_phase (first_phase call post.old) post.old desk.old) (at_phase Idle post.new desk.new) }
+{
+    match call {
         Call::Copy { from, index } => {
             drive(words, CopyIndex::<S>::new(from, index), post, desk, call)
         }

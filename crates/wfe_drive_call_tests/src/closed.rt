@@ -5,12 +5,12 @@ ghost use Rattle.wfe_core.specs.words.Place.{words};
 ghost use Rattle.wfe_table.specs.closed.ClosedTable.{IsReached};
 
 use crate::atomic::load;
-use crate::calls::{done, make, moved};
+use crate::calls::puts;
 use crate::settings::SMALL;
 use std::alloc::Global;
 use std::process::Abort;
 use std::test::Fail;
-use wfe_core::{Answer, Call, ClockMove, Layout, NoMemory};
+use wfe_core::{ClockMove, Layout, NoMemory};
 use wfe_drive_cells::{MakeCells, PlainCells};
 use wfe_table::{Closed, ClosedRoom};
 
@@ -25,29 +25,23 @@ fn read(alloc: Global, layout: Layout, cells: &mut PlainCells) -> Result<Closed,
     Ok(room.read())
 }
 
-// The words of a small table after these calls, each with its steps and its answer.
+// The words of a small table after these puts, each with its steps and what came of the clock.
 fn words_after<R: Abort + AllocGlobal>(
     rt: &R,
-    calls: &[(Call, u64, Answer)],
+    pairs: &[(u64, u64, u64, ClockMove)],
 ) -> Result<(Layout, PlainCells), Fail>
     ensures reached { IfOk result (λ r. IsReached r.0 r.1) }
     ensures count { IfOk result (λ r. length r.1 ≡ words r.0) }
 {
-    let (kept, post, _) = make(rt, SMALL, calls)?;
+    let (kept, post, _) = puts(rt, SMALL, pairs)?;
     Ok((post.layout, kept.cells))
 }
 
 // The first put, of a key with the number after it. Its row is row 0.
-fn first_put() -> (Call, u64, Answer) {
-    let put = Call::Put { key: 32, value: 33 };
-    (put, 13, done(1, ClockMove::Still))
-}
+const FIRST: (u64, u64, u64, ClockMove) = (32, 33, 13, ClockMove::Still);
 
 // The next put, whose row is row 1.
-fn second_put() -> (Call, u64, Answer) {
-    let put = Call::Put { key: 34, value: 35 };
-    (put, 30, done(2, moved(2)))
-}
+const SECOND: (u64, u64, u64, ClockMove) = (34, 35, 30, ClockMove::Moved { era: 2 });
 
 #[test]
 fn a_table_at_its_start_is_empty(rt: HostRuntime) -> Result<(), Fail> {
@@ -67,7 +61,7 @@ fn a_table_at_its_start_is_empty(rt: HostRuntime) -> Result<(), Fail> {
 
 #[test]
 fn pairs_are_read_from_place_3_on(rt: HostRuntime) -> Result<(), Fail> {
-    let (layout, mut cells) = words_after(&rt, &[first_put(), second_put()])?;
+    let (layout, mut cells) = words_after(&rt, &[FIRST, SECOND])?;
     assert_eq!(rt; layout.words(), 60);
     // Row 1 begins at word 29, so each word of its pairs is its own number.
     assert_eq!(rt; load(&mut cells, 32), 32);
@@ -84,7 +78,7 @@ fn pairs_are_read_from_place_3_on(rt: HostRuntime) -> Result<(), Fail> {
 
 #[test]
 fn rows_with_their_bits_set_are_in_use(rt: HostRuntime) -> Result<(), Fail> {
-    let (layout, mut cells) = words_after(&rt, &[first_put()])?;
+    let (layout, mut cells) = words_after(&rt, &[FIRST])?;
     assert_eq!(rt; layout.words(), 60);
     // Rows 0 and 2 are taken. The bits after that of the last row are set too.
     assert_eq!(rt; load(&mut cells, 10), 0xffff_ffff_ffff_fffd);

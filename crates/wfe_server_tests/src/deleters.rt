@@ -1,54 +1,47 @@
-// A whole replay with deleters: objects of the test that belong to rows, each called once its row went
-// back.
+// Deleters that count their drops.
+use std::cell::Cell;
+use std::process::Abort;
 use std::test::Fail;
-use wfe_drive_cells::TableCells;
-use wfe_final::{Deleter, FinalWatcher, Ledger};
-use wfe_outside::{MemSink, MemSource, Watcher};
-use wfe_server_gen::{Rig, replay};
-use wfe_trace::Status;
+use wfe_final::{Deleter, Finals, Ledger};
 
-/// An object with nothing but its id.
-#[derive(Drop)]
-struct Owned {
-    id: u64,
+/// A deleter that counts its drops.
+struct Counted<'a> {
+    drops: &'a Cell<u64>,
 }
 
-impl Deleter for Owned {
-    ghost identity = { λ d. d.id };
+impl Drop for Counted<'_> {
+    fn drop(self) {
+        let Counted { drops } = self;
+        drops.set(drops.get().wrapping_add(1));
+    }
+}
+
+impl Deleter for Counted<'_> {
+    ghost identity = { λ _. 7 };
 
     fn id(&self) -> u64 {
-        self.id
+        7
     }
 
     fn delete(&mut self, slot: u32, ledger: &mut Ledger) {
-        ledger.add(self.id, slot);
+        ledger.add(7, slot);
     }
 }
 
-// The row of a bucket is retired by the put that replaces it: the second put retires the first row, and
-// the third one the second.
+// Gives a slot a deleter, settles it twice, and lets go of what is left.
+fn settle<R: Abort + AllocGlobal>(rt: &R, drops: &Cell<u64>) -> Result<(), Fail> {
+    let mut finals = Finals::new(rt.alloc(), 0)?;
+    let mut ledger = Ledger::new(rt.alloc(), 2)?;
+    assert!(rt; finals.attach(0, Counted { drops }).is_ok());
+    finals.settle(&[0, 0], &mut ledger);
+    assert_eq!(rt; drops.get(), 1);
+    Ok(())
+}
+
 #[test]
-fn deleters_are_called_where_their_rows_went_back(rt: HostRuntime) -> Result<(), Fail> {
-    let trace =
-        b"wfe 1\nscheme he\nseats 1\nindexes 3\nslots 8\nbuckets 1\ntries 2\nevery 1\nlast_era 100\nlast_version 100\nbegin\n\
-0 put 7 1\n0 run\n0 put 7 2\n0 run\n0 put 7 3\n0 run\nend\n";
-    let mut store = Vec::new(rt.alloc());
-    for id in [11, 12, 13] {
-        store.push(Owned { id })?;
-    }
-    let mut watchers: Vec<Box<dyn Watcher>> = Vec::new(rt.alloc());
-    let watcher = FinalWatcher::new(rt.alloc(), 8, store)?;
-    watchers.push(Box::new(rt.alloc(), watcher)?)?;
-    let mut source = MemSource::new(rt.alloc(), trace, &[])?;
-    let mut sink = MemSink::new(rt.alloc(), 65_536, &[])?;
-    let status = replay::<Rig<TableCells>, MemSource, MemSink>(
-        rt.alloc(),
-        &mut source,
-        &mut sink,
-        &mut watchers,
-    );
-    assert_eq!(rt; status, Status::Done);
-    let rows: &[u8] = b"watch 0 13 0 1\nwatch 0 12 1 2\ndone\n";
-    assert!(rt; sink.bytes().ends_with(rows));
+fn a_deleter_that_is_called_is_dropped_once(rt: HostRuntime) -> Result<(), Fail> {
+    let drops = Cell::new(0u64);
+    settle(&rt, &drops)?;
+    assert_eq!(rt; drops.get(), 1);
     Ok(())
 }

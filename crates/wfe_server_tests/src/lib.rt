@@ -1,16 +1,20 @@
-//! Tests of replays: watchers, deleters, failed writes, stopped seats. These are what no command shows. A table whose seats
-//! stay is tested too.
+//! Tests of words by hand, deleters, readers and sinks that fail, texts without an end, and workers at a gate. These are what no
+//! text of a case shows and no clause says.
 #![tactic(auto)]
 
 #[cfg(test)]
-mod bench;
+mod adapters;
 #[cfg(test)]
 mod deleters;
 #[cfg(test)]
-mod out;
+mod endless;
 #[cfg(test)]
-mod staying;
+mod expect;
 #[cfg(test)]
-mod stopped;
+mod gates;
 #[cfg(test)]
-mod watchers;
+mod lives;
+#[cfg(test)]
+mod sinks;
+#[cfg(test)]
+mod words;

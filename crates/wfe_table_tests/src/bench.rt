@@ -1,215 +1,134 @@
-// A shared table with its seats, in the hands of a test, and whole calls on it.
-ghost use Rattle.std.specs.Prelude.{All, IfOk};
+// A shared table whose seats may leave, in the hands of a test.
+ghost use Rattle.std.specs.Prelude.{All};
 ghost use Rattle.wfe_table.specs.Public.{IsOf};
 
+use crate::calls::make;
+use crate::hands::{handed_back, put_away, put_back, take_gone, take_out};
 use std::alloc::Global;
 use std::test::Fail;
-use wfe_table::{
-    Answer, Call, Closed, Config, Done, Empty, EnqueueRefusal, Looked, PutIfRefusal, PutRefusal,
-    Queued, RemoveRefusal, SchemeKind, Seat, Shared, Taken,
-};
+use wfe_table::{Answer, Call, Closed, Config, LeftSeat, Seat, Shared, leave};
 
-/// A table and its seats, in number order. Each method tests what the table needs of its caller, and
-/// does nothing where that does not hold.
+/// A table, the seats that are there, and those that have left.
 #[derive(Drop)]
 pub struct Bench {
     shared: Shared,
     seats: Vec<Seat>,
+    left: Vec<LeftSeat>,
     ghost of: { All (λ seat. IsOf seat shared) seats.items },
-}
-
-/// A new table and its seats, which are that table's.
-pub fn open_table(alloc: Global, config: Config) -> Result<(Shared, Vec<Seat>), Fail>
-    ensures { IfOk result (λ r. All (λ seat. IsOf seat r.0) r.1.items) }
-{
-    Ok(Shared::new(alloc, config)?)
+    ghost gone: { All (λ seat. IsOf seat shared) left.items },
 }
 
 impl Bench {
     /// A table at its start.
     pub fn new(alloc: Global, config: Config) -> Result<Bench, Fail> {
-        let (shared, seats) = open_table(alloc, config)?;
-        Ok(Bench { shared, seats })
+        let (shared, seats) = Shared::new(alloc, config)?;
+        Ok(Bench {
+            shared,
+            seats,
+            left: Vec::new(alloc),
+        })
     }
 
-    /// The table's scheme.
-    pub fn scheme(&self) -> SchemeKind {
-        self.shared.layout().config().scheme
+    /// The table's setting.
+    pub fn config(&self) -> Config {
+        self.shared.layout().config()
     }
 
-    /// The seat of this number.
-    pub fn seat(&self, number: usize) -> Option<&Seat> {
-        self.seats.get(number)
+    // Where the seat of this number is among those that are there; past them if it is not.
+    fn place(&self, number: u32) -> usize {
+        for (place, seat) in self.seats.iter().enumerate() {
+            if seat.number() == number {
+                return place;
+            }
+        }
+        self.seats.len()
     }
 
-    /// Makes a whole call of the seat.
-    pub fn make(&mut self, number: usize, call: Call) -> Option<Answer> {
-        if number >= self.seats.len() {
+    /// The seat of this number, if it is there.
+    pub fn seat(&self, number: u32) -> Option<&Seat> {
+        self.seats.get(self.place(number))
+    }
+
+    /// The version of the bucket that the seat has seen last.
+    pub fn seen(&self, number: u32, bucket: u32) -> Option<u64> {
+        let place = self.place(number);
+        if place >= self.seats.len() {
             return None;
         }
-        make(&self.shared, &mut self.seats[number], call)
+        seen(&self.shared, &self.seats[place], bucket)
+    }
+
+    /// Makes a whole call of a seat that is there, by which it does not leave, and which may begin.
+    pub fn make(&mut self, number: u32, call: Call) -> Option<Answer> {
+        let place = self.place(number);
+        if place >= self.seats.len() {
+            return None;
+        }
+        make(&self.shared, &mut self.seats[place], call)
+    }
+
+    /// The seat leaves, if it is there.
+    pub fn leave(&mut self, number: u32) -> bool {
+        let place = self.place(number);
+        match take_out(&self.shared, &mut self.seats, place) {
+            Some(seat) => put_away(&self.shared, &mut self.left, leave(&self.shared, seat)),
+            None => false,
+        }
+    }
+
+    /// A close without the seat of this number, which is there, hands all back.
+    pub fn miss(self, alloc: Global, number: u32) -> Option<Bench> {
+        let place = self.place(number);
+        let Bench {
+            shared,
+            mut seats,
+            left,
+        } = self;
+        let seat = take_out(&shared, &mut seats, place)?;
+        let (shared, seats, left) = handed_back(alloc, shared, seats, left)?;
+        let seats = put_back(&shared, seats, seat)?;
+        Some(Bench {
+            shared,
+            seats,
+            left,
+        })
+    }
+
+    /// The same without the seat that has left first.
+    pub fn miss_left(self, alloc: Global) -> Option<Bench> {
+        let Bench {
+            shared,
+            seats,
+            mut left,
+        } = self;
+        let seat = take_gone(&shared, &mut left)?;
+        let (shared, seats, mut left) = handed_back(alloc, shared, seats, left)?;
+        if !put_away(&shared, &mut left, seat) {
+            return None;
+        }
+        Some(Bench {
+            shared,
+            seats,
+            left,
+        })
     }
 
     /// Ends the table with all of its seats.
     pub fn close(self, alloc: Global) -> Option<Closed> {
-        let Bench { shared, seats } = self;
-        shared.close(alloc, seats).ok()
+        let Bench {
+            shared,
+            seats,
+            left,
+        } = self;
+        shared.close_left(alloc, seats, left).ok()
     }
 }
 
-fn make(shared: &Shared, seat: &mut Seat, call: Call) -> Option<Answer>
-    requires { IsOf seat.old shared.now }
-    ensures { IsOf seat.new shared.now }
+fn seen(shared: &Shared, seat: &Seat, bucket: u32) -> Option<u64>
+    requires { IsOf seat.now shared.now }
 {
-    match call {
-        Call::Advance => Some(Answer::Clock {
-            outcome: shared.advance(seat),
-        }),
-        Call::Scan => {
-            let scanned = shared.scan(seat);
-            Some(Answer::Scanned {
-                kept: scanned.kept,
-                back: scanned.back,
-            })
-        }
-        Call::Hold { .. } | Call::Release => keep(shared, seat, call),
-        Call::Copy { .. } | Call::DropIndex { .. } | Call::Look { .. } => keep(shared, seat, call),
-        _ => change(shared, seat, call),
+    if bucket >= shared.layout().config().buckets {
+        return None;
     }
-}
-
-// A call on the map or on the queue.
-fn change(shared: &Shared, seat: &mut Seat, call: Call) -> Option<Answer>
-    requires { IsOf seat.old shared.now }
-    ensures { IsOf seat.new shared.now }
-{
-    match call {
-        Call::Get { key } => {
-            let got = shared.get(seat, key);
-            Some(Answer::Got {
-                version: got.version,
-                value: got.value,
-            })
-        }
-        Call::Put { key, value } => Some(put_answer(shared.put(seat, key, value))),
-        Call::PutIf {
-            key,
-            value,
-            version,
-        } => Some(put_if_answer(shared.put_if(seat, key, value, version))),
-        Call::Remove { key } => Some(remove_answer(shared.remove(seat, key))),
-        Call::Enqueue { value } => Some(enqueue_answer(shared.enqueue(seat, value))),
-        Call::Dequeue => Some(dequeue_answer(shared.dequeue(seat))),
-        _ => None,
-    }
-}
-
-// A call on the rows that the seat keeps, where the table has the indexes and rows may be kept there.
-fn keep(shared: &Shared, seat: &mut Seat, call: Call) -> Option<Answer>
-    requires { IsOf seat.old shared.now }
-    ensures { IsOf seat.new shared.now }
-{
-    let indexes = shared.layout().config().indexes;
-    match call {
-        Call::Hold { key } => Some(hold_answer(shared.hold(seat, key))),
-        Call::Release => {
-            shared.release(seat);
-            Some(Answer::Released)
-        }
-        Call::Copy { from, index } if 2 <= from && from < index && index < indexes => {
-            Some(copy_answer(shared.copy(seat, from, index)))
-        }
-        Call::DropIndex { index } if 2 <= index && index < indexes => {
-            shared.drop_index(seat, index);
-            Some(Answer::Dropped)
-        }
-        Call::Look { index, key } if 2 <= index && index < indexes => {
-            Some(look_answer(shared.look(seat, index, key)))
-        }
-        _ => None,
-    }
-}
-
-fn put_answer(answer: Result<Done, PutRefusal>) -> Answer {
-    match answer {
-        Ok(Done { version, clock }) => Answer::Done { version, clock },
-        Err(PutRefusal::Full) => Answer::Full,
-        Err(PutRefusal::BucketFull { version }) => Answer::BucketFull { version },
-        Err(PutRefusal::Spent { number }) => Answer::Spent { number },
-    }
-}
-
-fn put_if_answer(answer: Result<Done, PutIfRefusal>) -> Answer {
-    match answer {
-        Ok(Done { version, clock }) => Answer::Done { version, clock },
-        Err(PutIfRefusal::Stale { version }) => Answer::Stale { version },
-        Err(PutIfRefusal::Spent { number }) => Answer::Spent { number },
-        Err(PutIfRefusal::BucketFull { version }) => Answer::BucketFull { version },
-        Err(PutIfRefusal::Full) => Answer::Full,
-    }
-}
-
-fn remove_answer(answer: Result<Done, RemoveRefusal>) -> Answer {
-    match answer {
-        Ok(Done { version, clock }) => Answer::Done { version, clock },
-        Err(RemoveRefusal::Absent { version }) => Answer::Absent { version },
-        Err(RemoveRefusal::Spent { number }) => Answer::Spent { number },
-        Err(RemoveRefusal::Full) => Answer::Full,
-    }
-}
-
-fn enqueue_answer(answer: Result<Queued, EnqueueRefusal>) -> Answer {
-    match answer {
-        Ok(Queued { number }) => Answer::Queued { number },
-        Err(EnqueueRefusal::Spent { number }) => Answer::Spent { number },
-        Err(EnqueueRefusal::Full) => Answer::Full,
-    }
-}
-
-fn dequeue_answer(answer: Result<Taken, Empty>) -> Answer {
-    match answer {
-        Ok(
-            Taken {
-                number,
-                value,
-                clock,
-            },
-        ) => Answer::Taken {
-            number,
-            value,
-            clock,
-        },
-        Err(Empty) => Answer::Empty,
-    }
-}
-
-fn hold_answer(answer: Option<u32>) -> Answer {
-    match answer {
-        Some(slot) => Answer::Holding { slot },
-        None => Answer::Nothing,
-    }
-}
-
-fn copy_answer(answer: Option<u32>) -> Answer {
-    match answer {
-        Some(slot) => Answer::Copied { slot },
-        None => Answer::Nothing,
-    }
-}
-
-fn look_answer(answer: Option<Looked>) -> Answer {
-    match answer {
-        Some(
-            Looked {
-                slot,
-                version,
-                value,
-            },
-        ) => Answer::Looked {
-            slot,
-            version,
-            value,
-        },
-        None => Answer::Nothing,
-    }
+    Some(seat.seen(bucket))
 }

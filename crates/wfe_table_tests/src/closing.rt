@@ -1,30 +1,43 @@
-// What closing a shared table hands back where a seat is missing, and what it shows.
+// What closing a table hands back where a seat is missing, and what it shows, where seats have left too.
 ghost use Rattle.std.specs.Prelude.{◌≡◌, All, IfSome};
 ghost use Rattle.wfe_table.specs.Public.{IsOf};
 
-use crate::bench::{Bench, open_table};
-use crate::parts::{double, single};
+use crate::bench::Bench;
+use crate::hands::{put_back, take_out};
+use crate::making::GOOD;
+use crate::script::{play, play_lines, schemes_of};
 use std::alloc::Global;
-use std::process::Abort;
 use std::test::Fail;
-use wfe_table::{Call, CloseError, Closed, Config, SchemeKind, Seat, Shared};
+use wfe_table::{CloseError, Closed, Config, SchemeKind, Seat, Shared};
 
-// The schemes that publish eras.
-const ERAS: [SchemeKind; 3] = [SchemeKind::He, SchemeKind::Ibr, SchemeKind::Wfe];
+// Whether a table of one bucket holds this: clock, version, pairs and rows in use, and nothing in its queue.
+fn holds(
+    closed: Option<Closed>,
+    clock: u32,
+    version: u64,
+    pairs: &[(u64, u64)],
+    used: &[u32],
+) -> bool {
+    let Some(closed) = closed else {
+        return false;
+    };
+    if closed.clock != clock || closed.buckets.len() != 1 || closed.queue.len() != 0 {
+        return false;
+    }
+    for row in &closed.buckets {
+        if row.version != version || row.pairs.as_slice() != pairs {
+            return false;
+        }
+    }
+    closed.used.as_slice() == used
+}
 
-const HP: SchemeKind = SchemeKind::Hp;
-
-const SCHEMES: [SchemeKind; 4] = [SchemeKind::He, SchemeKind::Ibr, SchemeKind::Wfe, HP];
-
-// What a close hands back where a seat is missing, with the place of that seat.
-fn handed_back(
-    alloc: Global,
-    shared: Shared,
-    seats: Vec<Seat>,
-) -> Option<(Shared, Vec<Seat>, usize)>
+// What a close hands back where a seat is missing.
+fn handed_back(alloc: Global, shared: Shared, seats: Vec<Seat>) -> Option<(Shared, Vec<Seat>)>
     requires { All (λ seat. IsOf seat shared) seats.items }
     ensures { IfSome result (λ r. (r.0 ≡ shared) × (r.1.items ≡ seats.items)) }
 {
+    let count = seats.len();
     match shared.close(alloc, seats) {
         Err(
             CloseError::SeatMissing {
@@ -32,170 +45,143 @@ fn handed_back(
                 seats,
                 place,
             },
-        ) => Some((shared, seats, place)),
+        ) if place == count => Some((shared, seats)),
         _ => None,
     }
 }
 
-// Takes the first seat out of a list.
-fn take_first(shared: &Shared, seats: &mut Vec<Seat>) -> Option<Seat>
-    requires { All (λ seat. IsOf seat shared.now) seats.old.items }
-    ensures first { IfSome result (λ seat. IsOf seat shared.now) }
-    ensures others { All (λ seat. IsOf seat shared.now) seats.new.items }
-{
-    if seats.is_empty() {
-        return None;
-    }
-    Some(seats.remove(0))
-}
-
-// Puts a seat at the end of a list, where there is memory for it.
-fn put_back(shared: &Shared, mut seats: Vec<Seat>, seat: Seat) -> Option<Vec<Seat>>
-    requires seats { All (λ seat. IsOf seat shared.now) seats.items }
-    requires seat { IsOf seat shared.now }
-    ensures { IfSome result (λ seats. All (λ seat. IsOf seat shared.now) seats.items) }
-{
-    match seats.push(seat) {
-        Ok(()) => Some(seats),
-        Err(_) => None,
-    }
-}
-
 // A close with the second of two seats hands all back. Then both seats are handed in, the second first.
-fn close_twice<R: Abort + AllocGlobal>(rt: &R, scheme: SchemeKind) -> Result<Closed, Fail> {
-    let (shared, mut seats) = open_table(rt.alloc(), double(scheme))?;
-    let Some(first) = take_first(&shared, &mut seats) else {
-        panic!(rt; "no first seat")
+fn close_twice(alloc: Global, config: Config) -> Option<Closed> {
+    let Ok((shared, mut seats)) = Shared::new(alloc, config) else {
+        return None;
     };
-    let Some((shared, seats, place)) = handed_back(rt.alloc(), shared, seats) else {
-        panic!(rt; "closed without a seat")
-    };
-    expect_second_alone(rt, seats.as_slice(), place);
-    let Some(seats) = put_back(&shared, seats, first) else {
-        panic!(rt; "no memory")
-    };
-    let Ok(closed) = shared.close(rt.alloc(), seats) else {
-        panic!(rt; "not closed")
-    };
-    Ok(closed)
-}
-
-// Wants seat 1 alone, with the place of the seat that is missing after it.
-fn expect_second_alone<R: Abort>(rt: &R, seats: &[Seat], place: usize) {
-    let number = seats.get(0).map(|seat| seat.number());
-    assert_eq!(rt; (place, seats.len(), number), (1, 1, Some(1)));
-}
-
-// The version and the pairs of a bucket.
-fn bucket_of(closed: &Closed, bucket: usize) -> Option<(u64, &[(u64, u64)])> {
-    let row = closed.buckets.get(bucket)?;
-    Some((row.version, row.pairs.as_slice()))
-}
-
-// Wants a bucket to have this version and these pairs.
-fn expect_bucket<R: Abort>(
-    rt: &R,
-    closed: &Closed,
-    bucket: usize,
-    version: u64,
-    pairs: &[(u64, u64)],
-) {
-    assert_eq!(rt;
-        bucket_of(closed, bucket),
-        Some((version, pairs)),
-        "bucket {bucket}"
-    );
-}
-
-// Wants so many buckets, and this clock, queue and rows in use.
-fn expect_closed<R: Abort>(
-    rt: &R,
-    closed: &Closed,
-    buckets: usize,
-    clock: u32,
-    queue: &[(u64, u64)],
-    used: &[u32],
-) {
-    let shown = (
-        closed.buckets.len(),
-        closed.clock,
-        closed.queue.as_slice(),
-        closed.used.as_slice(),
-    );
-    assert_eq!(rt; shown, (buckets, clock, queue, used));
-}
-
-// Makes the calls, each of a seat, on a new table of this setting, and closes it.
-fn closed_after<R: Abort + AllocGlobal>(
-    rt: &R,
-    config: Config,
-    calls: &[(usize, Call)],
-) -> Result<Closed, Fail> {
-    let mut bench = Bench::new(rt.alloc(), config)?;
-    for (number, call) in calls {
-        bench.make(*number, *call);
-    }
-    let Some(closed) = bench.close(rt.alloc()) else {
-        panic!(rt; "not closed")
-    };
-    Ok(closed)
+    let first = take_out(&shared, &mut seats, 0)?;
+    let (shared, seats) = handed_back(alloc, shared, seats)?;
+    let seats = put_back(&shared, seats, first)?;
+    shared.close(alloc, seats).ok()
 }
 
 #[test]
 fn a_close_without_a_seat_hands_all_back(rt: HostRuntime) -> Result<(), Fail> {
-    for scheme in SCHEMES {
-        let closed = close_twice(&rt, scheme)?;
-        expect_closed(&rt, &closed, 1, 1, &[], &[8]);
-        expect_bucket(&rt, &closed, 0, 0, &[]);
+    for scheme in [
+        SchemeKind::He,
+        SchemeKind::Ibr,
+        SchemeKind::Wfe,
+        SchemeKind::Hp,
+    ] {
+        let closed = close_twice(rt.alloc(), Config { scheme, ..GOOD });
+        assert!(rt; holds(closed, 1, 0, &[], &[8]));
     }
     Ok(())
 }
 
+// Three seats, of which the first retires a row, of slot 0, and leaves.
+const LEFT: &str = "record 5 he/ibr/wfe/hp 3 4 8 1 2 100 100 100\n\
+    0 put 7 70 = done 1 still\n\
+    0 put 7 71 = done 2 still\n\
+    0 leave";
+
+// The second one takes its row over and gives it back, and then both others leave.
+const AS_BEFORE: &str = "1 adopt 0 = adopted 1\n\
+    1 scan = scanned 0 1\n\
+    2 leave\n\
+    1 leave";
+
+// A close without each of the seats hands all back.
+fn without_each(alloc: Global, bench: Bench) -> Option<Bench> {
+    let bench = bench.miss(alloc, 1)?;
+    let bench = bench.miss(alloc, 2)?;
+    bench.miss_left(alloc)
+}
+
 #[test]
-fn a_closed_table_shows_pairs_queue_and_rows_in_use(rt: HostRuntime) -> Result<(), Fail> {
-    let calls = [
-        (0, Call::Put { key: 7, value: 70 }),
-        (0, Call::Put { key: 3, value: 30 }),
-        (0, Call::Put { key: 4, value: 40 }),
-        (0, Call::Enqueue { value: 5 }),
-        (0, Call::Enqueue { value: 6 }),
-        (0, Call::Enqueue { value: 7 }),
-        (0, Call::Dequeue),
-    ];
-    for scheme in SCHEMES {
-        let config = Config {
-            buckets: 2,
-            ..single(scheme)
+fn a_close_without_a_seat_hands_those_that_have_left_back_too(rt: HostRuntime) -> Result<(), Fail> {
+    for place in 0..4 {
+        let bench = play(&rt, LEFT, place)?;
+        let Some(mut bench) = without_each(rt.alloc(), bench) else {
+            return Err(Fail::new("closed without a seat"));
         };
-        let closed = closed_after(&rt, config, &calls)?;
-        // The row that the second put replaced and the queue's first dummy went back. In use stay
-        // a row for each bucket, the dummy that the dequeue left, and two items. Each of the two
-        // retirements has moved the clock, but under hazard pointers.
-        let clock = if scheme == HP { 1 } else { 3 };
-        expect_closed(&rt, &closed, 2, clock, &[(2, 6), (3, 7)], &[1, 2, 3, 4, 5]);
-        expect_bucket(&rt, &closed, 0, 1, &[(4, 40)]);
-        expect_bucket(&rt, &closed, 1, 2, &[(7, 70), (3, 30)]);
+        play_lines(&rt, &mut bench, AS_BEFORE)?;
+        let Some(bench) = bench.miss_left(rt.alloc()) else {
+            return Err(Fail::new("closed without a seat that has left"));
+        };
+        assert!(rt; holds(bench.close(rt.alloc()), 1, 2, &[(7, 71)], &[1, 8]));
     }
     Ok(())
 }
 
+// A script, with the clock, the version, the pairs and the rows in use that it leaves.
+const LEAVES: [(&str, u32, u64, &[(u64, u64)], &[u32]); 5] = [
+    // No seat has left.
+    (
+        "record 5 he/ibr/wfe/hp 2 4 8 1 2 100 100 100\n\
+        0 put 7 70 = done 1 still\n\
+        1 put 7 71 = done 2 still",
+        1,
+        2,
+        &[(7, 71)],
+        &[0, 1, 8],
+    ),
+    // The rows of a list that no seat takes over are in use.
+    (
+        "record 5 he/ibr/wfe/hp 3 4 8 1 2 100 100 100\n\
+        0 put 7 70 = done 1 still\n\
+        0 put 7 71 = done 2 still\n\
+        0 leave\n\
+        1 leave\n\
+        2 leave",
+        1,
+        2,
+        &[(7, 71)],
+        &[0, 1, 8],
+    ),
+    // Those that an adopter gave back are free.
+    (
+        "record 5 he/ibr/wfe/hp 3 4 8 1 2 100 100 100\n\
+        0 put 7 70 = done 1 still\n\
+        0 put 7 71 = done 2 still\n\
+        0 leave\n\
+        2 adopt 0 = adopted 1\n\
+        2 scan = scanned 0 1\n\
+        2 leave",
+        1,
+        2,
+        &[(7, 71)],
+        &[1, 8],
+    ),
+    // A row that is held is in use, the one whose life meets the same era, the empty one, and the queue's.
+    (
+        "record 1 he/ibr/wfe 2 3 8 1 2 1 100 100\n\
+        0 put 7 70\n\
+        1 hold 7\n\
+        0 put 7 71\n\
+        0 remove 7",
+        3,
+        3,
+        &[],
+        &[0, 1, 2, 8],
+    ),
+    // Under hazard pointers a row that no one holds went back, whatever its life.
+    (
+        "record 5 hp 2 3 8 1 2 1 100 100\n\
+        0 put 7 70\n\
+        1 hold 7\n\
+        0 put 7 71\n\
+        0 remove 7",
+        1,
+        3,
+        &[],
+        &[0, 2, 8],
+    ),
+];
+
 #[test]
-fn a_retired_row_that_is_held_is_still_in_use(rt: HostRuntime) -> Result<(), Fail> {
-    let calls = [
-        (0, Call::Put { key: 7, value: 70 }),
-        (1, Call::Hold { key: 7 }),
-        (0, Call::Put { key: 7, value: 71 }),
-        (0, Call::Remove { key: 7 }),
-    ];
-    for scheme in ERAS {
-        let closed = closed_after(&rt, double(scheme), &calls)?;
-        // The row that is held, the one whose life meets the same era, the empty one, and the queue's.
-        expect_closed(&rt, &closed, 1, 3, &[], &[0, 1, 2, 8]);
-        expect_bucket(&rt, &closed, 0, 3, &[]);
+fn rows_that_are_retired_are_in_use_until_they_go_back(rt: HostRuntime) -> Result<(), Fail> {
+    for (script, clock, version, pairs, used) in &LEAVES {
+        for place in 0..schemes_of(*script) {
+            let bench = play(&rt, *script, place)?;
+            assert!(rt; holds(bench.close(rt.alloc()), *clock, *version, *pairs, *used));
+        }
     }
-    let closed = closed_after(&rt, double(HP), &calls)?;
-    // A row that no one holds went back, whatever its life.
-    expect_closed(&rt, &closed, 1, 1, &[], &[0, 2, 8]);
-    expect_bucket(&rt, &closed, 0, 3, &[]);
     Ok(())
 }

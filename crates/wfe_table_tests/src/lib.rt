@@ -1,5 +1,6 @@
-//! Tests of the threads' table: answers, steps, what it holds closed. How a table is made and what its seats show is tested in
-//! `wfe_table_seats_tests`.
+//! Tests of the threads' table, of its seats and its end. They are scripts of calls of more seats than one in a fixed order, of
+//! seats that leave and lists that are taken over, of what a seat shows, and of what a close hands back (`script.rt`); and how a
+//! table is made. What the calls of one seat answer is in the cases of `wfe run`.
 #![tactic(auto)]
 
 #[cfg(test)]
@@ -9,12 +10,22 @@ mod calls;
 #[cfg(test)]
 mod closing;
 #[cfg(test)]
-mod hazards;
+mod full;
+#[cfg(test)]
+mod handing;
+#[cfg(test)]
+mod hands;
 #[cfg(test)]
 mod kept;
 #[cfg(test)]
-mod one_thread;
+mod making;
 #[cfg(test)]
-mod parts;
+mod script;
 #[cfg(test)]
-mod versions;
+mod seen;
+#[cfg(test)]
+mod shown;
+#[cfg(test)]
+mod stalled;
+#[cfg(test)]
+mod told;

@@ -6,10 +6,7 @@
 mod garbage;
 mod keys;
 mod lists;
-mod reading;
-mod rules;
 
 pub use garbage::GarbageCounter;
 pub use keys::KeyCounter;
 pub use lists::ListCounter;
-pub use reading::Reading;

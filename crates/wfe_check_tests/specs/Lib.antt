@@ -1,2 +1,0 @@
-pub use Rattle.laws.specs as good
-pub mod Blank
