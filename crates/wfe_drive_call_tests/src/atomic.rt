@@ -37,9 +37,9 @@ fn perform_on_both<R: Abort, A: Cells, B: Cells>(rt: &R, one: &mut A, other: &mu
     ensures other { length (B.words other.new) ≡ 60 }
 {
     let answer = one.perform(0, op);
-    assert_eq!(rt; other.perform(0, op), answer);
+    assert!(rt; other.perform(0, op) == answer);
     for word in 0..60 {
-        assert_eq!(rt; load(other, word), load(one, word), "at {word}");
+        assert!(rt; load(other, word) == load(one, word));
     }
     answer
 }
@@ -47,7 +47,7 @@ fn perform_on_both<R: Abort, A: Cells, B: Cells>(rt: &R, one: &mut A, other: &mu
 #[test]
 fn cells_start_as_their_layout_says(rt: HostRuntime) -> Result<(), Fail> {
     let layout = Layout::new(SMALL)?;
-    assert_eq!(rt; layout.words(), 60);
+    assert!(rt; layout.words() == 60);
     let mut cells: TableCells = made(rt.alloc(), layout)?;
     for word in 0..layout.words() {
         let start = match word {
@@ -57,37 +57,56 @@ fn cells_start_as_their_layout_says(rt: HostRuntime) -> Result<(), Fail> {
             13 => 0x1_0000_0000,
             _ => 0,
         };
-        assert_eq!(rt; load(&mut cells, word), start, "at {word}");
+        assert!(rt; load(&mut cells, word) == start);
     }
     Ok(())
 }
 
-#[test]
-fn each_operation_does_what_it_does_on_plain_words(rt: HostRuntime) -> Result<(), Fail> {
-    let layout = Layout::new(SMALL)?;
-    assert_eq!(rt; layout.words(), 60);
-    let mut plain: PlainCells = made(rt.alloc(), layout)?;
-    let mut table: TableCells = made(rt.alloc(), layout)?;
+// A store, a load, and an exchange that fails.
+fn store_and_fail<R: Abort, A: Cells, B: Cells>(rt: &R, one: &mut A, other: &mut B)
+    requires one { length (A.words one.old) ≡ 60 }
+    requires other { length (B.words other.old) ≡ 60 }
+    ensures one { length (A.words one.new) ≡ 60 }
+    ensures other { length (B.words other.new) ≡ 60 }
+{
     let storing = Op::Store { word: 7, value: 12 };
-    assert_eq!(rt; perform_on_both(&rt, &mut plain, &mut table, storing), 0);
+    assert!(rt; perform_on_both(rt, one, other, storing) == 0);
     let loading = Op::Load { word: 7 };
-    assert_eq!(rt; perform_on_both(&rt, &mut plain, &mut table, loading), 12);
+    assert!(rt; perform_on_both(rt, one, other, loading) == 12);
     let failing = Op::Cas {
         word: 7,
         old: 11,
         new: 5,
     };
-    assert_eq!(rt; perform_on_both(&rt, &mut plain, &mut table, failing), 12);
+    assert!(rt; perform_on_both(rt, one, other, failing) == 12);
+}
+
+// Then an exchange that works, and changes of single bits.
+fn exchange_and_mask<R: Abort, A: Cells, B: Cells>(rt: &R, one: &mut A, other: &mut B)
+    requires one { length (A.words one.old) ≡ 60 }
+    requires other { length (B.words other.old) ≡ 60 }
+{
     let working = Op::Cas {
         word: 7,
         old: 12,
         new: 6,
     };
-    assert_eq!(rt; perform_on_both(&rt, &mut plain, &mut table, working), 12);
+    assert!(rt; perform_on_both(rt, one, other, working) == 12);
     let setting = Op::Or { word: 7, bits: 9 };
-    assert_eq!(rt; perform_on_both(&rt, &mut plain, &mut table, setting), 6);
+    assert!(rt; perform_on_both(rt, one, other, setting) == 6);
     let keeping = Op::And { word: 7, bits: 13 };
-    assert_eq!(rt; perform_on_both(&rt, &mut plain, &mut table, keeping), 15);
-    assert_eq!(rt; perform_on_both(&rt, &mut plain, &mut table, loading), 13);
+    assert!(rt; perform_on_both(rt, one, other, keeping) == 15);
+    let loading = Op::Load { word: 7 };
+    assert!(rt; perform_on_both(rt, one, other, loading) == 13);
+}
+
+#[test]
+fn each_operation_does_what_it_does_on_plain_words(rt: HostRuntime) -> Result<(), Fail> {
+    let layout = Layout::new(SMALL)?;
+    assert!(rt; layout.words() == 60);
+    let mut plain: PlainCells = made(rt.alloc(), layout)?;
+    let mut table: TableCells = made(rt.alloc(), layout)?;
+    store_and_fail(&rt, &mut plain, &mut table);
+    exchange_and_mask(&rt, &mut plain, &mut table);
     Ok(())
 }

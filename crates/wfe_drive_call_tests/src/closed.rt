@@ -43,46 +43,56 @@ const FIRST: (u64, u64, u64, ClockMove) = (32, 33, 13, ClockMove::Still);
 // The next put, whose row is row 1.
 const SECOND: (u64, u64, u64, ClockMove) = (34, 35, 30, ClockMove::Moved { era: 2 });
 
+// Whether a table of one bucket holds this: version, pairs and rows in use, and nothing in its queue.
+fn holds(closed: &Closed, version: u64, pairs: &[(u64, u64)], used: &[u32]) -> bool {
+    if closed.buckets.len() != 1 || closed.queue.len() != 0 {
+        return false;
+    }
+    for row in &closed.buckets {
+        if row.version != version || row.pairs.as_slice() != pairs {
+            return false;
+        }
+    }
+    closed.used.as_slice() == used
+}
+
 #[test]
 fn a_table_at_its_start_is_empty(rt: HostRuntime) -> Result<(), Fail> {
     let layout = Layout::new(SMALL)?;
     let mut cells = PlainCells::make(rt.alloc(), layout)?;
     let closed = read(rt.alloc(), layout, &mut cells)?;
-    assert_eq!(rt; closed.clock, 1);
-    assert_eq!(rt; closed.buckets.len(), 1);
-    for row in &closed.buckets {
-        assert_eq!(rt; row.version, 0);
-        assert_eq!(rt; row.pairs.len(), 0);
-    }
-    assert_eq!(rt; closed.queue.len(), 0);
-    assert_eq!(rt; closed.used.as_slice(), [2].as_slice());
+    assert!(rt; closed.clock == 1);
+    assert!(rt; holds(&closed, 0, &[], &[2]));
     Ok(())
+}
+
+// Whether each word of two pairs is its own number, where row 1 begins at word 29.
+fn are_their_numbers(cells: &mut PlainCells) -> bool
+    requires { length cells.old ≡ 60 }
+    ensures { cells.new ≡ cells.old }
+{
+    let keys = load(cells, 32) == 32 && load(cells, 34) == 34;
+    let values = load(cells, 33) == 33 && load(cells, 35) == 35;
+    keys && values
 }
 
 #[test]
 fn pairs_are_read_from_place_3_on(rt: HostRuntime) -> Result<(), Fail> {
     let (layout, mut cells) = words_after(&rt, &[FIRST, SECOND])?;
-    assert_eq!(rt; layout.words(), 60);
-    // Row 1 begins at word 29, so each word of its pairs is its own number.
-    assert_eq!(rt; load(&mut cells, 32), 32);
-    assert_eq!(rt; load(&mut cells, 33), 33);
-    assert_eq!(rt; load(&mut cells, 34), 34);
-    assert_eq!(rt; load(&mut cells, 35), 35);
+    assert!(rt; layout.words() == 60);
+    assert!(rt; are_their_numbers(&mut cells));
     let closed = read(rt.alloc(), layout, &mut cells)?;
-    assert_eq!(rt; closed.buckets.len(), 1);
-    for row in &closed.buckets {
-        assert_eq!(rt; row.pairs.as_slice(), [(32, 33), (34, 35)].as_slice());
-    }
+    assert!(rt; holds(&closed, 2, &[(32, 33), (34, 35)], &[1, 2]));
     Ok(())
 }
 
 #[test]
 fn rows_with_their_bits_set_are_in_use(rt: HostRuntime) -> Result<(), Fail> {
     let (layout, mut cells) = words_after(&rt, &[FIRST])?;
-    assert_eq!(rt; layout.words(), 60);
+    assert!(rt; layout.words() == 60);
     // Rows 0 and 2 are taken. The bits after that of the last row are set too.
-    assert_eq!(rt; load(&mut cells, 10), 0xffff_ffff_ffff_fffd);
+    assert!(rt; load(&mut cells, 10) == 0xffff_ffff_ffff_fffd);
     let closed = read(rt.alloc(), layout, &mut cells)?;
-    assert_eq!(rt; closed.used.as_slice(), [0, 2].as_slice());
+    assert!(rt; holds(&closed, 1, &[(32, 33)], &[0, 2]));
     Ok(())
 }

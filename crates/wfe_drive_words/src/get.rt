@@ -20,10 +20,10 @@ ghost use Rattle.wfe_drive_words.specs.Path.{Closes, Leads, asking_trial, closin
 use crate::Words;
 use crate::apart::drive_apart;
 use crate::asking::Bounded;
-use crate::by_index::protect_by_index;
+use crate::by_index::ByIndex;
 use crate::found::{Found, find};
 use crate::path::{publish_as, publishes_rows, step};
-use wfe_bucketmap_read::{Get, Wfe};
+use wfe_bucketmap_read::{Get, He, Hp, Wfe};
 use wfe_core::{Answer, Desk, Layout, Post, Root, SchemeKind};
 use wfe_fast::WfeProtect;
 
@@ -49,18 +49,17 @@ pub fn get_by_index<W: Words>(
     ensures made { Closes result (W.at words.old) (W.at words.new) (W.stands words.old) (W.stands words.new)
         (at_phase (first_phase (GetCall key) post.old) post.old desk.old) (at_phase Idle post.new desk.new) }
 {
-    // (an arm for each scheme, for a compiler that then knows it in all that follows)
     match post.layout.config().scheme {
-        SchemeKind::He => get_guarded(words, post, desk, key, bucket),
-        SchemeKind::Wfe => get_guarded(words, post, desk, key, bucket),
-        SchemeKind::Hp => get_guarded(words, post, desk, key, bucket),
+        SchemeKind::He => get_guarded::<W, He>(words, post, desk, key, bucket),
+        SchemeKind::Wfe => get_guarded::<W, Wfe>(words, post, desk, key, bucket),
+        SchemeKind::Hp => get_guarded::<W, Hp>(words, post, desk, key, bucket),
         SchemeKind::Ibr => unreachable!(),
     }
 }
 
-// The same, whichever of these the scheme is.
+// The same under a scheme that a type names.
 #[inline(always)]
-fn get_guarded<W: Words>(
+fn get_guarded<W: Words, P: ByIndex>(
     words: &mut W,
     post: &mut Post,
     desk: &mut Desk,
@@ -68,6 +67,7 @@ fn get_guarded<W: Words>(
     bucket: u32,
 ) -> Answer
     requires valid { W.valid words.old }
+    requires scheme { post.old.layout.config.scheme ≡ P.kind }
     requires clears { has_one_interval post.old.layout.config.scheme ≡ false }
     requires here { Here (W.at words.old) (at_phase (first_phase (GetCall key) post.old) post.old desk.old) }
     requires bucket { bucket ≡ bucket_of post.old key }
@@ -82,7 +82,7 @@ fn get_guarded<W: Words>(
     // (the post as it is before the steps, for a compiler that can't tell that none of them changes it)
     let place = *post;
     let root = Root::Bucket(bucket);
-    match protect_by_index(words, &place, 0, root) {
+    match P::protect(words, &place, 0, root) {
         Bounded::Within(guarded) => {
             let found = find_held(words, post, key, guarded.link);
             close_get(words, &place, post, desk, found, guarded.steps)

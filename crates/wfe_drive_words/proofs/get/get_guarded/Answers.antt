@@ -13,20 +13,20 @@ use Rattle.wfe_drive_words.proofs.Leading.{closes_from, here_as, here_on, leads_
 use Rattle.wfe_drive_words.proofs.Makes.{may_ask_at}
 use Rattle.wfe_drive_words.proofs.get.get_guarded.Goals as goal
 
-pub protect_by_index-requires-clause-own : goal.protect_by_index-requires-clause-own
-protect_by_index-requires-clause-own g c =
+pub protect-requires-clause-own : goal.protect-requires-clause-own
+protect-requires-clause-own g c =
     let h = c.requires.here in
     let may : MayAsk (at_phase (first_phase (Get c.args.key) c.args.post.now) c.args.post.now c.args.desk.now) = may_ask_at h.local _ (g.W.Words.comes c.args.words.now h.local c.requires.valid h.there) h.is in
     may.valid
 
-pub protect_by_index-requires-clause-index : goal.protect_by_index-requires-clause-index
-protect_by_index-requires-clause-index g c =
+pub protect-requires-clause-index : goal.protect-requires-clause-index
+protect-requires-clause-index g c =
     let h = c.requires.here in
     let may : MayAsk (at_phase (first_phase (Get c.args.key) c.args.post.now) c.args.post.now c.args.desk.now) = may_ask_at h.local _ (g.W.Words.comes c.args.words.now h.local c.requires.valid h.there) h.is in
     omega (arith, may.valid.bounds.indexes)
 
-pub protect_by_index-requires-clause-here : goal.protect_by_index-requires-clause-here
-protect_by_index-requires-clause-here g c =
+pub protect-requires-clause-here : goal.protect-requires-clause-here
+protect-requires-clause-here g c =
     (get_trial c.args.key (desk_of c.args.desk.now) c.args.post.now.steps, here_as _ _ (begins_at c.args.key c.args.post.now c.args.desk.now (roots.Bucket c.args.bucket) c.requires.clears (ap roots.Bucket c.requires.bucket)) c.requires.here)
 
 pub find_held-found-requires-clause-own : goal.find_held-found-requires-clause-own
