@@ -17,7 +17,7 @@ use Rattle.wfe_core.specs.Rounds.{begin_base, finish_base, finish_span, kept_row
 use Rattle.wfe_core.specs.Steps.{changing, copying, first_phase, holding, looking_at}
 use Rattle.wfe_core.specs.declared.post.Post.{Post}
 use Rattle.wfe_drive_runs.specs.Pieces.{IsFree}
-use Rattle.wfe_drive_call.specs.Others.{is_at_index, is_other}
+use Rattle.wfe_drive_call.specs.Others.{is_at_index, is_other, is_unchanged}
 
 by_base : (task : Task) (post : Post) (base : Option Base) → busy_in (round_by task post base) ≡ true
 by_base task post None = refl
@@ -86,15 +86,21 @@ ends_free post base e = span_ends (kept_row post) base e
 pub free_without : (kind : SchemeKind) (post : Post) → post.layout.config.scheme ≡ kind → has_one_interval kind ≡ false → IsFree post
 free_without kind post e none one = absurd (false≢true (sym none ∙ (sym (ap has_one_interval e) ∙ one)))
 
--- a call that is none of those that `drive_under` makes by itself
-pub other_by : (call : Call) → ((key : ℕ) → call ≡ names.Get key → ⊥) → ((key value : ℕ) → call ≡ names.Put key value → ⊥) → ((key : ℕ) → call ≡ names.Remove key → ⊥) → ((key value version : ℕ) → call ≡ names.PutIf key value version → ⊥) → ((value : ℕ) → call ≡ names.Enqueue value → ⊥) → (call ≡ names.Dequeue → ⊥) → is_other call ≡ true
-other_by (names.Get key) get put remove put_if enqueue dequeue = absurd (get key refl)
-other_by (names.Put key value) get put remove put_if enqueue dequeue = absurd (put key value refl)
-other_by (names.Remove key) get put remove put_if enqueue dequeue = absurd (remove key refl)
-other_by (names.PutIf key value version) get put remove put_if enqueue dequeue = absurd (put_if key value version refl)
-other_by (names.Enqueue value) get put remove put_if enqueue dequeue = absurd (enqueue value refl)
-other_by names.Dequeue get put remove put_if enqueue dequeue = absurd (dequeue refl)
-other_by _ get put remove put_if enqueue dequeue = refl
+-- a call that is no change, and one that is none of those that are made before
+pub unchanged_by : (call : Call) → ((key value : ℕ) → call ≡ names.Put key value → ⊥) → ((key : ℕ) → call ≡ names.Remove key → ⊥) → ((key value version : ℕ) → call ≡ names.PutIf key value version → ⊥) → is_unchanged call ≡ true
+unchanged_by (names.Put key value) put remove put_if = absurd (put key value refl)
+unchanged_by (names.Remove key) put remove put_if = absurd (remove key refl)
+unchanged_by (names.PutIf key value version) put remove put_if = absurd (put_if key value version refl)
+unchanged_by _ put remove put_if = refl
+
+pub other_by : (call : Call) → is_unchanged call ≡ true → ((key : ℕ) → call ≡ names.Get key → ⊥) → ((value : ℕ) → call ≡ names.Enqueue value → ⊥) → (call ≡ names.Dequeue → ⊥) → is_other call ≡ true
+other_by (names.Get key) keeps get enqueue dequeue = absurd (get key refl)
+other_by (names.Enqueue value) keeps get enqueue dequeue = absurd (enqueue value refl)
+other_by names.Dequeue keeps get enqueue dequeue = absurd (dequeue refl)
+other_by (names.Put key value) keeps get enqueue dequeue = keeps
+other_by (names.Remove key) keeps get enqueue dequeue = keeps
+other_by (names.PutIf key value version) keeps get enqueue dequeue = keeps
+other_by _ keeps get enqueue dequeue = refl
 
 -- and one that stays and is none of the first of these names an index
 pub at_index_by : (call : Call) → is_other call ≡ true → stays call ≡ true → ((key : ℕ) → call ≡ names.Hold key → ⊥) → (call ≡ names.Release → ⊥) → (call ≡ names.Advance → ⊥) → (call ≡ names.Scan → ⊥) → is_at_index call ≡ true

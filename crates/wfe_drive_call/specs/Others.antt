@@ -12,6 +12,13 @@ is_other (names.Enqueue value) = false
 is_other names.Dequeue = false
 is_other call = true
 
+-- calls that are no change of a bucket
+abbrev pub is_unchanged : Call → Bool
+is_unchanged (names.Put key value) = false
+is_unchanged (names.Remove key) = false
+is_unchanged (names.PutIf key value version) = false
+is_unchanged call = true
+
 -- those that name an index at which a row stays protected
 abbrev pub is_at_index : Call → Bool
 is_at_index (names.Copy from index) = true

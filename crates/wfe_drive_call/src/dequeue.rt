@@ -12,9 +12,10 @@ ghost use Rattle.wfe_drive_runs.specs.drive_words.Path.{Closes, Leads};
 ghost use Rattle.wfe_drive_runs.specs.Pieces.{IsFree, IsSpanned, clearing_at, clearing_next_at};
 
 use crate::ending::end_round;
-use crate::take::{read_end, swing_tail, take};
 use wfe_core::{Answer, Desk, FollowEnd, Post, Root};
-use wfe_drive_runs::{RoundEnd, Words, close_next, follow_next, open_round};
+use wfe_drive_runs::{
+    RoundEnd, Words, close_next, follow_next, open_round, read_end, swing_tail, take,
+};
 
 /// Makes a dequeue from its first step to its answer. Under 2GE its seat keeps no row.
 #[inline(always)]

@@ -14,9 +14,10 @@ ghost use Rattle.wfe_drive_runs.specs.drive_words.Path.{Closes, Leads};
 ghost use Rattle.wfe_drive_runs.specs.Pieces.{IsFree, clearing_at};
 
 use crate::ending::end_round;
-use crate::item_row::fill;
 use wfe_core::{Answer, Desk, Post, Root};
-use wfe_drive_runs::{Item, RoundEnd, Words, append, no_room, open_round, pass_tail, read_tail};
+use wfe_drive_runs::{
+    Item, RoundEnd, Words, append, fill_item, no_room, open_round, pass_tail, read_tail,
+};
 
 /// Makes an enqueue from its first step to its answer. Under 2GE its seat keeps no row.
 #[inline(always)]
@@ -103,7 +104,7 @@ fn link_filled<W: Words>(
         (clearing_at (Enqueues (kept_of item.new)) (next_of result) post.new (desk_of desk.new)) }
 {
     let walked = item.walked;
-    match fill(words, post, desk, item) {
+    match fill_item(words, post, desk, item) {
         Some(slot) => append(words, post, item, slot),
         None => no_room(walked),
     }

@@ -11,11 +11,9 @@ mod ending;
 mod enqueue;
 mod exchange;
 mod fill;
-mod item_row;
 mod kept;
 mod opening;
 mod read;
-mod take;
 mod under;
 mod write;
 

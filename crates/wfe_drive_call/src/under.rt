@@ -6,7 +6,7 @@ ghost use Rattle.wfe_core.specs.Locals.{stays};
 ghost use Rattle.wfe_core.specs.Steps.{first_phase};
 ghost use Rattle.wfe_drive_runs.specs.drive_words.Called.{Here, Makes, at_phase};
 ghost use Rattle.wfe_drive_runs.specs.drive_words.Ran.{Answered};
-ghost use Rattle.wfe_drive_call.specs.Others.{is_at_index, is_other};
+ghost use Rattle.wfe_drive_call.specs.Others.{is_at_index, is_other, is_unchanged};
 
 use wfe_call_any::{
     Advance, CopyIndex, Dequeue, DropIndex, Enqueue, Get, Hold, Look, Put, PutIf, Release, Remove,
@@ -36,7 +36,6 @@ pub fn drive_under<W: Words, S: Scheme>(
         (at_phase (first_phase call post.old) post.old desk.old) (at_phase Idle post.new desk.new) }
 {
     match call {
-        Call::Get { key } => drive(words, Get::<S>::new(key), post, desk, call),
         Call::Put { key, value } => drive(words, Put::<S>::new(key, value), post, desk, call),
         Call::Remove { key } => drive(words, Remove::<S>::new(key), post, desk, call),
         Call::PutIf {
@@ -50,6 +49,33 @@ pub fn drive_under<W: Words, S: Scheme>(
             desk,
             call,
         ),
+        _ => drive_unchanged::<W, S>(words, post, desk, call),
+    }
+}
+
+// The same of a call that changes no bucket.
+#[inline(always)]
+fn drive_unchanged<W: Words, S: Scheme>(
+    words: &mut W,
+    post: &mut Post,
+    desk: &mut Desk,
+    call: Call,
+) -> Answer
+    requires valid { W.valid words.old }
+    requires scheme { post.old.layout.config.scheme ≡ S.kind }
+    requires here { Here (W.at words.old) (at_phase (first_phase call post.old) post.old desk.old) }
+    requires keeps { is_unchanged call ≡ true }
+    requires stays { stays call ≡ true }
+    requires room { HasRoom desk.old post.old.layout }
+    ensures valid { W.valid words.new }
+    ensures same { W.same words.old words.new }
+    ensures room { HasRoom desk.new post.new.layout }
+    ensures made { Makes (λ ops l m. Answered l ops result m) (W.at words.old) (W.at words.new)
+        (W.stands words.old) (W.stands words.new)
+        (at_phase (first_phase call post.old) post.old desk.old) (at_phase Idle post.new desk.new) }
+{
+    match call {
+        Call::Get { key } => drive(words, Get::<S>::new(key), post, desk, call),
         Call::Enqueue { value } => drive(words, Enqueue::<S>::new(value), post, desk, call),
         Call::Dequeue => drive(words, Dequeue::<S>::new(), post, desk, call),
         _ => drive_other::<W, S>(words, post, desk, call),

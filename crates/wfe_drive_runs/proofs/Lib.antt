@@ -4,6 +4,7 @@ pub mod Appending
 pub mod Claiming
 pub mod Closing
 pub mod Followings
+pub mod Fronts
 pub mod Holds
 pub mod Noted
 pub mod Readying

@@ -22,7 +22,7 @@ ghost use Rattle.wfe_drive_runs.specs.Pieces.{IsFree, IsSpanned, LeadsSo};
 use crate::followed_run::run_followed;
 use wfe_core::{Desk, FollowEnd, Interval, Op, Post, ProtectEnd, Root, SchemeKind};
 use wfe_drive_words::{
-    Bounded, Guarded, WfeProtect, Words, protect_by_index, protect_within, step,
+    Bounded, ByIndex, Guarded, He, Hp, Wfe, WfeProtect, Words, protect_within, step,
 };
 
 /// Protects the next link of the head's row at index 1, under any scheme, and holds the row to which it
@@ -76,7 +76,36 @@ fn follow_by_index<W: Words>(
     ensures leads { (why : Why) → Here (W.at words.old) (at_phase (Runs why (follow_base post.old.layout.config.scheme parent)) post.old desk.old)
         → LeadsSo (W.at words.old) (W.at words.new) (W.stands words.old) (W.stands words.new) (at_phase (Runs why (follow_base post.old.layout.config.scheme parent)) post.old desk.old) why (FollowedEnd result) post.new desk.new }
 {
-    match protect_by_index(words, post, 1, Root::Next(parent)) {
+    match post.layout.config().scheme {
+        SchemeKind::He => follow_under::<W, He>(words, post, desk, parent),
+        SchemeKind::Wfe => follow_under::<W, Wfe>(words, post, desk, parent),
+        SchemeKind::Hp => follow_under::<W, Hp>(words, post, desk, parent),
+        SchemeKind::Ibr => unreachable!(),
+    }
+}
+
+// The same under a scheme that a type names.
+#[inline(always)]
+fn follow_under<W: Words, P: ByIndex>(
+    words: &mut W,
+    post: &mut Post,
+    desk: &mut Desk,
+    parent: u32,
+) -> FollowEnd
+    requires valid { W.valid words.old }
+    requires scheme { post.old.layout.config.scheme ≡ P.kind }
+    requires here { (why : Why) × Here (W.at words.old) (at_phase (Runs why (follow_base post.old.layout.config.scheme parent)) post.old desk.old) }
+    requires room { HasRoom desk.old post.old.layout }
+    ensures valid { W.valid words.new }
+    ensures same { W.same words.old words.new }
+    ensures rest { W.rest words.new < W.rest words.old }
+    ensures room { HasRoom desk.new post.new.layout }
+    ensures layout { post.new.layout ≡ post.old.layout }
+    ensures within { follow_within result post.new }
+    ensures leads { (why : Why) → Here (W.at words.old) (at_phase (Runs why (follow_base post.old.layout.config.scheme parent)) post.old desk.old)
+        → LeadsSo (W.at words.old) (W.at words.new) (W.stands words.old) (W.stands words.new) (at_phase (Runs why (follow_base post.old.layout.config.scheme parent)) post.old desk.old) why (FollowedEnd result) post.new desk.new }
+{
+    match P::protect(words, post, 1, Root::Next(parent)) {
         Bounded::Within(guarded) => follow_link(words, post, desk, parent, guarded),
         Bounded::Used { steps } => ask(words, post, desk, parent, steps),
     }

@@ -14,8 +14,8 @@ ghost use Rattle.wfe_drive_runs.specs.Pieces.{IsStood, LeadsSo, Outer, asked_tri
 ghost use Rattle.wfe_drive_words.specs.Path.{protecting};
 
 use crate::base_run::run;
-use wfe_core::{Desk, Post, ProtectEnd, Root};
-use wfe_drive_words::{Bounded, Guarded, WfeProtect, Words, protect_by_index};
+use wfe_core::{Desk, Post, ProtectEnd, Root, SchemeKind};
+use wfe_drive_words::{Bounded, ByIndex, Guarded, He, Hp, Wfe, WfeProtect, Words};
 
 /// Protects a root, and answers the row that it holds from then on. Where tries are used up it asks for help.
 #[inline(always)]
@@ -40,7 +40,38 @@ pub fn hold_by_index<W: Words>(
     ensures leads { (why : Why) → Here (W.at words.old) (at_phase (Runs why (protect_base post.old.layout.config.scheme index root)) post.old desk.old) → (era : ℕ)
         × LeadsSo (W.at words.old) (W.at words.new) (W.stands words.old) (W.stands words.new) (at_phase (Runs why (protect_base post.old.layout.config.scheme index root)) post.old desk.old) why (ProtectedEnd (end_of result era)) post.new desk.new }
 {
-    match protect_by_index(words, post, index, root) {
+    match post.layout.config().scheme {
+        SchemeKind::He => hold_under::<W, He>(words, post, desk, index, root),
+        SchemeKind::Wfe => hold_under::<W, Wfe>(words, post, desk, index, root),
+        SchemeKind::Hp => hold_under::<W, Hp>(words, post, desk, index, root),
+        SchemeKind::Ibr => unreachable!(),
+    }
+}
+
+// The same under a scheme that a type names.
+#[inline(always)]
+fn hold_under<W: Words, P: ByIndex>(
+    words: &mut W,
+    post: &mut Post,
+    desk: &mut Desk,
+    index: u32,
+    root: Root,
+) -> Option<u32>
+    requires valid { W.valid words.old }
+    requires scheme { post.old.layout.config.scheme ≡ P.kind }
+    requires outer { Outer root }
+    requires here { (why : Why) × Here (W.at words.old) (at_phase (Runs why (protect_base post.old.layout.config.scheme index root)) post.old desk.old) }
+    requires room { HasRoom desk.old post.old.layout }
+    ensures valid { W.valid words.new }
+    ensures same { W.same words.old words.new }
+    ensures rest { W.rest words.new < W.rest words.old }
+    ensures room { HasRoom desk.new post.new.layout }
+    ensures layout { post.new.layout ≡ post.old.layout }
+    ensures fits { IfSome result (λ slot. SlotFits post.new slot) }
+    ensures leads { (why : Why) → Here (W.at words.old) (at_phase (Runs why (protect_base post.old.layout.config.scheme index root)) post.old desk.old) → (era : ℕ)
+        × LeadsSo (W.at words.old) (W.at words.new) (W.stands words.old) (W.stands words.new) (at_phase (Runs why (protect_base post.old.layout.config.scheme index root)) post.old desk.old) why (ProtectedEnd (end_of result era)) post.new desk.new }
+{
+    match P::protect(words, post, index, root) {
         Bounded::Within(guarded) => stand(post, index, guarded),
         Bounded::Used { steps } => ask(words, post, desk, index, root, steps),
     }

@@ -1,5 +1,5 @@
 pub mod Askings
-pub mod ByIndex
+pub mod Beginnings
 pub mod Cells
 pub mod Endings
 pub mod Getting

@@ -1,9 +1,8 @@
 // A protection under a scheme that clears an index by a step. It serves each call that protects a link,
 // whatever comes after it.
-ghost use Rattle.std.specs.Prelude.{◌≡◌, ◌<◌, ◌+◌, ◌^◌, ℕ, false};
+ghost use Rattle.std.specs.Prelude.{◌≡◌, ◌<◌, ◌+◌, ◌^◌, ℕ};
 ghost use Rattle.wfe_core.specs.Ready.{IndexFits, RootFits};
 ghost use Rattle.wfe_core.specs.Valid.{IsValid};
-ghost use Rattle.wfe_core.specs.words.Schemes.{has_one_interval};
 ghost use Rattle.wfe_core.specs.words.declared.config.SchemeKind.{SchemeKind as Kind};
 ghost use Rattle.wfe_drive_words.specs.Called.{Here};
 ghost use Rattle.wfe_drive_words.specs.Path.{BoundedFits, Leads, Trial, UsedUnder, asked_at, protects_from};
@@ -13,7 +12,7 @@ use crate::asking::{Bounded, protect_wfe};
 use crate::hazard::protect_hp;
 use crate::protect::protect_he;
 use wfe_bucketmap_read::{He, Hp, Wfe};
-use wfe_core::{Post, Root, SchemeKind};
+use wfe_core::{Post, Root};
 
 /// A scheme that clears an index by a step, and how it protects at one. Each is named by its type, so that what protects
 /// under one of them has no code of the others, and stays small enough to be compiled into its caller.
@@ -68,30 +67,5 @@ impl ByIndex for Hp {
     #[inline(always)]
     fn protect<W: Words>(words: &mut W, post: &Post, index: u32, root: Root) -> Bounded {
         Bounded::Within(protect_hp(words, post, index, root))
-    }
-}
-
-/// The same, whichever of these the scheme is.
-#[inline(always)]
-pub fn protect_by_index<W: Words>(words: &mut W, post: &Post, index: u32, root: Root) -> Bounded
-    requires valid { W.valid words.old }
-    requires own { IsValid post.now }
-    requires clears { has_one_interval post.now.layout.config.scheme ≡ false }
-    requires index { IndexFits post.now index }
-    requires root { RootFits post.now.layout root }
-    requires here { (t : Trial) × Here (W.at words.old) (protects_from t index root post.now) }
-    ensures valid { W.valid words.new }
-    ensures same { W.same words.old words.new }
-    ensures rest { W.rest words.new < W.rest words.old }
-    ensures fits { BoundedFits post.now (2 ^ 62 + 4) result }
-    ensures used { UsedUnder post.now.layout.config.scheme result }
-    ensures leads { (t : Trial) → Here (W.at words.old) (protects_from t index root post.now) → (n : ℕ)
-        × Leads (W.at words.old) (W.at words.new) (W.stands words.old) (W.stands words.new) (protects_from t index root post.now) (asked_at t index root post.now n result) }
-{
-    match post.layout.config().scheme {
-        SchemeKind::He => He::protect(words, post, index, root),
-        SchemeKind::Wfe => Wfe::protect(words, post, index, root),
-        SchemeKind::Hp => Hp::protect(words, post, index, root),
-        SchemeKind::Ibr => unreachable!(),
     }
 }

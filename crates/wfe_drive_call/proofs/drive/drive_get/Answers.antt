@@ -6,7 +6,7 @@ use Rattle.wfe_core.specs.DeskHeld.{desk_of}
 use Rattle.wfe_core.specs.Desks.{Desk, Notes, no_notes}
 use Rattle.wfe_core.specs.declared.desk.Desk.{Desk as HeldDesk}
 use Rattle.wfe_drive_runs.specs.drive_words.Called.{at_phase}
-use Rattle.wfe_drive_runs.proofs.drive_words.ByIndex.{clears_else}
+use Rattle.wfe_drive_runs.proofs.drive_words.Beginnings.{clears_else}
 use Rattle.wfe_drive_runs.proofs.drive_words.Makes.{Over, called_by, here_begun, over_by, starts_at}
 use Rattle.wfe_drive_call.proofs.drive.drive_get.Goals as goal
 

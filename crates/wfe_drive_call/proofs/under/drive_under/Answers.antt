@@ -1,6 +1,6 @@
--- What is left is a call that is none of these.
-use Rattle.wfe_drive_call.proofs.Starting.{other_by}
+-- What is left is a call that changes no bucket.
+use Rattle.wfe_drive_call.proofs.Starting.{unchanged_by}
 use Rattle.wfe_drive_call.proofs.under.drive_under.Goals as goal
 
-pub drive_other-requires-clause-other : goal.drive_other-requires-clause-other
-drive_other-requires-clause-other g c = other_by c.args.call c.in_default.not-Get c.in_default.not-Put c.in_default.not-Remove c.in_default.not-PutIf c.in_default.not-Enqueue c.in_default.not-Dequeue
+pub drive_unchanged-requires-clause-keeps : goal.drive_unchanged-requires-clause-keeps
+drive_unchanged-requires-clause-keeps g c = unchanged_by c.args.call c.in_default.not-Put c.in_default.not-Remove c.in_default.not-PutIf

@@ -1,54 +1,17 @@
--- The protection is the state's; then the head is loaded again.
-use Rattle.std.proofs.Common.{refl}
-use Rattle.wfe_core.specs.DeskHeld.{desk_of}
-use Rattle.wfe_drive_runs.specs.Following.{followed_trial}
-use Rattle.wfe_drive_words.proofs.Leading.{few_here, here_on}
-use Rattle.wfe_drive_runs.proofs.Turning.{leads_so_after, may_here}
+-- The scheme is not 2GE.
+use Rattle.std.proofs.Common.{ap, sym, ◌∙◌}
+use Rattle.wfe_core.specs.words.declared.config.Config.{Config}
+use Rattle.wfe_drive_words.proofs.Beginnings.{clears_not}
 use Rattle.wfe_drive_runs.proofs.follow.follow_by_index.Goals as goal
 
-pub protect_by_index-requires-clause-own : goal.protect_by_index-requires-clause-own
-protect_by_index-requires-clause-own g c =
-    let (why, h) = c.requires.here in
-    (may_here (g.W.Words.comes c.args.words.now) c.requires.valid h).valid
+pub unreachable-requires : goal.unreachable-requires
+unreachable-requires g c = clears_not c.args.post.now.layout.config c.config.result (sym c.config.ensures) c.requires.clears c.in-Ibr.is
 
-pub protect_by_index-requires-clause-index : goal.protect_by_index-requires-clause-index
-protect_by_index-requires-clause-index g c =
-    let (why, h) = c.requires.here in
-    (may_here (g.W.Words.comes c.args.words.now) c.requires.valid h).ready.0.0
+pub follow_under-requires-clause-scheme : goal.follow_under-requires-clause-scheme
+follow_under-requires-clause-scheme g c = ap (λ (config : Config). config.scheme) (sym c.config.ensures) ∙ c.in-He.is
 
-pub protect_by_index-requires-clause-root : goal.protect_by_index-requires-clause-root
-protect_by_index-requires-clause-root g c =
-    let (why, h) = c.requires.here in
-    (may_here (g.W.Words.comes c.args.words.now) c.requires.valid h).ready.0.1
+pub follow_under-requires-in-Wfe-clause-scheme : goal.follow_under-requires-in-Wfe-clause-scheme
+follow_under-requires-in-Wfe-clause-scheme g c = ap (λ (config : Config). config.scheme) (sym c.config.ensures) ∙ c.in-Wfe.is
 
-pub protect_by_index-requires-clause-here : goal.protect_by_index-requires-clause-here
-protect_by_index-requires-clause-here g c =
-    let (why, h) = c.requires.here in
-    (followed_trial why (desk_of c.args.desk.now) 0 c.args.post.now.steps, h)
-
-pub follow_link-requires-clause-few : goal.follow_link-requires-clause-few
-follow_link-requires-clause-few g c =
-    let (why, h) = c.requires.here in
-    few_here (g.W.Words.comes c.args.words.now) c.requires.valid h refl
-
-pub follow_link-requires-clause-here : goal.follow_link-requires-clause-here
-follow_link-requires-clause-here g c =
-    let (why, h) = c.requires.here in
-    let (n, x) = c.in-Within.ensures.leads (followed_trial why (desk_of c.args.desk.now) 0 c.args.post.now.steps) h in
-    (why, n, here_on h x)
-
-pub ask-requires-clause-here : goal.ask-requires-clause-here
-ask-requires-clause-here g c =
-    let (why, h) = c.requires.here in
-    let (n, x) = c.in-Used.ensures.leads (followed_trial why (desk_of c.args.desk.now) 0 c.args.post.now.steps) h in
-    (why, here_on h x)
-
-pub returns-in-Within-clause-leads : goal.returns-in-Within-clause-leads
-returns-in-Within-clause-leads g c = λ why h.
-    let (n, x) = c.in-Within.ensures.leads (followed_trial why (desk_of c.args.desk.now) 0 c.args.post.now.steps) h in
-    leads_so_after x (c.follow_link.ensures.leads why n (here_on h x))
-
-pub returns-in-Used-clause-leads : goal.returns-in-Used-clause-leads
-returns-in-Used-clause-leads g c = λ why h.
-    let (n, x) = c.in-Used.ensures.leads (followed_trial why (desk_of c.args.desk.now) 0 c.args.post.now.steps) h in
-    leads_so_after x (c.ask.ensures.leads why (here_on h x))
+pub follow_under-requires-in-Hp-clause-scheme : goal.follow_under-requires-in-Hp-clause-scheme
+follow_under-requires-in-Hp-clause-scheme g c = ap (λ (config : Config). config.scheme) (sym c.config.ensures) ∙ c.in-Hp.is

@@ -9,7 +9,7 @@ use Rattle.wfe_core.specs.Dequeue.{follow_base}
 use Rattle.wfe_drive_words.specs.Called.{at_phase}
 use Rattle.wfe_drive_runs.proofs.Followings.{room_as, so_from}
 use Rattle.wfe_drive_runs.proofs.Spanning.{free_kept, free_without}
-use Rattle.wfe_drive_words.proofs.ByIndex.{clears_else}
+use Rattle.wfe_drive_words.proofs.Beginnings.{clears_else}
 use Rattle.wfe_drive_words.proofs.Leading.{here_as}
 use Rattle.wfe_drive_runs.proofs.follow.follow_next.Goals as goal
 

@@ -1,61 +1,17 @@
--- The protection is the state's, and what stands is what it leaves.
-use Rattle.std.proofs.Common.{refl}
-use Rattle.wfe_core.specs.DeskHeld.{desk_of}
-use Rattle.wfe_drive_runs.specs.Pieces.{asked_trial}
-use Rattle.wfe_drive_runs.proofs.Holds.{stood_leads}
-use Rattle.wfe_drive_words.proofs.Leading.{few_here, here_on}
-use Rattle.wfe_drive_runs.proofs.Turning.{leads_so_after, may_here}
+-- The scheme is not 2GE.
+use Rattle.std.proofs.Common.{ap, sym, ◌∙◌}
+use Rattle.wfe_core.specs.words.declared.config.Config.{Config}
+use Rattle.wfe_drive_words.proofs.Beginnings.{clears_not}
 use Rattle.wfe_drive_runs.proofs.hold.hold_by_index.Goals as goal
 
-pub protect_by_index-requires-clause-own : goal.protect_by_index-requires-clause-own
-protect_by_index-requires-clause-own g c =
-    let (why, h) = c.requires.here in
-    (may_here (g.W.Words.comes c.args.words.now) c.requires.valid h).valid
+pub unreachable-requires : goal.unreachable-requires
+unreachable-requires g c = clears_not c.args.post.now.layout.config c.config.result (sym c.config.ensures) c.requires.clears c.in-Ibr.is
 
-pub protect_by_index-requires-clause-index : goal.protect_by_index-requires-clause-index
-protect_by_index-requires-clause-index g c =
-    let (why, h) = c.requires.here in
-    (may_here (g.W.Words.comes c.args.words.now) c.requires.valid h).ready.0.0
+pub hold_under-requires-clause-scheme : goal.hold_under-requires-clause-scheme
+hold_under-requires-clause-scheme g c = ap (λ (config : Config). config.scheme) (sym c.config.ensures) ∙ c.in-He.is
 
-pub protect_by_index-requires-clause-root : goal.protect_by_index-requires-clause-root
-protect_by_index-requires-clause-root g c =
-    let (why, h) = c.requires.here in
-    (may_here (g.W.Words.comes c.args.words.now) c.requires.valid h).ready.0.1
+pub hold_under-requires-in-Wfe-clause-scheme : goal.hold_under-requires-in-Wfe-clause-scheme
+hold_under-requires-in-Wfe-clause-scheme g c = ap (λ (config : Config). config.scheme) (sym c.config.ensures) ∙ c.in-Wfe.is
 
-pub protect_by_index-requires-clause-here : goal.protect_by_index-requires-clause-here
-protect_by_index-requires-clause-here g c =
-    let (why, h) = c.requires.here in
-    (asked_trial why (desk_of c.args.desk.now) 0 c.args.post.now.steps, h)
-
-pub stand-requires-clause-own : goal.stand-requires-clause-own
-stand-requires-clause-own g c =
-    let (why, h) = c.requires.here in
-    (may_here (g.W.Words.comes c.args.words.now) c.requires.valid h).valid
-
-pub stand-requires-clause-index : goal.stand-requires-clause-index
-stand-requires-clause-index g c =
-    let (why, h) = c.requires.here in
-    (may_here (g.W.Words.comes c.args.words.now) c.requires.valid h).ready.0.0
-
-pub stand-requires-clause-few : goal.stand-requires-clause-few
-stand-requires-clause-few g c =
-    let (why, h) = c.requires.here in
-    few_here (g.W.Words.comes c.args.words.now) c.requires.valid h refl
-
-pub ask-requires-clause-here : goal.ask-requires-clause-here
-ask-requires-clause-here g c =
-    let (why, h) = c.requires.here in
-    let (n, x) = c.in-Used.ensures.leads (asked_trial why (desk_of c.args.desk.now) 0 c.args.post.now.steps) h in
-    (why, here_on h x)
-
-pub returns-in-Within-clause-leads : goal.returns-in-Within-clause-leads
-returns-in-Within-clause-leads g c = λ why h.
-    let (n, x) = c.in-Within.ensures.leads (asked_trial why (desk_of c.args.desk.now) 0 c.args.post.now.steps) h in
-    let guarded = c.in-Within.guarded in
-    (guarded.era, stood_leads why c.args.desk.now c.args.index c.args.root n guarded.link guarded.era _ c.stand.new.post c.stand.result c.requires.outer c.stand.ensures.stood x)
-
-pub returns-in-Used-clause-leads : goal.returns-in-Used-clause-leads
-returns-in-Used-clause-leads g c = λ why h.
-    let (n, x) = c.in-Used.ensures.leads (asked_trial why (desk_of c.args.desk.now) 0 c.args.post.now.steps) h in
-    let (era, y) = c.ask.ensures.leads why (here_on h x) in
-    (era, leads_so_after x y)
+pub hold_under-requires-in-Hp-clause-scheme : goal.hold_under-requires-in-Hp-clause-scheme
+hold_under-requires-in-Hp-clause-scheme g c = ap (λ (config : Config). config.scheme) (sym c.config.ensures) ∙ c.in-Hp.is

@@ -4,7 +4,7 @@ use Rattle.wfe_core.specs.words.declared.config.Config.{Config}
 use Rattle.wfe_core.specs.words.declared.config.SchemeKind.TheVariants.{Ibr}
 use Rattle.wfe_core.specs.words.declared.layout.Layout.{Layout}
 use Rattle.wfe_core.specs.Calls.{Opens}
-use Rattle.wfe_drive_words.proofs.ByIndex.{clears_else}
+use Rattle.wfe_drive_words.proofs.Beginnings.{clears_else}
 use Rattle.wfe_drive_words.proofs.Leading.{here_as, here_on, leads_as}
 use Rattle.wfe_drive_runs.proofs.Followings.{room_as, so_from}
 use Rattle.wfe_drive_runs.proofs.Rounding.{opens_as, protects_still, round_as}

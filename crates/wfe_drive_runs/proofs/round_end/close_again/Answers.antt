@@ -4,7 +4,7 @@ use Rattle.wfe_core.specs.Calls.{Again}
 use Rattle.wfe_core.specs.words.declared.config.Config.{Config}
 use Rattle.wfe_core.specs.Posts.{withdrawn}
 use Rattle.wfe_core.specs.declared.post.Post.{Post}
-use Rattle.wfe_drive_words.proofs.ByIndex.{clears_else}
+use Rattle.wfe_drive_words.proofs.Beginnings.{clears_else}
 use Rattle.wfe_drive_words.proofs.Leading.{leads_as, leads_none}
 use Rattle.wfe_drive_runs.proofs.Spanning.{again_is, free_without, kept_cleared}
 use Rattle.wfe_drive_runs.proofs.round_end.close_again.Goals as goal

@@ -6,7 +6,7 @@ use Rattle.wfe_core.specs.Posts.{withdrawn}
 use Rattle.wfe_core.specs.declared.post.Post.{Post}
 use Rattle.wfe_drive_runs.specs.Pieces.{clearing_at}
 use Rattle.wfe_drive_runs.proofs.Closing.{clearing_noted, clears_next_is}
-use Rattle.wfe_drive_words.proofs.ByIndex.{clears_else}
+use Rattle.wfe_drive_words.proofs.Beginnings.{clears_else}
 use Rattle.wfe_drive_words.proofs.Leading.{here_as, leads_as, leads_from, leads_none}
 use Rattle.wfe_drive_runs.proofs.Spanning.{free_without, kept_set, next_clears}
 use Rattle.wfe_drive_runs.proofs.round_end.close_next.Goals as goal

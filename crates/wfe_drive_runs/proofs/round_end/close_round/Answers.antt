@@ -3,7 +3,7 @@ use Rattle.std.proofs.Common.{ap, sym, ◌∙◌}
 use Rattle.wfe_core.specs.words.Schemes.{has_one_interval}
 use Rattle.wfe_core.specs.words.declared.config.Config.{Config}
 use Rattle.wfe_core.specs.declared.post.Post.{Post}
-use Rattle.wfe_drive_words.proofs.ByIndex.{clears_else}
+use Rattle.wfe_drive_words.proofs.Beginnings.{clears_else}
 use Rattle.wfe_drive_runs.proofs.Spanning.{free_without, kept_cleared}
 use Rattle.wfe_drive_runs.proofs.round_end.close_round.Goals as goal
 

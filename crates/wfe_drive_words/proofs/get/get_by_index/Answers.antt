@@ -1,7 +1,7 @@
 -- The scheme is not 2GE.
 use Rattle.std.proofs.Common.{ap, sym, ◌∙◌}
 use Rattle.wfe_core.specs.words.declared.config.Config.{Config}
-use Rattle.wfe_drive_words.proofs.ByIndex.{clears_not}
+use Rattle.wfe_drive_words.proofs.Beginnings.{clears_not}
 use Rattle.wfe_drive_words.proofs.get.get_by_index.Goals as goal
 
 pub unreachable-requires : goal.unreachable-requires

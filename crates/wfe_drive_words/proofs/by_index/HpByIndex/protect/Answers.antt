@@ -2,7 +2,7 @@
 use Rattle.std.proofs.Common.{sym}
 use Rattle.wfe_core.specs.words.declared.config.SchemeKind.TheVariants.{Hp}
 use Rattle.wfe_drive_words.specs.Path.{asks_from}
-use Rattle.wfe_drive_words.proofs.ByIndex.{first_of}
+use Rattle.wfe_drive_words.proofs.Beginnings.{first_of}
 use Rattle.wfe_drive_words.proofs.Leading.{here_as, leads_from}
 use Rattle.wfe_drive_words.proofs.by_index.HpByIndex.protect.Goals as goal
 

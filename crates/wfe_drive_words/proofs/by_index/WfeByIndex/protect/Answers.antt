@@ -1,7 +1,7 @@
 -- The protection from its own first step.
 use Rattle.std.proofs.Common.{sym}
 use Rattle.wfe_core.specs.words.declared.config.SchemeKind.TheVariants.{Wfe}
-use Rattle.wfe_drive_words.proofs.ByIndex.{first_of, fits_more, used_under}
+use Rattle.wfe_drive_words.proofs.Beginnings.{first_of, fits_more, used_under}
 use Rattle.wfe_drive_words.proofs.Leading.{here_as, leads_from}
 use Rattle.wfe_drive_words.proofs.by_index.WfeByIndex.protect.Goals as goal
 

@@ -8,13 +8,14 @@ ghost use Rattle.wfe_core.specs.Dequeue.{follow_base};
 ghost use Rattle.wfe_core.specs.Memory.{Cas as Exchanges, Load as Loads, numbered};
 ghost use Rattle.wfe_core.specs.Ready.{SlotFits};
 ghost use Rattle.wfe_core.specs.Valid.{IsValid};
-ghost use Rattle.wfe_drive_runs.specs.call_rounds.Endings.{next_of};
-ghost use Rattle.wfe_drive_runs.specs.drive_words.Called.{Here};
-ghost use Rattle.wfe_drive_runs.specs.drive_words.Path.{Leads};
+ghost use Rattle.wfe_call_rounds.specs.Endings.{next_of};
+ghost use Rattle.wfe_drive_words.specs.Called.{Here};
+ghost use Rattle.wfe_drive_words.specs.Path.{Leads};
 ghost use Rattle.wfe_drive_runs.specs.Pieces.{clearing_next_at, seat_of};
 
+use wfe_call_rounds::RoundEnd;
 use wfe_core::{Answer, ClockMove, Op, Post};
-use wfe_drive_runs::{RoundEnd, Words, load_cell, step};
+use wfe_drive_words::{Words, load_cell, step};
 
 // Loads the queue's tail.
 #[inline(always)]

@@ -5,15 +5,18 @@ ghost use Rattle.wfe_core.specs.DeskHeld.{HasRoom, desk_of};
 ghost use Rattle.wfe_core.specs.Enqueue.{filling, new_item};
 ghost use Rattle.wfe_core.specs.WriteRow.{writing};
 ghost use Rattle.wfe_drive_runs.specs.Items.{filled_at, kept_of};
-ghost use Rattle.wfe_drive_runs.specs.drive_words.Called.{Here, at_phase};
-ghost use Rattle.wfe_drive_runs.specs.drive_words.Path.{Leads};
+ghost use Rattle.wfe_drive_words.specs.Called.{Here, at_phase};
+ghost use Rattle.wfe_drive_words.specs.Path.{Leads};
 
+use crate::fill::write_item;
+use crate::item::Item;
+use crate::rows::take_row;
 use wfe_core::{AllocateEnd, Desk, Post};
-use wfe_drive_runs::{Item, Words, take_row, write_item};
+use wfe_drive_words::Words;
 
 // Answers the row that has the item now, or none where no row was free.
 #[inline(always)]
-pub fn fill<W: Words>(
+pub fn fill_item<W: Words>(
     words: &mut W,
     post: &mut Post,
     desk: &mut Desk,

@@ -3,11 +3,11 @@ use Rattle.std.proofs.Common.{Option, ap, sym, ℕ}
 use Rattle.wfe_core.specs.Calls.{Enqueues, Fills, Runs}
 use Rattle.wfe_core.specs.Enqueue.{filling_by}
 use Rattle.wfe_drive_runs.specs.Items.{kept_of}
-use Rattle.wfe_drive_runs.specs.drive_words.Called.{at_phase}
-use Rattle.wfe_drive_runs.proofs.drive_words.Leading.{here_as, here_on, leads_from, then_leads}
+use Rattle.wfe_drive_words.specs.Called.{at_phase}
+use Rattle.wfe_drive_words.proofs.Leading.{here_as, here_on, leads_from, then_leads}
 use Rattle.wfe_drive_runs.proofs.Turning.{leads_so}
 use Rattle.wfe_drive_runs.proofs.Appending.{none_free, row_given}
-use Rattle.wfe_drive_call.proofs.item_row.fill.Goals as goal
+use Rattle.wfe_drive_runs.proofs.item_row.fill_item.Goals as goal
 
 pub write-requires-in-Given-clause-here : goal.write-requires-in-Given-clause-here
 write-requires-in-Given-clause-here g c =

@@ -4,10 +4,10 @@ use Rattle.wfe_core.specs.Calls.{Enqueues, Enqueuing, ExchangeNext, Fills, Works
 use Rattle.wfe_core.specs.DeskHeld.{desk_of}
 use Rattle.wfe_core.specs.Steps.{slot_in}
 use Rattle.wfe_drive_runs.specs.Items.{kept_of}
-use Rattle.wfe_drive_runs.specs.drive_words.Called.{at_phase}
-use Rattle.wfe_drive_runs.proofs.drive_words.Leading.{leads_as}
+use Rattle.wfe_drive_words.specs.Called.{at_phase}
+use Rattle.wfe_drive_words.proofs.Leading.{leads_as}
 use Rattle.wfe_drive_runs.proofs.Turning.{may_here}
-use Rattle.wfe_drive_call.proofs.item_row.write.Goals as goal
+use Rattle.wfe_drive_runs.proofs.item_row.write.Goals as goal
 
 pub overflow_add-item : goal.overflow_add-item
 overflow_add-item g c =

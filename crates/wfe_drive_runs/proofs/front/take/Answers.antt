@@ -3,14 +3,14 @@ use Rattle.std.proofs.Common.{ap, arith, refl, ◌+◌, ◌<◌, ◌==◌, ◌^�
 use Rattle.wfe_core.specs.Calls.{Dequeuing, ExchangeHead, TakeNumber, TakeValue, Works}
 use Rattle.wfe_core.specs.Dequeue.{taken}
 use Rattle.wfe_core.specs.declared.post.Post.{Post}
-use Rattle.wfe_drive_runs.specs.drive_words.drive_cells.Unit.{kept_desk, seat_after}
-use Rattle.wfe_drive_runs.specs.drive_words.Path.{stepped}
+use Rattle.wfe_drive_words.specs.drive_cells.Unit.{kept_desk, seat_after}
+use Rattle.wfe_drive_words.specs.Path.{stepped}
 use Rattle.wfe_drive_runs.specs.Pieces.{seat_of}
 use Rattle.wfe_drive_runs.proofs.Appending.{at_steps, three}
-use Rattle.wfe_drive_call.proofs.Taking.{is_lost, is_taken}
-use Rattle.wfe_drive_runs.proofs.drive_words.Leading.{few_here, here_on, leads_as, then_leads}
+use Rattle.wfe_drive_runs.proofs.Fronts.{is_lost, is_taken}
+use Rattle.wfe_drive_words.proofs.Leading.{few_here, here_on, leads_as, then_leads}
 use Rattle.wfe_drive_runs.proofs.Turning.{asks_seat, may_here}
-use Rattle.wfe_drive_call.proofs.take.take.Goals as goal
+use Rattle.wfe_drive_runs.proofs.front.take.Goals as goal
 
 pub move_head-requires-clause-valid : goal.move_head-requires-clause-valid
 move_head-requires-clause-valid g c =

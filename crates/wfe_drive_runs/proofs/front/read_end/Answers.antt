@@ -2,9 +2,9 @@
 use Rattle.std.proofs.Common.{arith, refl, ◌<◌, ◌^◌}
 use Rattle.wfe_core.specs.Calls.{Dequeuing, LoadTail, Works}
 use Rattle.wfe_drive_runs.specs.Pieces.{seat_of}
-use Rattle.wfe_drive_runs.proofs.drive_words.Leading.{few_here}
+use Rattle.wfe_drive_words.proofs.Leading.{few_here}
 use Rattle.wfe_drive_runs.proofs.Turning.{asks_seat, may_here}
-use Rattle.wfe_drive_call.proofs.take.read_end.Goals as goal
+use Rattle.wfe_drive_runs.proofs.front.read_end.Goals as goal
 
 pub load_end-requires : goal.load_end-requires
 load_end-requires g c =

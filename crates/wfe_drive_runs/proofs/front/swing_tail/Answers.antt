@@ -1,12 +1,12 @@
 -- Whichever call moved the tail, the round ends.
 use Rattle.std.proofs.Common.{arith, refl, ◌+◌, ◌<◌, ◌==◌, ◌^◌}
 use Rattle.wfe_core.specs.Calls.{Dequeuing, SwingTail, Works}
-use Rattle.wfe_drive_runs.specs.drive_words.Path.{stepped}
+use Rattle.wfe_drive_words.specs.Path.{stepped}
 use Rattle.wfe_drive_runs.specs.Pieces.{seat_of}
-use Rattle.wfe_drive_call.proofs.Taking.{swung}
-use Rattle.wfe_drive_runs.proofs.drive_words.Leading.{few_here, leads_as}
+use Rattle.wfe_drive_runs.proofs.Fronts.{swung}
+use Rattle.wfe_drive_words.proofs.Leading.{few_here, leads_as}
 use Rattle.wfe_drive_runs.proofs.Turning.{asks_seat, may_here}
-use Rattle.wfe_drive_call.proofs.take.swing_tail.Goals as goal
+use Rattle.wfe_drive_runs.proofs.front.swing_tail.Goals as goal
 
 pub move_end-requires-clause-valid : goal.move_end-requires-clause-valid
 move_end-requires-clause-valid g c =
