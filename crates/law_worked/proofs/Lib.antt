@@ -1,5 +1,2 @@
-pub mod Copies
-pub mod Hazards
-pub mod Leaves
 pub mod RunRecords
 pub mod Worked

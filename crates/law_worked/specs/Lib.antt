@@ -1,14 +1,11 @@
 pub mod Altered
 pub mod Changed
-pub mod Copies
 pub mod Edited
 pub mod Full
-pub mod Hazards
 pub mod Helped
 pub mod Intervals
 pub mod Judges
 pub mod Kept
-pub mod Leaves
 pub mod Missed
 pub mod Moved
 pub mod PutThenGet

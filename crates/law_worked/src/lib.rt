@@ -2,10 +2,7 @@
 //! it: a file `Wrong..` for each kind of law. Each function here does nothing, and carries a theorem.
 #![tactic(auto)]
 
-pub mod copied;
-pub mod left;
 pub mod runs;
-pub mod seen;
 
 ghost use Rattle.law_worked.specs.Full.{FullWorked};
 ghost use Rattle.law_worked.specs.Helped.{HelpedWorked};

@@ -1,9 +1,0 @@
--- The record and its table compute.
-use Rattle.std.proofs.Common.{refl}
-use Rattle.wfe_core.specs.words.Packed.{halves, pending_word, answered_word, read_request, read_reservation, read_span, read_life}
-use Rattle.wfe_core.specs.words.Place.{claim_mask, claim_others, claim_start, number, place_at}
-use Rattle.law_worked.specs.Leaves.PassedOn.{PassedOnWorked}
-
-pub passed_on_worked : PassedOnWorked
-unfolding halves pending_word answered_word read_request read_reservation read_span read_life claim_mask claim_others claim_start number place_at
-passed_on_worked = record { tells = refl; lawful = refl; refuses = refl }

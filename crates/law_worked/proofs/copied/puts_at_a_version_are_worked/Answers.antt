@@ -1,5 +1,0 @@
-use Rattle.law_worked.proofs.Copies.Worked.AtVersion as worked
-use Rattle.law_worked.proofs.copied.puts_at_a_version_are_worked.Goals as goal
-
-pub returns : goal.returns
-returns c = worked.at_version_worked

@@ -1,5 +1,0 @@
-use Rattle.law_worked.proofs.Copies.Worked.Wrong as wrong
-use Rattle.law_worked.proofs.copied.wrong_copies_are_refused.Goals as goal
-
-pub returns : goal.returns
-returns c = wrong.wrong_copies

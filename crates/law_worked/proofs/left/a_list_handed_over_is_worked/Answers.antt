@@ -1,5 +1,0 @@
-use Rattle.law_worked.proofs.Leaves.Worked.HandedOver as worked
-use Rattle.law_worked.proofs.left.a_list_handed_over_is_worked.Goals as goal
-
-pub returns : goal.returns
-returns c = worked.handed_over_worked

@@ -1,5 +1,0 @@
-use Rattle.law_worked.proofs.Hazards.Worked.PutThenGet as worked
-use Rattle.law_worked.proofs.seen.a_put_then_a_get_is_worked.Goals as goal
-
-pub returns : goal.returns
-returns c = worked.put_then_get_worked

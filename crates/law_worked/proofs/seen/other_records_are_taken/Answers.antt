@@ -1,5 +1,0 @@
-use Rattle.law_worked.proofs.Hazards.Worked.Wrong as wrong
-use Rattle.law_worked.proofs.seen.other_records_are_taken.Goals as goal
-
-pub returns : goal.returns
-returns c = wrong.right_edits

@@ -1,5 +1,0 @@
-use Rattle.law_worked.proofs.Hazards.Worked.Wrong as wrong
-use Rattle.law_worked.proofs.seen.wrong_answers_are_refused.Goals as goal
-
-pub returns : goal.returns
-returns c = wrong.wrong_answers

@@ -1,0 +1,5 @@
+use Rattle.law_worked_later.proofs.Leaves.Worked.Wrong as wrong
+use Rattle.law_worked_later.proofs.left.wrong_lists_are_refused.Goals as goal
+
+pub returns : goal.returns
+returns c = wrong.wrong_lists

@@ -1,0 +1,5 @@
+use Rattle.law_worked_later.proofs.Hazards.Worked.Wrong as wrong
+use Rattle.law_worked_later.proofs.seen.wrong_scans_are_refused.Goals as goal
+
+pub returns : goal.returns
+returns c = wrong.wrong_scans

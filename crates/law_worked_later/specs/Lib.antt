@@ -1,0 +1,3 @@
+pub mod Copies
+pub mod Hazards
+pub mod Leaves
