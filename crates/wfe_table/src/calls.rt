@@ -11,99 +11,10 @@ ghost use Rattle.wfe_table.specs.Public.{IsOf, stands_at, steps_of};
 use crate::seat::Seat;
 use crate::shared::Shared;
 use wfe_core::{Answer, Call, ClockMove};
-
-/// A key's value, or that it has none, at a version of its bucket. Version 0 is that of a bucket that was
-/// never changed.
-#[derive(Clone, Copy, Debug, PartialEq, Eq)]
-pub struct Got {
-    pub version: u64,
-    pub value: Option<u64>,
-}
-
-/// A change is the bucket's at this version, from 1. Of the clock: `Still`, unless it made a move due.
-#[derive(Clone, Copy, Debug, PartialEq, Eq)]
-pub struct Done {
-    pub version: u64,
-    pub clock: ClockMove,
-}
-
-/// An item has this number in the queue, from 1.
-#[derive(Clone, Copy, Debug, PartialEq, Eq)]
-pub struct Queued {
-    pub number: u64,
-}
-
-/// The item that was at the queue's front, with its number from 1. Of the clock: as of a change.
-#[derive(Clone, Copy, Debug, PartialEq, Eq)]
-pub struct Taken {
-    pub number: u64,
-    pub value: u64,
-    pub clock: ClockMove,
-}
-
-/// How many retired rows of the seat stay, and how many went back.
-#[derive(Clone, Copy, Debug, PartialEq, Eq)]
-pub struct Scanned {
-    pub kept: u32,
-    pub back: u32,
-}
-
-/// What a row that stands at an index of the seat shows of a key: the row's slot, the version of its
-/// bucket, and the key's value at that version.
-#[derive(Clone, Copy, Debug, PartialEq, Eq)]
-pub struct Looked {
-    pub slot: u32,
-    pub version: u64,
-    pub value: Option<u64>,
-}
-
-/// At some time of the call the queue was empty.
-#[derive(Clone, Copy, Debug, PartialEq, Eq)]
-pub struct Empty;
-
-/// Why a put changed nothing.
-#[derive(Clone, Copy, Debug, PartialEq, Eq)]
-pub enum PutRefusal {
-    /// No row was free, though the call has scanned.
-    Full,
-    /// The row at this version had no room for another key: it had the setting's `pairs`.
-    BucketFull { version: u64 },
-    /// The bucket's version is the setting's `last_version`.
-    Spent { number: u64 },
-}
-
-/// Why a put that names a version changed nothing.
-#[derive(Clone, Copy, Debug, PartialEq, Eq)]
-pub enum PutIfRefusal {
-    /// The bucket had this version, and another one was named.
-    Stale { version: u64 },
-    /// The bucket's version, which was named, is the setting's `last_version`.
-    Spent { number: u64 },
-    /// The row at this version, which was named, had no room for another key: it had the setting's `pairs`.
-    BucketFull { version: u64 },
-    /// No row was free, though the call has scanned.
-    Full,
-}
-
-/// Why a remove changed nothing.
-#[derive(Clone, Copy, Debug, PartialEq, Eq)]
-pub enum RemoveRefusal {
-    /// The key had no value at this version.
-    Absent { version: u64 },
-    /// The bucket's version is the setting's `last_version`, and the key has a value.
-    Spent { number: u64 },
-    /// No row was free, though the call has scanned. (A remove links a new row without the key.)
-    Full,
-}
-
-/// Why nothing was queued.
-#[derive(Clone, Copy, Debug, PartialEq, Eq)]
-pub enum EnqueueRefusal {
-    /// The queue's number is the setting's `last_version`.
-    Spent { number: u64 },
-    /// No row was free, though the call has scanned.
-    Full,
-}
+use wfe_table_words::{
+    Done, Empty, EnqueueRefusal, Got, Looked, PutIfRefusal, PutRefusal, Queued, RemoveRefusal,
+    Scanned, Taken,
+};
 
 impl Shared {
     /// The key's value, at a version that its bucket had during the call. Whatever the other threads do, it

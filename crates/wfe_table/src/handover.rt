@@ -8,17 +8,7 @@ ghost use Rattle.wfe_table.specs.history.defs.declared.call.Call.TheVariants as 
 ghost use Rattle.wfe_table.specs.Answers.{adopt_answer, adopt_steps};
 
 use crate::{LeftSeat, Seat, Shared};
-
-/// What came of taking over the list of a seat.
-#[derive(Clone, Copy, Debug, PartialEq, Eq)]
-pub enum AdoptEnd {
-    /// So many rows were on it, which are on the adopter's list now.
-    Adopted { count: u32 },
-    /// That seat had not left.
-    NotLeft,
-    /// That seat's list had been taken over.
-    AdoptedBefore,
-}
+use wfe_table_words::AdoptEnd;
 
 /// The seat leaves its table: it lets go of all that stands at its indexes, and its list of retired rows
 /// stays with the table, where another seat may adopt it. Keep what is given back until the table is closed.

@@ -7,6 +7,7 @@
 mod calls;
 mod close;
 mod close_left;
+mod close_said;
 mod facts;
 mod handover;
 mod leaving;
@@ -19,18 +20,20 @@ mod shared;
 mod take;
 mod words;
 
-pub use calls::{
-    Done, Empty, EnqueueRefusal, Got, Looked, PutIfRefusal, PutRefusal, Queued, RemoveRefusal,
-    Scanned, Taken,
-};
 pub use close::CloseError;
 pub use close_left::CloseLeftError;
 pub use facts::seats_meet_no_more_than_there_is;
-pub use handover::{AdoptEnd, adopt, leave};
+pub use handover::{adopt, leave};
 pub use left::LeftSeat;
 pub use seat::Seat;
-pub use shared::{MakeError, Shared};
+pub use shared::Shared;
 pub use wfe_core::{
-    Answer, Call, ClockMove, Config, Layout, Lifetime, Notes, RetireList, ScanReport, SchemeKind,
+    Answer, Call, ClockMove, Config, Guard, Interval, Layout, Lifetime, NoMemory, Notes,
+    RetireList, ScanReport, SchemeKind, Shown,
 };
 pub use wfe_table_end::{BucketRow, Closed, ClosedRoom};
+pub use wfe_table_words::{
+    AdoptEnd, Done, Empty, EnqueueRefusal, Got, Looked, MakeError, PutIfRefusal, PutRefusal,
+    Queued, RemoveRefusal, Scanned, Taken, usual,
+};
+pub use wfe_words::{BadConfig, Field};

@@ -14,7 +14,6 @@ ghost use Rattle.wfe_table.specs.Calls.{IsMade, IsMissed};
 ghost use Rattle.wfe_table.specs.Public.{SeatNow};
 ghost use Rattle.wfe_table.specs.Sound.{IsMet};
 
-use crate::calls::Got;
 use crate::list::zeros;
 use crate::take::take_list;
 use crate::words::TableWords;
@@ -23,6 +22,7 @@ use std::marker::Model;
 use wfe_core::{Answer, Call, Desk, Layout, NoMemory, Notes, Post, RetireList, ScanReport};
 use wfe_drive_call::{bucket_for, drive_call, drive_get};
 use wfe_drive_rule::{Handle, Ledger, give_slot};
+use wfe_table_words::Got;
 
 /// A seat of a shared table, with which one thread makes calls. It may move to another thread. It is
 /// seen as the table that it is of, its local state, and the history up to its own last step; of these

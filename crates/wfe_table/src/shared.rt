@@ -15,16 +15,7 @@ use std::marker::Model;
 use wfe_core::{Answer, Call, Config, Layout, NoMemory};
 use wfe_drive_rule::{OwnedLedger, open, split, take_slot};
 use wfe_table_end::{Closed, ClosedRoom};
-use wfe_words::Field;
-
-/// Why a shared table was not made.
-#[derive(Clone, Copy, Debug, PartialEq, Eq)]
-pub enum MakeError {
-    /// A number of the setting is outside its range: the first such.
-    BadConfig { field: Field },
-    /// The setting is good, and memory ran out.
-    NoMemory,
-}
+use wfe_table_words::MakeError;
 
 /// A table of words that threads share. Calls are made on it with its seats. It is seen as which table
 /// it is, and its layout.

@@ -1,4 +1,4 @@
-//! A program on the threads' table, to begin with (`worker.rt`). It is as a user of the library writes it. Each thread makes
+//! A program on the threads' table that makes each call (`worker.rt`). It is as a user of the library writes it. Each thread makes
 //! fifteen thousand calls with a seat of its own, those aside that it had to repeat, and what is printed is the same in
 //! whatever order the threads took their steps.
 #![tactic(auto)]
