@@ -5,7 +5,7 @@ Run it at the top of the repository: bench/first.py [--until COMMAND] [--all]
 
 A command is a line of the README's code that begins with `$ `. What must be shown on standard output is the lines below it, up to the next
 command or the end of the code; a line `...` stands for any lines, and `N` in a line for any number. It prints the seconds of each command. The
-gate, .ci/run, takes an hour or more and is left out without --all; --until stops before a command. Beside them, before the
+gate, .ci/run, takes half an hour or more and is left out without --all; --until stops before a command. Beside them, before the
 program is built, a pipe is tried whose first byte comes after five seconds, and one from a replay to a check, since `rt try`, which runs what
 is not proved yet, waits two seconds for input.
 """

@@ -1,0 +1,4 @@
+pub mod Fits
+pub mod Keeps
+pub mod Needed
+pub mod Paces

@@ -1,0 +1,4 @@
+pub mod Apart
+pub mod Emptied
+pub mod Judged
+pub mod Keeps

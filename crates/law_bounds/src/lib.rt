@@ -1,0 +1,71 @@
+//! Bounds of reclamation: which rows are taken (`Rows.antt`) and wait (`Scans.antt`, `Hazards.antt`), and which a guard keeps that
+//! stands still (`Eras.antt`). They are of the record of each history, and follow from what histories keep. Each function here
+//! does nothing, and carries a theorem.
+#![tactic(auto)]
+
+mod refusals;
+
+ghost use Rattle.law_bounds.specs.Eras.{RecordsBoundStill, RecordsJudge};
+ghost use Rattle.law_bounds.specs.Hazards.{RecordsBoundHazards, RecordsNeedRows};
+ghost use Rattle.law_bounds.specs.Rows.{ClosesLoseNone, RecordsLoseNone, RecordsTakeFew};
+ghost use Rattle.law_bounds.specs.Scans.{GoodLeaves, RecordsBoundScans};
+
+pub use refusals::wrong_records_are_refused;
+
+/// After each history that leaves no call under way the taken rows are just the rows of the roots of the buckets that were
+/// changed, the queue's rows with its dummy, and those on the lists, of seats that left too until another takes them over; each
+/// of them once. So their number is the sum of these.
+pub fn records_lose_none()
+    ensures { RecordsLoseNone }
+{}
+
+/// So a table that is closed shows as many rows taken as buckets were changed, values are left with the dummy, and lives wait
+/// on lists.
+pub fn closes_lose_none()
+    ensures { ClosesLoseNone }
+{}
+
+/// Whatever calls are under way, these rows are taken, and besides them each seat in a call has one at most in hand.
+pub fn records_take_few()
+    ensures { RecordsTakeFew }
+{}
+
+/// No row is twice on a list. Where a seat is in no call, something that its last block read keeps each life that the block
+/// judged, and all others on its list came since. Where a call ends with a scan, and no guard published anything meanwhile,
+/// its seat's list is empty.
+pub fn records_bound_scans()
+    ensures { RecordsBoundScans }
+{}
+
+/// So it is, but that no row is twice on a list, in each record that a check finds good.
+pub fn good_records_leave_few()
+    ensures { GoodLeaves }
+{}
+
+/// Under hazard pointers a list has, where its seat is in no call, at most one row for each guard, and one for each that the
+/// seat retired since their number was a multiple of `every`, beside those that came with lists that it took over since its
+/// last scan. Where no list was taken over it has never more than one row for each guard and `every`.
+pub fn records_bound_hazards()
+    ensures { RecordsBoundHazards }
+{}
+
+/// Under hazard pointers, where no list was taken over, no more rows are taken than one for each bucket, one for each value that
+/// waits and the dummy, and for each seat one for each guard, `every`, and one in hand: wherever seats have stopped. So in a
+/// table with more slots some row is free.
+pub fn records_need_rows()
+    ensures { RecordsNeedRows }
+{}
+
+/// Where guards publish eras, one that stands still keeps no row on a list that was given in a call which began once the clock
+/// had passed its eras; and each row that it keeps was taken, or sought by the call that was given it, while the clock was one
+/// of them.
+pub fn records_bound_still()
+    ensures { RecordsBoundStill }
+{}
+
+/// Where guards publish eras, and a seat is in no call, its last block has read for each life on its list that it judged an
+/// interval that meets the life; and the row was taken, or sought by the call that was given it, while the clock was one of
+/// that interval's eras.
+pub fn records_judge()
+    ensures { RecordsJudge }
+{}
