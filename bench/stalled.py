@@ -1,7 +1,7 @@
 #!/usr/bin/env python3
 """How many steps gets and holds take on one shared table while a helper is stopped amid its calls, under each scheme.
 
-Run it at the top of the repository, once `./build wfe_stall` has made the program: bench/stalled.py [--seconds N]
+Run it at the top of the repository, once `./build wfe_bench` has made the program: bench/stalled.py [--seconds N]
 
 Five threads share a table of one bucket. Two read it, two change it and move the clock without a rest, and one does
 nothing but move the clock, and so helps readers where they ask for help. That one, the helper, is stopped wherever it is
@@ -19,7 +19,7 @@ import time
 
 SCHEMES = ("he", "ibr", "wfe", "hp")
 TOP = os.path.dirname(os.path.dirname(os.path.realpath(__file__)))
-PROGRAM = f"{TOP}/crates/wfe_stall/out/wfe_stall"
+PROGRAM = f"{TOP}/crates/wfe_bench/out/wfe_bench"
 
 # Of ptrace, which stops one thread of a process and lets it go, and of waitpid, to wait for a thread.
 ATTACH, DETACH, ANY_THREAD = 16, 17, 0x40000000
@@ -53,7 +53,7 @@ def helper_of(process):
 def stalled(scheme, seconds):
     """What a run prints whose helper is stopped, and how often it was."""
     end = time.monotonic() + seconds
-    with subprocess.Popen([PROGRAM, scheme, str(seconds)], stdout=subprocess.PIPE, text=True) as process:
+    with subprocess.Popen([PROGRAM, scheme, "stalled", str(seconds)], stdout=subprocess.PIPE, text=True) as process:
         helper = helper_of(process)
         stops = 0
         while time.monotonic() + 0.3 < end:
@@ -65,7 +65,7 @@ def stalled(scheme, seconds):
             time.sleep(0.003)
         text = process.communicate()[0]
     if process.returncode != 0:
-        sys.exit(f"{PROGRAM} {scheme}: status {process.returncode}")
+        sys.exit(f"{PROGRAM} {scheme} stalled: status {process.returncode}")
     return re.findall(r"^(get|hold) (\d+) (\d+) (\d+|none)$", text, re.M), stops
 
 
@@ -74,7 +74,7 @@ def main():
     parser.add_argument("--seconds", type=int, default=60)
     seconds = parser.parse_args().seconds
     if not os.path.exists(PROGRAM):
-        sys.exit("make the program first: ./build wfe_stall")
+        sys.exit("make the program first: ./build wfe_bench")
     print("| scheme | call | calls | most steps | bound | stops of the helper |\n|---|---|---|---|---|---|")
     for scheme in SCHEMES:
         rows, stops = stalled(scheme, seconds)

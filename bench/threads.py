@@ -1,10 +1,10 @@
 #!/usr/bin/env python3
 """How many calls a second threads make on one shared table, beside plain Rust with the same steps and crossbeam's epochs.
 
-Run it at the top of the repository, once `./build wfe_speed` has made the program:
+Run it at the top of the repository, once `./build wfe_bench` has made the program:
 bench/threads.py [--calls N] [--repeats R] [--threads 1,2,4] [--profile | --builds]
 
-The proved program is `wfe_speed`. The plain one is `bench/plain`, built here with `rustc` at its highest level in two
+The proved program is `wfe_bench`. The plain one is `bench/plain`, built here with `rustc` at its highest level in two
 placements: dense, each word beside the next, and placed, where the clock, the words of seats and the queue's head and
 tail have a line of the cache each. The third is a map and a queue on crossbeam-epoch, built with `cargo` from the source
 that Debian's librust-crossbeam-epoch-dev installs, and left out where there is none. All make the same calls: gets alone
@@ -40,7 +40,7 @@ WORKS = {"reads": 4, "mixed": 4, "puts": 1, "pairs": 1}
 # The programs whose medians are compared.
 BESIDE = (("proved", "placed"), ("proved", "crossbeam"), ("placed", "crossbeam"))
 TOP = os.path.dirname(os.path.dirname(os.path.realpath(__file__)))
-PROVED = f"{TOP}/crates/wfe_speed/out/wfe_speed"
+PROVED = f"{TOP}/crates/wfe_bench/out/wfe_bench"
 REGISTRY = "/usr/share/cargo/registry"
 MANIFEST = f"""[package]
 name = "plain"
@@ -264,7 +264,7 @@ def asked():
 def main():
     options = asked()
     if not options.builds and not os.path.exists(PROVED):
-        sys.exit("./build wfe_speed makes the program first")
+        sys.exit("./build wfe_bench makes the program first")
     with tempfile.TemporaryDirectory() as folder:
         if options.profile:
             print_profile(folder)

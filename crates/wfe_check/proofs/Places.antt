@@ -12,8 +12,8 @@ use Rattle.wfe_defs.specs.declared.call.Call.{Call}
 use Rattle.wfe_defs.specs.declared.event.Event.{Event}
 use Rattle.wfe_defs.specs.declared.event.Event.TheVariants as events
 use Rattle.wfe_check_calls.specs.Sought.{seeks_by}
-use Rattle.wfe_check_times.specs.Roots.{last_row}
-use Rattle.wfe_check_times.specs.Tests.{IsSought}
+use Rattle.wfe_check_held.specs.Roots.{last_row}
+use Rattle.wfe_check_held.specs.Tests.{IsSought}
 
 -- no row is next to the head's
 pub last_none : (slots head : ℕ) (p : Past) → head ≡ head_at slots p → next_at head p ≡ None → Some head ≡ last_row slots p

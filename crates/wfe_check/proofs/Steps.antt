@@ -11,7 +11,7 @@ use Rattle.wfe_defs.specs.declared.call.Call.TheVariants as calls
 use Rattle.wfe_defs.specs.declared.event.Event.{Event}
 use Rattle.wfe_defs.specs.declared.event.Event.TheVariants as events
 use Rattle.wfe_defs.specs.declared.event.Root.TheVariants as roots
-use Rattle.wfe_check_times.specs.Roots.{RowIn}
+use Rattle.wfe_check_held.specs.Roots.{RowIn}
 
 pub row_in : (slots : ℕ) (row : Option ℕ) → ((slot : ℕ) → row ≡ Some slot → slot ≤ slots) → RowIn slots row
 row_in slots None within = tt

@@ -8,12 +8,12 @@ use Rattle.wfe_words.specs.declared.config.Config.{Config}
 use Rattle.wfe_defs.specs.declared.call.Call.TheVariants as names
 use Rattle.wfe_defs.specs.declared.event.Event.{Event}
 use Rattle.wfe_check_calls.specs.Calls.{IsCalls}
-use Rattle.wfe_check_guards.specs.Protections.{IsProtections}
+use Rattle.wfe_check_held.specs.Protections.{IsProtections}
 use Rattle.wfe_check_map.specs.ListStanding.{IsLists}
 use Rattle.wfe_check_map.specs.Standing.{IsContents}
 use Rattle.wfe_check_rows.specs.Rows.{IsRows}
 use Rattle.wfe_check_calls.specs.CallSteps.{IsSteps}
-use Rattle.wfe_check_times.specs.Times.{IsTimes}
+use Rattle.wfe_check_held.specs.Times.{IsTimes}
 use Rattle.wfe_check.specs.declared.checker.Checker.{Checker}
 
 -- each of its parts is that of the record

@@ -9,10 +9,9 @@ ghost use Rattle.wfe_words.specs.declared.config.Config.{Config as Setting};
 
 use std::alloc::Global;
 use wfe_check_calls::{Calls, Steps};
-use wfe_check_guards::Protections;
+use wfe_check_held::{Protections, Times};
 use wfe_check_map::{Contents, Lists};
 use wfe_check_rows::Rows;
-use wfe_check_times::Times;
 use wfe_defs::{Event, NoMemory};
 use wfe_words::Config;
 

@@ -6,8 +6,8 @@ ghost use Rattle.laws.specs.HoldLaw.{behind_ok, gots_ok};
 ghost use Rattle.laws.specs.Once.{lists_ok};
 ghost use Rattle.wfe_check.specs.Checked.{IsChecked, MayCome, Shows};
 ghost use Rattle.wfe_check.specs.Groups.{FitsCalls, FitsContents, FitsGuards, FitsParts, FitsRows, FitsStanding, FitsTimes};
-ghost use Rattle.wfe_check_times.specs.Roots.{last_row as last_of};
-ghost use Rattle.wfe_check_times.specs.Tests.{IsBirth, IsSource};
+ghost use Rattle.wfe_check_held.specs.Roots.{last_row as last_of};
+ghost use Rattle.wfe_check_held.specs.Tests.{IsBirth, IsSource};
 ghost use Rattle.wfe_check_calls.specs.Right.{IsRight};
 ghost use Rattle.wfe_words.specs.declared.config.Config.{Config as Setting};
 

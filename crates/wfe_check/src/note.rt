@@ -8,8 +8,8 @@ ghost use Rattle.laws.specs.records.Record.Past.{Then};
 ghost use Rattle.wfe_check.specs.Checked.{MayCome, Shows};
 ghost use Rattle.wfe_check_map.specs.Told.{RootIs};
 ghost use Rattle.wfe_check_calls.specs.Places.{IsNamed};
-ghost use Rattle.wfe_check_times.specs.Roots.{RowIn};
-ghost use Rattle.wfe_check_times.specs.Steps.{IsFound};
+ghost use Rattle.wfe_check_held.specs.Roots.{RowIn};
+ghost use Rattle.wfe_check_held.specs.Steps.{IsFound};
 ghost use Rattle.wfe_words.specs.declared.config.Config.{Config as Setting};
 
 use crate::Checker;

@@ -5,7 +5,8 @@ use Rattle.wfe_outside.specs.defs.declared.command.Command.{Command}
 use Rattle.wfe_server_replay.proofs.Bytes.{after_bytes-bad}
 use Rattle.wfe_server_replay.specs.Trace.{Progress, after_byte, after_bytes, after_good_byte, after_last, after_line, at_end, byte_refused, command_taken, counted, finished, item_taken, judged_item, line_read, line_taken, progress_start, refused_by, unless_refused, ◌>>=◌}
 use Rattle.wfe_server.specs.Reads.{came}
-use Rattle.wfe_server.specs.Scripted.{Scripted, scripter}
+use Rattle.wfe_server_lines.specs.Scripted.{Scripted}
+use Rattle.wfe_server.specs.Collecting.{scripter}
 use Rattle.wfe_trace.proofs.Judged.{judged-read}
 use Rattle.wfe_trace.specs.Good.{Placed, is_body}
 use Rattle.wfe_trace.specs.Reading.{judged}

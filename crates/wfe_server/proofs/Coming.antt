@@ -32,7 +32,8 @@ use Rattle.wfe_table.specs.Closing.{IsLeft, closing_of, track_of}
 use Rattle.wfe_table.proofs.LeftWords.{closing_is}
 use Rattle.wfe_table.specs.Public.{IsOf, SeatNow, TableNow, new_seat}
 use Rattle.wfe_server.specs.history.History.{Item, record_of, world_of}
-use Rattle.wfe_server.specs.Comes.{Comes, layout_by, lists_in}
+use Rattle.wfe_server.specs.Comes.{Comes, layout_by}
+use Rattle.wfe_server_lines.specs.Scripted.{lists_in}
 use Rattle.wfe_server.specs.Parted.{IsDone, IsOutcome, IsParted}
 use Rattle.wfe_server.specs.declared.worker.Worked.{Worked}
 

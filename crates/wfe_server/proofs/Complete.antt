@@ -8,7 +8,8 @@ use Rattle.wfe_server_replay.specs.Trace.{Progress, after_bytes, progress_start}
 use Rattle.wfe_server.proofs.Reading.{whole_bad}
 use Rattle.wfe_server.specs.Reads.{IsBad, came, whole}
 use Rattle.wfe_server.specs.Runs.{IsComplete, Runs}
-use Rattle.wfe_server.specs.Scripted.{Scripted, scripter}
+use Rattle.wfe_server_lines.specs.Scripted.{Scripted}
+use Rattle.wfe_server.specs.Collecting.{scripter}
 use Rattle.wfe_trace.specs.declared.item.Mode.TheVariants as modes
 use Rattle.wfe_trace.specs.declared.reason.BadLine.{BadLine}
 use Rattle.wfe_trace.specs.declared.reason.Status.{Status}

@@ -10,8 +10,8 @@ use Rattle.wfe_core.specs.defs.declared.call.Call.{Call}
 use Rattle.wfe_core.specs.defs.declared.event.Event.{Event}
 use Rattle.wfe_core.specs.words.declared.config.Config.{Config}
 use Rattle.wfe_table.specs.Public.{SeatNow, TableNow, new_seat, new_seats}
-use Rattle.wfe_server.specs.Comes.{lists_in}
-use Rattle.wfe_server.specs.Fitting.{AllBegin, MayBegin}
+use Rattle.wfe_server_lines.specs.Scripted.{lists_in}
+use Rattle.wfe_server_lines.specs.Fitting.{AllBegin, MayBegin}
 use Rattle.wfe_server.specs.Parted.{IsParted, IsReady}
 use Rattle.wfe_server.specs.declared.worker.Worked.{Worked}
 

@@ -6,7 +6,8 @@ use Rattle.wfe_server_replay.proofs.Bytes.{after_bytes-append}
 use Rattle.wfe_server_replay.specs.Trace.{Progress, after_bytes, finished, ◌>>=◌}
 use Rattle.wfe_server.specs.Collecting.{StopsAt}
 use Rattle.wfe_server.specs.Reads.{Ends, Goes, IsBad, IsRead, came, whole}
-use Rattle.wfe_server.specs.Scripted.{Scripted, scripter}
+use Rattle.wfe_server_lines.specs.Scripted.{Scripted}
+use Rattle.wfe_server.specs.Collecting.{scripter}
 use Rattle.wfe_server.specs.declared.reader.Stop.{Stop}
 use Rattle.wfe_server.specs.declared.reader.Stop.TheVariants as stops
 use Rattle.wfe_server.specs.declared.serve.Ending.{Ending}

@@ -13,7 +13,7 @@ use Rattle.wfe_server.specs.Comes.{Comes}
 use Rattle.wfe_server.specs.Prints.{Prints}
 use Rattle.wfe_server.specs.Reads.{IsBad, IsRead}
 use Rattle.wfe_server.specs.Runs.{IsPrinted, HasRun, Refuses, Runs, Says}
-use Rattle.wfe_server.specs.Scripted.{Scripted}
+use Rattle.wfe_server_lines.specs.Scripted.{Scripted}
 use Rattle.wfe_server.specs.Text.{run_pieces}
 use Rattle.wfe_trace.specs.Record.{bad_line as bad_text}
 use Rattle.wfe_trace.specs.declared.reason.BadLine.{BadLine}

@@ -9,7 +9,7 @@ use Rattle.wfe_outside.specs.defs.Entry.{entry}
 use Rattle.wfe_server_out.proofs.Stops.{split_after}
 use Rattle.wfe_server_out.proofs.Texts.{told_pieces-more, told_pieces-split}
 use Rattle.wfe_server_out.specs.Pieces.{Piece, Told, told_pieces}
-use Rattle.wfe_server.specs.Comes.{lists_in}
+use Rattle.wfe_server_lines.specs.Scripted.{lists_in}
 use Rattle.wfe_server.specs.Text.{seat_pieces}
 
 -- the next event of a seat

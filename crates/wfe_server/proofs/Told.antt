@@ -1,37 +1,12 @@
--- The events of a call, added one after another; and those of calls.
-use Rattle.std.proofs.Common.{Err, List, Ok, OnOk, Result, [], ap, get_or, length, refl, sym, take, ℕ, ◌++◌, ◌+◌, ◌<◌, ◌∙◌, ◌∷◌, ◌≡◌}
+-- The events of the calls of a script.
+use Rattle.std.proofs.Common.{List, [], ap, get_or, length, refl, sym, take, ℕ, ◌++◌, ◌+◌, ◌<◌, ◌∙◌, ◌∷◌, ◌≡◌}
 use Rattle.std.proofs.lemmas.List.{append-nil, append_assoc, map-append, take_more}
-use Rattle.wfe_table.specs.all.RunLaw.{backs, call_made, events_of, events_of_all}
+use Rattle.wfe_table.specs.all.RunLaw.{call_made, events_of, events_of_all}
 use Rattle.wfe_core.specs.Locals.{Group}
 use Rattle.wfe_core.specs.defs.declared.call.Call.{Call}
 use Rattle.wfe_core.specs.defs.declared.event.Event.{Event}
-use Rattle.wfe_core.specs.defs.declared.event.Event.TheVariants as events
 use Rattle.wfe_table.specs.rule.Views.{Track}
 use Rattle.wfe_server.specs.Working.{IsCalled, IsWorked}
-
-backs-append : (xs ys : List ℕ) → backs (xs ++ ys) ≡ backs xs ++ backs ys
-backs-append [] ys = refl
-backs-append (x ∷ xs) ys = ap (λ (told : List Event). events.Back x ∷ told) (backs-append xs ys)
-
--- one slot more
-pub backs_more : (slots : List ℕ) (place : ℕ) → place < length slots → backs (take (place + 1) slots) ≡ backs (take place slots) ++ events.Back (get_or slots place 0) ∷ []
-backs_more slots place within = ap backs (take_more slots place 0 within) ∙ backs-append (take place slots) (get_or slots place 0 ∷ [])
-
--- the same of a list that has those before
-pub backs_pushed : (old before after : List Event) (slots : List ℕ) (place : ℕ) → place < length slots → before ≡ old ++ backs (take place slots) → after ≡ before ++ events.Back (get_or slots place 0) ∷ []
-    → after ≡ old ++ backs (take (place + 1) slots)
-backs_pushed old before after slots place within b a =
-    a ∙ ap (λ (told : List Event). told ++ events.Back (get_or slots place 0) ∷ []) b ∙ append_assoc old (backs (take place slots)) (events.Back (get_or slots place 0) ∷ [])
-    ∙ ap (λ (told : List Event). old ++ told) (sym (backs_more slots place within))
-
--- lists that are added one after another
-pub joined : (old a b c d e f g h : List Event) (x y : Event) (backs_early given owed unused retired backs_late : List Event)
-    → a ≡ old ++ x ∷ [] → b ≡ a ++ backs_early → c ≡ b ++ given → d ≡ c ++ owed → e ≡ d ++ unused → f ≡ e ++ retired → g ≡ f ++ backs_late → h ≡ g ++ y ∷ []
-    → h ≡ old ++ x ∷ (backs_early ++ (given ++ (owed ++ (unused ++ (retired ++ (backs_late ++ y ∷ []))))))
-joined old a b c d e f g h x y early given owed unused retired late ha hb hc hd he hf hg hh =
-    let all : h ≡ (((((((old ++ x ∷ []) ++ early) ++ given) ++ owed) ++ unused) ++ retired) ++ late) ++ y ∷ [] = cc in
-    let regroup : (((((((old ++ x ∷ []) ++ early) ++ given) ++ owed) ++ unused) ++ retired) ++ late) ++ y ∷ [] ≡ old ++ x ∷ (early ++ (given ++ (owed ++ (unused ++ (retired ++ (late ++ y ∷ [])))))) = simp append_assoc in
-    all ∙ regroup
 
 events_of_all-append : (n : ℕ) (xs ys : List Group) → events_of_all n (xs ++ ys) ≡ events_of_all n xs ++ events_of_all n ys
 events_of_all-append n [] ys = refl
@@ -58,8 +33,3 @@ worked_more buckets old mid new script place call before after within is worked 
           ∙ sym (events_of_all-append buckets worked.log last);
       seat = called.seat ∙ worked.seat;
     }
-
--- what follows where it went well
-pub on_ok : {T E : Type 0} {P Q : Type 0} (r : Result T E) → OnOk r P → (P → Q) → OnOk r Q
-on_ok (Ok x) p f = f p
-on_ok (Err e) p f = tt

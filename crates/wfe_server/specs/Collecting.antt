@@ -1,9 +1,9 @@
 -- What joins a trace that is read and the scripts that it gives; and how bytes of it are taken.
-use Rattle.std.specs.Prelude.{Err, None, Ok, Option, Result, Some, true, ◌≡◌}
+use Rattle.std.specs.Prelude.{Err, None, Ok, Option, Result, Some, [], true, ◌≡◌}
 use Rattle.wfe_outside.specs.defs.declared.command.Command.{Command}
 use Rattle.wfe_outside.specs.defs.declared.command.Command.TheVariants as commands
-use Rattle.wfe_server_replay.specs.Trace.{Progress}
-use Rattle.wfe_server.specs.Scripted.{Scripted}
+use Rattle.wfe_server_replay.specs.Trace.{Engine, Progress}
+use Rattle.wfe_server_lines.specs.Scripted.{Scripted, called, no_calls}
 use Rattle.wfe_server.specs.declared.reader.Stop.{Stop}
 use Rattle.wfe_server.specs.declared.reader.Stop.TheVariants as stops
 use Rattle.wfe_trace.specs.Body.{IsCommandWithin}
@@ -13,6 +13,10 @@ use Rattle.wfe_trace.specs.declared.item.Item.{Item}
 use Rattle.wfe_trace.specs.declared.item.Item.TheVariants as items
 use Rattle.wfe_trace.specs.declared.reason.BadLine.{BadLine}
 use Rattle.wfe_trace.specs.words.Config.{bad_field}
+
+-- what takes the lines only to collect their calls: it refuses none, and puts nothing out
+abbrev pub scripter : Engine Scripted
+scripter = record { opened = no_calls; refuses = λ line s. None; after = called; out = λ line s. [] }
 
 -- scripts are there in the body alone, and of the setting that was read
 abbrev pub CollectsIn : Reading → Option Scripted → Type 0

@@ -1,6 +1,5 @@
 -- What a run comes to: a history of the table in which each seat has made its script, the events of those calls, and the table's end.
-use Rattle.std.specs.Prelude.{List, map, ◌≡◌}
-use Rattle.std.specs.declared.vec.Vec.{Vec}
+use Rattle.std.specs.Prelude.{List, ◌≡◌}
 use Rattle.wfe_table.specs.all.RunLaw.{AtClose, IsRun}
 use Rattle.wfe_table.specs.all.Runs.{AtRest, at_close, logs_of}
 use Rattle.wfe_core.specs.defs.declared.call.Call.{Call}
@@ -8,10 +7,6 @@ use Rattle.wfe_core.specs.defs.declared.event.Event.{Event}
 use Rattle.wfe_core.specs.words.declared.config.Config.{Config}
 use Rattle.wfe_core.specs.words.declared.layout.Layout.{Layout}
 use Rattle.wfe_server.specs.history.History.{Item, record_of}
-
--- vectors as lists
-abbrev pub lists_in : {X Z : Type 0} → List (Vec X Z) → List (List X)
-lists_in vectors = map (λ vector. vector.items) vectors
 
 abbrev pub layout_by : Config → Layout
 layout_by config = record { config = config }

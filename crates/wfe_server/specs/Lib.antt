@@ -2,11 +2,9 @@ pub use Rattle.wfe_table.specs.history as history
 pub use Rattle.wfe_table.specs.all as all
 pub mod Collecting
 pub mod Comes
-pub mod Fitting
 pub mod Parted
 pub mod Prints
 pub mod Reads
 pub mod Runs
-pub mod Scripted
 pub mod Text
 pub mod Working

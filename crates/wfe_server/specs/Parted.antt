@@ -6,8 +6,8 @@ use Rattle.wfe_core.specs.defs.declared.call.Call.{Call}
 use Rattle.wfe_core.specs.defs.declared.event.Event.{Event}
 use Rattle.wfe_table.specs.rule.Views.{seat_of}
 use Rattle.wfe_table.specs.Public.{IsOf, SeatNow, TableNow}
-use Rattle.wfe_server.specs.Comes.{lists_in}
-use Rattle.wfe_server.specs.Fitting.{MayBegin}
+use Rattle.wfe_server_lines.specs.Scripted.{lists_in}
+use Rattle.wfe_server_lines.specs.Fitting.{MayBegin}
 use Rattle.wfe_server.specs.Working.{IsWorked}
 use Rattle.wfe_server.specs.declared.worker.Worked.{Worked}
 

@@ -3,7 +3,8 @@ use Rattle.std.specs.Prelude.{Err, List, None, Ok, Option, Result, Some, â„•, â—
 use Rattle.std.specs.Io.KnownBytes.{Consumes, IsAtEnd}
 use Rattle.wfe_server_replay.specs.Trace.{Progress, after_bytes, after_trace, progress_start}
 use Rattle.wfe_server.specs.Collecting.{StopsAt}
-use Rattle.wfe_server.specs.Scripted.{Scripted, scripter}
+use Rattle.wfe_server_lines.specs.Scripted.{Scripted}
+use Rattle.wfe_server.specs.Collecting.{scripter}
 use Rattle.wfe_server.specs.declared.reader.Stop.{Stop}
 use Rattle.wfe_server.specs.declared.reader.Stop.TheVariants as stops
 use Rattle.wfe_server.specs.declared.serve.Ending.{Ending}

@@ -2,11 +2,9 @@
 //! of a table that they share; then it prints what each made and what the table holds in the end.
 #![tactic(auto)]
 
-mod events;
 mod gate;
 mod reader;
 mod report;
-mod scripts;
 mod serve;
 mod threads;
 mod worker;

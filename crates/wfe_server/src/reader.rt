@@ -1,16 +1,16 @@
 // The scripts that a trace's lines give, as its bytes come.
 ghost use Rattle.std.specs.Prelude.{◌≡◌, OnOk, IfOk, None, Ok, Some, true};
 ghost use Rattle.wfe_server_replay.specs.Trace.{after_byte, after_bytes, after_last, after_line, command_taken, finished, item_taken, line_item, line_read, progress_start};
-ghost use Rattle.wfe_server.specs.Collecting.{IsForWorkers, IsItemForWorkers, MayAdd, MayCollect, Takes};
-ghost use Rattle.wfe_server.specs.Scripted.{no_calls, scripter};
+ghost use Rattle.wfe_server.specs.Collecting.{IsForWorkers, IsItemForWorkers, MayAdd, MayCollect, Takes, scripter};
+ghost use Rattle.wfe_server_lines.specs.Scripted.{no_calls};
 ghost use Rattle.wfe_trace.specs.Good.{is_body};
 ghost use Rattle.wfe_trace.specs.declared.item.Mode.TheVariants.{Run};
 ghost use Rattle.wfe_trace.specs.words.Config.{bad_field};
 
-use crate::scripts::Scripts;
 use std::alloc::Global;
 use std::marker::Model;
 use wfe_outside::{Command, NoMemory};
+use wfe_server_lines::Scripts;
 use wfe_server_replay::TraceBytes;
 use wfe_trace::{BadLine, Config, Item, Mode};
 
@@ -33,7 +33,7 @@ impl Model for Reader {
     ghost use Rattle.wfe_trace.specs.declared.item.Mode.TheVariants.{Run};
     ghost use Rattle.wfe_server_replay.specs.Trace.{Progress, taken_by};
     ghost use Rattle.wfe_server.specs.Collecting.{CollectsIn};
-    ghost use Rattle.wfe_server.specs.Scripted.{Scripted};
+    ghost use Rattle.wfe_server_lines.specs.Scripted.{Scripted};
 
     ghost Value = { Progress Scripted };
 

@@ -8,7 +8,7 @@ ghost use Rattle.wfe_outside.specs.Faults.{Rose};
 ghost use Rattle.wfe_server_replay.specs.Sunk.{outside};
 ghost use Rattle.wfe_server_replay.specs.Watched.{watch_text};
 ghost use Rattle.wfe_table.specs.Closing.{closing_of};
-ghost use Rattle.wfe_server.specs.Comes.{lists_in};
+ghost use Rattle.wfe_server_lines.specs.Scripted.{lists_in};
 ghost use Rattle.wfe_server.specs.Prints.{Prints};
 ghost use Rattle.wfe_server.specs.Text.{run_pieces, seat_pieces};
 ghost use Rattle.wfe_trace.specs.Record.{header_line};

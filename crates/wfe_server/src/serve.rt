@@ -12,11 +12,11 @@ ghost use Rattle.wfe_trace.specs.words.Config.{bad_field};
 
 use crate::reader::{Reader, Stop};
 use crate::report::print_run;
-use crate::scripts::Scripts;
 use crate::{Gate, run_threads};
 use std::alloc::Global;
 use std::thread::Threads;
 use wfe_outside::{Failed, Sink, Source, Watcher};
+use wfe_server_lines::Scripts;
 use wfe_server_out::put_line;
 use wfe_trace::{BadLine, Line, Mode, Status, print_bad};
 

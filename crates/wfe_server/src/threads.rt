@@ -3,8 +3,9 @@ ghost use Rattle.std.specs.Prelude.{◌≡◌, ◌<◌, ◌≤◌, ℕ, [], All,
 ghost use Rattle.wfe_table.specs.rule.Views.{seat_of};
 ghost use Rattle.wfe_table.specs.Public.{new_seat, new_seats};
 ghost use Rattle.wfe_table.specs.Closing.{closing_of};
-ghost use Rattle.wfe_server.specs.Comes.{Comes, lists_in};
-ghost use Rattle.wfe_server.specs.Fitting.{AllBegin};
+ghost use Rattle.wfe_server.specs.Comes.{Comes};
+ghost use Rattle.wfe_server_lines.specs.Scripted.{lists_in};
+ghost use Rattle.wfe_server_lines.specs.Fitting.{AllBegin};
 ghost use Rattle.wfe_server.specs.Parted.{IsOutcome, IsParted, IsReady};
 ghost use Rattle.wfe_trace.specs.words.Config.{bad_field};
 

@@ -2,13 +2,13 @@
 ghost use Rattle.std.specs.Prelude.{◌≡◌, ◌<◌, IfOk, OnOk, length, slice_index_or, true};
 ghost use Rattle.wfe_core.specs.Locals.{may_begin, stays};
 ghost use Rattle.wfe_table.specs.Public.{IsOf};
-ghost use Rattle.wfe_server.specs.Fitting.{MayBegin};
+ghost use Rattle.wfe_server_lines.specs.Fitting.{MayBegin};
 ghost use Rattle.wfe_server.specs.Working.{IsCalled, IsWorked};
 
 use crate::Gate;
-use crate::events::push_events;
 use std::alloc::Global;
 use wfe_core::{Call, Event, NoMemory};
+use wfe_server_lines::push_events;
 use wfe_table::{Seat, Shared};
 
 /// A seat whose script was made, and the events of its calls.

@@ -1,1 +1,3 @@
 pub mod ClosedLines
+pub mod Scripting
+pub mod Told

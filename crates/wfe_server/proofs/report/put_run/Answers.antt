@@ -1,7 +1,7 @@
 use Rattle.std.proofs.Common.{List, ap, rules, ◌≡◌, Err}
 use Rattle.wfe_server_out.proofs.Emits.{emits_fault, emits_more, emits_of, emits_then}
 use Rattle.wfe_server_out.specs.declared.fault.Fault.TheVariants as faults
-use Rattle.wfe_server.specs.Comes.{lists_in}
+use Rattle.wfe_server_lines.specs.Scripted.{lists_in}
 use Rattle.wfe_server.specs.Text.{seat_pieces}
 use Rattle.wfe_server.proofs.Reports.{text_fails, text_put}
 use Rattle.wfe_server.proofs.report.put_run.Goals as goal

@@ -2,7 +2,7 @@
 use Rattle.std.proofs.Common.{Ok, take}
 use Rattle.wfe_server_out.specs.Emits.{Emits}
 use Rattle.wfe_server_out.specs.Heard.{boxed}
-use Rattle.wfe_server.specs.Comes.{lists_in}
+use Rattle.wfe_server_lines.specs.Scripted.{lists_in}
 use Rattle.wfe_server.specs.Text.{seat_pieces}
 use Rattle.wfe_server.proofs.report.tell_seats.Given as goal
 

@@ -1,7 +1,7 @@
 use Rattle.std.proofs.Common.{arith, rules}
 use Rattle.wfe_server_replay.proofs.ByteCounts.{count-within}
 use Rattle.wfe_server_replay.specs.Trace.{progress_start}
-use Rattle.wfe_server.specs.Scripted.{scripter}
+use Rattle.wfe_server.specs.Collecting.{scripter}
 use Rattle.wfe_server.proofs.Reading.{ends_then, goes_start, goes_then}
 use Rattle.wfe_trace.specs.declared.item.Mode.TheVariants as modes
 use Rattle.wfe_server.proofs.serve.read_all.Goals as goal

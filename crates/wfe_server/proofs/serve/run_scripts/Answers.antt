@@ -1,7 +1,7 @@
 use Rattle.std.proofs.Common.{arith, inl}
 use Rattle.std.proofs.lemmas.List.{length-map}
 use Rattle.wfe_table.specs.Closing.{closing_of}
-use Rattle.wfe_server.specs.Comes.{lists_in}
+use Rattle.wfe_server_lines.specs.Scripted.{lists_in}
 use Rattle.wfe_server.proofs.Coming.{run_few}
 use Rattle.wfe_server.proofs.Running.{printed_by}
 use Rattle.wfe_server.proofs.serve.run_scripts.Goals as goal

@@ -1,6 +1,6 @@
 use Rattle.std.proofs.Common.{arith, take}
 use Rattle.wfe_server_replay.proofs.ByteCounts.{count-bytes}
-use Rattle.wfe_server.specs.Scripted.{scripter}
+use Rattle.wfe_server.specs.Collecting.{scripter}
 use Rattle.wfe_server.proofs.Reading.{goes_unread}
 use Rattle.wfe_server.proofs.serve.turn.Goals as goal
 

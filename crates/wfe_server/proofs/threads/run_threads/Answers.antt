@@ -4,8 +4,8 @@ use Rattle.std.specs.declared.alloc.Global.{Global}
 use Rattle.std.specs.declared.vec.Vec.{Vec}
 use Rattle.wfe_core.specs.defs.declared.call.Call.{Call}
 use Rattle.wfe_core.specs.words.declared.layout.Layout.{Layout}
-use Rattle.wfe_server.specs.Comes.{lists_in}
-use Rattle.wfe_server.specs.Fitting.{AllBegin}
+use Rattle.wfe_server_lines.specs.Scripted.{lists_in}
+use Rattle.wfe_server_lines.specs.Fitting.{AllBegin}
 use Rattle.wfe_server.proofs.Coming.{count_of_all, each_of, layout_made, run_comes, run_fits, run_of}
 use Rattle.wfe_server.proofs.Parting.{all_ready}
 use Rattle.wfe_server.proofs.threads.run_threads.Goals as goal

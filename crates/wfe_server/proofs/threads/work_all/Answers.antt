@@ -1,7 +1,7 @@
 use Rattle.std.proofs.Common.{List, [], ap, arith, get_or, length, subst, sym, ◌<◌, ◌∙◌, ◌≡◌}
 use Rattle.wfe_table.specs.rule.Views.{seat_of}
 use Rattle.wfe_table.specs.Public.{SeatNow, new_seat}
-use Rattle.wfe_server.specs.Comes.{lists_in}
+use Rattle.wfe_server_lines.specs.Scripted.{lists_in}
 use Rattle.wfe_server.specs.Parted.{IsOutcome}
 use Rattle.wfe_server.proofs.Parting.{count_new, new_at}
 use Rattle.wfe_server.proofs.threads.work_all.Goals as goal

@@ -1,7 +1,7 @@
 use Rattle.std.proofs.Common.{arith, rules, ◌≡◌}
 use Rattle.wfe_core.proofs.Ranges.{bounds_of}
 use Rattle.wfe_server.proofs.Calls.{called}
-use Rattle.wfe_server.proofs.Told.{on_ok}
+use Rattle.wfe_server_lines.proofs.Told.{on_ok}
 use Rattle.wfe_server.proofs.worker.make_call.Goals as goal
 
 pub push_events-requires : goal.push_events-requires

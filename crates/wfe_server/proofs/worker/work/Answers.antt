@@ -1,6 +1,6 @@
 use Rattle.std.proofs.Common.{arith, rules}
 use Rattle.std.proofs.lemmas.List.Elements.{All-get_or}
-use Rattle.wfe_server.specs.Fitting.{Begins}
+use Rattle.wfe_server_lines.specs.Fitting.{Begins}
 use Rattle.wfe_server.proofs.Told.{worked_more}
 use Rattle.wfe_server.proofs.worker.work.Goals as goal
 

@@ -1,5 +1,5 @@
 use Rattle.std.proofs.Common.{◌∙◌, sym, refl, []}
-use Rattle.wfe_check_guards.specs.Protections.{AllHeld}
+use Rattle.wfe_check_held.specs.Protections.{AllHeld}
 use Rattle.wfe_check.specs.Groups.{FitsParts}
 use Rattle.wfe_check.proofs.Parts.{fits_of, parts_of}
 use Rattle.wfe_check.proofs.Ranges.{range_of}

@@ -1,7 +1,7 @@
 use Rattle.std.proofs.Common.{subst, sym}
 use Rattle.wfe_server_replay.proofs.Bytes.{is_fed}
 use Rattle.wfe_server.specs.Collecting.{Takes}
-use Rattle.wfe_server.specs.Scripted.{scripter}
+use Rattle.wfe_server.specs.Collecting.{scripter}
 use Rattle.wfe_server.proofs.reader.Reader.take_byte.Goals as goal
 
 pub returns-in-Ok-true : goal.returns-in-Ok-true

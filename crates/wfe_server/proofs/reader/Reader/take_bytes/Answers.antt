@@ -1,6 +1,6 @@
 use Rattle.std.proofs.Common.{arith, length, ◌<◌}
 use Rattle.wfe_server_replay.proofs.Bytes.{after_bytes-at}
-use Rattle.wfe_server.specs.Scripted.{scripter}
+use Rattle.wfe_server.specs.Collecting.{scripter}
 use Rattle.wfe_server.proofs.Scripting.{bytes_stop}
 use Rattle.wfe_server.proofs.reader.Reader.take_bytes.Goals as goal
 

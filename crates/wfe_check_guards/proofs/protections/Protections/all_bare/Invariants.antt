@@ -1,7 +1,0 @@
-use Rattle.std.proofs.Common.{◌≡◌}
-use Rattle.wfe_check_guards.specs.All.{all_below}
-use Rattle.wfe_check_guards.specs.Shown.{low_or_bare}
-use Rattle.wfe_check_guards.proofs.protections.Protections.all_bare.Given as goal
-
-abbrev pub invariant-loop-index : goal.invariant-loop-index
-invariant-loop-index l = l.all ≡ all_below (low_or_bare l.self l.seat) l.index

@@ -1,7 +1,0 @@
-use Rattle.std.proofs.Common.{◌≡◌}
-use Rattle.wfe_check_guards.specs.All.{all_below}
-use Rattle.wfe_check_guards.specs.Shown.{life_kept_at}
-use Rattle.wfe_check_guards.proofs.protections.Protections.life_kept_by.Given as goal
-
-abbrev pub invariant-loop-index : goal.invariant-loop-index
-invariant-loop-index l = l.all ≡ all_below (life_kept_at l.self l.life l.seat) l.index

@@ -1,4 +1,0 @@
-pub mod All
-pub mod Protections
-pub mod Rows
-pub mod Shown

@@ -1,0 +1,13 @@
+pub mod Below
+pub mod Clock
+pub mod FitsAt
+pub mod Grids
+pub mod HadAfter
+pub mod Holds
+pub mod Notes
+pub mod Published
+pub mod Rights
+pub mod RowsAfter
+pub mod Sets
+pub mod Steps
+pub mod Throughout

@@ -1,0 +1,9 @@
+pub mod All
+pub mod Grids
+pub mod Protections
+pub mod Roots
+pub mod Rows
+pub mod Shown
+pub mod Steps
+pub mod Tests
+pub mod Times
