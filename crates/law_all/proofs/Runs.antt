@@ -17,6 +17,7 @@ pub mod Listed
 pub mod Lists
 pub mod Moves
 pub mod Numbers
+pub mod Ordered
 pub mod Parts
 pub mod Queues
 pub mod Ranks

@@ -65,6 +65,7 @@ use Rattle.law_all.specs.inv.model.words.declared.layout.Layout.{Layout}
 use Rattle.law_all.specs.inv.history.Heard.{heard_of}
 use Rattle.law_all.specs.inv.history.History.{Item, record_of}
 use Rattle.law_all.specs.Whole.{HistoriesLawful}
+use Rattle.law_all.proofs.Linear.Resting.{Known, linear}
 
 -- what is proved of each history's record and turns
 kept : (layout : Layout) (items : List Item) → is_valid layout ≡ true → Kept layout.config (heard_of layout items) (record_of layout items)
@@ -158,11 +159,18 @@ kept layout items valid =
       };
     }
 
+-- what linearizability is proved from
+known : (layout : Layout) (items : List Item) → is_valid layout ≡ true → Known layout items
+known layout items valid =
+    let k = kept layout items valid in
+    record { laws = laws_follow layout.config (heard_of layout items) (record_of layout items) k; beyond = k.histories }
+
 pub histories_are_lawful : HistoriesLawful
 histories_are_lawful layout items valid =
-    let k = kept layout items valid in
+    let k = known layout items valid in
     record {
-      laws = laws_follow layout.config (heard_of layout items) (record_of layout items) k;
+      laws = k.laws;
+      linear = linear layout items valid (λ more. known layout more valid);
       schedule = record {
         turns = turns.histories_count layout items valid;
         in_calls = open_calls.records_open_calls layout items valid;
@@ -172,5 +180,5 @@ histories_are_lawful layout items valid =
         handed = handed.handovers_meet layout items valid;
         ends = λ i. finishes.calls_finish layout items i valid;
       };
-      beyond = k.histories;
+      beyond = k.beyond;
     }

@@ -11,6 +11,7 @@ use Rattle.law_all.specs.laws.StateAt.{changes_of, clock_of, count_of, filling_a
 use Rattle.law_all.specs.inv.history.History.{Item, record_of, world_of}
 use Rattle.law_all.specs.inv.history.Record.{Past}
 use Rattle.law_all.specs.RunLaw.{AnswersLaw, AtClose, InOrder, IsCall, KeepsLaw, ListsLaw, QueuesRight, ReadsRight, RisesLaw, RunLaw, backs_in, clock_told, era_spent, era_told, gives, is_change_of, is_moved_to, is_queued_as, is_taken_as, once_up_to, total, total_of, unuseds}
+use Rattle.law_all.specs.RunOrder.{RunOrder}
 
 -- a history whose seats are all between calls at its end
 pub record AtRest (layout : Layout) (items : List Item) : Type 0 where
@@ -93,6 +94,10 @@ RunsList = (layout : Layout) (items : List Item) → AtRest layout items → Lis
 -- Copies and looks are right by what their seat keeps.
 abbrev pub RunsKeep : Type 0
 RunsKeep = (layout : Layout) (items : List Item) → AtRest layout items → KeepsLaw layout.config (logs_of layout items) (λ b. changes_of b (record_of layout items))
+
+-- the calls have one order, as of an object used by one call after another
+abbrev pub RunsHaveOrder : Type 0
+RunsHaveOrder = (layout : Layout) (items : List Item) → AtRest layout items → RunOrder layout.config (logs_of layout items) (at_close layout (record_of layout items))
 
 -- the law of runs
 abbrev pub RunsAreLawful : Type 0

@@ -6,7 +6,7 @@
 mod answered;
 
 ghost use Rattle.law_all.specs.Answers.{CallsAnswer, ChangesAreRead, GetsAgree, HoldsSeeNothing, LogsAnswer, LogsGrow, LogsMeet, LogsRise, LogsTakeFewSteps, ScansTellBacks};
-ghost use Rattle.law_all.specs.Runs.{RunsAddUp, RunsAgree, RunsAreLawful, RunsKeep, RunsList, RunsTick};
+ghost use Rattle.law_all.specs.Runs.{RunsAddUp, RunsAgree, RunsAreLawful, RunsHaveOrder, RunsKeep, RunsList, RunsTick};
 ghost use Rattle.law_all.specs.Whole.{HistoriesLawful};
 ghost use Rattle.law_held.specs.Steps.Records.{RecordsCountTries, RecordsRaiseEras, RecordsRaiseSpans, RecordsRaiseTries};
 
@@ -49,6 +49,12 @@ pub fn runs_tick()
 /// took over, each of which was left, by a seat that makes no call after that, and was taken over once.
 pub fn runs_list()
     ensures { RunsList }
+{}
+
+/// The calls of seats that are all between calls, each seat's in its own order, are in one order in which a map and a queue, used by one
+/// call after another, give the same answers, and come to what the record has there: linearizability (Herlihy and Wing, TOPLAS 1990).
+pub fn runs_have_order()
+    ensures { RunsHaveOrder }
 {}
 
 /// The logs of seats that are all between calls, and what the record has there, meet the law of runs.

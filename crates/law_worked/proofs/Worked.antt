@@ -3,6 +3,7 @@ pub mod Helped
 pub mod Intervals
 pub mod Kept
 pub mod Moved
+pub mod Orders
 pub mod PutThenGet
 pub mod Queued
 pub mod Readers

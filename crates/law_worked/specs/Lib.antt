@@ -8,6 +8,7 @@ pub mod Judges
 pub mod Kept
 pub mod Missed
 pub mod Moved
+pub mod Orders
 pub mod PutThenGet
 pub mod Queued
 pub mod Refusals
@@ -19,6 +20,7 @@ pub mod WrongAnswers
 pub mod WrongEras
 pub mod WrongHolds
 pub mod WrongNames
+pub mod WrongOrders
 pub mod WrongRows
 pub mod WrongScans
 pub mod WrongSteps

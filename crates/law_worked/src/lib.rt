@@ -18,6 +18,7 @@ ghost use Rattle.law_worked.specs.WrongAnswers.{WrongAnswersRefused};
 ghost use Rattle.law_worked.specs.WrongEras.{WrongErasRefused};
 ghost use Rattle.law_worked.specs.WrongHolds.{WrongHoldsRefused};
 ghost use Rattle.law_worked.specs.WrongNames.{WrongNamesRefused};
+ghost use Rattle.law_worked.specs.WrongOrders.{WrongOrdersRefused};
 ghost use Rattle.law_worked.specs.WrongRows.{WrongRowsRefused};
 ghost use Rattle.law_worked.specs.WrongScans.{WrongScansRefused};
 ghost use Rattle.law_worked.specs.WrongSteps.{WrongStepsRefused};
@@ -93,6 +94,12 @@ pub fn wrong_holds_are_refused()
 /// Worked records, that name what the table does not have: the laws that refuse each of them.
 pub fn wrong_names_are_refused()
     ensures { WrongNamesRefused }
+{}
+
+/// Worked records, that changed are not linearizable: no order of their calls serves, or a call tells what it was not made for; and the
+/// other laws that refuse each of them.
+pub fn wrong_orders_are_refused()
+    ensures { WrongOrdersRefused }
 {}
 
 /// Worked records, each wrong by a sentence on calls, on what stands, or on the way of rows: the laws that refuse each of them.

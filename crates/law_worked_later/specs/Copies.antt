@@ -5,4 +5,5 @@ pub mod KeptTwice
 pub mod Settings
 pub mod WrongCopies
 pub mod WrongLooks
+pub mod WrongOrders
 pub mod WrongVersions

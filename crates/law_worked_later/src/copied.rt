@@ -7,6 +7,7 @@ ghost use Rattle.law_worked_later.specs.Copies.CopiedAnew.{CopiedAnewWorked};
 ghost use Rattle.law_worked_later.specs.Copies.KeptTwice.{KeptTwiceWorked};
 ghost use Rattle.law_worked_later.specs.Copies.WrongCopies.{WrongCopiesRefused};
 ghost use Rattle.law_worked_later.specs.Copies.WrongLooks.{WrongLooksRefused};
+ghost use Rattle.law_worked_later.specs.Copies.WrongOrders.{WrongOrdersRefused};
 ghost use Rattle.law_worked_later.specs.Copies.WrongVersions.{WrongVersionsRefused};
 
 /// A row is copied to a higher index, let go at the lower one, looked at while another is in its
@@ -43,4 +44,9 @@ pub fn wrong_looks_are_refused()
 /// Worked records, each wrong by a sentence on puts that name a version: the laws that refuse each of them.
 pub fn wrong_versions_are_refused()
     ensures { WrongVersionsRefused }
+{}
+
+/// A record that is not linearizable: a look shows the pairs of another row than it keeps.
+pub fn wrong_orders_are_refused()
+    ensures { WrongOrdersRefused }
 {}

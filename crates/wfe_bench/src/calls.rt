@@ -4,10 +4,9 @@ mod caller;
 ghost use Rattle.std.specs.Prelude.{All, IfOk};
 ghost use Rattle.wfe_table.specs.Public.{IsOf};
 
-pub use caller::Work;
-
 use crate::NO_MEMORY;
 use caller::Caller;
+pub use caller::Work;
 use std::process::ExitCode;
 use std::thread;
 use std::thread::Threads;
@@ -95,7 +94,10 @@ fn run<R: Threads + Sync + AllocGlobal>(rt: &R, job: Calls) -> Result<u64, &'sta
 }
 
 /// Makes the calls, and prints how many they were and how many were refused.
-pub fn print_calls<R: Threads + Sync + AllocGlobal + Print>(rt: &R, job: Calls) -> Result<ExitCode, &'static str> {
+pub fn print_calls<R: Threads + Sync + AllocGlobal + Print>(
+    rt: &R,
+    job: Calls,
+) -> Result<ExitCode, &'static str> {
     let refused = run(rt, job)?;
     let calls = u64::from(job.threads).saturating_mul(job.calls);
     match println!(rt; "{calls} calls, {refused} refused") {

@@ -21,7 +21,8 @@ use wfe_table::SchemeKind;
 
 const NO_MEMORY: &str = "memory ran out";
 
-const USAGE: &str = "usage: wfe_bench he|ibr|wfe|hp reads|mixed|puts|pairs THREADS CALLS, or wfe_bench he|ibr|wfe|hp stalled SECONDS";
+const USAGE: &str =
+    "usage: wfe_bench he|ibr|wfe|hp reads|mixed|puts|pairs THREADS CALLS, or wfe_bench he|ibr|wfe|hp stalled SECONDS";
 
 /// What is to be run.
 #[derive(Clone, Copy)]
@@ -73,7 +74,10 @@ fn job_of(words: &[String]) -> Option<Job> {
     Some(Job::Calls { calls })
 }
 
-fn run<R: Threads + Clock + Sync + AllocGlobal + Print>(rt: &R, job: Job) -> Result<ExitCode, &'static str> {
+fn run<R: Threads + Clock + Sync + AllocGlobal + Print>(
+    rt: &R,
+    job: Job,
+) -> Result<ExitCode, &'static str> {
     match job {
         Job::Calls { calls } => print_calls(rt, calls),
         Job::Stalled { scheme, seconds } => print_stalled(rt, scheme, seconds),

@@ -57,6 +57,24 @@ impl Checker {
         ensures { IfOk result (λ answer. (version : ℕ) (config : Setting) (p : Past) → IsChecked version config self.old p
             → Judged IsChecked version config p seat event.now answer self.new) }
     {
+        // Each of the kinds that come most often has code of its own, so that no part asks again which it is.
+        let event = *event;
+        match event {
+            Event::Begin { .. } => self.judged(seat, &event),
+            Event::End { .. } => self.judged(seat, &event),
+            Event::Reserve { .. } => self.judged(seat, &event),
+            Event::Read { .. } => self.judged(seat, &event),
+            Event::Held { .. } => self.judged(seat, &event),
+            _ => self.judged(seat, &event),
+        }
+    }
+
+    #[inline(always)]
+    fn judged(&mut self, seat: u32, event: &Event) -> Result<bool, NoMemory>
+        requires { MayCome self.old seat event.now }
+        ensures { IfOk result (λ answer. (version : ℕ) (config : Setting) (p : Past) → IsChecked version config self.old p
+            → Judged IsChecked version config p seat event.now answer self.new) }
+    {
         if !self.fits(seat, event) {
             return Ok(false);
         }

@@ -15,6 +15,7 @@ use crate::Checker;
 use wfe_defs::{Call, Event, Guard, Interval};
 
 // Whether both are so.
+#[inline(always)]
 fn both(one: bool, other: bool) -> bool
     ensures { result ≡ (one && other) }
 {
@@ -23,6 +24,7 @@ fn both(one: bool, other: bool) -> bool
 
 impl Checker {
     // By what is kept of rows and roots.
+    #[inline(always)]
     fn fits_rows(&self, seat: u32, event: &Event) -> bool
         requires may { MayCome self.now seat event.now }
         ensures there { (config : Setting) (p : Past) → Shows config self.now p → result ≡ true → FitsRows config p seat event.now }
@@ -32,6 +34,7 @@ impl Checker {
     }
 
     // By what is kept of calls.
+    #[inline(always)]
     fn fits_calls(&self, seat: u32, event: &Event) -> bool
         requires may { MayCome self.now seat event.now }
         ensures there { (config : Setting) (p : Past) → Shows config self.now p → result ≡ true → FitsCalls config p seat event.now }
@@ -41,6 +44,7 @@ impl Checker {
     }
 
     // By what is kept of steps.
+    #[inline(always)]
     fn fits_steps(&self, seat: u32, event: &Event) -> bool
         requires may { MayCome self.now seat event.now }
         ensures there { (config : Setting) (p : Past) → Shows config self.now p → result ≡ true → IsRight config p seat event.now }
@@ -50,6 +54,7 @@ impl Checker {
     }
 
     // By what guards publish.
+    #[inline(always)]
     fn fits_guards(&self, seat: u32, event: &Event) -> bool
         requires may { MayCome self.now seat event.now }
         ensures there { (config : Setting) (p : Past) → Shows config self.now p → result ≡ true → FitsGuards self.now.version config p seat event.now }
@@ -59,6 +64,7 @@ impl Checker {
     }
 
     // The head's row, where no row is next to it.
+    #[inline(always)]
     pub(crate) fn last_row(&self) -> Option<u32>
         ensures { (config : Setting) (p : Past) → Shows config self.now p → result ≡ last_of config.slots p }
     {
@@ -70,6 +76,7 @@ impl Checker {
     }
 
     // Where index 1 is held or found null.
+    #[inline(always)]
     fn is_behind(&self, seat: u32, event: &Event) -> bool
         requires may { MayCome self.now seat event.now }
         ensures { (config : Setting) (p : Past) → Shows config self.now p → result ≡ behind_ok config.slots p seat event.now }
@@ -87,6 +94,7 @@ impl Checker {
     }
 
     // A get tells a version whose row stands, or that it has found none.
+    #[inline(always)]
     fn has_got(&self, seat: u32, event: &Event) -> bool
         requires may { MayCome self.now seat event.now }
         ensures { (config : Setting) (p : Past) → Shows config self.now p → result ≡ gots_ok p seat event.now }
@@ -110,6 +118,7 @@ impl Checker {
     }
 
     // By which rows stand.
+    #[inline(always)]
     fn fits_standing(&self, seat: u32, event: &Event) -> bool
         requires may { MayCome self.now seat event.now }
         ensures there { (config : Setting) (p : Past) → Shows config self.now p → result ≡ true → FitsStanding config p seat event.now }
@@ -124,6 +133,7 @@ impl Checker {
     }
 
     // Lists that are left and taken over.
+    #[inline(always)]
     fn lists_right(&self, seat: u32, event: &Event) -> bool
         requires may { MayCome self.now seat event.now }
         ensures { (config : Setting) (p : Past) → Shows config self.now p → result ≡ lists_ok p seat event.now }
@@ -140,6 +150,7 @@ impl Checker {
     }
 
     // By what is kept of the map, the queue, lists and scans.
+    #[inline(always)]
     fn fits_contents(&self, seat: u32, event: &Event) -> bool
         requires may { MayCome self.now seat event.now }
         ensures there { (config : Setting) (p : Past) → Shows config self.now p → result ≡ true → FitsContents config p seat event.now }
@@ -154,6 +165,7 @@ impl Checker {
     }
 
     // The birth era of a row that is retired.
+    #[inline(always)]
     fn birth(&self, event: &Event) -> u32
         requires may { (seat : ℕ) × MayCome self.now seat event.now }
         ensures { (config : Setting) (p : Past) → Shows config self.now p → IsBirth event.now result p }
@@ -165,6 +177,7 @@ impl Checker {
     }
 
     // What the index word publishes from which the seat's call copies.
+    #[inline(always)]
     fn source(&self, seat: u32) -> Option<Interval>
         requires seat { seat < self.now.calls.config.seats }
         ensures { (config : Setting) (p : Past) → Shows config self.now p → IsSource seat result p }
@@ -178,6 +191,7 @@ impl Checker {
     }
 
     // By what was so at a position of the call.
+    #[inline(always)]
     fn fits_times(&self, seat: u32, event: &Event) -> bool
         requires may { MayCome self.now seat event.now }
         ensures there { (config : Setting) (p : Past) → Shows config self.now p → result ≡ true → FitsTimes config p seat event.now }
@@ -192,6 +206,7 @@ impl Checker {
     }
 
     // By all that is kept, but for whether what stands is held.
+    #[inline(always)]
     fn fits_parts(&self, seat: u32, event: &Event) -> bool
         requires may { MayCome self.now seat event.now }
         ensures there { (config : Setting) (p : Past) → Shows config self.now p → result ≡ true → FitsParts self.now.version config p seat event.now }
@@ -210,6 +225,7 @@ impl Checker {
     }
 
     /// Whether the record is good with one entry more.
+    #[inline(always)]
     pub(crate) fn fits(&self, seat: u32, event: &Event) -> bool
         requires may { MayCome self.now seat event.now }
         ensures there { (version : ℕ) (config : Setting) (p : Past) → IsChecked version config self.now p → result ≡ true → Fits version config p seat event.now }

@@ -17,6 +17,7 @@ use wfe_defs::{Call, Event, Interval, NoMemory};
 
 impl Checker {
     // The row of the root of the bucket that an event changes.
+    #[inline(always)]
     fn changed_root(&self, event: &Event) -> Option<u32>
         requires may { (seat : ℕ) × MayCome self.now seat event.now }
         ensures { (config : Setting) (p : Past) → Shows config self.now p → RootIs result event.now p }
@@ -28,6 +29,7 @@ impl Checker {
     }
 
     // What the guard publishes that an event tells to be published.
+    #[inline(always)]
     fn named(&self, event: &Event) -> Option<Interval>
         requires may { (seat : ℕ) × MayCome self.now seat event.now }
         ensures { (config : Setting) (p : Past) → Shows config self.now p → IsNamed event.now result p }
@@ -48,6 +50,7 @@ impl Checker {
     }
 
     // The row of the root of a call that begins.
+    #[inline(always)]
     fn found(&self, event: &Event) -> Option<u32>
         requires may { (seat : ℕ) × MayCome self.now seat event.now }
         ensures found { (config : Setting) (p : Past) → Shows config self.now p → IsFound config event.now result p }
@@ -73,6 +76,7 @@ impl Checker {
 
     /// Takes an entry that keeps the laws. NoMemory: there is none for what it leaves, or a count has passed the
     /// numbers of 64 bits; then it stands for no record.
+    #[inline(always)]
     pub(crate) fn note(&mut self, seat: u32, event: &Event) -> Result<(), NoMemory>
         requires may { MayCome self.old seat event.now }
         ensures version { self.new.version ≡ self.old.version }

@@ -96,6 +96,7 @@ impl Blocks {
 
     /// After an event of the seat, where there are `all` guards, and a block is due at each `every`
     /// retirements. NoMemory: a count has passed the numbers of 64 bits.
+    #[inline(always)]
     pub fn after(self, event: &Event, all: u32, every: u32) -> Result<Blocks, NoMemory>
         requires { 0 < every }
         ensures { IfOk result (λ blocks. shown_blocks blocks ≡ blocks_by all every event.now (shown_blocks self)) }
@@ -151,6 +152,7 @@ impl Blocks {
 
     /// Whether the call's seat may tell the event: a block begins only where it may, and where the call
     /// ends none is due.
+    #[inline(always)]
     pub fn fits(self, call: Option<Call>, event: &Event) -> bool
         ensures { result ≡ blocks_right call event.now (shown_blocks self) }
     {
@@ -163,6 +165,7 @@ impl Blocks {
 
     /// Whether the call's seat may tell the event: where it tells an era, and where the call ends, each era
     /// that it told before has had a block after it; but for one of an advance, where that ends.
+    #[inline(always)]
     pub fn moves_fit(self, call: Option<Call>, event: &Event) -> bool
         ensures { result ≡ moves_right call event.now (shown_blocks self) }
     {
@@ -177,6 +180,7 @@ impl Blocks {
     }
 
     /// Whether the event begins a block that the call needs to find a free row.
+    #[inline(always)]
     pub fn seeks_room(self, call: Option<Call>, event: &Event) -> bool
         ensures { result ≡ seeks_by event.now call (shown_blocks self) }
     {

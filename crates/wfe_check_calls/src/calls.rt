@@ -64,6 +64,7 @@ impl Calls {
     /// Whether the seat may tell the event, as far as the calls say: calls begin in turn, a row that is
     /// given is linked or given up, each row that is cut is retired, scans and moves of the clock come
     /// where they are due, and roots are found.
+    #[inline(always)]
     pub fn fits(&self, seat: u32, event: &Event) -> bool
         requires range { EntryIn self.now.config seat event.now }
         ensures { (config : Config) (p : Past) → IsCalls config self.now p → result ≡
@@ -75,6 +76,7 @@ impl Calls {
     }
 
     /// Whether the event begins a block of the seat that its call needs to find a free row.
+    #[inline(always)]
     pub fn seeks_room(&self, seat: u32, event: &Event) -> bool
         requires range { EntryIn self.now.config seat event.now }
         ensures { (config : Config) (p : Past) → IsCalls config self.now p → result ≡ seeks_by event.now (began_of seat p) (blocks_of config seat p) }
@@ -85,6 +87,7 @@ impl Calls {
 
     /// Takes an entry of the record. NoMemory: there is none for a row that is cut, or a count has passed
     /// the numbers of 64 bits.
+    #[inline(always)]
     pub fn note(&mut self, seat: u32, event: &Event) -> Result<(), NoMemory>
         requires range { EntryIn self.old.config seat event.now }
         ensures setting { self.new.config ≡ self.old.config }

@@ -30,6 +30,7 @@ pub(crate) struct Seat {
     pub cuts: Vec<u32>,
 }
 
+#[inline(always)]
 fn open_after(event: &Event, before: bool) -> bool
     ensures { result ≡ opened_by event.now before }
 {
@@ -40,6 +41,7 @@ fn open_after(event: &Event, before: bool) -> bool
     }
 }
 
+#[inline(always)]
 fn left_after(event: &Event, before: bool) -> bool
     ensures { result ≡ (is_leaving event.now || before) }
 {
@@ -49,6 +51,7 @@ fn left_after(event: &Event, before: bool) -> bool
     }
 }
 
+#[inline(always)]
 fn began_after(event: &Event, before: Option<Call>) -> Option<Call>
     ensures { result ≡ began_by event.now before }
 {
@@ -58,6 +61,7 @@ fn began_after(event: &Event, before: Option<Call>) -> Option<Call>
     }
 }
 
+#[inline(always)]
 fn rooted_after(event: &Event, before: bool) -> bool
     ensures { result ≡ rooted_by event.now before }
 {
@@ -68,6 +72,7 @@ fn rooted_after(event: &Event, before: bool) -> bool
     }
 }
 
+#[inline(always)]
 fn null_after(event: &Event, before: bool) -> bool
     ensures { result ≡ null_told_by event.now before }
 {
@@ -78,6 +83,7 @@ fn null_after(event: &Event, before: bool) -> bool
     }
 }
 
+#[inline(always)]
 fn moved_after(event: &Event, before: bool) -> bool
     ensures { result ≡ moved_by event.now before }
 {
@@ -100,6 +106,7 @@ fn take_out(cuts: &mut Vec<u32>, slot: u32)
     }
 }
 
+#[inline(always)]
 fn note_cuts(cuts: &mut Vec<u32>, event: &Event) -> Result<(), NoMemory>
     ensures { OnOk result (cuts.new.items ≡ cuts_by event.now cuts.old.items) }
 {
@@ -153,6 +160,7 @@ impl Seat {
 
     /// Takes an event of the seat, where there are `all` guards, and a block is due at each `every`
     /// retirements. NoMemory: a count has passed the numbers of 64 bits, or there is none for a row.
+    #[inline(always)]
     pub fn note(&mut self, event: &Event, all: u32, every: u32) -> Result<(), NoMemory>
         requires { 0 < every }
         ensures { OnOk result (shown_seat self.new ≡ seat_by all every event.now (shown_seat self.old)) }
@@ -169,6 +177,7 @@ impl Seat {
         Ok(())
     }
 
+    #[inline(always)]
     fn opens(&self, event: &Event) -> bool
         ensures { result ≡ opens_right event.now self.now.in_call self.now.left }
     {
@@ -178,6 +187,7 @@ impl Seat {
         }
     }
 
+    #[inline(always)]
     fn retires(&self, event: &Event) -> bool
         ensures { result ≡ retires_right event.now self.now.cuts.items }
     {
@@ -188,6 +198,7 @@ impl Seat {
         }
     }
 
+    #[inline(always)]
     fn finds(&self, event: &Event) -> bool
         ensures { result ≡ finds_right event.now self.now.began self.now.rooted }
     {
@@ -197,6 +208,7 @@ impl Seat {
         }
     }
 
+    #[inline(always)]
     fn advances(&self, event: &Event) -> bool
         ensures { result ≡ advances_right event.now self.now.began self.now.moved }
     {
@@ -207,6 +219,7 @@ impl Seat {
     }
 
     /// Whether the seat may tell the event, where retirements move the clock or do not.
+    #[inline(always)]
     pub fn fits(&self, event: &Event, by_retires: bool) -> bool
         ensures { result ≡ seat_right by_retires event.now (shown_seat self.now) }
     {

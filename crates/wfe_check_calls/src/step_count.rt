@@ -31,6 +31,7 @@ pub struct Steps {
 }
 
 // Whether a protection of Wait-Free Eras may end with the event: it has taken few steps.
+#[inline(always)]
 fn few_steps(tries: u32, event: &Event) -> bool
     ensures { result ≡ has_few_steps tries event.now }
 {
@@ -95,6 +96,7 @@ impl Steps {
     }
 
     // Whether the entry fits the eras that its index word has published.
+    #[inline(always)]
     fn tries_fit(&self, seat: u32, event: &Event) -> bool
         requires range { EntryIn self.now.config seat event.now }
         ensures { (config : Config) (p : Past) → IsSteps config self.now p → result ≡ tries_ok p seat event.now }
@@ -108,6 +110,7 @@ impl Steps {
     }
 
     // Whether the entry fits the rows that its index word has published.
+    #[inline(always)]
     fn hazards_fit(&self, seat: u32, event: &Event) -> bool
         requires range { EntryIn self.now.config seat event.now }
         ensures { (config : Config) (p : Past) → IsSteps config self.now p → result ≡ hazards_ok p seat event.now }
@@ -139,6 +142,7 @@ impl Steps {
     }
 
     // Whether the seat may ask for help by the entry, where it does so.
+    #[inline(always)]
     fn asks_fit(&self, seat: u32, event: &Event) -> bool
         requires range { EntryIn self.now.config seat event.now }
         ensures sound { (config : Config) (p : Past) → IsSteps config self.now p → result ≡ true → (j : ℕ) → ask_ok config.tries j p seat event.now ≡ true }
@@ -187,6 +191,7 @@ impl Steps {
     }
 
     // Whether the call that the seat began last may end with the entry, where it does so.
+    #[inline(always)]
     fn end_fits(&self, seat: u32, event: &Event, began: Option<Call>) -> bool
         requires range { seat < self.now.config.seats }
         ensures { (config : Config) (p : Past) → IsSteps config self.now p → began ≡ began_of seat p → result ≡ end_ok config p seat event.now }
@@ -200,6 +205,7 @@ impl Steps {
     }
 
     // Whether the entry fits what Wait-Free Eras ask of protections.
+    #[inline(always)]
     fn wfe_fits(&self, seat: u32, event: &Event) -> bool
         requires range { EntryIn self.now.config seat event.now }
         ensures sound { (config : Config) (p : Past) → IsSteps config self.now p → result ≡ true → FitsScheme Wfe config p seat event.now }
@@ -211,6 +217,7 @@ impl Steps {
     }
 
     // Whether the entry fits what the setting's scheme asks of protections.
+    #[inline(always)]
     fn protection_fits(&self, seat: u32, event: &Event) -> bool
         requires range { EntryIn self.now.config seat event.now }
         ensures sound { (config : Config) (p : Past) → IsSteps config self.now p → result ≡ true → FitsScheme config.scheme config p seat event.now }
@@ -227,6 +234,7 @@ impl Steps {
     /// Whether the seat, which began this call last, may tell the event, as far as the steps of protections
     /// and calls say under the setting's scheme.
     #[tactic(auto, using(crate::proofs::Right::right_from, crate::proofs::Right::right_gives))]
+    #[inline(always)]
     pub fn fits(&self, seat: u32, event: &Event, began: Option<Call>) -> bool
         requires range { EntryIn self.now.config seat event.now }
         ensures sound { (config : Config) (p : Past) → IsSteps config self.now p → began ≡ began_of seat p → result ≡ true → IsRight config p seat event.now }
@@ -236,6 +244,7 @@ impl Steps {
     }
 
     // Takes an entry into the index word that it speaks of.
+    #[inline(always)]
     fn note_word(
         &mut self,
         seat: u32,
@@ -257,6 +266,7 @@ impl Steps {
     }
 
     // Takes an entry into its seat.
+    #[inline(always)]
     fn note_seat(&mut self, seat: u32, event: &Event, helps: bool) -> Result<(), NoMemory>
         requires range { seat < self.old.config.seats }
         ensures setting { self.new.config ≡ self.old.config }
@@ -273,6 +283,7 @@ impl Steps {
     /// Takes an entry of the record. `named` is what the guard publishes that the event tells to be
     /// published, and `helps` whether the seat's helper word publishes. NoMemory: a count has passed the
     /// numbers of 64 bits.
+    #[inline(always)]
     pub fn note(
         &mut self,
         seat: u32,

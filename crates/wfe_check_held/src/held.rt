@@ -87,6 +87,7 @@ impl Protections {
         all
     }
 
+    #[inline(always)]
     fn holds_after(&self, rows: &Rows, seat: u32, event: &Event) -> bool
         ensures { result ≡ holds_of self.now rows.now seat event.now }
     {
@@ -111,6 +112,7 @@ impl Protections {
 
     /// Whether after an entry each row that stands is held, where each was held before it and the
     /// entry uses no row again that stands. `rows` is what the record says of rows.
+    #[inline(always)]
     pub fn holds(&self, rows: &Rows, seat: u32, event: &Event) -> bool
         ensures law { (config : Setting) (p : Past) → IsProtections config self.now p → IsRows config rows.now p → EntryIn config seat event.now
             → HeldThroughout config p → NoneReused p seat event.now → (result ≡ true) ↔ HeldThroughout config (Then p seat event.now) }

@@ -103,6 +103,7 @@ impl Protections {
             && self.rests(named_indexes(version, self.config.indexes), seat)
     }
 
+    #[inline(always)]
     fn is_right(&self, version: u32, seat: u32, event: &Event) -> bool
         ensures { result ≡ right self.now version seat event.now }
     {
@@ -122,6 +123,7 @@ impl Protections {
     /// Whether an entry of a record of the version is in order, as far as guards go: what is read
     /// of a guard is its value, what one is told to publish is by the rules of the scheme and of the
     /// kind that the scheme publishes, and where a call ends nothing stands at index 0 or 1 and guards publish only for what is held on.
+    #[inline(always)]
     pub fn fits(&self, version: u32, seat: u32, event: &Event) -> bool
         ensures { (config : Setting) (p : Past) → IsProtections config self.now p → EntryIn config seat event.now
             → result ≡ (read_ok p seat event.now && single_ok config.scheme p seat event.now && rising_ok config.scheme p seat event.now && guard_ok config.scheme p seat event.now && kind_ok config.scheme p seat event.now && bare_ok p seat event.now && rests_of version config p seat event.now) }
@@ -149,6 +151,7 @@ impl Protections {
         all
     }
 
+    #[inline(always)]
     fn reuses(&self, event: &Event) -> bool
         ensures { result ≡ reuses self.now event.now }
     {
@@ -161,6 +164,7 @@ impl Protections {
     }
 
     /// Whether an entry uses no row again that stands.
+    #[inline(always)]
     pub fn reuses_none(&self, seat: u32, event: &Event) -> bool
         ensures { (config : Setting) (p : Past) → IsProtections config self.now p → (result ≡ true) ↔ NoneReused p seat event.now }
     {
@@ -176,6 +180,7 @@ impl Protections {
         }
     }
 
+    #[inline(always)]
     fn links(&self, rows: &Rows, call: Option<Call>, seat: u32, event: &Event) -> bool
         ensures { result ≡ links_by self.now rows.now call seat event.now }
     {
@@ -205,6 +210,7 @@ impl Protections {
 
     /// Whether the rows stand that a link wants to: the one that it replaces, or behind which it
     /// links. `rows` is what the record says of rows, and `call` the call that the seat began last.
+    #[inline(always)]
     pub fn links_right(&self, rows: &Rows, call: Option<Call>, seat: u32, event: &Event) -> bool
         ensures { (config : Setting) (p : Past) → IsProtections config self.now p → IsRows config rows.now p → EntryIn config seat event.now
             → call ≡ began_of seat p → result ≡ links_ok config.slots p seat event.now }
@@ -220,6 +226,7 @@ impl Protections {
 
     /// Whether a row that is told to stand at an index may do so: at index 1 it is the next row of
     /// the head's, which stands at index 0. It is the test of a Held with these numbers.
+    #[inline(always)]
     pub fn held_behind(&self, rows: &Rows, seat: u32, index: u32, slot: u32) -> bool
         ensures { (config : Setting) (p : Past) → IsProtections config self.now p → IsRows config rows.now p → seat < config.seats
             → (steps : ℕ) → result ≡ behind_ok config.slots p seat (events.Held index slot steps) }

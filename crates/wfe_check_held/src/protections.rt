@@ -129,6 +129,7 @@ impl Protections {
     }
 
     // What an event publishes.
+    #[inline(always)]
     fn publish(&mut self, event: &Event)
         ensures config { self.new.config ≡ self.old.config }
         ensures helpers { self.new.helpers.items ≡ helpers_after event.now self.old.helpers.items }
@@ -158,6 +159,7 @@ impl Protections {
     }
 
     // What an event of a seat makes of the rows that stand.
+    #[inline(always)]
     fn stand(&mut self, seat: u32, event: &Event) -> Result<(), NoMemory>
         ensures config { self.new.config ≡ self.old.config }
         ensures helpers { self.new.helpers.items ≡ self.old.helpers.items }
@@ -177,6 +179,7 @@ impl Protections {
     }
 
     /// Takes an entry in. Memory is taken only where a row comes to stand at an index.
+    #[inline(always)]
     pub fn note(&mut self, seat: u32, event: &Event) -> Result<(), NoMemory>
         ensures sure { told_row event.now ≡ None → IsOk result }
         ensures noted { IfOk result (λ _. (config : Setting) (p : Past) → IsProtections config self.old p → EntryIn config seat event.now → IsProtections config self.new (Then p seat event.now)) }
@@ -248,6 +251,7 @@ fn set_hazard(hazards: &mut [Option<u32>], place: usize, slot: Option<u32>)
 }
 
 // The index at which an event says what stands.
+#[inline(always)]
 fn told_index(event: &Event) -> Option<u32>
     ensures { result ≡ index_of event.now }
 {

@@ -93,6 +93,7 @@ impl Times {
     /// Tells an entry. Where a call begins, `found` is the row of its root, if that has one; `last` is
     /// the head's row before the entry, where no row is next to it. Nothing is changed where the
     /// number of entries would be past what is counted.
+    #[inline(always)]
     pub fn note(
         &mut self,
         seat: u32,
@@ -117,6 +118,7 @@ impl Times {
     }
 
     // Tells all cells an entry.
+    #[inline(always)]
     fn tell(&mut self, seat: u32, event: &Event, found: Option<u32>, last: Option<u32>)
         requires sized { IsSized self.old }
         requires room { self.old.entries + 1 < 2 ^ 64 - 1 }
@@ -146,6 +148,7 @@ impl Times {
     /// Whether the entry is one that the tests allow on what a call finds at its root, births, retire
     /// eras and intervals. Where the entry retires a row, `birth` is the row's birth era; where the
     /// seat's call copies, `source` is what the index word publishes from which it does.
+    #[inline(always)]
     pub fn fits(&self, seat: u32, event: &Event, birth: u32, source: Option<Interval>) -> bool
         requires sized { IsSized self.now }
         requires range { EntryIn self.now.config seat event.now }
@@ -157,6 +160,7 @@ impl Times {
     }
 
     // The same on the cells.
+    #[inline(always)]
     fn fits_cells(&self, seat: u32, event: &Event, birth: u32, source: Option<Interval>) -> bool
         requires sized { IsSized self.now }
         requires range { EntryIn self.now.config seat event.now }
@@ -248,6 +252,7 @@ impl Times {
 
     /// Whether a block that begins in search of a free row is allowed: each row was taken at a
     /// position of the call. Where the entry reads a guard, `seeks` says whether such a block begins.
+    #[inline(always)]
     pub fn fits_room(&self, seat: u32, event: &Event, seeks: bool) -> bool
         requires sized { IsSized self.now }
         requires seat { seat < self.now.config.seats }
@@ -262,6 +267,7 @@ impl Times {
     }
 
     // The same on the cells.
+    #[inline(always)]
     fn fits_room_cells(&self, seat: u32, event: &Event, seeks: bool) -> bool
         requires sized { IsSized self.now }
         requires seat { seat < self.now.config.seats }
@@ -337,6 +343,7 @@ fn is_row(row: u32, other: Option<u32>) -> bool
 }
 
 // The clock after an event.
+#[inline(always)]
 fn ticked(clock: u64, event: &Event) -> u64
     requires { clock < 2 ^ 64 - 1 }
     ensures { result ≡ ticked_by event.now clock }
@@ -348,6 +355,7 @@ fn ticked(clock: u64, event: &Event) -> u64
 }
 
 // Tells the grid of cuts an event of a seat.
+#[inline(always)]
 fn tell_cuts(cuts: &mut Grid, config: &Config, seat: u32, event: &Event, clock: u64)
     requires grid { IsGrid config.now.seats (config.now.slots + 1) cuts.old }
     requires range { EntryIn config.now seat event.now }

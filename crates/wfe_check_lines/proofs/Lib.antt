@@ -4,4 +4,5 @@ pub mod Lines
 pub mod Standing
 pub mod Telling
 pub mod Texts
+pub mod Whole
 pub mod Within

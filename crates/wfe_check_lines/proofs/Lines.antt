@@ -31,22 +31,29 @@ few_more false n lines h = omega (arith, h)
 
 module _ {J : Type 0} (judges : ℕ → Config → J → Past → Type 0) where
   -- a line that is taken
-  pub line_takes : (old new : Reader J) (r : Reading) (more : Bool) → IsReading judges old r → r.lines < r.count → new.line.items ≡ [] → new.count ≡ old.count → new.lines ≡ old.lines + 1 → new.entries ≡ (if more then old.entries + 1 else old.entries)
-      → Tells judges (Ok more) r.told (told_after r.told old.line.items) new.place → (after : Reading) × (after_line r ≡ Ok after) × IsReading judges new after
-  line_takes old new r more is room line count lines entries (after, e, at, counts) = (
+  pub line_taken : (new : Reader J) (r : Reading) (more : Bool) → r.count ≤ 1073741824 → r.lines < r.count → r.told.count ≤ r.lines → new.line.items ≡ [] → new.count ≡ r.count → new.lines ≡ r.lines + 1 → new.entries ≡ (if more then r.told.count + 1 else r.told.count)
+      → Tells judges (Ok more) r.told (told_after r.told r.line) new.place → (after : Reading) × (after_line r ≡ Ok after) × IsReading judges new after
+  line_taken new r more few room fewer line count lines entries (after, e, at, counts) = (
     record r { line = []; lines = r.lines + 1; told = after },
-    ap (with_line r) (ap (told_after r.told) (sym is.line) ∙ e),
+    ap (with_line r) e,
     record {
       line = line;
-      count = count ∙ is.count;
-      few = is.few;
-      lines = lines ∙ ap (λ (n : ℕ). n + 1) is.lines;
+      count = count;
+      few = few;
+      lines = lines;
       within = omega (arith, room);
-      entries = entries ∙ ap (λ (n : ℕ). if more then n + 1 else n) is.entries ∙ sym counts;
-      fewer = subst (λ (n : ℕ). n ≤ r.lines + 1) (sym counts) (few_more more r.told.count r.lines is.fewer);
+      entries = entries ∙ sym counts;
+      fewer = subst (λ (n : ℕ). n ≤ r.lines + 1) (sym counts) (few_more more r.told.count r.lines fewer);
       place = at;
     },
   )
+
+  -- the line under way is taken
+  pub line_takes : (old new : Reader J) (r : Reading) (more : Bool) → IsReading judges old r → r.lines < r.count → new.line.items ≡ [] → new.count ≡ old.count → new.lines ≡ old.lines + 1 → new.entries ≡ (if more then old.entries + 1 else old.entries)
+      → Tells judges (Ok more) r.told (told_after r.told old.line.items) new.place → (after : Reading) × (after_line r ≡ Ok after) × IsReading judges new after
+  line_takes old new r more is room line count lines entries told =
+      line_taken new r more is.few room is.fewer line (count ∙ is.count) (lines ∙ ap (λ (n : ℕ). n + 1) is.lines) (entries ∙ ap (λ (n : ℕ). if more then n + 1 else n) is.entries)
+      (subst (λ (l : List ℕ). Tells judges (Ok more) r.told (told_after r.told l) new.place) is.line told)
 
   not_long : (r : Reading) (b : ℕ) (long : Bool) → nat_le 1073741824 r.count ≡ long → byte_refused r b ≡ None → r.count + 1 ≤ 1073741824
   not_long r b true e h = absurd (let refused = rw e at h in cc)

@@ -1,5 +1,5 @@
 -- A reader as it stands for the bytes that it took, and what it makes of more.
-use Rattle.std.specs.Prelude.{ℕ, ◌≡◌, ◌≤◌, ◌+◌, List, Result, Ok, Err, length}
+use Rattle.std.specs.Prelude.{ℕ, ◌≡◌, ◌≢◌, ◌<◌, ◌≤◌, ◌+◌, ◌++◌, List, [], Result, Ok, Err, length, slice_index, take}
 use Rattle.laws.specs.records.Record.{Past}
 use Rattle.wfe_words.specs.declared.config.Config.{Config}
 use Rattle.wfe_check_lines.specs.Progress.{IsAt}
@@ -38,3 +38,21 @@ Takes judges (Err stop) next now = IsWhy stop next
 abbrev pub TakesBytes : {J T : Type 0} → (ℕ → Config → J → Past → Type 0) → Result T Stop → Reading → List ℕ → Reader J → Type 0
 TakesBytes judges (Ok x) r bytes now = (after : Reading) × (after_bytes (Ok r) bytes ≡ Ok after) × IsReading judges now after
 TakesBytes judges (Err stop) r bytes now = StopsAmid r bytes stop
+
+-- these bytes go to the line under way
+abbrev pub more_bytes : Reading → List ℕ → Reading
+more_bytes r bytes = record r { line = r.line ++ bytes; count = r.count + length bytes }
+
+-- no line is under way, and the bytes begin with one whose line feed is here: with it neither the line nor the record is too long
+pub record BeginsWithLine (r : Reading) (bytes : List ℕ) (at : ℕ) : Type 0 where
+  pub none : r.line ≡ []
+  pub within : at < length bytes
+  pub feed : slice_index bytes at ≡ 10
+  pub before : (k : ℕ) → k < at → slice_index bytes k ≢ 10
+  pub short : at ≤ 200
+  pub few : r.count + at < 1073741824
+
+-- the first of these bytes were taken, so many, or some of them and then no more
+abbrev pub TakesSome : {J : Type 0} → (ℕ → Config → J → Past → Type 0) → Result ℕ Stop → Reading → List ℕ → Reader J → Type 0
+TakesSome judges (Ok count) r bytes now = (after : Reading) × (after_bytes (Ok r) (take count bytes) ≡ Ok after) × IsReading judges now after
+TakesSome judges (Err stop) r bytes now = StopsAmid r bytes stop

@@ -1,7 +1,7 @@
 // A record's text as its bytes come.
-ghost use Rattle.std.specs.Prelude.{◌≡◌, ◌<◌, ◌+◌, ◌^◌, [], if◌then◌else◌};
-ghost use Rattle.wfe_check_lines.specs.Reading.{Reading, after_byte, after_bytes, after_last, after_line, at_stage, byte_refused, finished, reading_start};
-ghost use Rattle.wfe_check_lines.specs.Readers.{IsReading, Takes, TakesBytes, stop_at};
+ghost use Rattle.std.specs.Prelude.{◌≡◌, ◌≢◌, ◌<◌, ◌≤◌, ◌+◌, ◌^◌, ℕ, [], if◌then◌else◌, IfOk, IfSome, length, slice_index};
+ghost use Rattle.wfe_check_lines.specs.Reading.{Reading, after_byte, after_last, after_line, at_stage, byte_refused, counted, finished, reading_start};
+ghost use Rattle.wfe_check_lines.specs.Readers.{BeginsWithLine, IsReading, Takes, TakesBytes, TakesSome, more_bytes, stop_at};
 
 use crate::Judge;
 use crate::progress::Progress;
@@ -32,6 +32,20 @@ fn stop(lines: u32, refusal: Refusal) -> Stop
         Refusal::Unlawful => Stop::Unlawful { line },
         Refusal::NoMemory => Stop::NoMemory,
     }
+}
+
+// The index of the first line feed, or the length where there is none.
+fn feed_at(bytes: &[u8]) -> usize
+    ensures within { result ≤ length bytes.now }
+    ensures before { (k : ℕ) → k < result → slice_index bytes.now k ≢ 10 }
+    ensures found { result < length bytes.now → slice_index bytes.now result ≡ 10 }
+{
+    for (i, byte) in bytes.iter().enumerate() {
+        if *byte == b'\n' {
+            return i;
+        }
+    }
+    bytes.len()
 }
 
 impl<J: Judge> Reader<J> {
@@ -126,14 +140,80 @@ impl<J: Judge> Reader<J> {
         Ok(())
     }
 
+    // Where the line feed of these bytes' first line is, where the line can be judged in its place: none
+    // is under way, and neither it nor the record is too long with it.
+    fn whole(&self, bytes: &[u8]) -> Option<usize>
+        ensures within { IfSome result (λ at. (at < length bytes.now) × (at ≤ 200)) }
+        ensures begins { IfSome result (λ at. (r : Reading) → IsReading J.judges self.now r → BeginsWithLine r bytes.now at) }
+    {
+        if !self.line.is_empty() || self.count > 1_073_741_623 {
+            return None;
+        }
+        let at = feed_at(bytes);
+        if at < bytes.len() && at <= 200 {
+            Some(at)
+        } else {
+            None
+        }
+    }
+
+    // The bytes of a whole line came, and its line feed.
+    fn count_line(&mut self, line: &[u8])
+        requires { length line.now ≤ 200 }
+        ensures line { self.new.line ≡ self.old.line }
+        ensures count { self.old.count < 2 ^ 31 → self.new.count ≡ self.old.count + (length line.now + 1) }
+        ensures lines { self.new.lines ≡ self.old.lines }
+        ensures entries { self.new.entries ≡ self.old.entries }
+        ensures place { self.new.place ≡ self.old.place }
+    {
+        self.count = self.count.saturating_add(line.len() as u32 + 1);
+    }
+
+    // Takes a whole line that came with its line feed, while none was under way.
+    fn take_whole(&mut self, alloc: Global, line: &[u8]) -> Result<(), Stop>
+        requires some { (r : Reading) × IsReading J.judges self.old r }
+        requires short { length line.now ≤ 200 }
+        ensures { (r : Reading) → IsReading J.judges self.old r → r.line ≡ [] → r.count + length line.now < 1073741824
+            → Takes J.judges result (after_line (counted (more_bytes r line.now))) self.new }
+    {
+        match self.place.take(alloc, line) {
+            Ok(is_entry) => {
+                self.count_line(line);
+                self.end_line(is_entry);
+                Ok(())
+            }
+            Err(refusal) => Err(stop(self.lines, refusal)),
+        }
+    }
+
+    // Takes the first line of these bytes in its place, or else one byte of them. Answers how many it took.
+    fn take_some(&mut self, alloc: Global, bytes: &[u8]) -> Result<usize, Stop>
+        requires some { (r : Reading) × IsReading J.judges self.old r }
+        requires bytes { 0 < length bytes.now }
+        ensures within { IfOk result (λ count. (0 < count) × (count ≤ length bytes.now)) }
+        ensures taken { (r : Reading) → IsReading J.judges self.old r → TakesSome J.judges result r bytes.now self.new }
+    {
+        match self.whole(bytes) {
+            Some(at) => match self.take_whole(alloc, &bytes[..at]) {
+                Ok(()) => Ok(at + 1),
+                Err(stop) => Err(stop),
+            },
+            None => match self.take_byte(alloc, bytes[0]) {
+                Ok(()) => Ok(1),
+                Err(stop) => Err(stop),
+            },
+        }
+    }
+
     /// Takes the next bytes, up to one for which no more is taken.
     pub(crate) fn take_bytes(&mut self, alloc: Global, bytes: &[u8]) -> Result<(), Stop>
         requires some { (r : Reading) × IsReading J.judges self.old r }
         ensures { (r : Reading) → IsReading J.judges self.old r → TakesBytes J.judges result r bytes.now self.new }
     {
-        for byte in bytes {
-            match self.take_byte(alloc, *byte) {
-                Ok(()) => {}
+        let mut at = 0;
+        while at < bytes.len() {
+            match self.take_some(alloc, &bytes[at..]) {
+                Ok(count) => at += count,
                 Err(stop) => return Err(stop),
             }
         }

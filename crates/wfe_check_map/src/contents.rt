@@ -52,6 +52,7 @@ impl Contents {
 
     /// Whether the entry keeps the law of the map: a change has its bucket's next version, a get tells its
     /// key's value at a version that was current in the call, and keys lie in their buckets.
+    #[inline(always)]
     pub fn fits_map(&self, seat: u32, event: &Event) -> bool
         requires range { EntryIn self.now.config seat event.now }
         ensures { (config : Config) (p : Past) → IsContents config self.now p → result ≡ map_ok config.buckets p seat event.now }
@@ -81,6 +82,7 @@ impl Contents {
     /// Whether the entry keeps the law of the queue: values are queued under the next number and taken in
     /// that order, and a dequeue finds the queue empty only where it was so in the call. `began` is the call
     /// that the seat began last.
+    #[inline(always)]
     pub fn fits_queue(&self, seat: u32, event: &Event, began: Option<Call>) -> bool
         requires range { EntryIn self.now.config seat event.now }
         ensures { (config : Config) (p : Past) → IsContents config self.now p → began ≡ began_of seat p
@@ -101,6 +103,7 @@ impl Contents {
     /// # Errors
     ///
     /// Where there is no memory, or no number for one more entry; the state is of no record then.
+    #[inline(always)]
     pub fn note(&mut self, seat: u32, event: &Event, root: Option<u32>) -> Result<(), NoMemory>
         requires range { EntryIn self.old.config seat event.now }
         ensures setting { self.new.config ≡ self.old.config }
@@ -201,6 +204,7 @@ fn no_changes(alloc: Global, buckets: u32) -> Result<Vec<Bucket>, NoMemory>
 }
 
 // Notes the change that an event tells, if any.
+#[inline(always)]
 fn note_change(
     buckets: &mut Vec<Bucket>,
     event: &Event,
@@ -247,6 +251,7 @@ fn change(buckets: &mut Vec<Bucket>, bucket: u32, mark: Mark) -> Result<(), NoMe
 }
 
 // Notes where the seat's call begins, if the event says so.
+#[inline(always)]
 fn note_begin(begun: &mut Vec<u64>, seat: u32, event: &Event, stamp: u64)
     ensures { begun.new.items ≡ begun_after event.now seat stamp begun.old.items }
 {

@@ -45,6 +45,7 @@ impl Lists {
     }
 
     /// Whether the entry keeps the law of scans' blocks, and tells a row Back only from the seat's list.
+    #[inline(always)]
     pub fn fits_scan(&self, seat: u32, event: &Event) -> bool
         requires range { EntryIn self.now.config seat event.now }
         ensures { (config : Config) (p : Past) → IsLists config self.now p
@@ -59,6 +60,7 @@ impl Lists {
     /// Whether the entry keeps the law on lists that are left and taken over. `began` is the call that the
     /// seat began last; `has_left` and `is_adopted` are so of the seat whose list the entry takes over, if it
     /// takes one over.
+    #[inline(always)]
     pub fn fits_lists(
         &self,
         seat: u32,
@@ -90,6 +92,7 @@ impl Lists {
     /// # Errors
     ///
     /// Where there is no memory; the state is of no record then.
+    #[inline(always)]
     pub fn note(&mut self, seat: u32, event: &Event) -> Result<(), NoMemory>
         requires range { EntryIn self.old.config seat event.now }
         ensures setting { self.new.config ≡ self.old.config }
@@ -115,6 +118,7 @@ impl Lists {
 }
 
 // Whether the seat may tell the entry, where there are so many guards in all.
+#[inline(always)]
 fn fits_own(config: Config, all: u64, event: &Event, own: &Seat) -> bool
     requires range { EventIn config event.now }
     ensures { result ≡ fits_in config all event.now own.now }
@@ -142,6 +146,7 @@ fn no_seats(alloc: Global, seats: u32) -> Result<Vec<Seat>, NoMemory>
 }
 
 // Notes an event of a seat that takes over no list.
+#[inline(always)]
 fn note_own(seats: &mut Vec<Seat>, seat: u32, event: &Event, all: u64) -> Result<(), NoMemory>
     ensures { OnOk result (NotesOwn all seat event.now seats.old.items seats.new.items) }
 {

@@ -133,6 +133,7 @@ impl Rows {
         self.tail
     }
 
+    #[inline(always)]
     fn frees_right(&self, event: &Event) -> bool
         ensures { result ≡ frees self.now event.now }
     {
@@ -143,6 +144,7 @@ impl Rows {
         }
     }
 
+    #[inline(always)]
     fn goes_on_right(&self, event: &Event) -> bool
         ensures { result ≡ goes_on self.now event.now }
     {
@@ -163,6 +165,7 @@ impl Rows {
         }
     }
 
+    #[inline(always)]
     fn ticks_right(&self, event: &Event) -> bool
         ensures { result ≡ ticks self.now event.now }
     {
@@ -174,6 +177,7 @@ impl Rows {
         }
     }
 
+    #[inline(always)]
     fn is_right(&self, seat: u32, event: &Event) -> bool
         ensures { result ≡ right self.now seat event.now }
     {
@@ -186,6 +190,7 @@ impl Rows {
     /// Whether an entry is in order, as far as rows, roots and the clock go: a free row is given and
     /// a taken one freed, next links lead on, cuts and changes come where they are due, and the
     /// clock goes on by one, up to the last era.
+    #[inline(always)]
     pub fn fits(&self, seat: u32, event: &Event) -> bool
         ensures { (config : Setting) (p : Past) → IsRows config self.now p → EntryIn config seat event.now
             → result ≡ (free_ok config.slots p seat event.now && nexts_ok config.slots p seat event.now && order_ok config.slots p seat event.now && era_ok config.last_era p seat event.now) }
@@ -193,6 +198,7 @@ impl Rows {
         self.is_right(seat, event)
     }
 
+    #[inline(always)]
     fn due_next(&self, seat: u32, event: &Event) -> Due
         ensures { due_of result ≡ due_after self.now seat event.now }
     {
@@ -221,6 +227,7 @@ impl Rows {
     }
 
     // What an event of a seat makes of all but the clock.
+    #[inline(always)]
     fn change(&mut self, seat: u32, event: &Event)
         ensures config { self.new.config ≡ self.old.config }
         ensures clock { self.new.clock ≡ self.old.clock }
@@ -240,6 +247,7 @@ impl Rows {
     }
 
     /// Takes an entry in. It fails only where the clock has reached the greatest u64.
+    #[inline(always)]
     pub fn note(&mut self, seat: u32, event: &Event) -> Result<(), NoMemory>
         ensures full { OnErr result (self.old.clock ≡ u64.MAX) }
         ensures noted { IfOk result (λ _. (config : Setting) (p : Past) → IsRows config self.old p → EntryIn config seat event.now → IsRows config self.new (Then p seat event.now)) }
@@ -272,6 +280,7 @@ fn first_roots(alloc: Global, buckets: u32) -> Result<Vec<Option<u32>>, NoMemory
     }
 }
 
+#[inline(always)]
 fn clock_after(clock: u64, event: &Event) -> Result<u64, NoMemory>
     ensures full { OnErr result (clock ≡ u64.MAX) }
     ensures told { IfOk result (λ after. after ≡ ticked_by event.now clock) }
@@ -282,6 +291,7 @@ fn clock_after(clock: u64, event: &Event) -> Result<u64, NoMemory>
     }
 }
 
+#[inline(always)]
 fn change_rows(rows: &mut [Row], event: &Event)
     ensures { rows.new ≡ rows_after event.now rows.old }
 {
@@ -300,6 +310,7 @@ fn change_row(rows: &mut [Row], slot: u32, event: &Event)
     }
 }
 
+#[inline(always)]
 fn change_roots(roots: &mut [Option<u32>], event: &Event)
     ensures { roots.new ≡ roots_after event.now roots.old }
 {
@@ -321,6 +332,7 @@ fn change_root(roots: &mut [Option<u32>], bucket: u32, slot: u32)
     }
 }
 
+#[inline(always)]
 fn head_after(head: u32, event: &Event) -> u32
     ensures { result ≡ head_by event.now head }
 {
@@ -333,6 +345,7 @@ fn head_after(head: u32, event: &Event) -> u32
     }
 }
 
+#[inline(always)]
 fn tail_after(tail: u32, event: &Event) -> u32
     ensures { result ≡ tail_by event.now tail }
 {

@@ -6,7 +6,6 @@ use Rattle.wfe_core.specs.Calls.{ChangeAt, ChangeKept, LoadCount, LoadKey, LoadV
 use Rattle.wfe_core.specs.Change.{change_move, reading}
 use Rattle.wfe_core.specs.Desks.{Desk}
 use Rattle.wfe_core.specs.Locals.{Local}
-use Rattle.wfe_core.specs.Memory.{numbered}
 use Rattle.wfe_core.specs.declared.op.Op.{Op}
 use Rattle.wfe_core.specs.declared.post.Post.{Post}
 use Rattle.wfe_drive_runs.specs.drive_words.drive_cells.Unit.{SeatView, kept_desk, seat_after}
@@ -14,9 +13,11 @@ use Rattle.wfe_drive_runs.specs.drive_words.Called.{Here}
 use Rattle.wfe_drive_runs.specs.drive_words.Path.{AsksFor, Leads, StepsOn}
 use Rattle.wfe_drive_runs.proofs.drive_words.Leading.{leads_as}
 use Rattle.wfe_drive_call.specs.Changing.{pairs_at, read_at, step_post, works_at}
+use Rattle.wfe_drive_runs.specs.drive_words.drive_cells.Spots.{spotted}
+use Rattle.wfe_drive_runs.specs.drive_words.drive_cells.declared.located.Located.{Located}
 
 -- a step of the change's own asks for its word
-pub work_asks : {at : Local → Type 0} (kept : ChangeKept) (find : ChangeAt) (post : Post) (desk : Desk) (op : Op) → Here at (works_at kept find post desk) → op ≡ numbered post.layout (change_move kept find post) → AsksFor at (works_at kept find post desk) op
+pub work_asks : {at : Local → Type 0} (kept : ChangeKept) (find : ChangeAt) (post : Post) (desk : Desk) (op : Located) → Here at (works_at kept find post desk) → op ≡ spotted post.layout (change_move kept find post) → AsksFor at (works_at kept find post desk) op
 work_asks kept find post desk op h o = record { here = h; busy = refl; is = o }
 
 -- the version, and the count

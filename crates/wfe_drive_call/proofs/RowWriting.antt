@@ -7,7 +7,7 @@ use Rattle.wfe_core.specs.Calls.{ChangeKept, Changes, ExchangeRoot, Fills}
 use Rattle.wfe_core.specs.Change.{new_row}
 use Rattle.wfe_core.specs.Desks.{Desk}
 use Rattle.wfe_core.specs.Locals.{Local}
-use Rattle.wfe_core.specs.Memory.{Store, numbered}
+use Rattle.wfe_core.specs.Memory.{Store}
 use Rattle.wfe_core.specs.Phases.{MapRow, ends, goes}
 use Rattle.wfe_core.specs.Phases.Base.{Write}
 use Rattle.wfe_core.specs.Phases.Ending.{Done}
@@ -20,11 +20,13 @@ use Rattle.wfe_drive_runs.specs.drive_words.Called.{Here}
 use Rattle.wfe_drive_runs.specs.drive_words.Path.{AsksFor, Leads, StepsOn}
 use Rattle.wfe_drive_runs.proofs.drive_words.Leading.{here_as, leads_as, leads_from, then_leads}
 use Rattle.wfe_drive_call.specs.Changing.{step_post, works_at, writes_at, wrote_at}
+use Rattle.wfe_drive_runs.specs.drive_words.drive_cells.Spots.{spotted}
+use Rattle.wfe_drive_runs.specs.drive_words.drive_cells.declared.located.Located.{Located}
 
 -- a store asks for its word
-pub write_asks : {at : Local → Type 0} (kept : ChangeKept) (slot place value : ℕ) (post : Post) (desk : Desk) (op : Op) → Here at (writes_at kept slot place post desk) → value ≡ row_word (new_row kept) place → op ≡ numbered post.layout (Store (Row slot place) value)
+pub write_asks : {at : Local → Type 0} (kept : ChangeKept) (slot place value : ℕ) (post : Post) (desk : Desk) (op : Located) → Here at (writes_at kept slot place post desk) → value ≡ row_word (new_row kept) place → op ≡ spotted post.layout (Store (Row slot place) value)
     → AsksFor at (writes_at kept slot place post desk) op
-write_asks kept slot place value post desk op h v o = record { here = h; busy = refl; is = o ∙ ap (λ (n : ℕ). numbered post.layout (Store (Row slot place) n)) v }
+write_asks kept slot place value post desk op h v o = record { here = h; busy = refl; is = o ∙ ap (λ (n : ℕ). spotted post.layout (Store (Row slot place) n)) v }
 
 pub word_written : {at0 at1 : Local → Type 0} {stands0 stands1 : List (Op × ℕ) → Type 0} (kept : ChangeKept) (slot place : ℕ) (post : Post) (desk : Desk) (before n : ℕ) → StepsOn at0 at1 stands0 stands1 (writes_at kept slot place (step_post post before) desk) n
     → Leads at0 at1 stands0 stands1 (writes_at kept slot place (step_post post before) desk) (wrote_at kept slot place (step_post post (before + 1)) desk)
@@ -65,13 +67,13 @@ pub value_next : (kept : ChangeKept) (slot pair : ℕ) (post : Post) (desk : Des
 value_next kept slot pair post desk left = writes_on kept slot (3 + 2 * pair) (4 + 2 * pair) post desk (omega (arith, left)) (omega arith)
 
 -- the pair of a place: its key is to be stored, then its value
-pub key_asks : {at : Local → Type 0} (kept : ChangeKept) (slot pair : ℕ) (p : Pair) (post : Post) (desk : Desk) (op : Op) → pair < length kept.pairs → p ≡ slice_index_or kept.pairs pair (0, 0) → Here at (wrote_at kept slot (2 + 2 * pair) post desk)
-    → op ≡ numbered post.layout (Store (Row slot (3 + 2 * pair)) p.0) → AsksFor at (writes_at kept slot (3 + 2 * pair) post desk) op
+pub key_asks : {at : Local → Type 0} (kept : ChangeKept) (slot pair : ℕ) (p : Pair) (post : Post) (desk : Desk) (op : Located) → pair < length kept.pairs → p ≡ slice_index_or kept.pairs pair (0, 0) → Here at (wrote_at kept slot (2 + 2 * pair) post desk)
+    → op ≡ spotted post.layout (Store (Row slot (3 + 2 * pair)) p.0) → AsksFor at (writes_at kept slot (3 + 2 * pair) post desk) op
 key_asks kept slot pair p post desk op left is h o =
     write_asks kept slot (3 + 2 * pair) p.0 post desk op (here_as _ _ (key_next kept slot pair post desk left) h) (ap (λ (q : Pair). q.0) is ∙ sym (key_word (kept.version + 1) kept.pairs pair)) o
 
-pub value_asks : {at : Local → Type 0} (kept : ChangeKept) (slot pair : ℕ) (p : Pair) (post : Post) (desk : Desk) (op : Op) → pair < length kept.pairs → p ≡ slice_index_or kept.pairs pair (0, 0) → Here at (wrote_at kept slot (3 + 2 * pair) post desk)
-    → op ≡ numbered post.layout (Store (Row slot (4 + 2 * pair)) p.1) → AsksFor at (writes_at kept slot (4 + 2 * pair) post desk) op
+pub value_asks : {at : Local → Type 0} (kept : ChangeKept) (slot pair : ℕ) (p : Pair) (post : Post) (desk : Desk) (op : Located) → pair < length kept.pairs → p ≡ slice_index_or kept.pairs pair (0, 0) → Here at (wrote_at kept slot (3 + 2 * pair) post desk)
+    → op ≡ spotted post.layout (Store (Row slot (4 + 2 * pair)) p.1) → AsksFor at (writes_at kept slot (4 + 2 * pair) post desk) op
 value_asks kept slot pair p post desk op left is h o =
     write_asks kept slot (4 + 2 * pair) p.1 post desk op (here_as _ _ (value_next kept slot pair post desk left) h) (ap (λ (q : Pair). q.1) is ∙ sym (value_word (kept.version + 1) kept.pairs pair)) o
 

@@ -3,8 +3,8 @@ ghost use Rattle.std.specs.Prelude.{◌≡◌, ◌<◌, ◌≤◌, ◌+◌};
 ghost use Rattle.wfe_core.specs.Calls.{ExchangeRoot};
 ghost use Rattle.wfe_core.specs.Change.{change_move};
 ghost use Rattle.wfe_core.specs.DeskHeld.{desk_of};
-ghost use Rattle.wfe_core.specs.Memory.{numbered};
 ghost use Rattle.wfe_core.specs.Valid.{IsValid};
+ghost use Rattle.wfe_drive_runs.specs.drive_words.drive_cells.Spots.{spotted};
 ghost use Rattle.wfe_drive_runs.specs.call_rounds.Endings.{next_of};
 ghost use Rattle.wfe_drive_runs.specs.drive_words.Called.{Here};
 ghost use Rattle.wfe_drive_runs.specs.drive_words.Path.{Leads};
@@ -12,20 +12,22 @@ ghost use Rattle.wfe_drive_call.specs.Changing.{clears_at, kept_of, works_at};
 
 use crate::kept::Kept;
 use wfe_core::{Answer, ClockMove, Desk, Op, Post};
-use wfe_drive_runs::{RoundEnd, Words, step};
+use wfe_drive_runs::{Located, RoundEnd, Words, step};
 
 // An exchange of the bucket's root: the link that was loaded for this row.
 #[inline(always)]
-fn swap_root(post: &Post, kept: &Kept, slot: u32) -> Op
+fn swap_root(post: &Post, kept: &Kept, slot: u32) -> Located
     requires own { IsValid post.now }
     requires slot { slot ≤ post.now.layout.config.slots }
-    ensures { result ≡ numbered post.now.layout (change_move (kept_of kept.now) (ExchangeRoot slot) post.now) }
+    ensures { result ≡ spotted post.now.layout (change_move (kept_of kept.now) (ExchangeRoot slot) post.now) }
 {
-    Op::Cas {
-        word: post.layout.bucket(kept.bucket(post)),
+    let word = post.layout.bucket(kept.bucket(post));
+    let op = Op::Cas {
+        word,
         old: kept.link as u64,
         new: slot as u64 + 1,
-    }
+    };
+    Located::root(&post.layout, op)
 }
 
 // Exchanges the root. Where it has moved, another round comes; else the row that was cut is to be

@@ -18,4 +18,4 @@ mod under;
 mod write;
 
 pub use drive::{drive_call, drive_get};
-pub use wfe_drive_runs::{Words, answers_leave_groups, bucket_for, histories_ready_seats};
+pub use wfe_drive_runs::{Located, Words, answers_leave_groups, bucket_for, histories_ready_seats};

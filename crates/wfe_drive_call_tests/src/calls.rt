@@ -12,7 +12,7 @@ use std::alloc::Global;
 use std::process::Abort;
 use std::test::Fail;
 use wfe_core::{Answer, Call, ClockMove, Config, Desk, Layout, Op, Post, SchemeKind};
-use wfe_drive_call::{Words, drive_call};
+use wfe_drive_call::{Located, Words, drive_call};
 use wfe_drive_cells::{Cells, MakeCells, PlainCells};
 
 /// The words of a table with one seat, and the operations that were performed on them.
@@ -53,10 +53,10 @@ impl Words for KeptCells {
         self.left = leaves(call);
     }
 
-    fn perform(&mut self, op: Op) -> u64 {
-        let found = self.cells.perform(0, op);
+    fn perform(&mut self, op: Located) -> u64 {
+        let found = self.cells.perform(0, op.op);
         self.steps += 1;
-        if self.kept.push((op, found)).is_err() {
+        if self.kept.push((op.op, found)).is_err() {
             self.lost = true;
         }
         found

@@ -12,6 +12,7 @@ use std::test::Fail;
 use std::thread;
 use std::thread::Threads;
 use wfe_core::{Call, Config, Layout, Op, SchemeKind};
+use wfe_drive_cells::spot_at;
 use wfe_drive_rule::{
     Handle, Ledger, OwnedLedger, begin, close, finish, give_slot, open, split, step, take_in,
     take_slot,
@@ -26,22 +27,23 @@ const DOUBLE: Config = Config {
 
 // A seat loads the clock, and exchanges it for the next era: what it found at both steps. Where the
 // clock has stopped it does no more than load.
-fn advance(table: &Ledger, handle: &mut Handle, slot: usize, layout: Layout) -> Option<(u64, u64)>
+fn advance(table: &Ledger, handle: &mut Handle, seat: u32, layout: Layout) -> Option<(u64, u64)>
     requires ids { handle.old.table_id ≡ table.now.table_id }
     requires key { table.now.key ≡ layout }
     requires sized { IsSized table.now.table_id layout }
-    requires seated { IsSeated layout slot handle.old.me }
+    requires seated { IsSeated layout seat handle.old.me }
     requires resting { IsResting handle.old.me }
     requires there { (standing handle.old.me).call ≢ calls.Leave }
     requires scheme { layout.config.scheme ≡ He }
     ensures ids { handle.new.table_id ≡ handle.old.table_id }
-    ensures seated { IsSeated layout slot handle.new.me }
+    ensures seated { IsSeated layout seat handle.new.me }
     ensures resting { IfSome result (λ _. IsResting handle.new.me) }
     ensures there { IfSome result (λ _. (standing handle.new.me).call ≢ calls.Leave) }
 {
     let clock = layout.clock();
-    begin(table, handle, slot, Call::Advance);
-    let era = step(table, handle, slot, Op::Load { word: clock }, true);
+    let spot = spot_at(&layout, clock);
+    begin(table, handle, seat, Call::Advance);
+    let era = step(table, handle, seat, Op::Load { word: clock }, spot, true);
     if era >= layout.config().last_era as u64 {
         return None;
     }
@@ -50,7 +52,7 @@ fn advance(table: &Ledger, handle: &mut Handle, slot: usize, layout: Layout) -> 
         old: era,
         new: era + 1,
     };
-    let found = step(table, handle, slot, next, false);
+    let found = step(table, handle, seat, next, spot, false);
     Some((era, found))
 }
 
@@ -118,11 +120,12 @@ fn advance_together(
     ensures other { IfSome result (λ _. IsSeated layout 1 other.new.me × IsResting other.new.me) }
 {
     let clock = layout.clock();
+    let spot = spot_at(&layout, clock);
     let last = layout.config().last_era as u64;
     begin(table, one, 0, Call::Advance);
     begin(table, other, 1, Call::Advance);
-    let era = step(table, one, 0, Op::Load { word: clock }, true);
-    let late = step(table, other, 1, Op::Load { word: clock }, true);
+    let era = step(table, one, 0, Op::Load { word: clock }, spot, true);
+    let late = step(table, other, 1, Op::Load { word: clock }, spot, true);
     if era >= last || late >= last {
         return None;
     }
@@ -131,13 +134,13 @@ fn advance_together(
         old: era,
         new: era + 1,
     };
-    let found = step(table, one, 0, next, false);
+    let found = step(table, one, 0, next, spot, false);
     let next = Op::Cas {
         word: clock,
         old: late,
         new: late + 1,
     };
-    let missed = step(table, other, 1, next, false);
+    let missed = step(table, other, 1, next, spot, false);
     Some((found, missed))
 }
 

@@ -1,4 +1,5 @@
 pub mod Bridge
+pub mod Lying
 pub mod Narrow
 pub mod Steps
 pub mod Turns

@@ -1,23 +1,21 @@
 -- What each kind of step does with slots: a step that moves no list, a list that is left, one that is taken over, and a place that is
 -- marked.
-use Rattle.std.proofs.Common.{All, Bool, List, [], ap, arith, false, length, refl, set, subst, sym, true, ℕ, ◌++◌, ◌+◌, ◌<◌, ◌∙◌, ◌∷◌, ◌≡◌, ◌≢◌, ◌≤◌}
+use Rattle.std.proofs.Common.{Bool, List, [], ap, arith, false, length, refl, set, subst, sym, true, ℕ, ◌<◌, ◌∙◌, ◌∷◌, ◌≡◌, ◌≢◌}
 use Rattle.std.proofs.lemmas.Bool.Decides.{nat_tests}
-use Rattle.std.proofs.lemmas.List.Elements.{All-head}
-use Rattle.std.specs.Prelude.{None, Option, Some, if◌then◌else◌, nat_lt, not, slice_index, sum_by, ◌&&◌, ◌==◌}
+use Rattle.std.specs.Prelude.{Option, if◌then◌else◌, not, sum_by, ◌&&◌, ◌==◌}
 use mathlib.Core.Option.{some}
 use mathlib.Core.Option.{Option as Home}
 use lib.ListN.{get_elem?}
-use Rattle.atomic_table.specs.Table.{Allows, State, put_back, rest}
-use Rattle.atomic_table.specs.Table.Act.{gives, keeps, takes}
+use Rattle.atomic_table.specs.Table.{Allows, State, put_back}
+use Rattle.atomic_table.specs.Table.Act.{gives, keeps}
 use Rattle.atomic_table.proofs.Lists.{set_else, set_here}
-use Rattle.wfe_core.specs.words.Place.{Place}
 use Rattle.wfe_core.specs.words.Place.Place.{PlaceOf}
 use Rattle.wfe_core.specs.words.declared.layout.Layout.{Layout}
 use Rattle.wfe_core.specs.Held.{ListHeld}
 use Rattle.wfe_core.specs.defs.declared.lifetime.Lifetime.{Lifetime}
-use Rattle.wfe_core.specs.Calls.{Keeping, MarkLeft, MarkTaken, Phase, TakeList, Works}
+use Rattle.wfe_core.specs.Calls.{Keeping, MarkLeft, Phase, Works}
 use Rattle.wfe_core.specs.Locals.{Local, asks, busy_in}
-use Rattle.wfe_core.specs.World.{World, is_here, list_in, offered, step}
+use Rattle.wfe_core.specs.World.{World, is_here, list_in, offered}
 use Rattle.wfe_core.proofs.Facts.{number_is, same_number}
 use Rattle.wfe_drive_cells.specs.Operations.{answer_of, answered, changed, word_in}
 use Rattle.law_reuse.specs.history.History.{Item, world_of}
@@ -25,11 +23,12 @@ use Rattle.law_reuse.specs.inv.Places.{PlaceMoves, is_leaving, placed}
 use Rattle.wfe_drive_rule.specs.declared.kept.Kept.{Kept}
 use Rattle.wfe_drive_rule.specs.Handles.{IsHeld, IsSeated, MovesNone, adopts}
 use Rattle.wfe_drive_rule.specs.Moves.{HandsOver, Stepped, Told}
-use Rattle.wfe_drive_rule.specs.Rule.{Holds, IsHome, Rules, had, held, marking, marks_at, taken}
+use Rattle.wfe_drive_rule.specs.Rule.{ByNumber, IsHome, had, held, marks_at, taken}
+use Rattle.wfe_drive_rule.specs.Spots.{slot_at}
 use Rattle.wfe_drive_rule.specs.Views.{Handle, View, call_in, own, seat_of, slot_left, standing}
-use Rattle.wfe_drive_rule.proofs.Allowed.{Acts, Going, allows, home_stays, next_of, now_of, same_seat, view_after}
-use Rattle.wfe_drive_rule.proofs.Places.{leaves_after, marks_after, marks_before, marks_idle, marks_none, misses_after, placed_same, takes_after}
-use Rattle.wfe_drive_rule.proofs.Slots.{had_alike, had_itself, had_own, held_all, held_none, held_same, marking_none, marking_own, none_left}
+use Rattle.wfe_drive_rule.proofs.Allowed.{Going, allows, home_stays, next_of, now_of, same_seat, view_after}
+use Rattle.wfe_drive_rule.proofs.Places.{leaves_after, marks_before, marks_none, placed_same}
+use Rattle.wfe_drive_rule.proofs.Slots.{had_alike, had_itself, had_own, held_all, held_none, held_same, marking_none}
 use Rattle.wfe_drive_rule.proofs.Sums.{sum_one, sum_same, sum_set}
 
 pub held_of : (layout : Layout) (slot : ℕ) (handle : Handle) → IsSeated layout slot handle → IsHeld layout handle
@@ -40,7 +39,7 @@ stays_by : (here same leaving : Bool) → here ≡ true → leaving ≡ false �
 stays_by here true leaving h l = rw (h, l) refl
 stays_by here false leaving h l = rw h refl
 
-pub own_stays : (layout : Layout) (state : State (Option Kept) View) (handle : Handle) (r : Holds layout state) → busy_in (standing handle).phase ≡ true → is_leaving (standing handle).phase ≡ false → Going layout state.words r.items handle
+pub own_stays : (layout : Layout) (state : State (Option Kept) View) (handle : Handle) (r : ByNumber layout state) → busy_in (standing handle).phase ≡ true → is_leaving (standing handle).phase ≡ false → Going layout state.words r.items handle
     → is_here (world_of layout (next_of r.items handle)) (seat_of (own handle.0)) ≡ true
 own_stays layout state handle r busy stays g =
     let i : ℕ = seat_of (own handle.0) in
@@ -52,7 +51,7 @@ own_stays layout state handle r busy stays g =
     ∙ stays_by (is_here w i) (i == i) (is_leaving (w.seat i).phase) here (ap (λ (l : Local). is_leaving l.phase) g.entered.own_is ∙ stays)
 
 -- the own track after the step
-pub number_after : (layout : Layout) (state : State (Option Kept) View) (handle : Handle) (r : Holds layout state) (found : ℕ) → Going layout state.words r.items handle → IsHeld layout handle → (seat : ℕ) → had seat (view_after layout r.items handle found true) ≡ had seat handle.0
+pub number_after : (layout : Layout) (state : State (Option Kept) View) (handle : Handle) (r : ByNumber layout state) (found : ℕ) → Going layout state.words r.items handle → IsHeld layout handle → (seat : ℕ) → had seat (view_after layout r.items handle found true) ≡ had seat handle.0
 number_after layout state handle r found g held =
     had_alike handle.0 (view_after layout r.items handle found true) held.one refl (same_seat layout r.items handle found g.entered.own_is)
 
@@ -70,7 +69,7 @@ taken_same v u seat one also h k had_is mv mu = omega (arith, held_same v u h k 
 
 -- a step that moves no list
 pub allowed : (layout : Layout) (slots id slot : ℕ) (handle : Handle) → IsSeated layout slot handle → busy_in (standing handle).phase ≡ true → MovesNone (standing handle)
-    → Allows (Holds layout) slots id handle (word_in (asks (standing handle))) (changed (asks (standing handle))) (Stepped handle)
+    → Allows (ByNumber layout) slots id handle (word_in (asks (standing handle))) (changed (asks (standing handle))) (Stepped handle)
 allowed layout slots id slot handle seated busy moves =
     let held : IsHeld layout handle = held_of layout slot handle seated in
     allows layout slots id handle true (Stepped handle) held busy
@@ -113,21 +112,28 @@ left_other i k word q = ap (λ (b : Bool). let n : ℕ = if b then 1 else word i
 pub number_apart : (n m : ℕ) → (n == m) ≡ false → n ≢ m
 number_apart n m q e = grind (arith, nat_tests)
 
+-- other seats have other slots, and each seat has one
+pub slot_apart : (n m : ℕ) → n ≢ m → slot_at n ≢ slot_at m
+slot_apart n m ne e = ne (omega (arith, e))
+
+pub slot_below : (seat seats slots : ℕ) → slots ≡ slot_at seats → seat < seats → slot_at seat < slots
+slot_below seat seats slots all low = omega (arith, all, low)
+
 -- the slot that goes home, and each other
 pub one_home : (layout : Layout) (list : List ℕ) (items : List Item) (handle : Handle) (homes later : List (Home (Option Kept))) (place k : ℕ) (same : Bool) → (k == place) ≡ same → Going layout list items handle
     → IsHome layout (world_of layout (next_of items handle)) later place
     → ((k == place) ≡ false
     → ((k == seat_of (own handle.0)) ≡ false)
     × (placed (seat_of (own handle.0)) (standing handle).phase k ((world_of layout items).mem (PlaceOf k)) ≡ (world_of layout items).mem (PlaceOf k))
-    × (get_elem? later k ≡ get_elem? homes k) × IsHome layout (world_of layout items) homes k)
+    × (get_elem? later (slot_at k) ≡ get_elem? homes (slot_at k)) × IsHome layout (world_of layout items) homes k)
     → IsHome layout (world_of layout (next_of items handle)) later k
 one_home layout list items handle homes later place k true q g here others = subst (IsHome layout (world_of layout (next_of items handle)) later) (sym (number_is k place q)) here
 one_home layout list items handle homes later place k false q g here others = let o = others q in home_stays layout list items handle homes later k g o.0 o.1 o.2 o.3
 
 -- a list that is left
-pub hands_list : (layout : Layout) (slots id slot : ℕ) (handle : Handle) (list : ListHeld) (first : Bool) → slots ≡ layout.config.seats → IsHeld layout handle → (standing handle).phase ≡ Works (Keeping MarkLeft)
-    → slot ≡ seat_of (own handle.0) → handle.1 ≡ (slot, slot_left list first) ∷ [] → list ≡ record { lives = (standing handle).desk.list; slots = layout.config.slots }
-    → Allows (Holds layout) slots id handle (word_in (asks (standing handle))) (changed (asks (standing handle))) (λ word. HandsOver handle (answer_of (asks (standing handle)) word))
+pub hands_list : (layout : Layout) (slots id slot : ℕ) (handle : Handle) (list : ListHeld) (first : Bool) → slots ≡ slot_at layout.config.seats → IsHeld layout handle → (standing handle).phase ≡ Works (Keeping MarkLeft)
+    → slot ≡ seat_of (own handle.0) → handle.1 ≡ (slot_at slot, slot_left list first) ∷ [] → list ≡ record { lives = (standing handle).desk.list; slots = layout.config.slots }
+    → Allows (ByNumber layout) slots id handle (word_in (asks (standing handle))) (changed (asks (standing handle))) (λ word. HandsOver handle (answer_of (asks (standing handle)) word))
 hands_list layout slots id slot handle list first all held leaves number has lives =
     let busy : busy_in (standing handle).phase ≡ true = ap busy_in leaves in
     allows layout slots id handle false (λ word. HandsOver handle (answer_of (asks (standing handle)) word)) held busy
@@ -137,7 +143,7 @@ hands_list layout slots id slot handle list first all held leaves number has liv
     let w : World = world_of layout (now_of r.items handle) in
     let found : ℕ = answered s.words (asks (standing handle)) in
     let u : View = view_after layout r.items handle found false in
-    let has_own : handle.1 ≡ (i, slot_left list first) ∷ [] = has ∙ ap (λ (n : ℕ). (n, slot_left list first) ∷ []) number in
+    let has_own : handle.1 ≡ (slot_at i, slot_left list first) ∷ [] = has ∙ ap (λ (n : ℕ). (slot_at n, slot_left list first) ∷ []) number in
     let o : Local = offered w i in
     let left : (o.phase ≡ Works (Keeping MarkLeft)) = ap (λ (l : Local). l.phase) g.entered.own_is ∙ leaves in
     let after = leaves_after o found left in
@@ -150,14 +156,14 @@ hands_list layout slots id slot handle list first all held leaves number has liv
     let own_list : list_in later i ≡ list.lives =
     ap (λ (z : World). list_in z i) g.steps ∙ (moves i).own ∙ ap (λ (z : World). (z.seat i).desk.list) (sym g.steps) ∙ ap (λ (l : Local). l.desk.list) g.went.own_is
     ∙ after.1 ∙ ap (λ (l : Local). l.desk.list) g.entered.own_is ∙ sym (ap (λ (z : ListHeld). z.lives) lives) in
-    let low_slot : i < length s.homes = omega (arith, ls, all, held.tracked.seat) in
-    let later_homes : List (Home (Option Kept)) = set s.homes i (some (slot_left list first)) in
+    let low_slot : slot_at i < length s.homes = slot_below i layout.config.seats (length s.homes) (ls ∙ all) held.tracked.seat in
+    let later_homes : List (Home (Option Kept)) = set s.homes (slot_at i) (some (slot_left list first)) in
     let given : put_back s.homes handle.1 ≡ later_homes = ap (put_back s.homes) has_own in
     let list_is : list ≡ record { lives = list_in later i; slots = layout.config.slots } =
     lives ∙ ap (λ (z : List Lifetime). let held_list : ListHeld = record { lives = z; slots = layout.config.slots } in held_list) (sym (ap (λ (z : ListHeld). z.lives) lives) ∙ sym own_list) in
     let home_own : IsHome layout later later_homes i = record {
       kept = slot_left list first;
-      there = set_here s.homes i (some (slot_left list first)) low_slot;
+      there = set_here s.homes (slot_at i) (some (slot_left list first)) low_slot;
       holds = record { left = λ q. (first, ap (λ (z : ListHeld). slot_left z first) list_is); clear = λ ne. absurd (ne word) };
     } in
     let home_by : (seat : ℕ) → seat < layout.config.seats → sum_by (taken seat) (set s.views id u) ≡ 0 → (same : Bool) → (seat == i) ≡ same → IsHome layout later later_homes seat =
@@ -165,7 +171,7 @@ hands_list layout slots id slot handle list first all held leaves number has liv
     (λ other. (
       other,
       ap (λ (p : Phase). placed i p seat ((world_of layout r.items).mem (PlaceOf seat))) leaves ∙ left_other i seat ((world_of layout r.items).mem (PlaceOf seat)) other,
-      set_else s.homes i seat (some (slot_left list first)) (number_apart seat i other),
+      set_else s.homes (slot_at i) (slot_at seat) (some (slot_left list first)) (slot_apart seat i (number_apart seat i other)),
       r.home seat low (sym (sum_same (taken seat) s.views id v u e (taken_gone v u seat held.one refl held.holds refl other (before seat) (none seat))) ∙ z),
     ))) in
     record {

@@ -1,6 +1,5 @@
 -- One step of the table is one item of the history, or two where a call begins: once for all operations.
-use Rattle.std.proofs.Common.{All, Bool, List, [], ap, ap₂, arith, false, length, refl, set, subst, sym, true, ⊎_elim, ℕ, ◌++◌, ◌<◌, ◌∙◌, ◌∷◌, ◌≡◌, ◌≢◌}
-use Rattle.std.proofs.lemmas.Bool.Decides.{nat_tests}
+use Rattle.std.proofs.Common.{All, Bool, List, [], ap, ap₂, false, length, refl, set, subst, sym, true, ⊎_elim, ℕ, ◌++◌, ◌<◌, ◌∙◌, ◌∷◌, ◌≡◌}
 use Rattle.std.proofs.lemmas.List.{append-nil, append_assoc, length-set}
 use Rattle.std.proofs.lemmas.List.Elements.{All-cons, All-nil}
 use Rattle.std.specs.Prelude.{None, Option, Some, if◌then◌else◌, nat_lt, not, slice_index, sum_by, ◌&&◌, ◌==◌, ◌||◌}
@@ -35,14 +34,15 @@ use Rattle.law_reuse.proofs.inv.Inv.Reached.{reached_ready}
 use Rattle.law_reuse.proofs.inv.requests.Turns.{upd_here, upd_there}
 use Rattle.wfe_drive_rule.specs.Handles.{IsHeld, IsTracked, MayStart}
 use Rattle.wfe_drive_rule.specs.Moves.{Told}
-use Rattle.wfe_drive_rule.specs.Rule.{Follows, Holds, IsHere, IsHome, Rules, had, taken}
+use Rattle.wfe_drive_rule.specs.Rule.{ByNumber, Follows, IsHere, IsHome, NoneOf, Opens, had, item_seat, taken}
+use Rattle.wfe_drive_rule.specs.Spots.{slot_at}
 use Rattle.wfe_drive_rule.specs.Views.{Handle, Track, View, call_in, entered, entry, own, seat_of, slot_left, standing}
 use Rattle.wfe_drive_rule.proofs.Here.{seats_there, settled_call}
-use Rattle.wfe_drive_rule.proofs.Numbers.{Alike, numbers_set, once_most}
-use Rattle.wfe_drive_rule.proofs.Rules.{follows_on, follows_own}
-use Rattle.wfe_drive_rule.proofs.Slots.{had_alike, had_itself, other_views, unmade_apart}
+use Rattle.wfe_drive_rule.proofs.Numbers.{Alike, numbers_set}
+use Rattle.wfe_drive_rule.proofs.Rules.{follows_on, follows_own, none_then, opens_on}
+use Rattle.wfe_drive_rule.proofs.Slots.{had_alike, other_views, unmade_apart}
 use Rattle.law_reuse.proofs.history.Snoc.{layout_is, one_begin, one_step}
-use Rattle.wfe_drive_rule.proofs.Sums.{All-apart, sum_one, sum_same, sum_two}
+use Rattle.wfe_drive_rule.proofs.Sums.{All-apart, sum_same}
 
 -- the history in which the seat's call has begun
 pub record Entered (layout : Layout) (items later : List Item) (i : ℕ) (l : Local) : Type 0 where
@@ -116,7 +116,7 @@ local_after layout items handle found = after (offered (world_of layout (now_of 
 
 abbrev pub view_after : Layout → List Item → Handle → ℕ → (holds : Bool) → View
 view_after layout items handle found holds =
-    record { made = handle.0.made; tracks = (record { local = local_after layout items handle found; past = next_of items handle }) ∷ []; holds = holds }
+    record { made = handle.0.made; tracks = (record { local = local_after layout items handle found; past = next_of items handle }) ∷ []; holds = holds; heard = handle.0.heard }
 
 -- what is known of a step of a handle's seat
 pub record Going (layout : Layout) (list : List ℕ) (items : List Item) (handle : Handle) : Type 0 where
@@ -172,7 +172,7 @@ or_right false b h = h
 -- a slot at home of another seat, whose place word stays, is at home after the step
 pub home_stays : (layout : Layout) (list : List ℕ) (items : List Item) (handle : Handle) (homes later : List (Home (Option Kept))) (k : ℕ) → Going layout list items handle → (k == seat_of (own handle.0)) ≡ false
     → placed (seat_of (own handle.0)) (standing handle).phase k ((world_of layout items).mem (PlaceOf k)) ≡ (world_of layout items).mem (PlaceOf k)
-    → get_elem? later k ≡ get_elem? homes k → IsHome layout (world_of layout items) homes k → IsHome layout (world_of layout (next_of items handle)) later k
+    → get_elem? later (slot_at k) ≡ get_elem? homes (slot_at k) → IsHome layout (world_of layout items) homes k → IsHome layout (world_of layout (next_of items handle)) later k
 home_stays layout list items handle homes later k g other same there h =
     let i : ℕ = seat_of (own handle.0) in
     let v : World = world_of layout items in
@@ -221,10 +221,16 @@ pub record Acts (layout : Layout) (state : State (Option Kept) View) (items : Li
   pub learns : (told : Told layout handle (answered state.words (asks (standing handle))) (view_after layout items handle (answered state.words (asks (standing handle))) true)) → told.items ≡ now_of items handle
       → Tells (slice_index state.words (word_in (asks (standing handle)))) (view_after layout items handle (answered state.words (asks (standing handle))) holds, carried_after handle.1 act)
 
+-- the items of a step are its seat's
+step_of : (i k : ℕ) (call : Option Call) → (k == i) ≡ false → NoneOf k (entry i call ++ Steps i ∷ [])
+step_of i k None d = All-cons (λ item. (k == item_seat item) ≡ false) (Steps i) [] d (All-nil (λ item. (k == item_seat item) ≡ false))
+step_of i k (Some call) d =
+    All-cons (λ item. (k == item_seat item) ≡ false) (Begins i call) (Steps i ∷ []) d (All-cons (λ item. (k == item_seat item) ≡ false) (Steps i) [] d (All-nil (λ item. (k == item_seat item) ≡ false)))
+
 -- one step of the table, whatever it does with slots
 pub allows : (layout : Layout) (slots id : ℕ) (handle : Handle) (holds : Bool) (Tells : ℕ → Handle → Type 0) → IsHeld layout handle → busy_in (standing handle).phase ≡ true
-    → ((s : State (Option Kept) View) (r : Holds layout s) → length s.homes ≡ slots → get_elem? s.views id ≡ some handle.0 → Going layout s.words r.items handle → Acts layout s r.items id handle holds Tells)
-    → Allows (Holds layout) slots id handle (word_in (asks (standing handle))) (changed (asks (standing handle))) Tells
+    → ((s : State (Option Kept) View) (r : ByNumber layout s) → length s.homes ≡ slots → get_elem? s.views id ≡ some handle.0 → Going layout s.words r.items handle → Acts layout s r.items id handle holds Tells)
+    → Allows (ByNumber layout) slots id handle (word_in (asks (standing handle))) (changed (asks (standing handle))) Tells
 allows layout slots id handle holds Tells held busy by s r ls e bound =
     let v : View = handle.0 in
     let x : Track = own v in
@@ -247,8 +253,10 @@ allows layout slots id handle holds Tells held busy by s r ls e bound =
     let cut : items ++ Steps i ∷ [] ≡ all = append_assoc r.items begins (Steps i ∷ []) in
     let apart : (k : ℕ) → (k == i) ≡ false → (world_of layout (items ++ Steps i ∷ [])).seat k ≡ (world_of layout r.items).seat k = (λ k q. g.others k q ∙ n.others k q) in
     let others : (k : ℕ) → (k == i) ≡ false → (world_of layout all).seat k ≡ (world_of layout r.items).seat k = (λ k q. ap (λ z. (world_of layout z).seat k) (sym cut) ∙ apart k q) in
+    let new_of : (k : ℕ) → (k == i) ≡ false → NoneOf k (begins ++ Steps i ∷ []) = (λ k d. step_of i k (call_in handle.1) d) in
+    let longer : (past : List Item) → Opens r.items past → Opens y.past past = (λ past o. subst (λ (z : List Item). Opens z past) (sym cut) (opens_on r.items (begins ++ Steps i ∷ []) past o)) in
     let here : (world_of layout y.past).seat (seat_of y) ≡ y.local = ap (world_of layout y.past).seat number ∙ g.own_is in
-    let own_follows : Follows layout y.past y = record { more = []; begins = sym (append-nil y.past); stood = here; stands = here } in
+    let own_follows : Follows layout y.past y = record { more = []; begins = sym (append-nil y.past); alone = All-nil (λ item. (seat_of y == item_seat item) ≡ false); stood = here; stands = here } in
     let had_is : (k : ℕ) → had k u ≡ had k v = had_alike v u held.one refl number in
     let alike : Alike v u = record { made = refl; size_is = sym (ap length held.one); had_is = had_is } in (
       u,
@@ -263,8 +271,12 @@ allows layout slots id handle holds Tells held busy by s r ls e bound =
             (λ p. subst (λ (z : View). All (Follows layout y.past) z.tracks) p.1 (All-cons (Follows layout y.past) y [] own_follows (All-nil (Follows layout y.past))))
             (λ p. subst (λ z. All (Follows layout z) w.tracks) (sym cut)
             (All-apart (Follows layout r.items) (Follows layout all) i w.tracks (other_views layout s.words s.homes s.views id j v w r held.one e p.1 p.0)
-            (λ track d h. follows_on layout r.items (begins ++ Steps i ∷ []) track h (others (seat_of track) d)) (r.tracks j w p.1)))
+            (λ track d h. follows_on layout r.items (begins ++ Steps i ∷ []) track (new_of (seat_of track) d) h (others (seat_of track) d)) (r.tracks j w p.1)))
             (at_set s.views id j u w q);
+        heard = λ j w q. ⊎_elim (λ p. subst (λ (z : View). Opens y.past z.heard) p.1 (longer v.heard (r.heard id v e))) (λ p. longer w.heard (r.heard j w p.1)) (at_set s.views id j u w q);
+        none = λ seat z.
+            let none : sum_by (had seat) s.views ≡ 0 = sym (sum_same (had seat) s.views id v u e (had_is seat)) ∙ z in
+            subst (NoneOf seat) (sym cut) (none_then seat r.items (begins ++ Steps i ∷ []) (r.none seat none) (new_of seat (unmade_apart s.views id v seat held.one e none)));
         unmade = λ seat z.
             let none : sum_by (had seat) s.views ≡ 0 = sym (sum_same (had seat) s.views id v u e (had_is seat)) ∙ z in
             apart seat (unmade_apart s.views id v seat held.one e none) ∙ r.unmade seat none;
@@ -285,6 +297,6 @@ allows layout slots id handle holds Tells held busy by s r ls e bound =
             begins = ap (λ (z : List Item). z ++ begins) f.begins ∙ append_assoc x.past f.more begins;
             stands = n.own_is;
             found_is = g.found;
-            to = ap (λ (h : Bool). let w : View = record { made = v.made; tracks = y ∷ []; holds = h } in w) (sym held.holds);
+            to = ap (λ (h : Bool). let w : View = record { made = v.made; tracks = y ∷ []; holds = h; heard = v.heard } in w) (sym held.holds);
           }) refl,
     )

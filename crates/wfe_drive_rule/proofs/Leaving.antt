@@ -1,22 +1,19 @@
 -- A seat leaves: its list is in its slot, which goes home.
-use Rattle.std.proofs.Common.{Bool, List, [], ap, false, refl, subst, sym, true, ℕ, ◌++◌, ◌<◌, ◌∙◌, ◌∷◌, ◌≡◌}
-use Rattle.std.specs.Prelude.{None, Option, Some}
-use Rattle.atomic_table.specs.Table.{Allows, rest}
-use Rattle.wfe_core.specs.words.Place.{words}
+use Rattle.std.proofs.Common.{Bool, [], ap, refl, subst, sym, true, ℕ, ◌++◌, ◌∙◌, ◌∷◌, ◌≡◌}
+use Rattle.atomic_table.specs.Table.{Allows}
 use Rattle.wfe_core.specs.words.declared.layout.Layout.{Layout}
 use Rattle.wfe_core.specs.declared.op.Op.{Op}
 use Rattle.wfe_core.specs.declared.op.Op.TheVariants.{Store}
-use Rattle.wfe_core.specs.defs.declared.call.Call.{Call}
 use Rattle.wfe_core.specs.Calls.{Keeping, MarkLeft, Works}
 use Rattle.wfe_core.specs.Held.{ListHeld}
 use Rattle.wfe_core.specs.Locals.{Local, after, asks, busy_in}
 use Rattle.wfe_core.specs.World.{offered}
 use Rattle.wfe_drive_cells.specs.Operations.{answer_of, changed, word_in}
-use Rattle.law_reuse.specs.history.History.{Item, Steps, world_of}
-use Rattle.wfe_drive_rule.specs.declared.kept.Kept.{Kept}
+use Rattle.law_reuse.specs.history.History.{Steps, world_of}
 use Rattle.wfe_drive_rule.specs.Handles.{IsBare, IsHeld, IsIdle, IsSeated, IsTracked}
 use Rattle.wfe_drive_rule.specs.Moves.{HandsOver, Told, slotted}
-use Rattle.wfe_drive_rule.specs.Rule.{Holds}
+use Rattle.wfe_drive_rule.specs.Rule.{ByNumber}
+use Rattle.wfe_drive_rule.specs.Spots.{slot_at}
 use Rattle.wfe_drive_rule.specs.Views.{Handle, Track, View, call_in, entered, leave_if, own, seat_of, slot_left, standing}
 use Rattle.wfe_drive_rule.proofs.Acting.{hands_list}
 use Rattle.wfe_drive_rule.proofs.Places.{leaves_after}
@@ -24,19 +21,19 @@ use Rattle.wfe_drive_rule.proofs.Seated.{tracked_on}
 
 -- the handle with the list in its slot
 abbrev pub listed : Handle → (slot : ℕ) → ListHeld → (first : Bool) → Handle
-listed handle slot list first = (handle.0, (slot, slot_left list first) ∷ [])
+listed handle slot list first = (handle.0, (slot_at slot, slot_left list first) ∷ [])
 
 pub same_standing : (handle : Handle) (slot : ℕ) (list : ListHeld) (first : Bool) → call_in handle.1 ≡ leave_if first → standing (listed handle slot list first) ≡ standing handle
 same_standing handle slot list first e = ap (entered (own handle.0).local) (sym e)
 
-pub hands : (layout : Layout) (slots id slot word : ℕ) (handle : Handle) (list : ListHeld) (first : Bool) → slots ≡ layout.config.seats → IsSeated layout slot handle → (standing handle).phase ≡ Works (Keeping MarkLeft) → Store word 1 ≡ asks (standing handle)
+pub hands : (layout : Layout) (slots id slot word : ℕ) (handle : Handle) (list : ListHeld) (first : Bool) → slots ≡ slot_at layout.config.seats → IsSeated layout slot handle → (standing handle).phase ≡ Works (Keeping MarkLeft) → Store word 1 ≡ asks (standing handle)
     → call_in handle.1 ≡ leave_if first → list ≡ record { lives = (standing handle).desk.list; slots = layout.config.slots }
-    → Allows (Holds layout) slots id (listed handle slot list first) word (λ _. 1) (λ _. HandsOver (listed handle slot list first) 0)
+    → Allows (ByNumber layout) slots id (listed handle slot list first) word (λ _. 1) (λ _. HandsOver (listed handle slot list first) 0)
 hands layout slots id slot word handle list first all seated leaves op began lives =
     let h : Handle = listed handle slot list first in
     let same : standing h ≡ standing handle = same_standing handle slot list first began in
     let held : IsHeld layout h = record { one = seated.one; tracked = seated.tracked; holds = seated.holds; begins = λ c q. seated.begins c (began ∙ q) } in
-    subst (λ (o : Op). Allows (Holds layout) slots id h (word_in o) (changed o) (λ found. HandsOver h (answer_of o found))) (ap asks same ∙ sym op)
+    subst (λ (o : Op). Allows (ByNumber layout) slots id h (word_in o) (changed o) (λ found. HandsOver h (answer_of o found))) (ap asks same ∙ sym op)
     (hands_list layout slots id slot h list first all held (ap (λ (l : Local). l.phase) same ∙ leaves) seated.number refl
     (lives ∙ ap (λ (l : Local). let held_list : ListHeld = record { lives = l.desk.list; slots = layout.config.slots } in held_list) (sym same)))
 

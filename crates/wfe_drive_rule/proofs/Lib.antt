@@ -9,11 +9,13 @@ pub mod Here
 pub mod Joining
 pub mod Leaving
 pub mod Making
+pub mod News
 pub mod Numbers
 pub mod Operations
 pub mod Places
 pub mod Rules
 pub mod Seated
+pub mod Shown
 pub mod Slots
 pub mod Standing
 pub mod Sums

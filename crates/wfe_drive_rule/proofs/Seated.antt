@@ -3,8 +3,6 @@ use Rattle.std.proofs.Common.{List, [], ap, arith, false, refl, subst, sym, true
 use Rattle.std.specs.Prelude.{None, Option, Some}
 use Rattle.atomic_table.specs.Table.{rest}
 use Rattle.wfe_core.specs.words.declared.layout.Layout.{Layout}
-use Rattle.wfe_core.specs.words.Place.{words}
-use Rattle.wfe_core.specs.words.Place.Place.{Clock}
 use Rattle.wfe_core.specs.defs.declared.call.Call.{Call}
 use Rattle.wfe_drive_rule.specs.declared.kept.Kept.{Kept}
 use Rattle.wfe_core.specs.Locals.{Local, after, busy_in}
@@ -13,19 +11,19 @@ use Rattle.wfe_core.specs.Calls.{Keeping, Phase, TakeList, Works}
 use Rattle.wfe_core.specs.defs.declared.lifetime.Lifetime.{Lifetime}
 use Rattle.wfe_drive_cells.specs.Unit.{may_adopt}
 use Rattle.wfe_core.proofs.CallFrames.{stays_in_place}
-use Rattle.wfe_core.proofs.words.Numbers.{number_below}
 use Rattle.law_reuse.specs.history.History.{Item, Steps, world_of}
 use Rattle.law_reuse.proofs.Turns.Counted.{first_busy}
 use Rattle.law_reuse.proofs.inv.requests.Turns.{upd_here}
 use Rattle.wfe_drive_rule.specs.Handles.{IsHeld, IsSeated, IsTracked}
 use Rattle.wfe_drive_rule.specs.Moves.{Told, keeping, with_own}
+use Rattle.wfe_drive_rule.specs.Spots.{slot_at, spots}
 use Rattle.wfe_drive_rule.specs.Views.{Handle, Track, View, call_in, entered, own, seat_of, standing}
 use Rattle.wfe_drive_rule.proofs.Allowed.{entered_same}
 use Rattle.law_reuse.proofs.history.Snoc.{one_step}
 
 -- there is a word to load
-pub some_words : (layout : Layout) (count : ℕ) → count ≡ words layout → 0 < count
-some_words layout count e = omega (arith, e, number_below layout Clock refl)
+pub some_words : (layout : Layout) (count : ℕ) → count ≡ spots layout → 0 < count
+some_words layout count e = omega (arith, e)
 
 -- the slot that a seated handle has
 pub first_slot : (slots : List (ℕ × Option Kept)) (slot : ℕ) (kept : Option Kept) (more : List (ℕ × Option Kept)) → slots ≡ (slot, kept) ∷ more → (old : Option Kept) × (slots ≡ (slot, old) ∷ rest slots)
@@ -59,16 +57,16 @@ tracked_on layout handle found items t busy e f =
       stood = ap (world_of layout later).seat number ∙ here;
     }
 
-pub seated_held : (layout : Layout) (slot found : ℕ) (handle later : Handle) → IsHeld layout handle → slot ≡ seat_of (own handle.0) → busy_in (standing handle).phase ≡ true → Told layout handle found later.0 → later.1 ≡ (slot, None) ∷ [] → IsSeated layout slot later
+pub seated_held : (layout : Layout) (slot found : ℕ) (handle later : Handle) → IsHeld layout handle → slot ≡ seat_of (own handle.0) → busy_in (standing handle).phase ≡ true → Told layout handle found later.0 → later.1 ≡ (slot_at slot, None) ∷ [] → IsSeated layout slot later
 seated_held layout slot found handle later seated slot_is busy told empty =
     let o : Local = offered (world_of layout told.items) (seat_of (own handle.0)) in
     let y : Track = record { local = after o found; past = told.items ++ Steps (seat_of (own handle.0)) ∷ [] } in
     let t : IsTracked layout y = tracked_on layout handle found told.items seated.tracked busy told.stands told.found_is in
     let number : seat_of y ≡ seat_of (own handle.0) = (stays_in_place.steps o found).seat ∙ ap (λ (k : Local). k.post.seat) told.stands ∙ (entered_same (own handle.0).local (call_in handle.1)).seat in
-    let base : IsSeated layout slot (with_own handle.0 y, (slot, None) ∷ []) = record { one = refl; tracked = t; holds = seated.holds; number = slot_is ∙ sym number; slots = refl; begins = λ call e. absurd (cc) } in
+    let base : IsSeated layout slot (with_own handle.0 y, (slot_at slot, None) ∷ []) = record { one = refl; tracked = t; holds = seated.holds; number = slot_is ∙ sym number; slots = refl; begins = λ call e. absurd (cc) } in
     subst (λ v. IsSeated layout slot (v, later.1)) (sym told.to) (subst (λ s. IsSeated layout slot (with_own handle.0 y, s)) (sym empty) base)
 
-pub seated_on : (layout : Layout) (slot found : ℕ) (handle later : Handle) → IsSeated layout slot handle → busy_in (standing handle).phase ≡ true → Told layout handle found later.0 → later.1 ≡ (slot, None) ∷ [] → IsSeated layout slot later
+pub seated_on : (layout : Layout) (slot found : ℕ) (handle later : Handle) → IsSeated layout slot handle → busy_in (standing handle).phase ≡ true → Told layout handle found later.0 → later.1 ≡ (slot_at slot, None) ∷ [] → IsSeated layout slot later
 seated_on layout slot found handle later s busy told empty = seated_held layout slot found handle later (record { one = s.one; tracked = s.tracked; holds = s.holds; begins = s.begins }) s.number busy told empty
 
 -- where a step takes over no list, its seat goes on by itself

@@ -26,8 +26,9 @@ use Rattle.law_reuse.proofs.inv.Inv.Places.{inv_places}
 use Rattle.law_reuse.proofs.inv.Inv.Reached.{inv_reached}
 use Rattle.wfe_drive_rule.specs.Handles.{IsBare, IsIdle, IsSeated}
 use Rattle.wfe_drive_rule.specs.Moves.{Gives, Takes, bared, slotted}
-use Rattle.wfe_drive_rule.specs.Rule.{AtHome, Follows, Holds, IsHere, IsHome, Rules, had, held, marking, markings, marks_at, taken, times}
-use Rattle.wfe_drive_rule.specs.Views.{Handle, Track, View, call_in, own, seat_of, slot_of, spent}
+use Rattle.wfe_drive_rule.specs.Rule.{AtHome, ByNumber, Follows, IsHere, IsHome, Rules, had, held, marking, markings, marks_at, taken, times}
+use Rattle.wfe_drive_rule.specs.Spots.{slot_at}
+use Rattle.wfe_drive_rule.specs.Views.{Handle, Track, View, call_in, own, seat_of, slot_of}
 use Rattle.wfe_drive_rule.proofs.Numbers.{once_most}
 use Rattle.wfe_drive_rule.proofs.Rules.{follows_own, rules_set}
 use Rattle.wfe_drive_rule.proofs.Here.{seats_there}
@@ -151,10 +152,10 @@ pub bare_here : (layout : Layout) (items : List Item) (track : Track) → is_val
 bare_here layout items track valid f idle there =
     seats_there layout items valid (seat_of track) (ap (λ (l : Local). busy_in l.phase) f.stands ∙ idle) (λ e. there (ap (λ (l : Local). l.call) (sym f.stands) ∙ e))
 
-home_apart : (layout : Layout) (w : World) (homes later : List (Home (Option Kept))) (seat : ℕ) → get_elem? later seat ≡ get_elem? homes seat → IsHome layout w homes seat → IsHome layout w later seat
+home_apart : (layout : Layout) (w : World) (homes later : List (Home (Option Kept))) (seat : ℕ) → get_elem? later (slot_at seat) ≡ get_elem? homes (slot_at seat) → IsHome layout w homes seat → IsHome layout w later seat
 home_apart layout w homes later seat e h = record { kept = h.kept; there = e ∙ h.there; holds = h.holds }
 
-pub takes_slot : (layout : Layout) (slots id : ℕ) (handle : Handle) (step : Step (Option Kept)) → IsBare layout handle → IsIdle (own handle.0) → (own handle.0).local.call ≢ names.Leave → Allows (Holds layout) slots id handle 0 (λ n. n) (Takes step handle)
+pub takes_slot : (layout : Layout) (slots id : ℕ) (handle : Handle) (step : Step (Option Kept)) → IsBare layout handle → IsIdle (own handle.0) → (own handle.0).local.call ≢ names.Leave → Allows (ByNumber layout) slots id handle 0 (λ n. n) (Takes step handle)
 takes_slot layout slots id handle step bare idle there s r ls e bound =
     let v : View = handle.0 in
     let i : ℕ = seat_of (own v) in
@@ -165,31 +166,31 @@ takes_slot layout slots id handle step bare idle there s r ls e bound =
     let own_home : IsHome layout w s.homes i = r.home i bare.tracked.seat (none_taken layout s.words s.homes s.views id v r e bare.one bare.holds zero_word) in
     let empty : own_home.kept ≡ None = own_home.holds.clear (λ q. absurd (omega (arith, q, zero_word))) in (
       u,
-      takes i None,
+      takes (slot_at i) None,
       own_home.there ∙ ap (λ (kept : Option Kept). some (some kept)) empty,
-      rules_set layout s.words s.homes (set s.homes i none) s.views id v u r e refl refl
+      rules_set layout s.words s.homes (set s.homes (slot_at i) none) s.views id v u r e refl refl refl
           (λ h. subst (All (IsHere w)) (sym bare.one) (All-cons (IsHere w) (own v) [] here (All-nil (IsHere w))))
           (λ seat low z.
           let a = apart i seat (sum_by (taken seat) s.views) (sum_by (taken seat) (set s.views id u)) _ refl (omega (arith, sum_set (taken seat) s.views id v u e, held_none seat v bare.holds, held_all seat u refl, had_own v bare.one seat)) z in
-          home_apart layout w s.homes (set s.homes i none) seat (set_else s.homes i seat none a.0) (r.home seat low a.1)),
-      ap (λ slots. (u, (i, None) ∷ slots)) bare.slots,
+          home_apart layout w s.homes (set s.homes (slot_at i) none) seat (set_else s.homes (slot_at i) (slot_at seat) none (λ q. a.0 (omega (arith, q)))) (r.home seat low a.1)),
+      ap (λ slots. (u, (slot_at i, None) ∷ slots)) bare.slots,
     )
 
 -- the slot that is given back is at home, and the others are as they were
-home_by : (layout : Layout) (w : World) (homes : List (Home (Option Kept))) (i seat n m : ℕ) (b : Bool) → (i == seat) ≡ b → i < length homes → n ≡ m + (if b then 1 else 0) → m ≡ 0 → AtHome layout w i None → (n ≡ 0 → IsHome layout w homes seat) → IsHome layout w (set homes i (some None)) seat
+home_by : (layout : Layout) (w : World) (homes : List (Home (Option Kept))) (i seat n m : ℕ) (b : Bool) → (i == seat) ≡ b → slot_at i < length homes → n ≡ m + (if b then 1 else 0) → m ≡ 0 → AtHome layout w i None → (n ≡ 0 → IsHome layout w homes seat) → IsHome layout w (set homes (slot_at i) (some None)) seat
 home_by layout w homes i seat n m true q low e z at h =
-    subst (λ j. IsHome layout w (set homes i (some None)) j) (number_is i seat q) (record { kept = None; there = set_here homes i (some None) low; holds = at })
+    subst (λ j. IsHome layout w (set homes (slot_at i) (some None)) j) (number_is i seat q) (record { kept = None; there = set_here homes (slot_at i) (some None) low; holds = at })
 home_by layout w homes i seat n m false q low e z at h =
-    let ne : seat ≢ i = (λ s. grind (arith, nat_tests)) in home_apart layout w homes (set homes i (some None)) seat (set_else homes i seat (some None) ne) (h (omega (arith, e, z)))
+    let ne : seat ≢ i = (λ s. grind (arith, nat_tests)) in home_apart layout w homes (set homes (slot_at i) (some None)) seat (set_else homes (slot_at i) (slot_at seat) (some None) (λ q. ne (omega (arith, q)))) (h (omega (arith, e, z)))
 
-pub gives_slot : (layout : Layout) (slots id slot : ℕ) (handle : Handle) (step : Step (Option Kept)) → slots ≡ layout.config.seats → IsSeated layout slot handle → call_in handle.1 ≡ None → Allows (Holds layout) slots id handle 0 (λ n. n) (Gives step handle)
+pub gives_slot : (layout : Layout) (slots id slot : ℕ) (handle : Handle) (step : Step (Option Kept)) → slots ≡ slot_at layout.config.seats → IsSeated layout slot handle → call_in handle.1 ≡ None → Allows (ByNumber layout) slots id handle 0 (λ n. n) (Gives step handle)
 gives_slot layout slots id slot handle step all seated empty s r ls e bound =
     let v : View = handle.0 in
     let i : ℕ = seat_of (own v) in
     let u : View = bared v in
     let w : World = world_of layout r.items in
-    let has : handle.1 ≡ (i, None) ∷ [] = seated.slots ∙ ap (λ (call : Option Call). (slot, slot_of call) ∷ []) empty ∙ ap (λ (n : ℕ). (n, None) ∷ []) seated.number in
-    let there : i < length s.homes = omega (arith, ls, all, seated.tracked.seat) in
+    let has : handle.1 ≡ (slot_at i, None) ∷ [] = seated.slots ∙ ap (λ (call : Option Call). (slot_at slot, slot_of call) ∷ []) empty ∙ ap (λ (n : ℕ). (slot_at n, None) ∷ []) seated.number in
+    let there : slot_at i < length s.homes = omega (arith, ls, all, seated.tracked.seat) in
     let here : is_here w i ≡ true = All-head (IsHere w) (own v) [] (subst (All (IsHere w)) seated.one (r.here id v e seated.holds)) in
     let zero_word : w.mem (PlaceOf i) ≡ 0 = number_is (w.mem (PlaceOf i)) 0 here in
     let at : AtHome layout w i None = record { left = λ q. absurd (omega (arith, q, zero_word)); clear = λ ne. refl } in (
@@ -197,7 +198,7 @@ gives_slot layout slots id slot handle step all seated empty s r ls e bound =
       gives,
       tt,
       subst (λ c. Rules layout (set s.words 0 (get_or s.words 0 0)) (put_back s.homes c) (set s.views id u)) (sym has)
-          (rules_set layout s.words s.homes (set s.homes i (some None)) s.views id v u r e refl refl (λ h. absurd (cc h))
+          (rules_set layout s.words s.homes (set s.homes (slot_at i) (some None)) s.views id v u r e refl refl refl (λ h. absurd (cc h))
           (λ seat low z. home_by layout w s.homes i seat (sum_by (taken seat) s.views) (sum_by (taken seat) (set s.views id u)) _ refl there
           (omega (arith, sum_set (taken seat) s.views id v u e, held_all seat v seated.holds, held_none seat u refl, had_own v seated.one seat)) z at (r.home seat low))),
       ap (λ c. (u, rest c)) has,

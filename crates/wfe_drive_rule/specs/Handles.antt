@@ -1,7 +1,7 @@
 -- What holds of a table's handles between two of its steps.
 use Rattle.std.specs.Prelude.{All, Bool, None, Some, [], false, true, ℕ, ◌<◌, ◌∷◌, ◌≡◌, ◌≢◌}
 use Rattle.atomic_table.specs.Seated.{TableId}
-use Rattle.wfe_core.specs.words.Place.{is_valid, words}
+use Rattle.wfe_core.specs.words.Place.{is_valid}
 use Rattle.wfe_core.specs.words.declared.layout.Layout.{Layout}
 use Rattle.wfe_core.specs.defs.declared.call.Call.{Call}
 use Rattle.wfe_core.specs.defs.declared.call.Call.TheVariants as names
@@ -9,12 +9,13 @@ use Rattle.wfe_core.specs.Calls.{Keeping, MarkTaken, Works}
 use Rattle.wfe_core.specs.Locals.{Local, busy_in, may_begin}
 use Rattle.law_reuse.specs.history.History.{world_of}
 use Rattle.law_reuse.specs.inv.Places.{is_leaving}
+use Rattle.wfe_drive_rule.specs.Spots.{slot_at, spots}
 use Rattle.wfe_drive_rule.specs.Views.{Handle, Track, call_in, own, seat_of, slot_of, standing}
 
--- the table has the words of the layout, and a slot for each seat
+-- the table has a spot for each word of the layout, and a slot for each seat
 pub record IsSized (table : TableId) (layout : Layout) : Type 0 where
-  pub words_are : table.words ≡ words layout
-  pub slots_are : table.slots ≡ layout.config.seats
+  pub words_are : table.words ≡ spots layout
+  pub slots_are : table.slots ≡ slot_at layout.config.seats
 
 -- a seat of the table, which stands where its past leaves it
 pub record IsTracked (layout : Layout) (track : Track) : Type 0 where
@@ -35,12 +36,12 @@ pub record MayStart (layout : Layout) (local : Local) (call : Call) : Type 0 whe
   pub may : may_begin layout.config call ≡ true
 
 -- a handle of one seat, which has the seat's slot; the slot holds a call only while none is under way, and one that may begin
-pub record IsSeated (layout : Layout) (slot : ℕ) (handle : Handle) : Type 0 where
+pub record IsSeated (layout : Layout) (seat : ℕ) (handle : Handle) : Type 0 where
   pub one : handle.0.tracks ≡ own handle.0 ∷ []
   pub tracked : IsTracked layout (own handle.0)
   pub holds : handle.0.holds ≡ true
-  pub number : slot ≡ seat_of (own handle.0)
-  pub slots : handle.1 ≡ (slot, slot_of (call_in handle.1)) ∷ []
+  pub number : seat ≡ seat_of (own handle.0)
+  pub slots : handle.1 ≡ (slot_at seat, slot_of (call_in handle.1)) ∷ []
   pub begins : (call : Call) → call_in handle.1 ≡ Some call → MayStart layout (own handle.0).local call
 
 -- a handle of one seat, without its slot
@@ -58,12 +59,12 @@ pub record IsHeld (layout : Layout) (handle : Handle) : Type 0 where
   pub begins : (call : Call) → call_in handle.1 ≡ Some call → MayStart layout (own handle.0).local call
 
 -- a handle of one seat whose next step marks the list of a place as taken over: it has that place's slot before its own, both empty
-pub record IsAdopting (layout : Layout) (slot place : ℕ) (handle : Handle) : Type 0 where
+pub record IsAdopting (layout : Layout) (seat place : ℕ) (handle : Handle) : Type 0 where
   pub one : handle.0.tracks ≡ own handle.0 ∷ []
   pub tracked : IsTracked layout (own handle.0)
   pub holds : handle.0.holds ≡ true
-  pub number : slot ≡ seat_of (own handle.0)
-  pub slots : handle.1 ≡ (place, None) ∷ (slot, None) ∷ []
+  pub number : seat ≡ seat_of (own handle.0)
+  pub slots : handle.1 ≡ (slot_at place, None) ∷ (slot_at seat, None) ∷ []
   pub marks : (count : ℕ) × ((own handle.0).local.phase ≡ Works (Keeping (MarkTaken place count)))
 
 -- a step that moves no list: the seat does not leave by it, and its call takes over none

@@ -5,5 +5,6 @@ pub mod Ended
 pub mod Handles
 pub mod Moves
 pub mod Rule
+pub mod Spots
 pub mod Standing
 pub mod Views

@@ -2,7 +2,6 @@
 use Rattle.std.specs.Prelude.{Bool, List, MatchBool, None, Option, [], false, true, ℕ, ◌++◌, ◌+◌, ◌==◌, ◌∷◌, ◌≡◌}
 use Rattle.atomic_table.specs.Table.{Step, rest}
 use Rattle.wfe_core.specs.words.declared.layout.Layout.{Layout}
-use Rattle.wfe_core.specs.defs.declared.call.Call.{Call}
 use Rattle.wfe_drive_rule.specs.declared.kept.Kept.{Kept}
 use Rattle.wfe_core.specs.Calls.{Keeping, TakeList, Works}
 use Rattle.wfe_core.specs.defs.declared.lifetime.Lifetime.{Lifetime}
@@ -11,15 +10,17 @@ use Rattle.wfe_core.specs.World.{finds, offered}
 use Rattle.wfe_drive_cells.specs.Operations.{answer_of}
 use Rattle.wfe_drive_cells.specs.Unit.{kept_desk}
 use Rattle.law_reuse.specs.history.History.{Item, Steps, world_of}
-use Rattle.wfe_drive_rule.specs.Views.{Handle, Track, View, bare_view, fresh_track, own, seat_of, slot_left, standing}
+use Rattle.wfe_drive_rule.specs.Spots.{slot_at}
+use Rattle.wfe_drive_rule.specs.Rule.{Opens}
+use Rattle.wfe_drive_rule.specs.Views.{Handle, Track, View, bare_view, fresh_track, own, seat_of, slot_left, standing, tidings}
 
 -- the view with another own seat, and no other
 abbrev pub with_own : View → Track → View
-with_own view track = record { made = view.made; tracks = track ∷ []; holds = view.holds }
+with_own view track = record { made = view.made; tracks = track ∷ []; holds = view.holds; heard = view.heard }
 
 -- the view of a handle that has its slot
 abbrev pub slotted : View → View
-slotted view = record { made = view.made; tracks = view.tracks; holds = true }
+slotted view = record { made = view.made; tracks = view.tracks; holds = true; heard = view.heard }
 
 -- the seat as it makes a step that takes over no list
 abbrev pub keeping : Local → Local
@@ -57,7 +58,7 @@ pub record IsTaken (handle : Handle) (gift : List Lifetime) (later : Handle) : T
   pub place : ℕ
   pub at : (standing handle).phase ≡ Works (Keeping (TakeList place))
   pub first : Bool
-  pub slots : later.1 ≡ (place, slot_left (record { lives = gift; slots = (own handle.0).local.post.layout.config.slots }) first) ∷ handle.1
+  pub slots : later.1 ≡ (slot_at place, slot_left (record { lives = gift; slots = (own handle.0).local.post.layout.config.slots }) first) ∷ handle.1
 
 -- a step by which it takes over a list, if it finds one that was left
 pub record TakesOver (handle : Handle) (word : ℕ) (later : Handle) : Type 0 where
@@ -79,13 +80,13 @@ Adopts step = TakesOver
 abbrev pub Marks : Step (Option Kept) → Handle → ℕ → Handle → Type 0
 Marks step handle word later = MarksOver handle 0 later
 
--- the slot of the own seat's number is taken, and holds no call
+-- the own seat's slot is taken, and holds no call
 abbrev pub Takes : Step (Option Kept) → Handle → ℕ → Handle → Type 0
-Takes step handle word later = later ≡ (slotted handle.0, (seat_of (own handle.0), None) ∷ [])
+Takes step handle word later = later ≡ (slotted handle.0, (slot_at (seat_of (own handle.0)), None) ∷ [])
 
 -- the view of a handle without its slot
 abbrev pub bared : View → View
-bared view = record { made = view.made; tracks = view.tracks; holds = false }
+bared view = record { made = view.made; tracks = view.tracks; holds = false; heard = view.heard }
 
 -- the slot is given back
 abbrev pub Gives : Step (Option Kept) → Handle → ℕ → Handle → Type 0
@@ -93,7 +94,7 @@ Gives step handle word later = later ≡ (bared handle.0, [])
 
 -- the handle that counts has counted one seat more
 abbrev pub one_more : View → View
-one_more view = record { made = view.made + 1; tracks = view.tracks; holds = view.holds }
+one_more view = record { made = view.made + 1; tracks = view.tracks; holds = view.holds; heard = view.heard }
 
 -- a handle of the next seat
 abbrev pub newcomer : View → View
@@ -101,4 +102,30 @@ newcomer view = bare_view 0 (fresh_track (own view).local.post.layout view.made)
 
 -- a handle takes in another, and its seats come after its own
 abbrev pub taken_in : View → View → View
-taken_in view other = record { made = view.made + other.made; tracks = view.tracks ++ other.tracks; holds = false }
+taken_in view other = record { made = view.made + other.made; tracks = view.tracks ++ other.tracks; holds = false; heard = [] }
+
+-- a handle that tells how far its seat's history is known
+abbrev pub same_view : View → View
+same_view view = view
+
+abbrev pub told_of : View → View
+told_of view = tidings (own view).past
+
+-- a handle hears what another tells
+abbrev pub hearing : View → View → View
+hearing view other = record { made = view.made; tracks = view.tracks; holds = view.holds; heard = other.heard }
+
+-- the seat with a longer past
+abbrev pub aware : View → List Item → View
+aware view items = record { made = view.made; tracks = (record { local = (own view).local; past = items }) ∷ []; holds = view.holds; heard = [] }
+
+-- from now on the seat's past is a history that begins with what it was and with what the handle has heard
+pub record Learns (layout : Layout) (handle later : Handle) : Type 0 where
+  pub items : List Item
+  pub to : later ≡ (aware handle.0 items, handle.1)
+  pub grows : Opens items (own handle.0).past
+  pub knows : Opens items handle.0.heard
+  pub stood : (world_of layout items).seat (seat_of (own handle.0)) ≡ (own handle.0).local
+
+abbrev pub Hears : Step (Option Kept) → Handle → ℕ → Handle → Type 0
+Hears step handle word later = Learns (own handle.0).local.post.layout handle later

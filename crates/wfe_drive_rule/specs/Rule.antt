@@ -6,14 +6,14 @@ use lib.ListN.{get_elem?}
 use Rattle.atomic_table.specs.Table.{State}
 use Rattle.wfe_core.specs.words.Place.{is_valid, words}
 use Rattle.wfe_core.specs.words.declared.layout.Layout.{Layout}
-use Rattle.wfe_core.specs.defs.declared.call.Call.{Call}
 use Rattle.wfe_drive_rule.specs.declared.kept.Kept.{Kept}
 use Rattle.wfe_core.specs.Calls.{Keeping, MarkTaken, Phase, Works}
 use Rattle.wfe_core.specs.Locals.{fresh}
 use Rattle.wfe_core.specs.World.{World, is_here, list_in}
 use Rattle.wfe_core.specs.words.Place.Place.{PlaceOf}
 use Rattle.wfe_drive_cells.specs.Memory.{memory}
-use Rattle.law_reuse.specs.history.History.{Item, world_of}
+use Rattle.law_reuse.specs.history.History.{Begins, Item, Steps, world_of}
+use Rattle.wfe_drive_rule.specs.Spots.{shown, slot_at, spots}
 use Rattle.wfe_drive_rule.specs.Views.{Track, View, seat_of, slot_left}
 
 -- how many of these tracks are the seat's
@@ -52,11 +52,25 @@ size view = length view.tracks
 abbrev pub counted : View → ℕ
 counted view = view.made
 
+-- the seat whose call begins by the item, or whose step it is
+abbrev pub item_seat : Item → ℕ
+item_seat (Begins seat call) = seat
+item_seat (Steps seat) = seat
+
+-- none of the items is the seat's
+abbrev pub NoneOf : (seat : ℕ) → List Item → Type 0
+NoneOf seat items = All (λ item. (seat == item_seat item) ≡ false) items
+
+-- these items begin the history
+abbrev pub Opens : List Item → List Item → Type 0
+Opens items past = (more : List Item) × (items ≡ past ++ more)
+
 -- the seat stands in the World that a history comes to as its own last step left it
 pub record Follows (layout : Layout) (items : List Item) (track : Track) : Type 0 where
-  -- the seat's past begins the history
+  -- the seat's past begins the history, which has none of the seat's items beyond it
   pub more : List Item
   pub begins : items ≡ track.past ++ more
+  pub alone : NoneOf (seat_of track) more
   -- the seat stands where its past left it, in the World of that past and in that of the history
   pub stood : (world_of layout track.past).seat (seat_of track) ≡ track.local
   pub stands : (world_of layout items).seat (seat_of track) ≡ track.local
@@ -81,7 +95,7 @@ pub record AtHome (layout : Layout) (w : World) (seat : ℕ) (kept : Option Kept
 -- it is at home, and holds that
 pub record IsHome (layout : Layout) (w : World) (homes : List (Home (Option Kept))) (seat : ℕ) : Type 0 where
   pub kept : Option Kept
-  pub there : get_elem? homes seat ≡ some (some kept)
+  pub there : get_elem? homes (slot_at seat) ≡ some (some kept)
   pub holds : AtHome layout w seat kept
 
 -- the seat of this track has not left
@@ -99,8 +113,11 @@ pub record Rules (layout : Layout) (list : List ℕ) (homes : List (Home (Option
   pub mem : (world_of layout items).mem ≡ memory layout list
   -- each seat of a view stands in that World as the view says, and its past begins these items
   pub tracks : (id : ℕ) (view : View) → get_elem? views id ≡ some view → All (Follows layout items) view.tracks
+  -- what a view has heard begins them too
+  pub heard : (id : ℕ) (view : View) → get_elem? views id ≡ some view → Opens items view.heard
   -- a seat that no view has has made no call
   pub unmade : (seat : ℕ) → sum_by (had seat) views ≡ 0 → (world_of layout items).seat seat ≡ fresh layout seat
+  pub none : (seat : ℕ) → sum_by (had seat) views ≡ 0 → NoneOf seat items
   -- the seats that were made are numbered, and one view says how many they are
   pub made : ℕ
   pub numbers : Numbered layout views made
@@ -109,6 +126,14 @@ pub record Rules (layout : Layout) (list : List ℕ) (homes : List (Home (Option
   -- each slot that no view has is at home
   pub home : (seat : ℕ) → seat < layout.config.seats → sum_by (taken seat) views ≡ 0 → IsHome layout (world_of layout items) homes seat
 
--- the same of the table as plain data
+-- the same of a table as plain data, whose words lie by number
+abbrev pub ByNumber : Layout → State (Option Kept) View → Type 0
+ByNumber layout state = Rules layout state.words state.homes state.views
+
+-- a table whose words lie by spot, as it is shown by number
+abbrev pub by_number : Layout → State (Option Kept) View → State (Option Kept) View
+by_number layout state = record { words = shown layout state.words; homes = state.homes; views = state.views }
+
+-- what holds of the table as plain data, whose words lie by spot: the block has that length, and what it shows meets the rule
 abbrev pub Holds : Layout → State (Option Kept) View → Type 0
-Holds layout state = Rules layout state.words state.homes state.views
+Holds layout state = (length state.words ≡ spots layout) × ByNumber layout (by_number layout state)

@@ -17,11 +17,12 @@ pub record Track : Type 0 where
   pub past : List Item
 
 -- how many seats were made, and 0 where the handle does not say; the seats that it has, its own first and after it those that
--- it has taken in; and whether it has its own seat's slot
+-- it has taken in; whether it has its own seat's slot; and how far it has heard that the history goes
 pub record View : Type 0 where
   pub made : ℕ
   pub tracks : List Track
   pub holds : Bool
+  pub heard : List Item
 
 -- a handle: what it knows, and the slots that it has
 abbrev pub Handle : Type 0
@@ -37,7 +38,7 @@ fresh_track layout seat = record { local = fresh layout seat; past = [] }
 
 -- a handle of one seat, without its slot
 abbrev pub bare_view : ℕ → Track → View
-bare_view made track = record { made = made; tracks = track ∷ []; holds = false }
+bare_view made track = record { made = made; tracks = track ∷ []; holds = false; heard = [] }
 
 -- the first handle, which counts the seats that are made
 abbrev pub first_view : Layout → View
@@ -45,7 +46,11 @@ first_view layout = bare_view 1 (fresh_track layout 0)
 
 -- what is left of a handle that another has taken in
 abbrev pub spent : View
-spent = record { made = 0; tracks = []; holds = false }
+spent = record { made = 0; tracks = []; holds = false; heard = [] }
+
+-- a handle without a seat, which says how far a history is known
+abbrev pub tidings : List Item → View
+tidings past = record { made = 0; tracks = []; holds = false; heard = past }
 
 -- a seat of no table, for a spent handle
 abbrev pub no_track : Track

@@ -7,26 +7,30 @@ ghost use Rattle.wfe_core.specs.World.{offered};
 ghost use Rattle.wfe_core.specs.declared.op.Op.TheVariants as ops;
 ghost use Rattle.wfe_drive_rule.specs.Handles.{IsAdopting, IsBare, IsIdle, IsResting, IsSeated, IsSized};
 ghost use Rattle.wfe_drive_rule.specs.Moves.{Told, slotted};
+ghost use Rattle.wfe_drive_cells.specs.Spots.{spot as spot_of};
 ghost use Rattle.wfe_drive_rule.specs.Views.{call_in, leave_if, own, seat_of, standing};
 
 use crate::kept::Kept;
 use crate::rule::{AdoptList, HandList, Handle, Ledger, MarkPlace};
 use wfe_core::RetireList;
 
-/// The last step of a leave, a store of 1 into the seat's place word: the slot goes home with the seat's
-/// list in it, and the handle is bare. `first` says whether it is the leave's only step.
+/// The last step of a leave, a store of 1 into the seat's place word, which lies at this spot: the slot
+/// goes home with the seat's list in it, and the handle is bare. `first` says whether it is the leave's
+/// only step.
 pub fn hand_list(
     table: &Ledger,
     handle: &mut Handle,
-    slot: usize,
+    seat: u32,
     word: u32,
+    spot: usize,
     list: RetireList,
     first: bool,
 )
     requires ids { handle.old.table_id ≡ table.now.table_id }
     requires sized { IsSized table.now.table_id table.now.key }
-    requires seated { IsSeated table.now.key slot handle.old.me }
+    requires seated { IsSeated table.now.key seat handle.old.me }
     requires leaves { (standing handle.old.me).phase ≡ Works (Keeping MarkLeft) }
+    requires spot { spot ≡ spot_of table.now.key word }
     requires asks { ops.Store word 1 ≡ asks (standing handle.old.me) }
     requires first { call_in handle.old.me.1 ≡ leave_if first }
     requires list { list ≡ record { lives = (standing handle.old.me).desk.list; slots = table.now.key.config.slots } }
@@ -35,8 +39,8 @@ pub fn hand_list(
     ensures idle { IsIdle (own handle.new.me.0) }
     ensures told { Told table.now.key handle.old.me 0 (slotted handle.new.me.0) }
 {
-    table.exchange(handle, slot, Some(Kept::Left { list, first }));
-    table.store::<HandList>(handle, word as usize, 1);
+    table.exchange(handle, 8 * seat as usize, Some(Kept::Left { list, first }));
+    table.store::<HandList>(handle, spot, 1);
 }
 
 /// The first step of an adoption, an exchange of a seat's place word from 1 to 2. Where a list was left
@@ -45,28 +49,30 @@ pub fn hand_list(
 pub fn adopt_list(
     table: &Ledger,
     handle: &mut Handle,
-    slot: usize,
+    seat: u32,
     word: u32,
+    spot: usize,
     place: u32,
 ) -> Result<RetireList, u64>
     requires ids { handle.old.table_id ≡ table.now.table_id }
     requires sized { IsSized table.now.table_id table.now.key }
-    requires seated { IsSeated table.now.key slot handle.old.me }
+    requires seated { IsSeated table.now.key seat handle.old.me }
     requires takes { (standing handle.old.me).phase ≡ Works (Keeping (TakeList place)) }
+    requires spot { spot ≡ spot_of table.now.key word }
     requires asks { ops.Cas word 1 2 ≡ asks (standing handle.old.me) }
     ensures ids { (handle.new.table_id ≡ handle.old.table_id) × (handle.new.id ≡ handle.old.id) }
-    ensures taken { IfOk result (λ list. IsAdopting table.now.key slot place handle.new.me × (told : Told table.now.key handle.old.me 1 handle.new.me.0)
+    ensures taken { IfOk result (λ list. IsAdopting table.now.key seat place handle.new.me × (told : Told table.now.key handle.old.me 1 handle.new.me.0)
         × (list ≡ record { lives = (offered (world_of table.now.key told.items) (seat_of (own handle.old.me.0))).desk.gift; slots = table.now.key.config.slots })) }
-    ensures missed { IfErr result (λ found. (found ≢ 1) × IsSeated table.now.key slot handle.new.me × (call_in handle.new.me.1 ≡ None) × Told table.now.key handle.old.me found handle.new.me.0) }
+    ensures missed { IfErr result (λ found. (found ≢ 1) × IsSeated table.now.key seat handle.new.me × (call_in handle.new.me.1 ≡ None) × Told table.now.key handle.old.me found handle.new.me.0) }
 {
-    let found = table.compare_exchange::<AdoptList>(handle, word as usize, 1, 2);
+    let found = table.compare_exchange::<AdoptList>(handle, spot, 1, 2);
     if found != 1 {
-        table.exchange(handle, slot, None);
+        table.exchange(handle, 8 * seat as usize, None);
         return Err(found);
     }
-    let kept = table.exchange(handle, place as usize, None);
+    let kept = table.exchange(handle, 8 * place as usize, None);
     handle.turn();
-    table.exchange(handle, slot, None);
+    table.exchange(handle, 8 * seat as usize, None);
     handle.turn();
     match kept {
         Some(Kept::Left { list, first: _ }) => Ok(list),
@@ -75,15 +81,23 @@ pub fn adopt_list(
 }
 
 /// The last step of an adoption, a store of 3 into the place word: that place's slot goes home.
-pub fn mark_place(table: &Ledger, handle: &mut Handle, slot: usize, word: u32, place: u32)
+pub fn mark_place(
+    table: &Ledger,
+    handle: &mut Handle,
+    seat: u32,
+    word: u32,
+    spot: usize,
+    place: u32,
+)
     requires ids { handle.old.table_id ≡ table.now.table_id }
     requires sized { IsSized table.now.table_id table.now.key }
-    requires adopting { IsAdopting table.now.key slot place handle.old.me }
+    requires adopting { IsAdopting table.now.key seat place handle.old.me }
+    requires spot { spot ≡ spot_of table.now.key word }
     requires asks { ops.Store word 3 ≡ asks (standing handle.old.me) }
     ensures ids { (handle.new.table_id ≡ handle.old.table_id) × (handle.new.id ≡ handle.old.id) }
-    ensures seated { IsSeated table.now.key slot handle.new.me }
+    ensures seated { IsSeated table.now.key seat handle.new.me }
     ensures resting { IsResting handle.new.me }
     ensures told { Told table.now.key handle.old.me 0 handle.new.me.0 }
 {
-    table.store::<MarkPlace>(handle, word as usize, 3);
+    table.store::<MarkPlace>(handle, spot, 3);
 }

@@ -114,3 +114,35 @@ impl Join<HandleView> for TakeIn {
 
     ghost spent = { spent };
 }
+
+// How far a seat's history is known goes to a handle of its own.
+pub(crate) struct TellNews;
+
+impl Split<HandleView> for TellNews {
+    ghost use Rattle.wfe_drive_rule.specs.Moves.{same_view, told_of};
+
+    ghost left = { same_view };
+
+    ghost right = { told_of };
+}
+
+// A handle has what another tells.
+pub(crate) struct TakeNews;
+
+impl Join<HandleView> for TakeNews {
+    ghost use Rattle.wfe_drive_rule.specs.Moves.{hearing};
+    ghost use Rattle.wfe_drive_rule.specs.Views.{spent};
+
+    ghost both = { hearing };
+
+    ghost spent = { spent };
+}
+
+// A seat's past begins with what its handle has heard.
+pub(crate) struct HearNews;
+
+impl Play<Option<Kept>, HandleView> for HearNews {
+    ghost use Rattle.wfe_drive_rule.specs.Moves.{Hears};
+
+    ghost then = { Hears };
+}

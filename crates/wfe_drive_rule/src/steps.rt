@@ -3,54 +3,57 @@ ghost use Rattle.std.specs.Prelude.{◌≡◌, ◌≢◌, None, false, true};
 ghost use Rattle.wfe_core.specs.defs.declared.call.Call.TheVariants as calls;
 ghost use Rattle.wfe_core.specs.Locals.{after, asks, begun, busy_in, may_begin};
 ghost use Rattle.wfe_drive_rule.specs.Handles.{IsAdopting, IsBare, IsResting, IsSeated, IsSized, MovesNone};
+ghost use Rattle.wfe_drive_cells.specs.Operations.{word_in};
 ghost use Rattle.wfe_drive_cells.specs.Unit.{may_adopt};
 ghost use Rattle.wfe_drive_rule.specs.Moves.{Told, keeping};
+ghost use Rattle.wfe_drive_cells.specs.Spots.{spot as spot_of};
 ghost use Rattle.wfe_drive_rule.specs.Views.{call_in, own, seat_of, standing};
 
 use crate::kept::Kept;
 use crate::rule::{AdoptList, HandList, Handle, Ledger, MarkPlace, OneStep};
 use wfe_core::{Call, Op};
 
-/// A call of the handle's seat begins, one that may begin, where none is under way and the last was no leave. No word changes: the seat's slot,
-/// whose number is the seat's, holds the call until its first step.
-pub fn begin(table: &Ledger, handle: &mut Handle, slot: usize, call: Call)
+/// A call of the handle's seat begins, one that may begin, where none is under way and the last was no leave. No word changes: the seat's slot
+/// holds the call until its first step.
+pub fn begin(table: &Ledger, handle: &mut Handle, seat: u32, call: Call)
     requires ids { handle.old.table_id ≡ table.now.table_id }
-    requires seated { IsSeated table.now.key slot handle.old.me }
+    requires seated { IsSeated table.now.key seat handle.old.me }
     requires resting { IsResting handle.old.me }
     requires there { (standing handle.old.me).call ≢ calls.Leave }
     requires may { may_begin table.now.key.config call ≡ true }
     ensures ids { (handle.new.table_id ≡ handle.old.table_id) × (handle.new.id ≡ handle.old.id) }
-    ensures seated { IsSeated table.now.key slot handle.new.me }
+    ensures seated { IsSeated table.now.key seat handle.new.me }
     ensures view { handle.new.me.0 ≡ handle.old.me.0 }
     ensures begins { standing handle.new.me ≡ begun (standing handle.old.me) call }
 {
-    match table.exchange(handle, slot, Some(Kept::Begun { call })) {
+    match table.exchange(handle, 8 * seat as usize, Some(Kept::Begun { call })) {
         None => {}
         Some(_) => unreachable!(),
     }
 }
 
-/// The next step of the handle's seat, whose call is under way, one that moves no list: one atomic step on one word. It
-/// answers the word before, and 0 for a store. At the call's first step the slot is emptied too; at
+/// The next step of the handle's seat, whose call is under way, one that moves no list: one atomic step on one word, which
+/// lies at this spot. It answers the word before, and 0 for a store. At the call's first step the slot is emptied too; at
 /// the others nothing else is written.
 #[inline(always)]
-pub fn step(table: &Ledger, handle: &mut Handle, slot: usize, op: Op, first: bool) -> u64
+pub fn step(table: &Ledger, handle: &mut Handle, seat: u32, op: Op, spot: usize, first: bool) -> u64
     requires ids { handle.old.table_id ≡ table.now.table_id }
     requires sized { IsSized table.now.table_id table.now.key }
-    requires seated { IsSeated table.now.key slot handle.old.me }
+    requires seated { IsSeated table.now.key seat handle.old.me }
     requires busy { busy_in (standing handle.old.me).phase ≡ true }
     requires asks { op ≡ asks (standing handle.old.me) }
+    requires spot { spot ≡ spot_of table.now.key (word_in op) }
     requires later { first ≡ false → call_in handle.old.me.1 ≡ None }
     requires moves { MovesNone (standing handle.old.me) }
     ensures ids { (handle.new.table_id ≡ handle.old.table_id) × (handle.new.id ≡ handle.old.id) }
-    ensures seated { IsSeated table.now.key slot handle.new.me }
+    ensures seated { IsSeated table.now.key seat handle.new.me }
     ensures slot { call_in handle.new.me.1 ≡ None }
     ensures stands { may_adopt (standing handle.old.me).phase ≡ false → standing handle.new.me ≡ after (keeping (standing handle.old.me)) result }
     ensures told { Told table.now.key handle.old.me result handle.new.me.0 }
 {
-    let found = perform(table, handle, op);
+    let found = perform(table, handle, op, spot);
     if first {
-        match table.exchange(handle, slot, None) {
+        match table.exchange(handle, 8 * seat as usize, None) {
             Some(Kept::Left { .. }) => unreachable!(),
             Some(Kept::Begun { .. }) | None => {}
         }
@@ -60,27 +63,28 @@ pub fn step(table: &Ledger, handle: &mut Handle, slot: usize, op: Op, first: boo
 
 // The atomic step alone: the slot is as it was.
 #[inline(always)]
-fn perform(table: &Ledger, handle: &mut Handle, op: Op) -> u64
+fn perform(table: &Ledger, handle: &mut Handle, op: Op, spot: usize) -> u64
     requires ids { handle.old.table_id ≡ table.now.table_id }
     requires sized { IsSized table.now.table_id table.now.key }
     requires seated { IsSeated table.now.key (seat_of (own handle.old.me.0)) handle.old.me }
     requires busy { busy_in (standing handle.old.me).phase ≡ true }
     requires asks { op ≡ asks (standing handle.old.me) }
+    requires spot { spot ≡ spot_of table.now.key (word_in op) }
     requires moves { MovesNone (standing handle.old.me) }
     ensures ids { (handle.new.table_id ≡ handle.old.table_id) × (handle.new.id ≡ handle.old.id) }
     ensures slots { handle.new.me.1 ≡ handle.old.me.1 }
     ensures told { Told table.now.key handle.old.me result handle.new.me.0 }
 {
     match op {
-        Op::Load { word } => table.load::<OneStep>(handle, word as usize),
-        Op::Store { word, value } => {
-            table.store::<OneStep>(handle, word as usize, value);
+        Op::Load { word: _ } => table.load::<OneStep>(handle, spot),
+        Op::Store { word: _, value } => {
+            table.store::<OneStep>(handle, spot, value);
             0
         }
-        Op::Cas { word, old, new } => {
-            table.compare_exchange::<OneStep>(handle, word as usize, old, new)
+        Op::Cas { word: _, old, new } => {
+            table.compare_exchange::<OneStep>(handle, spot, old, new)
         }
-        Op::Or { word, bits } => table.fetch_or::<OneStep>(handle, word as usize, bits),
-        Op::And { word, bits } => table.fetch_and::<OneStep>(handle, word as usize, bits),
+        Op::Or { word: _, bits } => table.fetch_or::<OneStep>(handle, spot, bits),
+        Op::And { word: _, bits } => table.fetch_and::<OneStep>(handle, spot, bits),
     }
 }

@@ -4,14 +4,15 @@ ghost use Rattle.std.specs.Slots.{IsFull, slots_items, slots_len};
 ghost use Rattle.wfe_core.specs.words.Place.{is_valid};
 ghost use Rattle.wfe_drive_rule.specs.Ended.{Ended};
 ghost use Rattle.wfe_drive_rule.specs.Handles.{IsBare, IsGathered, IsSized};
+ghost use Rattle.wfe_drive_rule.specs.Spots.{shown};
 ghost use Rattle.wfe_drive_rule.specs.Views.{first_view};
 
+use crate::block::start_block;
 use crate::kept::Kept;
 use crate::rule::{Handle, OwnedLedger};
 use atomic_table::{Closed, Table};
 use std::alloc::Global;
 use wfe_core::{Layout, NoMemory};
-use wfe_drive_cells::start_words;
 
 /// A table with the start words of a layout, and the handle of seat 0, which counts the seats that
 /// are made. Where there is no memory for the words and slots it gives `NoMemory`.
@@ -22,15 +23,15 @@ pub fn open(alloc: Global, layout: Layout) -> Result<(OwnedLedger, Handle), NoMe
     ensures handle { IfOk result (λ r. (r.1.table_id ≡ r.0.shared.table_id) × (r.1.me ≡ (first_view layout, []))) }
     ensures bare { IfOk result (λ r. IsBare layout r.1.me) }
 {
-    let words = start_words(alloc, layout)?;
-    let slots = layout.config().seats as usize;
-    match Table::vacant(alloc, words.as_slice(), slots, &layout) {
+    let block = start_block(alloc, layout)?;
+    let slots = 8 * layout.config().seats as usize;
+    match Table::vacant(alloc, block.as_slice(), slots, &layout) {
         Ok((table, handle)) => Ok((table, handle)),
         Err(_) => Err(NoMemory),
     }
 }
 
-/// The words at the end, once one handle has as many seats as the table has, all between calls. Each
+/// The words at the end, by spot, once one handle has as many seats as the table has, all between calls. Each
 /// slot comes back too.
 pub fn close(table: OwnedLedger, handle: Handle) -> Closed<Option<Kept>, Global>
     requires ids { handle.table_id ≡ table.shared.table_id }
@@ -38,7 +39,7 @@ pub fn close(table: OwnedLedger, handle: Handle) -> Closed<Option<Kept>, Global>
     requires all { table.shared.key.config.seats ≤ length handle.me.0.tracks }
     ensures counts { (slots_len result.words ≡ table.shared.table_id.words) × (slots_len result.slots ≡ table.shared.table_id.slots) }
     ensures full { IsFull result.words × IsFull result.slots }
-    ensures ended { Ended table.shared.key (slots_items result.words) handle.me.0.tracks }
+    ensures ended { Ended table.shared.key (shown table.shared.key (slots_items result.words)) handle.me.0.tracks }
 {
     table.close_with(handle)
 }

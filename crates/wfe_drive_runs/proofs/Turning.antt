@@ -19,17 +19,18 @@ use Rattle.wfe_core.specs.Steps.{resume, resumed, run_turn, tidying}
 use Rattle.wfe_core.specs.declared.desk.Desk.{Desk as HeldDesk}
 use Rattle.wfe_core.specs.declared.op.Op.{Op}
 use Rattle.wfe_core.specs.declared.post.Post.{Post}
-use Rattle.wfe_drive_words.specs.drive_cells.Unit.{SeatView, asked, seat_after}
+use Rattle.wfe_drive_words.specs.drive_cells.Unit.{SeatView, seat_after}
 use Rattle.wfe_drive_words.specs.Called.{Here, at_phase}
-use Rattle.wfe_drive_words.specs.Path.{AsksFor, Leads, StepsOn, taken, Closes}
+use Rattle.wfe_drive_words.specs.Path.{AsksFor, Closes, Leads, StepsOn, placed, taken}
 use Rattle.wfe_drive_runs.specs.Pieces.{EndsSo, LeadsSo, TurnsTo, seat_of, ScansSo, retire_told}
 use Rattle.wfe_drive_words.specs.Comes.{Comes}
 use Rattle.wfe_drive_words.specs.Readiness.{MayAsk}
 use Rattle.wfe_drive_words.proofs.Makes.{may_ask_at}
 use Rattle.wfe_drive_words.proofs.Leading.{closes_as, closes_from, leads_as, leads_from, then_closes, then_leads}
+use Rattle.wfe_drive_words.specs.drive_cells.declared.located.Located.{Located}
 
 -- the seat asks for its operation
-pub asks_seat : {at : Local → Type 0} {op : Op} (seat : SeatView) → Here at seat → busy_in seat.phase ≡ true → op ≡ asked seat → AsksFor at seat op
+pub asks_seat : {at : Local → Type 0} {op : Located} (seat : SeatView) → Here at seat → busy_in seat.phase ≡ true → op ≡ placed seat → AsksFor at seat op
 asks_seat seat h b o = record { here = h; busy = b; is = o }
 
 -- one step takes its turn

@@ -7,7 +7,7 @@ ghost use Rattle.wfe_drive_words.specs.Called.{Here, at_phase};
 ghost use Rattle.wfe_drive_runs.specs.Pieces.{EndsSo, IsWalk};
 
 use wfe_core::{Desk, Machine, Post, Told};
-use wfe_drive_words::{Words, step};
+use wfe_drive_words::{Located, Words, step};
 
 /// Makes the steps of a machine until it ends, and notes what they tell.
 pub fn run<W: Words, M: Machine>(
@@ -33,7 +33,8 @@ pub fn run<W: Words, M: Machine>(
     let mut told = Told::new();
     loop {
         let op = machine.next_op(post);
-        let found = step(words, op);
+        let at = Located::of(&post.layout, op);
+        let found = step(words, at);
         post.steps += 1;
         told.clear();
         let ended = machine.take(post, found, &mut told);

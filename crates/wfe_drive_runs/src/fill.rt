@@ -4,19 +4,20 @@ ghost use Rattle.wfe_core.specs.words.Place.Place.{Row};
 ghost use Rattle.wfe_core.specs.words.Place.{has, number as number_of};
 ghost use Rattle.wfe_core.specs.Calls.{Runs, Why};
 ghost use Rattle.wfe_core.specs.Desks.{Desk as ModelDesk};
-ghost use Rattle.wfe_core.specs.Memory.{Store as Stores, numbered};
+ghost use Rattle.wfe_core.specs.Memory.{Store as Stores};
 ghost use Rattle.wfe_core.specs.Phases.{QueueRow};
 ghost use Rattle.wfe_core.specs.Phases.Base.{Write};
 ghost use Rattle.wfe_core.specs.Phases.Ending.{Done};
 ghost use Rattle.wfe_core.specs.Ready.{SlotFits};
 ghost use Rattle.wfe_core.specs.Steps.{resume};
 ghost use Rattle.wfe_core.specs.Valid.{IsValid};
+ghost use Rattle.wfe_drive_words.specs.drive_cells.Spots.{spotted};
 ghost use Rattle.wfe_drive_words.specs.drive_cells.Unit.{kept_desk};
 ghost use Rattle.wfe_drive_words.specs.Called.{Here};
 ghost use Rattle.wfe_drive_runs.specs.Pieces.{TurnsTo, seat_of};
 
 use wfe_core::{Op, Post};
-use wfe_drive_words::{Words, step};
+use wfe_drive_words::{Located, Words, step};
 
 /// Writes an item with its number into a row of the seat's, with no next link.
 #[inline(always)]
@@ -41,15 +42,12 @@ pub fn write_item<W: Words>(words: &mut W, post: &mut Post, slot: u32, number: u
 
 // A store of a word of a row, of which the number of the first word is known.
 #[inline(always)]
-pub fn store_cell(post: &Post, _slot: u32, first: u32, place: u32, value: u64) -> Op
+pub fn store_cell(post: &Post, _slot: u32, first: u32, place: u32, value: u64) -> Located
     requires valid { IsValid post.now }
     requires there { has post.now.layout (Row _slot place) ≡ true }
     requires first { first ≡ number_of post.now.layout (Row _slot 0) }
-    ensures { result ≡ numbered post.now.layout (Stores (Row _slot place) value) }
+    ensures { result ≡ spotted post.now.layout (Stores (Row _slot place) value) }
 {
-    let _post = post;
-    Op::Store {
-        word: first + place,
-        value,
-    }
+    let word = first + place;
+    Located::dense(&post.layout, Op::Store { word, value })
 }

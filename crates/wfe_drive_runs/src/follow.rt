@@ -3,7 +3,7 @@ ghost use Rattle.std.specs.Prelude.{◌≡◌, ◌<◌, ◌≤◌, ◌+◌, ◌^
 ghost use Rattle.wfe_core.specs.Calls.{Runs, Why};
 ghost use Rattle.wfe_core.specs.Dequeue.{follow_base};
 ghost use Rattle.wfe_core.specs.DeskHeld.{HasRoom, desk_of};
-ghost use Rattle.wfe_core.specs.Memory.{Load as Loads, numbered};
+ghost use Rattle.wfe_core.specs.Memory.{Load as Loads};
 ghost use Rattle.wfe_core.specs.Phases.Base.{Reload};
 ghost use Rattle.wfe_core.specs.Phases.Ending.{Followed as FollowedEnd};
 ghost use Rattle.wfe_core.specs.Phases.ProtectAt.{PublishRequest};
@@ -14,6 +14,7 @@ ghost use Rattle.wfe_core.specs.defs.declared.event.Root.TheVariants.{Next as Ne
 ghost use Rattle.wfe_core.specs.words.Place.Place.{Head};
 ghost use Rattle.wfe_core.specs.words.Schemes.{has_one_interval};
 ghost use Rattle.wfe_core.specs.words.declared.config.SchemeKind.TheVariants.{Ibr as IbrKind};
+ghost use Rattle.wfe_drive_words.specs.drive_cells.Spots.{spotted};
 ghost use Rattle.wfe_drive_words.specs.Called.{Here, at_phase};
 ghost use Rattle.wfe_drive_runs.specs.Following.{followed_trial};
 ghost use Rattle.wfe_drive_words.specs.Path.{held_at, protecting};
@@ -22,7 +23,7 @@ ghost use Rattle.wfe_drive_runs.specs.Pieces.{IsFree, IsSpanned, LeadsSo};
 use crate::followed_run::run_followed;
 use wfe_core::{Desk, FollowEnd, Interval, Op, Post, ProtectEnd, Root, SchemeKind};
 use wfe_drive_words::{
-    Bounded, ByIndex, Guarded, He, Hp, Wfe, WfeProtect, Words, protect_within, step,
+    Bounded, ByIndex, Guarded, He, Hp, Located, Wfe, WfeProtect, Words, protect_within, step,
 };
 
 /// Protects the next link of the head's row at index 1, under any scheme, and holds the row to which it
@@ -224,11 +225,10 @@ fn reload<W: Words>(
 
 // A load of the queue's head.
 #[inline(always)]
-fn load_head(post: &Post) -> Op
+fn load_head(post: &Post) -> Located
     requires { IsValid post.now }
-    ensures { result ≡ numbered post.now.layout (Loads Head) }
+    ensures { result ≡ spotted post.now.layout (Loads Head) }
 {
-    Op::Load {
-        word: post.layout.head(),
-    }
+    let word = post.layout.head();
+    Located::end(&post.layout, Op::Load { word })
 }

@@ -9,7 +9,7 @@ ghost use Rattle.wfe_drive_runs.specs.Following.{FollowsSo, IsNextAlone};
 ghost use Rattle.wfe_drive_words.specs.fast.Phases.{protect_phase};
 
 use wfe_core::{Desk, Machine, Post, ProtectEnd, Told};
-use wfe_drive_words::{WfeProtect, Words, step};
+use wfe_drive_words::{Located, WfeProtect, Words, step};
 
 /// Makes the steps of a protection of the parent's next link at index 1 until it ends, and notes what they
 /// tell. The row to which the link leads is not held before the head was loaded again.
@@ -37,7 +37,8 @@ pub fn run_followed<W: Words>(
     let mut told = Told::new();
     loop {
         let op = machine.next_op(post);
-        let found = step(words, op);
+        let at = Located::of(&post.layout, op);
+        let found = step(words, at);
         post.steps += 1;
         told.clear();
         let ended = machine.take(post, found, &mut told);

@@ -5,17 +5,18 @@ ghost use Rattle.wfe_core.specs.Calls.{Dequeuing, LoadTail, TakeNumber, Works};
 ghost use Rattle.wfe_core.specs.Calls as calls;
 ghost use Rattle.wfe_core.specs.Desks.{Desk as ModelDesk};
 ghost use Rattle.wfe_core.specs.Dequeue.{follow_base};
-ghost use Rattle.wfe_core.specs.Memory.{Cas as Exchanges, Load as Loads, numbered};
+ghost use Rattle.wfe_core.specs.Memory.{Cas as Exchanges, Load as Loads};
 ghost use Rattle.wfe_core.specs.Ready.{SlotFits};
 ghost use Rattle.wfe_core.specs.Valid.{IsValid};
 ghost use Rattle.wfe_call_rounds.specs.Endings.{next_of};
+ghost use Rattle.wfe_drive_words.specs.drive_cells.Spots.{spotted};
 ghost use Rattle.wfe_drive_words.specs.Called.{Here};
 ghost use Rattle.wfe_drive_words.specs.Path.{Leads};
 ghost use Rattle.wfe_drive_runs.specs.Pieces.{clearing_next_at, seat_of};
 
 use wfe_call_rounds::RoundEnd;
 use wfe_core::{Answer, ClockMove, Op, Post};
-use wfe_drive_words::{Words, load_cell, step};
+use wfe_drive_words::{Located, Words, load_cell, step};
 
 // Loads the queue's tail.
 #[inline(always)]
@@ -88,40 +89,43 @@ pub fn take<W: Words>(words: &mut W, post: &mut Post, head: u32, next: u32) -> R
 
 // A load of the tail.
 #[inline(always)]
-fn load_end(post: &Post) -> Op
+fn load_end(post: &Post) -> Located
     requires { IsValid post.now }
-    ensures { result ≡ numbered post.now.layout (Loads Tail) }
+    ensures { result ≡ spotted post.now.layout (Loads Tail) }
 {
-    Op::Load {
-        word: post.layout.tail(),
-    }
+    let word = post.layout.tail();
+    Located::end(&post.layout, Op::Load { word })
 }
 
 // An exchange of the tail, or of the head, from the link to one row to that to the next.
 #[inline(always)]
-fn move_end(post: &Post, head: u32, next: u32) -> Op
+fn move_end(post: &Post, head: u32, next: u32) -> Located
     requires valid { IsValid post.now }
     requires head { SlotFits post.now head }
     requires next { SlotFits post.now next }
-    ensures { result ≡ numbered post.now.layout (Exchanges Tail (head + 1) (next + 1)) }
+    ensures { result ≡ spotted post.now.layout (Exchanges Tail (head + 1) (next + 1)) }
 {
-    Op::Cas {
-        word: post.layout.tail(),
+    let word = post.layout.tail();
+    let op = Op::Cas {
+        word,
         old: head as u64 + 1,
         new: next as u64 + 1,
-    }
+    };
+    Located::end(&post.layout, op)
 }
 
 #[inline(always)]
-fn move_head(post: &Post, head: u32, next: u32) -> Op
+fn move_head(post: &Post, head: u32, next: u32) -> Located
     requires valid { IsValid post.now }
     requires head { SlotFits post.now head }
     requires next { SlotFits post.now next }
-    ensures { result ≡ numbered post.now.layout (Exchanges Head (head + 1) (next + 1)) }
+    ensures { result ≡ spotted post.now.layout (Exchanges Head (head + 1) (next + 1)) }
 {
-    Op::Cas {
-        word: post.layout.head(),
+    let word = post.layout.head();
+    let op = Op::Cas {
+        word,
         old: head as u64 + 1,
         new: next as u64 + 1,
-    }
+    };
+    Located::end(&post.layout, op)
 }

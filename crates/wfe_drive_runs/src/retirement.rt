@@ -5,7 +5,7 @@ ghost use Rattle.wfe_core.specs.defs.declared.call.ClockMove.TheVariants.{Still 
 ghost use Rattle.wfe_core.specs.Calls.{Idle, Retires, Runs};
 ghost use Rattle.wfe_core.specs.DeskHeld.{HasRoom, desk_of};
 ghost use Rattle.wfe_core.specs.Desks.{noting, with_life};
-ghost use Rattle.wfe_core.specs.Memory.{Load as Loads, Store as Stores, numbered};
+ghost use Rattle.wfe_core.specs.Memory.{Load as Loads, Store as Stores};
 ghost use Rattle.wfe_core.specs.Phases.Base.{Retire as Retiring};
 ghost use Rattle.wfe_core.specs.Phases.RetireAt.{LoadLife};
 ghost use Rattle.wfe_core.specs.Ready.{SlotFits};
@@ -14,6 +14,7 @@ ghost use Rattle.wfe_core.specs.Steps.{tidying};
 ghost use Rattle.wfe_core.specs.Valid.{IsValid};
 ghost use Rattle.wfe_core.specs.words.Packed.{life_word as word_of};
 ghost use Rattle.wfe_core.specs.words.Place.Place.{Life as LifeWord};
+ghost use Rattle.wfe_drive_words.specs.drive_cells.Spots.{spotted};
 ghost use Rattle.wfe_drive_words.specs.Called.{Here, at_phase};
 ghost use Rattle.wfe_drive_words.specs.Path.{Closes};
 ghost use Rattle.wfe_drive_runs.specs.Pieces.{TurnsTo, retire_told};
@@ -21,7 +22,7 @@ ghost use Rattle.wfe_drive_runs.specs.Pieces.{TurnsTo, retire_told};
 use crate::tidy_run::tidy;
 use wfe_call_rounds::birth_of;
 use wfe_core::{ClockMove, Desk, Life, Lifetime, Op, Post, life_word};
-use wfe_drive_words::{Words, load_clock, note_steps, step};
+use wfe_drive_words::{Located, Words, load_clock, note_steps, step};
 
 /// Retires the row, and then tidies where that is due. It answers the outcome of the move; `Still` where
 /// there is none, as the call's answer says before it.
@@ -91,25 +92,23 @@ fn note_retired(desk: &mut Desk, life: Lifetime)
 
 // A load of a row's lifetime word.
 #[inline(always)]
-fn load_life(post: &Post, slot: u32) -> Op
+fn load_life(post: &Post, slot: u32) -> Located
     requires valid { IsValid post.now }
     requires slot { SlotFits post.now slot }
-    ensures { result ≡ numbered post.now.layout (Loads (LifeWord slot)) }
+    ensures { result ≡ spotted post.now.layout (Loads (LifeWord slot)) }
 {
-    Op::Load {
-        word: post.layout.life(slot),
-    }
+    let word = post.layout.life(slot);
+    Located::dense(&post.layout, Op::Load { word })
 }
 
 // A store of both eras into it.
 #[inline(always)]
-fn store_lifetime(post: &Post, slot: u32, birth: u32, retire: u32) -> Op
+fn store_lifetime(post: &Post, slot: u32, birth: u32, retire: u32) -> Located
     requires valid { IsValid post.now }
     requires slot { SlotFits post.now slot }
-    ensures { result ≡ numbered post.now.layout (Stores (LifeWord slot) (word_of (record { birth = birth; retire = retire }))) }
+    ensures { result ≡ spotted post.now.layout (Stores (LifeWord slot) (word_of (record { birth = birth; retire = retire }))) }
 {
-    Op::Store {
-        word: post.layout.life(slot),
-        value: life_word(Life { birth, retire }),
-    }
+    let word = post.layout.life(slot);
+    let value = life_word(Life { birth, retire });
+    Located::dense(&post.layout, Op::Store { word, value })
 }

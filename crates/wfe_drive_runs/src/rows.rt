@@ -6,7 +6,7 @@ ghost use Rattle.wfe_core.specs.defs.declared.call.Answer.{Answer as ModelAnswer
 ghost use Rattle.wfe_core.specs.Calls.{GivesUp, Idle, Runs, Why};
 ghost use Rattle.wfe_core.specs.DeskHeld.{HasRoom, desk_of};
 ghost use Rattle.wfe_core.specs.Locals.{Local};
-ghost use Rattle.wfe_core.specs.Memory.{Or as SetsBits, Store as Stores, numbered};
+ghost use Rattle.wfe_core.specs.Memory.{Or as SetsBits, Store as Stores};
 ghost use Rattle.wfe_core.specs.Phases.{ends as turn_ends, goes as turn_goes};
 ghost use Rattle.wfe_core.specs.Phases.AllocateAt.{LoadBirth};
 ghost use Rattle.wfe_core.specs.Phases.Base.{Allocate as Allocating, GiveUp as GivingUp};
@@ -18,6 +18,7 @@ ghost use Rattle.wfe_core.specs.declared.op.Op.{Op as Operation};
 ghost use Rattle.wfe_core.specs.words.Packed.{life_word as word_of};
 ghost use Rattle.wfe_core.specs.words.Place.{claim_mask as mask_of, claim_word};
 ghost use Rattle.wfe_core.specs.words.Place.Place.{Claim, Life as LifeWord};
+ghost use Rattle.wfe_drive_words.specs.drive_cells.Spots.{spotted};
 ghost use Rattle.wfe_drive_words.specs.drive_cells.Unit.{SeatView};
 ghost use Rattle.wfe_drive_words.specs.Called.{Here, at_phase};
 ghost use Rattle.wfe_drive_words.specs.Path.{Closes};
@@ -26,7 +27,7 @@ ghost use Rattle.wfe_drive_runs.specs.Pieces.{EndsSo, IsWalk, TurnsTo, claimed_a
 
 use crate::base_run::run;
 use wfe_core::{AllocateEnd, Answer, Desk, Life, Machine, Op, Post, Told, life_word};
-use wfe_drive_words::{Words, load_clock, note_steps, step};
+use wfe_drive_words::{Located, Words, load_clock, note_steps, step};
 use wfe_slots::{Allocate, GiveUp, is_taken, slot_after};
 
 /// Takes the first row that is free from the seat's cursor on.
@@ -93,28 +94,26 @@ fn note_given(desk: &mut Desk, slot: u32, birth: u32)
 
 // An operation that sets a slot's claim bit.
 #[inline(always)]
-fn set_claim(post: &Post, slot: u32) -> Op
+fn set_claim(post: &Post, slot: u32) -> Located
     requires valid { IsValid post.now }
     requires slot { SlotFits post.now slot }
-    ensures { result ≡ numbered post.now.layout (SetsBits (Claim (claim_word slot)) (mask_of slot)) }
+    ensures { result ≡ spotted post.now.layout (SetsBits (Claim (claim_word slot)) (mask_of slot)) }
 {
-    Op::Or {
-        word: post.layout.claim(slot),
-        bits: post.layout.claim_mask(slot),
-    }
+    let word = post.layout.claim(slot);
+    let bits = post.layout.claim_mask(slot);
+    Located::dense(&post.layout, Op::Or { word, bits })
 }
 
 // A store of the birth era into the slot's lifetime word.
 #[inline(always)]
-fn store_birth(post: &Post, slot: u32, birth: u32) -> Op
+fn store_birth(post: &Post, slot: u32, birth: u32) -> Located
     requires valid { IsValid post.now }
     requires slot { SlotFits post.now slot }
-    ensures { result ≡ numbered post.now.layout (Stores (LifeWord slot) (word_of (record { birth = birth; retire = 0 }))) }
+    ensures { result ≡ spotted post.now.layout (Stores (LifeWord slot) (word_of (record { birth = birth; retire = 0 }))) }
 {
-    Op::Store {
-        word: post.layout.life(slot),
-        value: life_word(Life { birth, retire: 0 }),
-    }
+    let word = post.layout.life(slot);
+    let value = life_word(Life { birth, retire: 0 });
+    Located::dense(&post.layout, Op::Store { word, value })
 }
 
 /// Gives up a row that was not linked, and then the call is answered.

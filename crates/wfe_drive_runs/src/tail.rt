@@ -4,9 +4,10 @@ ghost use Rattle.wfe_core.specs.words.Place.Place.{Row, Tail};
 ghost use Rattle.wfe_core.specs.Calls.{Again, Enqueues, Enqueuing, ExchangeNext, LoadNumber, PassTail, Works};
 ghost use Rattle.wfe_core.specs.Desks.{Desk as ModelDesk};
 ghost use Rattle.wfe_core.specs.Enqueue.{at_next};
-ghost use Rattle.wfe_core.specs.Memory.{Cas as Exchanges, numbered};
+ghost use Rattle.wfe_core.specs.Memory.{Cas as Exchanges};
 ghost use Rattle.wfe_core.specs.Ready.{SlotFits};
 ghost use Rattle.wfe_core.specs.Valid.{IsValid};
+ghost use Rattle.wfe_drive_words.specs.drive_cells.Spots.{spotted};
 ghost use Rattle.wfe_drive_runs.specs.Items.{kept_of};
 ghost use Rattle.wfe_call_rounds.specs.Endings.{next_of};
 ghost use Rattle.wfe_drive_words.specs.Called.{Here};
@@ -17,7 +18,7 @@ ghost use Rattle.wfe_drive_words.specs.drive_cells.Unit.{kept_desk, seat_after};
 use crate::item::Item;
 use wfe_call_rounds::RoundEnd;
 use wfe_core::{Answer, Op, Post};
-use wfe_drive_words::{Words, load_cell, step};
+use wfe_drive_words::{Located, Words, load_cell, step};
 
 // Reads the number of the tail's row, and then its next link, which it answers.
 #[inline(always)]
@@ -89,28 +90,32 @@ pub fn append<W: Words>(words: &mut W, post: &mut Post, item: &mut Item, slot: u
 
 // An exchange of the tail, from the link to one row to this link.
 #[inline(always)]
-fn move_tail(post: &Post, tail: u32, link: u32) -> Op
+fn move_tail(post: &Post, tail: u32, link: u32) -> Located
     requires valid { IsValid post.now }
     requires tail { SlotFits post.now tail }
-    ensures { result ≡ numbered post.now.layout (Exchanges Tail (tail + 1) link) }
+    ensures { result ≡ spotted post.now.layout (Exchanges Tail (tail + 1) link) }
 {
-    Op::Cas {
-        word: post.layout.tail(),
+    let word = post.layout.tail();
+    let op = Op::Cas {
+        word,
         old: tail as u64 + 1,
         new: link as u64,
-    }
+    };
+    Located::end(&post.layout, op)
 }
 
 // An exchange of a row's next link, from none to the link to another row.
 #[inline(always)]
-fn link_next(post: &Post, tail: u32, slot: u32) -> Op
+fn link_next(post: &Post, tail: u32, slot: u32) -> Located
     requires valid { IsValid post.now }
     requires tail { SlotFits post.now tail }
-    ensures { result ≡ numbered post.now.layout (Exchanges (Row tail 0) 0 (slot + 1)) }
+    ensures { result ≡ spotted post.now.layout (Exchanges (Row tail 0) 0 (slot + 1)) }
 {
-    Op::Cas {
-        word: post.layout.row(tail, 0),
+    let word = post.layout.row(tail, 0);
+    let op = Op::Cas {
+        word,
         old: 0,
         new: slot as u64 + 1,
-    }
+    };
+    Located::dense(&post.layout, op)
 }

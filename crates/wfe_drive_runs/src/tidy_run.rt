@@ -11,7 +11,7 @@ ghost use Rattle.wfe_drive_runs.specs.Pieces.{ScansSo};
 
 use wfe_call_rounds::Tidy;
 use wfe_core::{ClockMove, Desk, Post, SchemeKind, Told};
-use wfe_drive_words::{Words, step};
+use wfe_drive_words::{Located, Words, step};
 
 /// Moves the clock, where the scheme has retirements move it, and then scans. It answers the outcome of the
 /// move, in eras; `Still` where there is none.
@@ -34,7 +34,8 @@ pub fn tidy<W: Words>(words: &mut W, post: &mut Post, desk: &mut Desk) -> ClockM
     let mut told = Told::new();
     loop {
         let op = machine.next_op(post);
-        let found = step(words, op);
+        let at = Located::of(&post.layout, op);
+        let found = step(words, at);
         post.steps += 1;
         told.clear();
         let ended = machine.take(post, desk, found, &mut told);

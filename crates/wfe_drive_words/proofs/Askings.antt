@@ -5,7 +5,7 @@ use Rattle.std.proofs.lemmas.Bool.Decides.{nat_tests}
 use Rattle.wfe_core.specs.words.Place.Place.{Clock, Index}
 use Rattle.wfe_core.specs.defs.declared.event.Root.{Root}
 use Rattle.wfe_core.specs.Locals.{Local}
-use Rattle.wfe_core.specs.Memory.{Load, Store, bump, numbered}
+use Rattle.wfe_core.specs.Memory.{Load, Store, bump}
 use Rattle.wfe_core.specs.Phases.{Failed, ProtectAt}
 use Rattle.wfe_core.specs.Phases.ProtectAt.{LoadClock, PublishRequest}
 use Rattle.wfe_core.specs.Posts.{index_word}
@@ -20,6 +20,8 @@ use Rattle.wfe_drive_words.specs.Path.{AsksFor, Leads, Publishes, StepFrom, Step
 use Rattle.wfe_drive_words.proofs.Leading.{here_on, leads_as, leads_none, then_leads}
 use Rattle.wfe_drive_words.proofs.Tries.{load_asks}
 use Rattle.wfe_drive_words.proofs.Trying.{once}
+use Rattle.wfe_drive_cells.specs.Spots.{spotted}
+use Rattle.wfe_drive_cells.specs.declared.located.Located.{Located}
 
 -- few steps are counted one by one
 bump-few : (n : ℕ) → n < 2 ^ 32 → bump n ≡ n + 1
@@ -67,8 +69,8 @@ asked_held t index root first era link post failed x y =
     (m, leads_as _ _ (ap (λ (s : ℕ). held_at t index root m link era s post) e) (then_leads x y))
 
 -- they are used up, and the era is published once more
-pub last_asks : {at0 at1 : Local → Type 0} {stands0 stands1 : List (Op × ℕ) → Type 0} (t : Trial) (index : ℕ) (root : Root) (first era : ℕ) (post : Post) (failed : ℕ) (op : Op) → Here at0 (publishing (asked_after t 0) index root first post)
-    → Leads at0 at1 stands0 stands1 (publishing (asked_after t 0) index root first post) (publishing (asked_after t failed) index root era post) → op ≡ numbered post.layout (Store (Index post.seat index) (index_word post index era))
+pub last_asks : {at0 at1 : Local → Type 0} {stands0 stands1 : List (Op × ℕ) → Type 0} (t : Trial) (index : ℕ) (root : Root) (first era : ℕ) (post : Post) (failed : ℕ) (op : Located) → Here at0 (publishing (asked_after t 0) index root first post)
+    → Leads at0 at1 stands0 stands1 (publishing (asked_after t 0) index root first post) (publishing (asked_after t failed) index root era post) → op ≡ spotted post.layout (Store (Index post.seat index) (index_word post index era))
     → AsksFor at1 (publishing (asked_after t failed) index root era post) op
 last_asks t index root first era post failed op h x o = record { here = here_on h x; busy = refl; is = o }
 
@@ -91,7 +93,7 @@ asked_used t index root first era post failed n few used x s =
     sums k = omega arith
 
 -- they come after a load of the clock
-pub asks_first : {at0 at1 : Local → Type 0} {stands0 stands1 : List (Op × ℕ) → Type 0} (t : Trial) (index : ℕ) (root : Root) (post : Post) (op : Op) (era : ℕ) → Here at0 (protecting (asks_from t) index root (LoadClock (Failed 0)) post) → op ≡ numbered post.layout (Load Clock)
+pub asks_first : {at0 at1 : Local → Type 0} {stands0 stands1 : List (Op × ℕ) → Type 0} (t : Trial) (index : ℕ) (root : Root) (post : Post) (op : Located) (era : ℕ) → Here at0 (protecting (asks_from t) index root (LoadClock (Failed 0)) post) → op ≡ spotted post.layout (Load Clock)
     → StepFrom at0 at1 stands0 stands1 op era → Leads at0 at1 stands0 stands1 (protecting (asks_from t) index root (LoadClock (Failed 0)) post) (publishing (asked_after (once t) 0) index root era post)
 asks_first t index root post op era h o s =
     let e : t.steps + 1 ≡ t.steps + 1 + 3 * 0 = omega arith in

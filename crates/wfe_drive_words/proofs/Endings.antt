@@ -18,7 +18,7 @@ use Rattle.wfe_core.specs.DeskHeld.{desk_of}
 use Rattle.wfe_core.specs.Desks.{Desk, Notes, noted_all}
 use Rattle.wfe_core.specs.Get.{got}
 use Rattle.wfe_core.specs.Locals.{Local}
-use Rattle.wfe_core.specs.Memory.{Load, Store, numbered}
+use Rattle.wfe_core.specs.Memory.{Load, Store}
 use Rattle.wfe_core.specs.Phases.Base.{Clear, Finish}
 use Rattle.wfe_core.specs.Phases.BeginAt.{LoadLower, PublishSpan}
 use Rattle.wfe_core.specs.Phases.ProtectAt.{LoadWithin}
@@ -36,6 +36,8 @@ use Rattle.wfe_drive_words.specs.declared.protect.Guarded.{Guarded}
 use Rattle.wfe_drive_words.specs.Path.{AsksFor, Closes, Leads, StepFrom, StepsOn, asking_trial, beginning_at, begun_at, ending_at, found_at, get_trial, held_at, held_reader, protecting, read_post, spanned, within_at}
 use Rattle.wfe_drive_words.proofs.Getting.{held_by, post-cleared, scheme-stays, standing_by}
 use Rattle.wfe_drive_words.proofs.Leading.{closes_as, here_on, leads_as, then_leads}
+use Rattle.wfe_drive_cells.specs.Spots.{spotted}
+use Rattle.wfe_drive_cells.specs.declared.located.Located.{Located}
 
 -- what was cleared is not noted
 cleared-noted : (notes : Notes) (stood : Option ℕ) → noted_all notes (cleared 0 stood ++ []) ≡ notes
@@ -107,15 +109,15 @@ pub within_reads : (key : ℕ) (post : Post) (desk : Desk) (steps lo : ℕ) (roo
 within_reads key post desk steps lo root n guarded r = ap (λ (root : Root). held_at (get_trial key desk 0) 0 root n guarded.link guarded.era (steps + guarded.steps) (spanned post lo guarded.era)) r
 
 -- the interval begins
-pub lower_asks : {at : Local → Type 0} (task : Task) (desk : Desk) (post : Post) (steps : ℕ) (op : Op) → Here at (beginning_at task desk post steps LoadLower) → op ≡ numbered post.layout (Load Clock) → AsksFor at (beginning_at task desk post steps LoadLower) op
+pub lower_asks : {at : Local → Type 0} (task : Task) (desk : Desk) (post : Post) (steps : ℕ) (op : Located) → Here at (beginning_at task desk post steps LoadLower) → op ≡ spotted post.layout (Load Clock) → AsksFor at (beginning_at task desk post steps LoadLower) op
 lower_asks task desk post steps op h o = record { here = h; busy = refl; is = o }
 
-pub span_asks : {at0 at1 : Local → Type 0} {stands0 stands1 : List (Op × ℕ) → Type 0} (task : Task) (desk : Desk) (post : Post) (steps era : ℕ) (op0 op1 : Op) → Here at0 (beginning_at task desk post steps LoadLower) → op0 ≡ numbered post.layout (Load Clock)
-    → StepFrom at0 at1 stands0 stands1 op0 era → op1 ≡ numbered post.layout (Store (IntervalWord post.seat) (eras_word era era)) → AsksFor at1 (beginning_at task desk post (steps + 1) (PublishSpan era)) op1
+pub span_asks : {at0 at1 : Local → Type 0} {stands0 stands1 : List (Op × ℕ) → Type 0} (task : Task) (desk : Desk) (post : Post) (steps era : ℕ) (op0 op1 : Located) → Here at0 (beginning_at task desk post steps LoadLower) → op0 ≡ spotted post.layout (Load Clock)
+    → StepFrom at0 at1 stands0 stands1 op0 era → op1 ≡ spotted post.layout (Store (IntervalWord post.seat) (eras_word era era)) → AsksFor at1 (beginning_at task desk post (steps + 1) (PublishSpan era)) op1
 span_asks task desk post steps era op0 op1 h o0 s0 o1 = record { here = here_on h (s0 _ (lower_asks task desk post steps op0 h o0)).leads; busy = refl; is = o1 }
 
-pub span_begun : {at0 at1 at2 : Local → Type 0} {stands0 stands1 stands2 : List (Op × ℕ) → Type 0} (task : Task) (desk : Desk) (post : Post) (steps era : ℕ) (op0 op1 : Op) (n : ℕ) → Here at0 (beginning_at task desk post steps LoadLower) → op0 ≡ numbered post.layout (Load Clock)
-    → StepFrom at0 at1 stands0 stands1 op0 era → op1 ≡ numbered post.layout (Store (IntervalWord post.seat) (eras_word era era)) → StepFrom at1 at2 stands1 stands2 op1 n
+pub span_begun : {at0 at1 at2 : Local → Type 0} {stands0 stands1 stands2 : List (Op × ℕ) → Type 0} (task : Task) (desk : Desk) (post : Post) (steps era : ℕ) (op0 op1 : Located) (n : ℕ) → Here at0 (beginning_at task desk post steps LoadLower) → op0 ≡ spotted post.layout (Load Clock)
+    → StepFrom at0 at1 stands0 stands1 op0 era → op1 ≡ spotted post.layout (Store (IntervalWord post.seat) (eras_word era era)) → StepFrom at1 at2 stands1 stands2 op1 n
     → Leads at0 at2 stands0 stands2 (beginning_at task desk post steps LoadLower) (begun_at task desk post (steps + 2) era)
 span_begun task desk post steps era op0 op1 n h o0 s0 o1 s1 =
     let e : steps + 1 + 1 ≡ steps + 2 = omega arith in
@@ -124,7 +126,7 @@ span_begun task desk post steps era op0 op1 n h o0 s0 o1 s1 =
     leads_as _ _ (ap (λ (k : ℕ). begun_at task desk post k era) e) (then_leads first second)
 
 -- and ends
-pub finish_asks : {at : Local → Type 0} (key : ℕ) (post : Post) (desk : Desk) (steps : ℕ) (found : Found) (op : Op) → Here at (ending_at key post desk steps found) → op ≡ numbered post.layout (Store (IntervalWord post.seat) 0) → AsksFor at (ending_at key post desk steps found) op
+pub finish_asks : {at : Local → Type 0} (key : ℕ) (post : Post) (desk : Desk) (steps : ℕ) (found : Found) (op : Located) → Here at (ending_at key post desk steps found) → op ≡ spotted post.layout (Store (IntervalWord post.seat) 0) → AsksFor at (ending_at key post desk steps found) op
 finish_asks key post desk steps found op h o = record { here = h; busy = refl; is = o }
 
 pub ended_by : {at0 at1 : Local → Type 0} {stands0 stands1 : List (Op × ℕ) → Type 0} (key : ℕ) (post : Post) (lo hi : ℕ) (held new : HeldDesk) (steps : ℕ) (found : Found) (n : ℕ)

@@ -17,7 +17,7 @@ use Rattle.wfe_core.specs.Calls as calls
 use Rattle.wfe_core.specs.DeskHeld.{desk_of}
 use Rattle.wfe_core.specs.Desks.{Desk, Notes, noted_all, noting}
 use Rattle.wfe_core.specs.Locals.{Local}
-use Rattle.wfe_core.specs.Memory.{Store, numbered}
+use Rattle.wfe_core.specs.Memory.{Store}
 use Rattle.wfe_core.specs.Phases.Base.{Clear}
 use Rattle.wfe_core.specs.Phases.Ending.{Protected}
 use Rattle.wfe_core.specs.Posts.{cleared, publishes_index, shown_word, stands, with_row, withdrawn}
@@ -33,6 +33,8 @@ use Rattle.wfe_drive_words.specs.declared.found.Found.{Found}
 use Rattle.wfe_drive_words.specs.declared.protect.Guarded.{Guarded}
 use Rattle.wfe_drive_words.specs.Path.{AsksFor, Closes, StepsOn, closing_at, found_at, get_trial, guarded_at, held_at, held_reader, protects_from, read_post, reading, taken}
 use Rattle.wfe_drive_words.proofs.Leading.{closes_as}
+use Rattle.wfe_drive_cells.specs.Spots.{spotted}
+use Rattle.wfe_drive_cells.specs.declared.located.Located.{Located}
 
 -- what stands does not change the seat's words
 abbrev pub standing_by : (null : Bool) → Post → ℕ → Post
@@ -43,19 +45,19 @@ shown-same false post other e = ap (λ (tags : List ℕ). reservation_word (reco
 shown-same true post other e = refl
 
 clear-word : (null : Bool) (post : Post) (slot steps : ℕ)
-    → numbered (standing_by null post slot).layout (Store (Index (standing_by null post slot).seat 0) (shown_word (publishes_rows (scheme_of (standing_by null post slot))) (record (standing_by null post slot) { steps = steps }) 0 0))
-    ≡ numbered post.layout (Store (Index post.seat 0) (shown_word (publishes_rows (scheme_of post)) post 0 0))
-clear-word true post slot steps = ap (λ (word : ℕ). numbered post.layout (Store (Index post.seat 0) word)) (shown-same (publishes_rows (scheme_of post)) post (record post { steps = steps }) refl)
-clear-word false post slot steps = ap (λ (word : ℕ). numbered post.layout (Store (Index post.seat 0) word)) (shown-same (publishes_rows (scheme_of post)) post (record (with_row post 0 slot) { steps = steps }) refl)
+    → spotted (standing_by null post slot).layout (Store (Index (standing_by null post slot).seat 0) (shown_word (publishes_rows (scheme_of (standing_by null post slot))) (record (standing_by null post slot) { steps = steps }) 0 0))
+    ≡ spotted post.layout (Store (Index post.seat 0) (shown_word (publishes_rows (scheme_of post)) post 0 0))
+clear-word true post slot steps = ap (λ (word : ℕ). spotted post.layout (Store (Index post.seat 0) word)) (shown-same (publishes_rows (scheme_of post)) post (record post { steps = steps }) refl)
+clear-word false post slot steps = ap (λ (word : ℕ). spotted post.layout (Store (Index post.seat 0) word)) (shown-same (publishes_rows (scheme_of post)) post (record (with_row post 0 slot) { steps = steps }) refl)
 
 -- the store is that of the seat's state
-pub clear_stores : (place post : Post) (index : ℕ) (rows : Bool) (op : Op) → place ≡ post → rows ≡ publishes_rows (scheme_of place) → op ≡ numbered place.layout (Store (Index place.seat index) (shown_word rows place index 0))
-    → op ≡ numbered post.layout (Store (Index post.seat index) (shown_word (publishes_rows (scheme_of post)) post index 0))
+pub clear_stores : (place post : Post) (index : ℕ) (rows : Bool) (op : Located) → place ≡ post → rows ≡ publishes_rows (scheme_of place) → op ≡ spotted place.layout (Store (Index place.seat index) (shown_word rows place index 0))
+    → op ≡ spotted post.layout (Store (Index post.seat index) (shown_word (publishes_rows (scheme_of post)) post index 0))
 clear_stores place post index rows op e r o =
-    o ∙ ap (λ (b : Bool). numbered place.layout (Store (Index place.seat index) (shown_word b place index 0))) r
-    ∙ ap (λ (p : Post). numbered p.layout (Store (Index p.seat index) (shown_word (publishes_rows (scheme_of p)) p index 0))) e
+    o ∙ ap (λ (b : Bool). spotted place.layout (Store (Index place.seat index) (shown_word b place index 0))) r
+    ∙ ap (λ (p : Post). spotted p.layout (Store (Index p.seat index) (shown_word (publishes_rows (scheme_of p)) p index 0))) e
 
-pub clear_asks : {at : Local → Type 0} (key : ℕ) (post : Post) (bucket link : ℕ) (desk : Desk) (steps : ℕ) (found : Found) (op : Op) → Here at (closing_at key (held_reader post bucket link desk steps) found) → op ≡ numbered post.layout (Store (Index post.seat 0) (shown_word (publishes_rows (scheme_of post)) post 0 0))
+pub clear_asks : {at : Local → Type 0} (key : ℕ) (post : Post) (bucket link : ℕ) (desk : Desk) (steps : ℕ) (found : Found) (op : Located) → Here at (closing_at key (held_reader post bucket link desk steps) found) → op ≡ spotted post.layout (Store (Index post.seat 0) (shown_word (publishes_rows (scheme_of post)) post 0 0))
     → AsksFor at (closing_at key (held_reader post bucket link desk steps) found) op
 clear_asks key post bucket link desk steps found op h o = record { here = h; busy = refl; is = o ∙ sym (clear-word (link == 0) post (link - 1) (steps + found.steps)) }
 

@@ -6,7 +6,7 @@ use Rattle.wfe_core.specs.defs.declared.event.Root.{Root}
 use Rattle.wfe_core.specs.Hazards.{after_check_link}
 use Rattle.wfe_core.specs.Links.{link_place}
 use Rattle.wfe_core.specs.Locals.{Local}
-use Rattle.wfe_core.specs.Memory.{Load, Store, bump, numbered}
+use Rattle.wfe_core.specs.Memory.{Load, Store, bump}
 use Rattle.wfe_core.specs.Phases.{goes}
 use Rattle.wfe_core.specs.Phases.Base.{Protect}
 use Rattle.wfe_core.specs.Phases.HazardAt.{CheckLink, FirstLink, PublishLink}
@@ -21,16 +21,18 @@ use Rattle.wfe_drive_words.specs.declared.protect.Guarded.{Guarded}
 use Rattle.wfe_drive_words.specs.Path.{AsksFor, Leads, StepFrom, StepsOn, Trial, checked_after, checked_at, guarded_at, hazarding, held_at, protecting}
 use Rattle.wfe_drive_words.proofs.Leading.{here_on, leads_as, leads_none, then_leads}
 use Rattle.wfe_drive_words.proofs.Trying.{once}
+use Rattle.wfe_drive_cells.specs.Spots.{spotted}
+use Rattle.wfe_drive_cells.specs.declared.located.Located.{Located}
 
 -- the link is published, and the word is loaded again
 abbrev pub checking : Trial → ℕ → Root → ℕ → Post → SeatView
 checking t index root link post = protecting (once t) index root (ByHazard (CheckLink link)) post
 
-pub publish_asks : {at : Local → Type 0} (t : Trial) (index : ℕ) (root : Root) (link : ℕ) (post : Post) (op : Op) → Here at (hazarding t index root link post) → op ≡ numbered post.layout (Store (Index post.seat index) link) → AsksFor at (hazarding t index root link post) op
+pub publish_asks : {at : Local → Type 0} (t : Trial) (index : ℕ) (root : Root) (link : ℕ) (post : Post) (op : Located) → Here at (hazarding t index root link post) → op ≡ spotted post.layout (Store (Index post.seat index) link) → AsksFor at (hazarding t index root link post) op
 publish_asks t index root link post op h o = record { here = h; busy = refl; is = o }
 
-pub check_asks : {at0 at1 : Local → Type 0} {stands0 stands1 : List (Op × ℕ) → Type 0} (t : Trial) (index : ℕ) (root : Root) (link : ℕ) (post : Post) (op0 op1 : Op) (n : ℕ) → Here at0 (hazarding t index root link post)
-    → op0 ≡ numbered post.layout (Store (Index post.seat index) link) → StepFrom at0 at1 stands0 stands1 op0 n → op1 ≡ numbered post.layout (Load (link_place root)) → AsksFor at1 (checking t index root link post) op1
+pub check_asks : {at0 at1 : Local → Type 0} {stands0 stands1 : List (Op × ℕ) → Type 0} (t : Trial) (index : ℕ) (root : Root) (link : ℕ) (post : Post) (op0 op1 : Located) (n : ℕ) → Here at0 (hazarding t index root link post)
+    → op0 ≡ spotted post.layout (Store (Index post.seat index) link) → StepFrom at0 at1 stands0 stands1 op0 n → op1 ≡ spotted post.layout (Load (link_place root)) → AsksFor at1 (checking t index root link post) op1
 check_asks t index root link post op0 op1 n h o0 s0 o1 = record { here = here_on h (s0 _ (publish_asks t index root link post op0 h o0)).leads; busy = refl; is = o1 }
 
 -- both steps
@@ -38,8 +40,8 @@ pub record Checks (at0 at1 at2 : Local → Type 0) (stands0 stands1 stands2 : Li
   pub first : StepsOn at0 at1 stands0 stands1 (hazarding t index root link post) n
   pub second : StepsOn at1 at2 stands1 stands2 (checking t index root link post) found
 
-pub checks_by : {at0 at1 at2 : Local → Type 0} {stands0 stands1 stands2 : List (Op × ℕ) → Type 0} (t : Trial) (index : ℕ) (root : Root) (link : ℕ) (post : Post) (op0 op1 : Op) (n found : ℕ) → Here at0 (hazarding t index root link post)
-    → op0 ≡ numbered post.layout (Store (Index post.seat index) link) → StepFrom at0 at1 stands0 stands1 op0 n → op1 ≡ numbered post.layout (Load (link_place root)) → StepFrom at1 at2 stands1 stands2 op1 found
+pub checks_by : {at0 at1 at2 : Local → Type 0} {stands0 stands1 stands2 : List (Op × ℕ) → Type 0} (t : Trial) (index : ℕ) (root : Root) (link : ℕ) (post : Post) (op0 op1 : Located) (n found : ℕ) → Here at0 (hazarding t index root link post)
+    → op0 ≡ spotted post.layout (Store (Index post.seat index) link) → StepFrom at0 at1 stands0 stands1 op0 n → op1 ≡ spotted post.layout (Load (link_place root)) → StepFrom at1 at2 stands1 stands2 op1 found
     → Checks at0 at1 at2 stands0 stands1 stands2 t index root link post n found
 checks_by t index root link post op0 op1 n found h o0 s0 o1 s1 = record {
   first = s0 _ (publish_asks t index root link post op0 h o0);
@@ -84,10 +86,10 @@ module _ {at0 at1 at2 : Local → Type 0} {stands0 stands1 stands2 : List (Op ×
       (m, leads_as _ _ (ap (left_by t index root m found (t.steps + steps + 2) post) test ∙ ap (λ (s : ℕ). held_at t index root m found 0 s post) e) (then_leads x y))
 
 -- they come after a load of the link
-pub first_asks : {at : Local → Type 0} (t : Trial) (index : ℕ) (root : Root) (post : Post) (op : Op) → Here at (protecting t index root (ByHazard FirstLink) post) → op ≡ numbered post.layout (Load (link_place root)) → AsksFor at (protecting t index root (ByHazard FirstLink) post) op
+pub first_asks : {at : Local → Type 0} (t : Trial) (index : ℕ) (root : Root) (post : Post) (op : Located) → Here at (protecting t index root (ByHazard FirstLink) post) → op ≡ spotted post.layout (Load (link_place root)) → AsksFor at (protecting t index root (ByHazard FirstLink) post) op
 first_asks t index root post op h o = record { here = h; busy = refl; is = o }
 
-module _ {at0 at1 : Local → Type 0} {stands0 stands1 : List (Op × ℕ) → Type 0} (t : Trial) (index : ℕ) (root : Root) (post : Post) (op : Op) (link : ℕ) (h : Here at0 (protecting t index root (ByHazard FirstLink) post)) (o : op ≡ numbered post.layout (Load (link_place root))) (s : StepFrom at0 at1 stands0 stands1 op link) where
+module _ {at0 at1 : Local → Type 0} {stands0 stands1 : List (Op × ℕ) → Type 0} (t : Trial) (index : ℕ) (root : Root) (post : Post) (op : Located) (link : ℕ) (h : Here at0 (protecting t index root (ByHazard FirstLink) post)) (o : op ≡ spotted post.layout (Load (link_place root))) (s : StepFrom at0 at1 stands0 stands1 op link) where
   pub first_loads : StepsOn at0 at1 stands0 stands1 (protecting t index root (ByHazard FirstLink) post) link
   first_loads = s _ (first_asks t index root post op h o)
 

@@ -12,15 +12,17 @@ use Rattle.wfe_core.specs.Rounds.{scheme_of}
 use Rattle.wfe_core.specs.Steps.{phase_turn}
 use Rattle.wfe_core.specs.declared.op.Op.{Op}
 use Rattle.wfe_core.specs.declared.post.Post.{Post}
-use Rattle.wfe_drive_cells.specs.Unit.{SeatView, asked, seat_after, shown, may_adopt}
+use Rattle.wfe_drive_cells.specs.Unit.{SeatView, seat_after, shown, may_adopt}
 use Rattle.wfe_drive_words.specs.Called.{Here, LeadsTo, Makes}
 use Rattle.wfe_drive_words.specs.Comes.{Comes, departs, lent}
-use Rattle.wfe_drive_words.specs.Path.{AsksFor, Closes, Leads, StepsOn, left_by, stepped, taken}
+use Rattle.wfe_drive_words.specs.Path.{AsksFor, Closes, Leads, StepsOn, left_by, placed, stepped, taken}
 use Rattle.wfe_drive_words.specs.Ran.{Answered, Performs, Ran}
 use Rattle.wfe_drive_words.specs.Readiness.{MayTake}
 use Rattle.wfe_drive_words.proofs.Groups.{ran_call, ran_stays}
 use Rattle.wfe_drive_words.proofs.Histories.{few_steps}
 use Rattle.wfe_drive_words.proofs.Makes.{Steps, busy_shown, may_ask_at, shown_settled, takes_at, turned_lent}
+use Rattle.wfe_drive_cells.specs.declared.located.Located.{Located}
+use Rattle.wfe_drive_cells.specs.Spots.{located}
 
 -- a call has few steps, so one more is counted
 bump-is : (n : ℕ) → n < 2 ^ 62 → bump n ≡ n + 1
@@ -36,23 +38,23 @@ after-is l n =
     shown_settled l t.post (noting t.desk (told_by t)) (rounds_told (publishes_rows (scheme_of t.post)) l.rounds (told_by t)) t.outcome
 
 -- the state after a step, and that step
-record Stepped (at : Local → Type 0) (op : Op) (n : ℕ) (seat : SeatView) (l : Local) : Type 0 where
-  performs : Performs l (op, n)
+record Stepped (at : Local → Type 0) (op : Located) (n : ℕ) (seat : SeatView) (l : Local) : Type 0 where
+  performs : Performs l (op.op, n)
   there : at (after (lent performs.given) n)
   is : shown (after (lent performs.given) n) ≡ left_by seat n
   same : turn (lent performs.given) n ≡ taken seat n
 
-stepped-at : (at_old at_new : Local → Type 0) (seat : SeatView) (op : Op) (n : ℕ) → busy_in seat.phase ≡ true → may_adopt seat.phase ≡ false → op ≡ asked seat → seat.post.steps < 2 ^ 62 → Steps at_old at_new op n → (l : Local) → at_old l → shown l ≡ seat → Stepped at_new op n seat l
+stepped-at : (at_old at_new : Local → Type 0) (seat : SeatView) (op : Located) (n : ℕ) → busy_in seat.phase ≡ true → may_adopt seat.phase ≡ false → op ≡ placed seat → seat.post.steps < 2 ^ 62 → Steps at_old at_new op n → (l : Local) → at_old l → shown l ≡ seat → Stepped at_new op n seat l
 stepped-at at_old at_new seat op n b alone o few s l a e =
     let busy : busy_in l.phase ≡ true = busy_shown l seat true e b in
-    let asked_is : op ≡ asks l = o ∙ ap asked (sym e) in
+    let asked_is : op ≡ located l.post.layout (asks l) = o ∙ ap placed (sym e) in
     let g = s l a busy asked_is in
     let same : turn (lent g.0) n ≡ taken seat n = sym (turned_lent l n g.0 seat e alone) ∙ ap (λ (p : Post). phase_turn seat.phase p seat.desk n) (counted-is seat.post few) in
-    record { performs = record { busy = busy; asked = asked_is; given = g.0 }; there = g.1; is = after-is (lent g.0) n ∙ ap seat_after same; same = same }
+    record { performs = record { busy = busy; asked = ap (λ (at : Located). at.op) asked_is; given = g.0 }; there = g.1; is = after-is (lent g.0) n ∙ ap seat_after same; same = same }
 
 -- what is known of a step that was made
-pub steps_on : (at_old at_new : Local → Type 0) (stands_old stands_new : List (Op × ℕ) → Type 0) (seat : SeatView) (op : Op) (n : ℕ) → AsksFor at_old seat op → ((l : Local) → at_old l → Comes l) → Steps at_old at_new op n
-    → ((xs : List (Op × ℕ)) → stands_old xs → stands_new (xs ++ (op, n) ∷ [])) → StepsOn at_old at_new stands_old stands_new seat n
+pub steps_on : (at_old at_new : Local → Type 0) (stands_old stands_new : List (Op × ℕ) → Type 0) (seat : SeatView) (op : Located) (n : ℕ) → AsksFor at_old seat op → ((l : Local) → at_old l → Comes l) → Steps at_old at_new op n
+    → ((xs : List (Op × ℕ)) → stands_old xs → stands_new (xs ++ (op.op, n) ∷ [])) → StepsOn at_old at_new stands_old stands_new seat n
 steps_on at_old at_new stands_old stands_new seat op n a comes s more =
     let h : Here at_old seat = a.here in
     let c : Comes h.local = comes h.local h.there in
@@ -63,24 +65,24 @@ steps_on at_old at_new stands_old stands_new seat op n a comes s more =
       take = may;
       few = few;
       leads = record {
-        ops = (op, n) ∷ [];
+        ops = (op.op, n) ∷ [];
         each = λ l there e.
             let x : Stepped at_new op n seat l = stepped-at at_old at_new seat op n a.busy may.alone a.is few s l there e in
-            let p : Performs l (op, n) = x.performs in
+            let p : Performs l (op.op, n) = x.performs in
             record { left = after (lent p.given) n; by = (p, refl); there = x.there; is = x.is };
         stands = more;
       };
       closes = λ answer ends. record {
-        ops = (op, n) ∷ [];
+        ops = (op.op, n) ∷ [];
         each = λ l there e.
             let x : Stepped at_new op n seat l = stepped-at at_old at_new seat op n a.busy may.alone a.is few s l there e in
-            let p : Performs l (op, n) = x.performs in
+            let p : Performs l (op.op, n) = x.performs in
             record {
               left = after (lent p.given) n;
               by = record {
                 before = [];
                 last = l;
-                operation = (op, n);
+                operation = (op.op, n);
                 ops_are = refl;
                 ran = refl;
                 performs = x.performs;

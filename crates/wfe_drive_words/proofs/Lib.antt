@@ -1,3 +1,4 @@
+pub use Rattle.wfe_drive_cells.proofs as drive_cells
 pub mod Askings
 pub mod Beginnings
 pub mod Cells

@@ -5,7 +5,7 @@ use Rattle.wfe_core.specs.words.Place.Place.{Clock, Interval}
 use Rattle.wfe_core.specs.defs.declared.event.Root.{Root}
 use Rattle.wfe_core.specs.Links.{link_place}
 use Rattle.wfe_core.specs.Locals.{Local}
-use Rattle.wfe_core.specs.Memory.{Load, Store, bump, numbered}
+use Rattle.wfe_core.specs.Memory.{Load, Store, bump}
 use Rattle.wfe_core.specs.Phases.{goes}
 use Rattle.wfe_core.specs.Phases.Base.{Protect}
 use Rattle.wfe_core.specs.Phases.ProtectAt.{CheckUpper, LoadWithin, RaiseUpper}
@@ -21,13 +21,15 @@ use Rattle.wfe_drive_words.specs.declared.within.Looked.TheVariants.{Raised, Sta
 use Rattle.wfe_drive_words.specs.Path.{AsksFor, Leads, StepFrom, StepsOn, Trial, held_at, looked_at, protecting, spanned, within_at}
 use Rattle.wfe_drive_words.proofs.Leading.{here_on, leads_as, leads_none, then_leads}
 use Rattle.wfe_drive_words.proofs.Trying.{once, three}
+use Rattle.wfe_drive_cells.specs.Spots.{spotted}
+use Rattle.wfe_drive_cells.specs.declared.located.Located.{Located}
 
 -- a step of the protection asks for its word
-pub look_asks : {at : Local → Type 0} (t : Trial) (index : ℕ) (root : Root) (lo hi : ℕ) (post : Post) (op : Op) → Here at (protecting t index root LoadWithin (spanned post lo hi)) → op ≡ numbered post.layout (Load (link_place root)) → AsksFor at (protecting t index root LoadWithin (spanned post lo hi)) op
+pub look_asks : {at : Local → Type 0} (t : Trial) (index : ℕ) (root : Root) (lo hi : ℕ) (post : Post) (op : Located) → Here at (protecting t index root LoadWithin (spanned post lo hi)) → op ≡ spotted post.layout (Load (link_place root)) → AsksFor at (protecting t index root LoadWithin (spanned post lo hi)) op
 look_asks t index root lo hi post op h o = record { here = h; busy = refl; is = o }
 
-pub upper_asks : {at0 at1 : Local → Type 0} {stands0 stands1 : List (Op × ℕ) → Type 0} (t : Trial) (index : ℕ) (root : Root) (lo hi : ℕ) (post : Post) (op0 op1 : Op) (link : ℕ) → Here at0 (protecting t index root LoadWithin (spanned post lo hi))
-    → op0 ≡ numbered post.layout (Load (link_place root)) → StepFrom at0 at1 stands0 stands1 op0 link → op1 ≡ numbered post.layout (Load Clock)
+pub upper_asks : {at0 at1 : Local → Type 0} {stands0 stands1 : List (Op × ℕ) → Type 0} (t : Trial) (index : ℕ) (root : Root) (lo hi : ℕ) (post : Post) (op0 op1 : Located) (link : ℕ) → Here at0 (protecting t index root LoadWithin (spanned post lo hi))
+    → op0 ≡ spotted post.layout (Load (link_place root)) → StepFrom at0 at1 stands0 stands1 op0 link → op1 ≡ spotted post.layout (Load Clock)
     → AsksFor at1 (protecting (once t) index root (CheckUpper link) (spanned post lo hi)) op1
 upper_asks t index root lo hi post op0 op1 link h o0 s0 o1 = record { here = here_on h (s0 _ (look_asks t index root lo hi post op0 h o0)).leads; busy = refl; is = o1 }
 
@@ -37,8 +39,8 @@ pub record Looks (at0 at1 at2 : Local → Type 0) (stands0 stands1 stands2 : Lis
   pub second : StepsOn at1 at2 stands1 stands2 (protecting (once t) index root (CheckUpper link) (spanned post lo hi)) seen
   pub leads : Leads at0 at1 stands0 stands1 (protecting t index root LoadWithin (spanned post lo hi)) (protecting (once t) index root (CheckUpper link) (spanned post lo hi))
 
-pub looks_by : {at0 at1 at2 : Local → Type 0} {stands0 stands1 stands2 : List (Op × ℕ) → Type 0} (t : Trial) (index : ℕ) (root : Root) (lo hi : ℕ) (post : Post) (op0 op1 : Op) (link seen : ℕ) → Here at0 (protecting t index root LoadWithin (spanned post lo hi))
-    → op0 ≡ numbered post.layout (Load (link_place root)) → StepFrom at0 at1 stands0 stands1 op0 link → op1 ≡ numbered post.layout (Load Clock) → StepFrom at1 at2 stands1 stands2 op1 seen
+pub looks_by : {at0 at1 at2 : Local → Type 0} {stands0 stands1 stands2 : List (Op × ℕ) → Type 0} (t : Trial) (index : ℕ) (root : Root) (lo hi : ℕ) (post : Post) (op0 op1 : Located) (link seen : ℕ) → Here at0 (protecting t index root LoadWithin (spanned post lo hi))
+    → op0 ≡ spotted post.layout (Load (link_place root)) → StepFrom at0 at1 stands0 stands1 op0 link → op1 ≡ spotted post.layout (Load Clock) → StepFrom at1 at2 stands1 stands2 op1 seen
     → Looks at0 at1 at2 stands0 stands1 stands2 t index root lo hi post link seen
 looks_by t index root lo hi post op0 op1 link seen h o0 s0 o1 s1 =
     let first = s0 _ (look_asks t index root lo hi post op0 h o0) in
@@ -69,8 +71,8 @@ passes_upper t index root lo hi post link seen e s =
     let is : upper_checked t index root lo hi post link seen (t.steps + 1 + 1) ≡ protecting (once (once t)) index root (RaiseUpper seen) (spanned post lo hi) = rw test refl in
     leads_as _ _ is (then_leads s.leads s.second.leads)
 
-pub raise_asks : {at0 at1 : Local → Type 0} {stands0 stands1 : List (Op × ℕ) → Type 0} (t : Trial) (index : ℕ) (root : Root) (lo hi seen : ℕ) (post : Post) (op : Op) → Here at0 (protecting t index root LoadWithin (spanned post lo hi))
-    → Leads at0 at1 stands0 stands1 (protecting t index root LoadWithin (spanned post lo hi)) (protecting (once (once t)) index root (RaiseUpper seen) (spanned post lo hi)) → op ≡ numbered post.layout (Store (Interval post.seat) (eras_word lo seen))
+pub raise_asks : {at0 at1 : Local → Type 0} {stands0 stands1 : List (Op × ℕ) → Type 0} (t : Trial) (index : ℕ) (root : Root) (lo hi seen : ℕ) (post : Post) (op : Located) → Here at0 (protecting t index root LoadWithin (spanned post lo hi))
+    → Leads at0 at1 stands0 stands1 (protecting t index root LoadWithin (spanned post lo hi)) (protecting (once (once t)) index root (RaiseUpper seen) (spanned post lo hi)) → op ≡ spotted post.layout (Store (Interval post.seat) (eras_word lo seen))
     → AsksFor at1 (protecting (once (once t)) index root (RaiseUpper seen) (spanned post lo hi)) op
 raise_asks t index root lo hi seen post op h x o = record { here = here_on h x; busy = refl; is = o }
 

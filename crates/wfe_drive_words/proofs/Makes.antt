@@ -17,7 +17,7 @@ use Rattle.wfe_core.specs.declared.desk.Desk.{Desk as HeldDesk}
 use Rattle.wfe_core.specs.declared.op.Op.{Op}
 use Rattle.wfe_core.specs.declared.post.Post.{Post}
 use Rattle.laws.specs.AnswerLaw.{suits}
-use Rattle.wfe_drive_cells.specs.Unit.{Leaves, SeatView, asked, begun_seat, kept_desk, phase_after, seat_left, shown, turned, may_adopt}
+use Rattle.wfe_drive_cells.specs.Unit.{Leaves, SeatView, begun_seat, kept_desk, phase_after, seat_left, shown, turned, may_adopt}
 use Rattle.wfe_drive_cells.proofs.Turns.{leaves}
 use Rattle.wfe_drive_words.specs.Called.{Called, Ends, Here, LeadsTo, Makes, at_phase}
 use Rattle.wfe_drive_words.specs.Comes.{Comes, Given, departs, lent}
@@ -26,27 +26,30 @@ use Rattle.wfe_drive_words.specs.Readiness.{MayAsk, MayTake}
 use Rattle.wfe_drive_words.proofs.Groups.{answered_call, left_by, ran_call, ran_stays}
 use Rattle.wfe_drive_words.proofs.Histories.{may_ask, may_take}
 use Rattle.wfe_drive_words.proofs.Lending.{lent_lone}
+use Rattle.wfe_drive_cells.specs.declared.located.Located.{Located}
+use Rattle.wfe_drive_words.specs.Path.{placed}
+use Rattle.wfe_drive_cells.specs.Spots.{located}
 
 -- the seat is as its code has it
 pub busy_shown : (l : Local) (seat : SeatView) (b : Bool) → shown l ≡ seat → busy_in seat.phase ≡ b → busy_in l.phase ≡ b
 busy_shown l seat b e h = ap (λ (v : SeatView). busy_in v.phase) e ∙ h
 
-asks_shown : (l : Local) (seat : SeatView) (op : Op) → shown l ≡ seat → op ≡ asked seat → op ≡ asks l
-asks_shown l seat op e o = o ∙ ap asked (sym e)
+asks_shown : (l : Local) (seat : SeatView) (op : Located) → shown l ≡ seat → op ≡ placed seat → op ≡ located l.post.layout (asks l)
+asks_shown l seat op e o = o ∙ ap placed (sym e)
 
 pub may_ask_at : (l : Local) (seat : SeatView) → Comes l → shown l ≡ seat → MayAsk seat
 may_ask_at l seat c e = subst MayAsk e (may_ask l c)
 
 -- what the words' clauses say of one step, at each state
-abbrev pub Steps : (at_old at_new : Local → Type 0) (op : Op) (n : ℕ) → Type 0
-Steps at_old at_new op n = (l : Local) → at_old l → busy_in l.phase ≡ true → op ≡ asks l → (g : Given l n) × at_new (after (lent g) n)
+abbrev pub Steps : (at_old at_new : Local → Type 0) (op : Located) (n : ℕ) → Type 0
+Steps at_old at_new op n = (l : Local) → at_old l → busy_in l.phase ≡ true → op ≡ located l.post.layout (asks l) → (g : Given l n) × at_new (after (lent g) n)
 
 -- the code may make its step
-pub asks_at : (at : Local → Type 0) (seat : SeatView) (op : Op) → Here at seat → busy_in seat.phase ≡ true → op ≡ asked seat → (l : Local) × at l × (busy_in l.phase ≡ true) × (op ≡ asks l) × (stays l.call ≡ true)
+pub asks_at : (at : Local → Type 0) (seat : SeatView) (op : Located) → Here at seat → busy_in seat.phase ≡ true → op ≡ placed seat → (l : Local) × at l × (busy_in l.phase ≡ true) × (op ≡ located l.post.layout (asks l)) × (stays l.call ≡ true)
 asks_at at seat op h b o =
     let busy : busy_in h.local.phase ≡ true = busy_shown h.local seat true h.is b in (h.local, h.there, busy, asks_shown h.local seat op h.is o, h.staying busy)
 
-pub takes_at : (at_old at_new : Local → Type 0) (seat : SeatView) (op : Op) (n : ℕ) → Here at_old seat → busy_in seat.phase ≡ true → op ≡ asked seat → Steps at_old at_new op n → MayTake seat n
+pub takes_at : (at_old at_new : Local → Type 0) (seat : SeatView) (op : Located) (n : ℕ) → Here at_old seat → busy_in seat.phase ≡ true → op ≡ placed seat → Steps at_old at_new op n → MayTake seat n
 takes_at at_old at_new seat op n h b o s =
     let busy : busy_in h.local.phase ≡ true = busy_shown h.local seat true h.is b in
     let g = s h.local h.there busy (asks_shown h.local seat op h.is o) in
@@ -73,26 +76,26 @@ pub took_busy : (seat : SeatView) (n : ℕ) (post : Post) (held : HeldDesk) (tol
 took_busy seat n post held told phase m k = m.goes phase k.outcome_is
 
 -- one step at one state
-record Stepped (at : Local → Type 0) (op : Op) (n : ℕ) (seat : SeatView) (l : Local) : Type 0 where
-  performs : Performs l (op, n)
+record Stepped (at : Local → Type 0) (op : Located) (n : ℕ) (seat : SeatView) (l : Local) : Type 0 where
+  performs : Performs l (op.op, n)
   there : at (after (lent performs.given) n)
   is : shown (after (lent performs.given) n) ≡ seat
 
-step_at : (at_old at_new : Local → Type 0) (seat : SeatView) (op : Op) (n : ℕ) (post : Post) (held : HeldDesk) (told : List Event) (answer : Option Answer) (phase : Phase) → busy_in seat.phase ≡ true → may_adopt seat.phase ≡ false → op ≡ asked seat → Steps at_old at_new op n
+step_at : (at_old at_new : Local → Type 0) (seat : SeatView) (op : Located) (n : ℕ) (post : Post) (held : HeldDesk) (told : List Event) (answer : Option Answer) (phase : Phase) → busy_in seat.phase ≡ true → may_adopt seat.phase ≡ false → op ≡ placed seat → Steps at_old at_new op n
     → Took (turned seat n) post held told answer phase → (l : Local) → at_old l → shown l ≡ seat → Stepped at_new op n (seat_left answer phase post held) l
 step_at at_old at_new seat op n post held told answer phase b alone o s k l a e =
     let busy : busy_in l.phase ≡ true = busy_shown l seat true e b in
-    let asked_is : op ≡ asks l = asks_shown l seat op e o in
+    let asked_is : op ≡ located l.post.layout (asks l) = asks_shown l seat op e o in
     let g = s l a busy asked_is in
-    record { performs = record { busy = busy; asked = asked_is; given = g.0 }; there = g.1; is = after_shown l n g.0 seat post held told answer phase e alone k }
+    record { performs = record { busy = busy; asked = ap (λ (at : Located). at.op) asked_is; given = g.0 }; there = g.1; is = after_shown l n g.0 seat post held told answer phase e alone k }
 
 -- a state at which the seat may be after it
-pub here_after : (at_old at_new : Local → Type 0) (seat : SeatView) (op : Op) (n : ℕ) (post : Post) (held : HeldDesk) (told : List Event) (phase : Phase) → Here at_old seat → busy_in seat.phase ≡ true → may_adopt seat.phase ≡ false → op ≡ asked seat → Steps at_old at_new op n
+pub here_after : (at_old at_new : Local → Type 0) (seat : SeatView) (op : Located) (n : ℕ) (post : Post) (held : HeldDesk) (told : List Event) (phase : Phase) → Here at_old seat → busy_in seat.phase ≡ true → may_adopt seat.phase ≡ false → op ≡ placed seat → Steps at_old at_new op n
     → Took (turned seat n) post held told None phase → Here at_new (at_phase phase post held)
 here_after at_old at_new seat op n post held told phase h b alone o s k =
     let x : Stepped at_new op n (at_phase phase post held) h.local = step_at at_old at_new seat op n post held told None phase b alone o s k h.local h.there h.is in
-    let p : Performs h.local (op, n) = x.performs in
-    record { local = after (lent p.given) n; there = x.there; is = x.is; staying = ran_stays h.local ((op, n) ∷ []) (after (lent p.given) n) (p, refl) h.staying; here = ap departs (ran_call h.local ((op, n) ∷ []) (after (lent p.given) n) (p, refl)) ∙ h.here }
+    let p : Performs h.local (op.op, n) = x.performs in
+    record { local = after (lent p.given) n; there = x.there; is = x.is; staying = ran_stays h.local ((op.op, n) ∷ []) (after (lent p.given) n) (p, refl) h.staying; here = ap departs (ran_call h.local ((op.op, n) ∷ []) (after (lent p.given) n) (p, refl)) ∙ h.here }
 
 -- the operations so far: none yet
 pub makes_none : (at : Local → Type 0) (stands : List (Op × ℕ) → Type 0) (seat : SeatView) → Makes (λ ops l m. Ran l ops m) at at stands stands seat seat
@@ -113,36 +116,36 @@ stands_more : (stands0 stands1 stands2 : List (Op × ℕ) → Type 0) (ops : Lis
     → (xs : List (Op × ℕ)) → stands0 xs → stands2 (xs ++ (ops ++ x ∷ []))
 stands_more stands0 stands1 stands2 ops x f g xs s = subst stands2 (append_assoc xs ops (x ∷ [])) (g (xs ++ ops) (f xs s))
 
-pub makes_more : (at0 at1 at2 : Local → Type 0) (stands0 stands1 stands2 : List (Op × ℕ) → Type 0) (first seat : SeatView) (op : Op) (n : ℕ) (post : Post) (held : HeldDesk) (told : List Event) (phase : Phase)
-    → Makes (λ ops l m. Ran l ops m) at0 at1 stands0 stands1 first seat → busy_in seat.phase ≡ true → may_adopt seat.phase ≡ false → op ≡ asked seat → Steps at1 at2 op n → ((xs : List (Op × ℕ)) → stands1 xs → stands2 (xs ++ (op, n) ∷ []))
+pub makes_more : (at0 at1 at2 : Local → Type 0) (stands0 stands1 stands2 : List (Op × ℕ) → Type 0) (first seat : SeatView) (op : Located) (n : ℕ) (post : Post) (held : HeldDesk) (told : List Event) (phase : Phase)
+    → Makes (λ ops l m. Ran l ops m) at0 at1 stands0 stands1 first seat → busy_in seat.phase ≡ true → may_adopt seat.phase ≡ false → op ≡ placed seat → Steps at1 at2 op n → ((xs : List (Op × ℕ)) → stands1 xs → stands2 (xs ++ (op.op, n) ∷ []))
     → Took (turned seat n) post held told None phase → Makes (λ ops l m. Ran l ops m) at0 at2 stands0 stands2 first (at_phase phase post held)
 makes_more at0 at1 at2 stands0 stands1 stands2 first seat op n post held told phase d b alone o s more k = record {
-  ops = d.ops ++ (op, n) ∷ [];
+  ops = d.ops ++ (op.op, n) ∷ [];
   each = λ l a e.
       let to : LeadsTo (λ ops l m. Ran l ops m) at1 seat d.ops l = d.each l a e in
       let x : Stepped at2 op n (at_phase phase post held) to.left = step_at at1 at2 seat op n post held told None phase b alone o s k to.left to.there to.is in
-      let p : Performs to.left (op, n) = x.performs in
-      record { left = after (lent p.given) n; by = ran_on l d.ops to.left (op, n) to.by x.performs; there = x.there; is = x.is };
-  stands = stands_more stands0 stands1 stands2 d.ops (op, n) d.stands more;
+      let p : Performs to.left (op.op, n) = x.performs in
+      record { left = after (lent p.given) n; by = ran_on l d.ops to.left (op.op, n) to.by x.performs; there = x.there; is = x.is };
+  stands = stands_more stands0 stands1 stands2 d.ops (op.op, n) d.stands more;
 }
 
 -- the last one answers
-pub makes_answer : (at0 at1 at2 : Local → Type 0) (stands0 stands1 stands2 : List (Op × ℕ) → Type 0) (first seat : SeatView) (op : Op) (n : ℕ) (post : Post) (held : HeldDesk) (told : List Event) (answer : Answer) (phase : Phase)
-    → Makes (λ ops l m. Ran l ops m) at0 at1 stands0 stands1 first seat → busy_in seat.phase ≡ true → may_adopt seat.phase ≡ false → op ≡ asked seat → Steps at1 at2 op n → ((xs : List (Op × ℕ)) → stands1 xs → stands2 (xs ++ (op, n) ∷ []))
+pub makes_answer : (at0 at1 at2 : Local → Type 0) (stands0 stands1 stands2 : List (Op × ℕ) → Type 0) (first seat : SeatView) (op : Located) (n : ℕ) (post : Post) (held : HeldDesk) (told : List Event) (answer : Answer) (phase : Phase)
+    → Makes (λ ops l m. Ran l ops m) at0 at1 stands0 stands1 first seat → busy_in seat.phase ≡ true → may_adopt seat.phase ≡ false → op ≡ placed seat → Steps at1 at2 op n → ((xs : List (Op × ℕ)) → stands1 xs → stands2 (xs ++ (op.op, n) ∷ []))
     → Took (turned seat n) post held told (Some answer) phase → Makes (λ ops l m. Answered l ops answer m) at0 at2 stands0 stands2 first (at_phase Idle post held)
 makes_answer at0 at1 at2 stands0 stands1 stands2 first seat op n post held told answer phase d b alone o s more k = record {
-  ops = d.ops ++ (op, n) ∷ [];
+  ops = d.ops ++ (op.op, n) ∷ [];
   each = λ l a e.
       let to : LeadsTo (λ ops l m. Ran l ops m) at1 seat d.ops l = d.each l a e in
       let x : Stepped at2 op n (at_phase Idle post held) to.left = step_at at1 at2 seat op n post held told (Some answer) phase b alone o s k to.left to.there to.is in
-      let p : Performs to.left (op, n) = x.performs in
+      let p : Performs to.left (op.op, n) = x.performs in
       let same : turned seat n ≡ turn (lent p.given) n = turned_lent to.left n p.given seat to.is alone in
       record {
         left = after (lent p.given) n;
         by = record {
           before = d.ops;
           last = to.left;
-          operation = (op, n);
+          operation = (op.op, n);
           ops_are = refl;
           ran = to.by;
           performs = x.performs;
@@ -152,7 +155,7 @@ makes_answer at0 at1 at2 stands0 stands1 stands2 first seat op n post held told 
         there = x.there;
         is = x.is;
       };
-  stands = stands_more stands0 stands1 stands2 d.ops (op, n) d.stands more;
+  stands = stands_more stands0 stands1 stands2 d.ops (op.op, n) d.stands more;
 }
 
 -- what the words' clauses say of a call that begins, at each state

@@ -5,16 +5,17 @@ use Rattle.wfe_core.specs.words.declared.layout.Layout.{Layout}
 use Rattle.wfe_core.specs.Calls.{FindCount, FindKey, FindValue, FindVersion, GetAt, Getting, Works}
 use Rattle.wfe_core.specs.Get.{finding, found_key, get_move, got}
 use Rattle.wfe_core.specs.Locals.{Local}
-use Rattle.wfe_core.specs.Memory.{numbered}
 use Rattle.wfe_core.specs.declared.op.Op.{Op}
 use Rattle.wfe_drive_cells.specs.Unit.{SeatView, kept_desk, seat_after}
 use Rattle.wfe_drive_words.specs.Called.{Here}
 use Rattle.wfe_drive_words.specs.Path.{AsksFor, Leads, Reader, StepsOn, found_at, next_pair, reading}
 use Rattle.wfe_drive_words.proofs.Leading.{leads_as}
+use Rattle.wfe_drive_cells.specs.Spots.{spotted}
+use Rattle.wfe_drive_cells.specs.declared.located.Located.{Located}
 
 -- a read asks for its word
-pub read_asks : {at : Local → Type 0} (key : ℕ) (r : Reader) (steps : ℕ) (find : GetAt) (layout : Layout) (op : Op) → r.post.layout ≡ layout → Here at (reading key r steps find) → op ≡ numbered layout (get_move find) → AsksFor at (reading key r steps find) op
-read_asks key r steps find layout op e h o = record { here = h; busy = refl; is = o ∙ ap (λ (d : Layout). numbered d (get_move find)) (sym e) }
+pub read_asks : {at : Local → Type 0} (key : ℕ) (r : Reader) (steps : ℕ) (find : GetAt) (layout : Layout) (op : Located) → r.post.layout ≡ layout → Here at (reading key r steps find) → op ≡ spotted layout (get_move find) → AsksFor at (reading key r steps find) op
+read_asks key r steps find layout op e h o = record { here = h; busy = refl; is = o ∙ ap (λ (d : Layout). spotted d (get_move find)) (sym e) }
 
 -- the same with the steps of the call in one number
 abbrev read_at : ℕ → Reader → GetAt → ℕ → SeatView

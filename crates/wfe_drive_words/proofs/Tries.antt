@@ -3,7 +3,7 @@ use Rattle.std.proofs.Common.{List, ap, arith, refl, ℕ, ◌+◌, ◌≡◌}
 use Rattle.wfe_core.specs.defs.declared.event.Root.{Root}
 use Rattle.wfe_core.specs.words.Place.Place.{Clock}
 use Rattle.wfe_core.specs.Locals.{Local}
-use Rattle.wfe_core.specs.Memory.{Load, bump, numbered}
+use Rattle.wfe_core.specs.Memory.{Load, bump}
 use Rattle.wfe_core.specs.Phases.{Endless}
 use Rattle.wfe_core.specs.Phases as phases
 use Rattle.wfe_core.specs.Phases.ProtectAt.{LoadClock}
@@ -15,6 +15,8 @@ use Rattle.wfe_drive_words.specs.Called.{Here}
 use Rattle.wfe_drive_words.specs.Path.{AsksFor, Leads, Publishes, StepFrom, Trial, endless, endless_after, guarded_at, held_at, protecting, publishing, tried_at}
 use Rattle.wfe_drive_words.proofs.Leading.{here_on, leads_as, leads_none, then_leads}
 use Rattle.wfe_drive_words.proofs.Trying.{once}
+use Rattle.wfe_drive_cells.specs.Spots.{spotted}
+use Rattle.wfe_drive_cells.specs.declared.located.Located.{Located}
 
 -- none yet
 pub tries_none : (at : Local → Type 0) (stands : List (Op × ℕ) → Type 0) (t : Trial) (index : ℕ) (root : Root) (era : ℕ) (post : Post)
@@ -49,14 +51,14 @@ tries_held t index root first era link post n steps x y =
     (m, leads_as _ _ (ap (λ (s : ℕ). held_at t index root m link era s post) e) (then_leads x y))
 
 -- they begin with a load of the clock
-pub load_asks : {at : Local → Type 0} (t : Trial) (index : ℕ) (root : Root) (tries : phases.Tries) (post : Post) (op : Op) → Here at (protecting t index root (LoadClock tries) post) → op ≡ numbered post.layout (Load Clock) → AsksFor at (protecting t index root (LoadClock tries) post) op
+pub load_asks : {at : Local → Type 0} (t : Trial) (index : ℕ) (root : Root) (tries : phases.Tries) (post : Post) (op : Located) → Here at (protecting t index root (LoadClock tries) post) → op ≡ spotted post.layout (Load Clock) → AsksFor at (protecting t index root (LoadClock tries) post) op
 load_asks t index root tries post op h o = record { here = h; busy = refl; is = o }
 
-pub first_try : {at0 at1 : Local → Type 0} {stands0 stands1 : List (Op × ℕ) → Type 0} (t : Trial) (index : ℕ) (root : Root) (post : Post) (op : Op) (era : ℕ) → Here at0 (protecting t index root (LoadClock Endless) post) → op ≡ numbered post.layout (Load Clock)
+pub first_try : {at0 at1 : Local → Type 0} {stands0 stands1 : List (Op × ℕ) → Type 0} (t : Trial) (index : ℕ) (root : Root) (post : Post) (op : Located) (era : ℕ) → Here at0 (protecting t index root (LoadClock Endless) post) → op ≡ spotted post.layout (Load Clock)
     → StepFrom at0 at1 stands0 stands1 op era → Publishes at1 (endless (once t)) index root era post
 first_try t index root post op era h o s = record { here = here_on h (s _ (load_asks t index root Endless post op h o)).leads; tries = refl }
 
-pub guarded_on : {at0 at1 at2 : Local → Type 0} {stands0 stands1 stands2 : List (Op × ℕ) → Type 0} (t : Trial) (index : ℕ) (root : Root) (post : Post) (op : Op) (era : ℕ) (guarded : Guarded) → Here at0 (protecting t index root (LoadClock Endless) post) → op ≡ numbered post.layout (Load Clock)
+pub guarded_on : {at0 at1 at2 : Local → Type 0} {stands0 stands1 stands2 : List (Op × ℕ) → Type 0} (t : Trial) (index : ℕ) (root : Root) (post : Post) (op : Located) (era : ℕ) (guarded : Guarded) → Here at0 (protecting t index root (LoadClock Endless) post) → op ≡ spotted post.layout (Load Clock)
     → StepFrom at0 at1 stands0 stands1 op era → ((n : ℕ) × Leads at1 at2 stands1 stands2 (publishing (endless (once t)) index root era post) (guarded_at (once t) index root post n guarded))
     → (n : ℕ) × Leads at0 at2 stands0 stands2 (protecting t index root (LoadClock Endless) post) (guarded_at t index root post n (record guarded { steps = guarded.steps + 1 }))
 guarded_on t index root post op era guarded h o s x =

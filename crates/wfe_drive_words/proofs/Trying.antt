@@ -5,7 +5,7 @@ use Rattle.wfe_core.specs.words.Place.Place.{Clock, Index}
 use Rattle.wfe_core.specs.defs.declared.event.Root.{Root}
 use Rattle.wfe_core.specs.Links.{link_place}
 use Rattle.wfe_core.specs.Locals.{Local}
-use Rattle.wfe_core.specs.Memory.{Load, Store, bump, numbered}
+use Rattle.wfe_core.specs.Memory.{Load, Store, bump}
 use Rattle.wfe_core.specs.Phases.{ProtectAt, goes}
 use Rattle.wfe_core.specs.Phases.Base.{Protect}
 use Rattle.wfe_core.specs.Phases.ProtectAt.{CheckClock, LoadLink, PublishEra}
@@ -18,6 +18,8 @@ use Rattle.wfe_core.specs.declared.post.Post.{Post}
 use Rattle.wfe_drive_cells.specs.Unit.{SeatView, kept_desk, seat_after}
 use Rattle.wfe_drive_words.specs.Path.{AsksFor, Leads, Publishes, StepFrom, StepsOn, Trial, failed, held_at, protecting, publishing}
 use Rattle.wfe_drive_words.proofs.Leading.{here_on, leads_as, then_leads}
+use Rattle.wfe_drive_cells.specs.Spots.{spotted}
+use Rattle.wfe_drive_cells.specs.declared.located.Located.{Located}
 
 -- one step more of the protection and of the call
 abbrev pub once : Trial → Trial
@@ -31,7 +33,7 @@ pub record Tries (at0 at1 at2 at3 : Local → Type 0) (stands0 stands1 stands2 s
   pub leads : Leads at0 at2 stands0 stands2 (publishing t index root era post) (protecting (once (once t)) index root (CheckClock era t.tries link) post)
 
 -- the first of them
-publish-asks : {at : Local → Type 0} (t : Trial) (index : ℕ) (root : Root) (era : ℕ) (post : Post) (op : Op) → Publishes at t index root era post → op ≡ numbered post.layout (Store (Index post.seat index) (index_word post index era)) → AsksFor at (publishing t index root era post) op
+publish-asks : {at : Local → Type 0} (t : Trial) (index : ℕ) (root : Root) (era : ℕ) (post : Post) (op : Located) → Publishes at t index root era post → op ≡ spotted post.layout (Store (Index post.seat index) (index_word post index era)) → AsksFor at (publishing t index root era post) op
 publish-asks t index root era post op p o = record { here = p.here; busy = refl; is = o }
 
 published : {at0 at1 : Local → Type 0} {stands0 stands1 : List (Op × ℕ) → Type 0} (t : Trial) (index : ℕ) (root : Root) (era : ℕ) (post : Post) (n : ℕ) → Publishes at0 t index root era post → StepsOn at0 at1 stands0 stands1 (publishing t index root era post) n
@@ -39,23 +41,23 @@ published : {at0 at1 : Local → Type 0} {stands0 stands1 : List (Op × ℕ) →
 published t index root era post n p s = leads_as _ _ (ap (λ (at : ProtectAt). protecting (once t) index root at post) p.tries) s.leads
 
 -- what its second and third step ask for
-pub link_asks : {at0 at1 : Local → Type 0} {stands0 stands1 : List (Op × ℕ) → Type 0} (t : Trial) (index : ℕ) (root : Root) (era : ℕ) (post : Post) (op0 op1 : Op) (n : ℕ) → Publishes at0 t index root era post
-    → op0 ≡ numbered post.layout (Store (Index post.seat index) (index_word post index era)) → StepFrom at0 at1 stands0 stands1 op0 n → op1 ≡ numbered post.layout (Load (link_place root)) → AsksFor at1 (protecting (once t) index root (LoadLink era t.tries) post) op1
+pub link_asks : {at0 at1 : Local → Type 0} {stands0 stands1 : List (Op × ℕ) → Type 0} (t : Trial) (index : ℕ) (root : Root) (era : ℕ) (post : Post) (op0 op1 : Located) (n : ℕ) → Publishes at0 t index root era post
+    → op0 ≡ spotted post.layout (Store (Index post.seat index) (index_word post index era)) → StepFrom at0 at1 stands0 stands1 op0 n → op1 ≡ spotted post.layout (Load (link_place root)) → AsksFor at1 (protecting (once t) index root (LoadLink era t.tries) post) op1
 link_asks t index root era post op0 op1 n p o0 s0 o1 = record { here = here_on p.here (published t index root era post n p (s0 (publishing t index root era post) (publish-asks t index root era post op0 p o0))); busy = refl; is = o1 }
 
-pub clock_asks : {at0 at1 at2 : Local → Type 0} {stands0 stands1 stands2 : List (Op × ℕ) → Type 0} (t : Trial) (index : ℕ) (root : Root) (era : ℕ) (post : Post) (op0 op1 op2 : Op) (n link : ℕ) → Publishes at0 t index root era post
-    → op0 ≡ numbered post.layout (Store (Index post.seat index) (index_word post index era)) → StepFrom at0 at1 stands0 stands1 op0 n
-    → op1 ≡ numbered post.layout (Load (link_place root)) → StepFrom at1 at2 stands1 stands2 op1 link
-    → op2 ≡ numbered post.layout (Load Clock) → AsksFor at2 (protecting (once (once t)) index root (CheckClock era t.tries link) post) op2
+pub clock_asks : {at0 at1 at2 : Local → Type 0} {stands0 stands1 stands2 : List (Op × ℕ) → Type 0} (t : Trial) (index : ℕ) (root : Root) (era : ℕ) (post : Post) (op0 op1 op2 : Located) (n link : ℕ) → Publishes at0 t index root era post
+    → op0 ≡ spotted post.layout (Store (Index post.seat index) (index_word post index era)) → StepFrom at0 at1 stands0 stands1 op0 n
+    → op1 ≡ spotted post.layout (Load (link_place root)) → StepFrom at1 at2 stands1 stands2 op1 link
+    → op2 ≡ spotted post.layout (Load Clock) → AsksFor at2 (protecting (once (once t)) index root (CheckClock era t.tries link) post) op2
 clock_asks t index root era post op0 op1 op2 n link p o0 s0 o1 s1 o2 =
     let asks = link_asks t index root era post op0 op1 n p o0 s0 o1 in
     record { here = here_on asks.here (s1 (protecting (once t) index root (LoadLink era t.tries) post) asks).leads; busy = refl; is = o2 }
 
 -- all three
-pub tries_by : {at0 at1 at2 at3 : Local → Type 0} {stands0 stands1 stands2 stands3 : List (Op × ℕ) → Type 0} (t : Trial) (index : ℕ) (root : Root) (era : ℕ) (post : Post) (op0 op1 op2 : Op) (n link seen : ℕ) → Publishes at0 t index root era post
-    → op0 ≡ numbered post.layout (Store (Index post.seat index) (index_word post index era)) → StepFrom at0 at1 stands0 stands1 op0 n
-    → op1 ≡ numbered post.layout (Load (link_place root)) → StepFrom at1 at2 stands1 stands2 op1 link
-    → op2 ≡ numbered post.layout (Load Clock) → StepFrom at2 at3 stands2 stands3 op2 seen
+pub tries_by : {at0 at1 at2 at3 : Local → Type 0} {stands0 stands1 stands2 stands3 : List (Op × ℕ) → Type 0} (t : Trial) (index : ℕ) (root : Root) (era : ℕ) (post : Post) (op0 op1 op2 : Located) (n link seen : ℕ) → Publishes at0 t index root era post
+    → op0 ≡ spotted post.layout (Store (Index post.seat index) (index_word post index era)) → StepFrom at0 at1 stands0 stands1 op0 n
+    → op1 ≡ spotted post.layout (Load (link_place root)) → StepFrom at1 at2 stands1 stands2 op1 link
+    → op2 ≡ spotted post.layout (Load Clock) → StepFrom at2 at3 stands2 stands3 op2 seen
     → Tries at0 at1 at2 at3 stands0 stands1 stands2 stands3 t index root era post n link seen
 tries_by t index root era post op0 op1 op2 n link seen p o0 s0 o1 s1 o2 s2 =
     let first = s0 (publishing t index root era post) (publish-asks t index root era post op0 p o0) in
@@ -95,9 +97,9 @@ moved t index root era post n link seen e s =
     leads_as _ _ (counted ∙ is) (then_leads s.leads s.third.leads)
 
 -- what they found is in range
-pub link_fits : {at0 at1 at2 : Local → Type 0} {stands0 stands1 stands2 : List (Op × ℕ) → Type 0} (t : Trial) (index : ℕ) (root : Root) (era : ℕ) (post : Post) (op0 op1 : Op) (n link : ℕ) → Publishes at0 t index root era post
-    → op0 ≡ numbered post.layout (Store (Index post.seat index) (index_word post index era)) → StepFrom at0 at1 stands0 stands1 op0 n
-    → op1 ≡ numbered post.layout (Load (link_place root)) → StepFrom at1 at2 stands1 stands2 op1 link → LinkFits post link
+pub link_fits : {at0 at1 at2 : Local → Type 0} {stands0 stands1 stands2 : List (Op × ℕ) → Type 0} (t : Trial) (index : ℕ) (root : Root) (era : ℕ) (post : Post) (op0 op1 : Located) (n link : ℕ) → Publishes at0 t index root era post
+    → op0 ≡ spotted post.layout (Store (Index post.seat index) (index_word post index era)) → StepFrom at0 at1 stands0 stands1 op0 n
+    → op1 ≡ spotted post.layout (Load (link_place root)) → StepFrom at1 at2 stands1 stands2 op1 link → LinkFits post link
 link_fits t index root era post op0 op1 n link p o0 s0 o1 s1 =
     let s = s1 (protecting (once t) index root (LoadLink era t.tries) post) (link_asks t index root era post op0 op1 n p o0 s0 o1) in
     s.take.plausible

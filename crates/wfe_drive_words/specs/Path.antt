@@ -25,6 +25,8 @@ use Rattle.wfe_core.specs.words.declared.config.SchemeKind.{SchemeKind}
 use Rattle.wfe_core.specs.words.declared.config.SchemeKind.TheVariants.{Wfe}
 use Rattle.wfe_core.specs.declared.op.Op.{Op}
 use Rattle.wfe_core.specs.declared.post.Post.{Post}
+use Rattle.wfe_drive_cells.specs.Spots.{located}
+use Rattle.wfe_drive_cells.specs.declared.located.Located.{Located}
 use Rattle.wfe_drive_cells.specs.Unit.{SeatView, asked, kept_desk, seat_after}
 use Rattle.wfe_drive_words.specs.Called.{Here, Makes}
 use Rattle.wfe_drive_words.specs.Ran.{Answered, Ran}
@@ -38,11 +40,15 @@ use Rattle.wfe_drive_words.specs.declared.protect.Tried.TheVariants.{Held, Moved
 use Rattle.wfe_drive_words.specs.declared.within.Looked.{Looked}
 use Rattle.wfe_drive_words.specs.declared.within.Looked.TheVariants as looks
 
+-- the operation that the seat asks for, with the spot of its word
+abbrev pub placed : SeatView → Located
+placed seat = located seat.post.layout (asked seat)
+
 -- the seat, whose call is under way, asks for this operation
-pub record AsksFor (at : Local → Type 0) (seat : SeatView) (op : Op) : Type 0 where
+pub record AsksFor (at : Local → Type 0) (seat : SeatView) (op : Located) : Type 0 where
   pub here : Here at seat
   pub busy : busy_in seat.phase ≡ true
-  pub is : op ≡ asked seat
+  pub is : op ≡ placed seat
 
 -- what a step that found this makes of the seat
 abbrev pub stepped : Post → Post
@@ -72,7 +78,7 @@ pub record StepsOn (at_old at_new : Local → Type 0) (stands_old stands_new : L
   pub closes : (answer : Answer) → (taken seat found).outcome ≡ Answers answer → Closes answer at_old at_new stands_old stands_new seat (left_by seat found)
 
 -- the step of this operation, from each state that asks for it
-abbrev pub StepFrom : (at_old at_new : Local → Type 0) (stands_old stands_new : List (Op × ℕ) → Type 0) (op : Op) (found : ℕ) → Type 0
+abbrev pub StepFrom : (at_old at_new : Local → Type 0) (stands_old stands_new : List (Op × ℕ) → Type 0) (op : Located) (found : ℕ) → Type 0
 StepFrom at_old at_new stands_old stands_new op found = (seat : SeatView) → AsksFor at_old seat op → StepsOn at_old at_new stands_old stands_new seat found
 
 -- a protection: what comes after it, the seat's desk, the steps that it has made, the tries that have failed, and the call's steps

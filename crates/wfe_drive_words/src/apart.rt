@@ -13,6 +13,7 @@ ghost use Rattle.wfe_drive_words.specs.Ran.{Answered};
 
 use crate::Words;
 use wfe_core::{Answer, CallMachine, Desk, Op, Post, Told};
+use wfe_drive_cells::Located;
 
 /// Makes the steps of a call as `drive_on` does.
 #[inline(always)]
@@ -37,7 +38,8 @@ pub fn drive_apart<W: Words, M: CallMachine>(
     let mut told = Told::new();
     loop {
         let op = next_apart(&machine, post, desk);
-        let found = words.perform(op);
+        let at = Located::of(&post.layout, op);
+        let found = words.perform(at);
         told.clear();
         if let Some(answer) = take_apart(&mut machine, post, desk, found, &mut told) {
             return answer;

@@ -9,13 +9,14 @@ ghost use Rattle.wfe_core.specs.defs.declared.event.Root.TheVariants as roots;
 ghost use Rattle.wfe_core.specs.Calls.{Idle, Task};
 ghost use Rattle.wfe_core.specs.DeskHeld.{HasRoom, desk_of};
 ghost use Rattle.wfe_core.specs.Desks.{Desk as ModelDesk};
-ghost use Rattle.wfe_core.specs.Memory.{Store as Stores, numbered};
+ghost use Rattle.wfe_core.specs.Memory.{Store as Stores};
 ghost use Rattle.wfe_core.specs.Phases.BeginAt.{LoadLower};
 ghost use Rattle.wfe_core.specs.Ready.{LinkFits};
 ghost use Rattle.wfe_core.specs.Rounds.{bucket_of, kept_row};
 ghost use Rattle.wfe_core.specs.Steps.{first_phase};
 ghost use Rattle.wfe_core.specs.Valid.{IsValid};
 ghost use Rattle.wfe_core.specs.declared.post.Post.{Post as ModelPost};
+ghost use Rattle.wfe_drive_cells.specs.Spots.{spotted};
 ghost use Rattle.wfe_drive_words.specs.Called.{Here, at_phase};
 ghost use Rattle.wfe_drive_words.specs.Path.{Closes, Leads, beginning_at, begun_at, ending_at, get_trial, held_at, spanned};
 
@@ -25,6 +26,7 @@ use crate::get::{answer_of, note_steps};
 use crate::path::{load_clock, step};
 use crate::within::{protect_within, store_span};
 use wfe_core::{Answer, Desk, Op, Post, Root};
+use wfe_drive_cells::Located;
 
 /// Makes a get under 2GE, of a key whose bucket is known, from its first step to its answer.
 #[inline(always)]
@@ -101,14 +103,12 @@ fn find_within<W: Words>(words: &mut W, post: &Post, key: u64, link: u32) -> Fou
 
 // A store of no interval into the seat's word.
 #[inline(always)]
-pub fn store_none(post: &Post) -> Op
+pub fn store_none(post: &Post) -> Located
     requires { IsValid post.now }
-    ensures { result ≡ numbered post.now.layout (Stores (Interval post.now.seat) 0) }
+    ensures { result ≡ spotted post.now.layout (Stores (Interval post.now.seat) 0) }
 {
-    Op::Store {
-        word: post.layout.interval(post.seat),
-        value: 0,
-    }
+    let word = post.layout.interval(post.seat);
+    Located::alone(&post.layout, Op::Store { word, value: 0 })
 }
 
 // The interval ends, and the call is answered.

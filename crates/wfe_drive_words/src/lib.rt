@@ -26,6 +26,7 @@ pub use machine::drive_on;
 pub use path::{load_cell, load_clock, load_link, publish, publish_as, publishes_rows, step};
 pub use protect::{Guarded, Tried, try_on, try_once};
 pub use wfe_bucketmap_read::{He, Hp, Wfe};
+pub use wfe_drive_cells::Located;
 pub use wfe_fast::WfeProtect;
 pub use within::{protect_within, store_span};
 pub use words::Words;

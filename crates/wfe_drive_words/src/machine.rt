@@ -8,6 +8,7 @@ ghost use Rattle.wfe_drive_words.specs.Ran.{Answered};
 
 use crate::Words;
 use wfe_core::{Answer, CallMachine, Desk, Post, Told};
+use wfe_drive_cells::Located;
 
 /// Makes the steps of a call from where its machine stands, until it answers.
 pub fn drive_on<W: Words, M: CallMachine>(
@@ -31,7 +32,8 @@ pub fn drive_on<W: Words, M: CallMachine>(
     let mut told = Told::new();
     loop {
         let op = machine.next_op(post, desk);
-        let found = words.perform(op);
+        let at = Located::of(&post.layout, op);
+        let found = words.perform(at);
         told.clear();
         if let Some(answer) = machine.take(post, desk, found, &mut told) {
             return answer;

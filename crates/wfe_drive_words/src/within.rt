@@ -2,11 +2,12 @@
 // upper end of the seat's interval, which is raised till then.
 ghost use Rattle.std.specs.Prelude.{◌≡◌, ◌<◌, ◌≤◌, ◌+◌, ◌^◌, ℕ};
 ghost use Rattle.wfe_core.specs.words.Place.Place.{Interval};
-ghost use Rattle.wfe_core.specs.Memory.{Store as Stores, numbered};
+ghost use Rattle.wfe_core.specs.Memory.{Store as Stores};
 ghost use Rattle.wfe_core.specs.Phases.ProtectAt.{LoadWithin};
 ghost use Rattle.wfe_core.specs.Ready.{LinkFits, RootFits};
 ghost use Rattle.wfe_core.specs.Spans.{eras_word};
 ghost use Rattle.wfe_core.specs.Valid.{IsValid};
+ghost use Rattle.wfe_drive_cells.specs.Spots.{spotted};
 ghost use Rattle.wfe_drive_words.specs.Called.{Here};
 ghost use Rattle.wfe_drive_words.specs.Path.{Leads, LookedFits, Trial, looked_at, protecting, spanned, within_at};
 
@@ -14,6 +15,7 @@ use crate::Words;
 use crate::path::{load_clock, load_link, step};
 use crate::protect::Guarded;
 use wfe_core::{Op, Post, Root, Span, span_word};
+use wfe_drive_cells::Located;
 
 // What a look came to: the link, or the new upper end.
 #[derive(Clone, Copy)]
@@ -24,14 +26,13 @@ pub enum Looked {
 
 // A store of an interval into the seat's word.
 #[inline(always)]
-pub fn store_span(post: &Post, lo: u32, hi: u32) -> Op
+pub fn store_span(post: &Post, lo: u32, hi: u32) -> Located
     requires { IsValid post.now }
-    ensures { result ≡ numbered post.now.layout (Stores (Interval post.now.seat) (eras_word lo hi)) }
+    ensures { result ≡ spotted post.now.layout (Stores (Interval post.now.seat) (eras_word lo hi)) }
 {
-    Op::Store {
-        word: post.layout.interval(post.seat),
-        value: span_word(Some(Span { lo, hi })),
-    }
+    let word = post.layout.interval(post.seat);
+    let value = span_word(Some(Span { lo, hi }));
+    Located::alone(&post.layout, Op::Store { word, value })
 }
 
 // One look, under an interval from one era to another.

@@ -2,9 +2,11 @@
 ghost use Rattle.std.specs.Prelude.{◌≡◌, ◌<◌, ◌++◌, ◌∷◌, [], ℕ, List, true, false};
 ghost use Rattle.wfe_core.specs.Locals.{Local, after, asks, begun, busy_in, may_begin, stays};
 ghost use Rattle.wfe_core.specs.declared.op.Op.{Op as Operation};
+ghost use Rattle.wfe_drive_cells.specs.Spots.{located};
 ghost use Rattle.wfe_drive_words.specs.Comes.{Comes, Given, departs, lent};
 
-use wfe_core::{Call, Op};
+use wfe_core::Call;
+use wfe_drive_cells::Located;
 
 /// The words of a table on which one seat makes its steps, and between them other seats theirs.
 pub trait Words: Drop {
@@ -44,18 +46,18 @@ pub trait Words: Drop {
             → may_begin l.post.layout.config call ≡ true → at self.new (begun l call) }
         ensures stands { (xs : List (Operation × ℕ)) → stands self.old xs → stands self.new xs };
 
-    /// Performs the operation that the seat's call asks for, in one atomic step. It answers the
+    /// Performs the operation that the seat's call asks for, with the spot of its word, in one atomic step. It answers the
     /// word before, and 0 for a store. The seat neither leaves by the call nor takes over what another
     /// has left: the steps of such calls on place words move a list too, and are the table's own.
-    fn perform(&mut self, op: Op) -> u64
+    fn perform(&mut self, op: Located) -> u64
         requires valid { valid self.old }
-        requires asks { (l : Local) × at self.old l × (busy_in l.phase ≡ true) × (op ≡ asks l)
+        requires asks { (l : Local) × at self.old l × (busy_in l.phase ≡ true) × (op ≡ located l.post.layout (asks l))
             × (stays l.call ≡ true) }
         ensures valid { valid self.new }
         ensures same { same self.old self.new }
-        ensures at { (l : Local) → at self.old l → busy_in l.phase ≡ true → op ≡ asks l
+        ensures at { (l : Local) → at self.old l → busy_in l.phase ≡ true → op ≡ located l.post.layout (asks l)
             → (g : Given l result) × at self.new (after (lent g) result) }
         ensures rest { rest self.new < rest self.old }
         ensures stands { (xs : List (Operation × ℕ)) → stands self.old xs
-            → stands self.new (xs ++ (op, result) ∷ []) };
+            → stands self.new (xs ++ (op.op, result) ∷ []) };
 }

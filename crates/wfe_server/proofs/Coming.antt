@@ -126,6 +126,7 @@ comes_at shared scripts done closed enough a left =
             (λ k within. let below : k < length done = omega (arith, within, a.count, enough) in sym (at k (some_of done k below) below).calls_are));
         law = left.run;
       };
+      order = left.order;
       items = items;
       at_rest = record { valid = left.reaches.whole.valid; idle = left.idle };
       logs_are = refl;

@@ -32,8 +32,9 @@ fn tell_seat<K: Sink>(
     ensures { Emits (boxed stands) K.written K.faults K.may_stand result sink.old sink.new watchers.old watchers.new (told_pieces seat (slice_index_or (lists_in seats.now) seat [])) }
 {
     let events = seats[seat as usize].as_slice();
+    let mut line = Line::new();
     for place in 0..events.len() {
-        tell(sink, watchers, seat, &events[place])?;
+        tell(sink, &mut line, watchers, seat, &events[place])?;
     }
     Ok(())
 }

@@ -21,13 +21,15 @@ use wfe_core::Told;
 use wfe_outside::{Call, Event, NoMemory, Sink, Watcher};
 use wfe_server_out::{Fault, tell, tell_all};
 use wfe_server_replay::Engine;
-use wfe_trace::Layout;
+use wfe_trace::{Layout, Line};
 
 /// A table with the fixed setting, whose seats stay, and the numbers of the events that it told.
 #[derive(Drop)]
 pub struct Table<E: Engine> {
     engine: E,
     summary: Summary,
+    // In which each event's line is made.
+    line: Line,
 }
 
 impl<E: Engine> Model for Table<E> {
@@ -54,6 +56,7 @@ impl<E: Engine> Table<E> {
         Ok(Table {
             engine: E::make(alloc, layout)?,
             summary: Summary::new(),
+            line: Line::new(),
         })
     }
 
@@ -82,7 +85,7 @@ impl<E: Engine> Table<E> {
         told.clear();
         let _ = self.engine.unit(seat, told);
         self.summary.count_all(seat, told);
-        tell_all(sink, watchers, seat, told)
+        tell_all(sink, &mut self.line, watchers, seat, told)
     }
 
     // Runs a seat until its call ends.
@@ -149,7 +152,7 @@ impl<E: Engine> Table<E> {
         self.engine.start(seat, call);
         let event = Event::Begin { call };
         self.summary.count(seat, &event);
-        tell(sink, watchers, seat, &event)
+        tell(sink, &mut self.line, watchers, seat, &event)
     }
 
     // Plays the three lines of a turn.

@@ -41,4 +41,3 @@ joined old a b c d e f g h x y early given owed unused retired late ha hb hc hd 
 pub on_ok : {T E : Type 0} {P Q : Type 0} (r : Result T E) → OnOk r P → (P → Q) → OnOk r Q
 on_ok (Ok x) p f = f p
 on_ok (Err e) p f = tt
-

@@ -41,18 +41,19 @@ fn tell_watchers(
 }
 
 // Writes the line of an event.
-fn put_event<K: Sink>(sink: &mut K, seat: u32, event: &Event) -> Result<(), Failed>
+fn put_event<K: Sink>(sink: &mut K, line: &mut Line, seat: u32, event: &Event) -> Result<(), Failed>
     ensures { Writes K.written K.faults K.may_stand result sink.old sink.new (text_of (told_piece (entry seat event.now) ∷ [])) }
 {
-    let mut line = Line::new();
-    print_event(seat, event, &mut line);
-    put_line(sink, &line)
+    print_event(seat, event, line);
+    put_line(sink, line)
 }
 
-/// Tells each watcher the event, in order, and then writes its line. Where writing fails, each
-/// watcher has heard the event; where a watcher has no memory, nothing of the line is written.
+/// Tells each watcher the event, in order, and then writes its line, which is made in the line that is
+/// given. Where writing fails, each watcher has heard the event; where a watcher has no memory, nothing
+/// of the line is written.
 pub fn tell<K: Sink>(
     sink: &mut K,
+    line: &mut Line,
     watchers: &mut [Box<dyn Watcher>],
     seat: u32,
     event: &Event,
@@ -64,13 +65,14 @@ pub fn tell<K: Sink>(
 {
     size(*event);
     tell_watchers(watchers, seat, event)?;
-    put_event(sink, seat, event)?;
+    put_event(sink, line, seat, event)?;
     Ok(())
 }
 
 /// Tells the events of one step of a seat, each before the next.
 pub fn tell_all<K: Sink>(
     sink: &mut K,
+    line: &mut Line,
     watchers: &mut [Box<dyn Watcher>],
     seat: u32,
     told: &Told,
@@ -81,7 +83,7 @@ pub fn tell_all<K: Sink>(
     ensures needs_a_watcher { IfErr result (λ fault. fault ≡ Fault.Memory → 0 < length watchers.old) }
 {
     for place in 0..told.len() {
-        tell(sink, watchers, seat, told.get(place))?;
+        tell(sink, line, watchers, seat, told.get(place))?;
     }
     Ok(())
 }

@@ -29,6 +29,8 @@ pub struct Play<E: Engine> {
     garbage: GarbageCounter,
     lists: ListCounter,
     seats: u32,
+    // In which each event's line is made.
+    line: Line,
 }
 
 impl<E: Engine> Model for Play<E> {
@@ -56,6 +58,7 @@ impl<E: Engine> Play<E> {
             garbage: GarbageCounter::new(alloc, config.seats)?,
             lists: ListCounter::new(alloc, config.seats)?,
             seats: config.seats,
+            line: Line::new(),
         })
     }
 
@@ -110,7 +113,7 @@ impl<E: Engine> Play<E> {
         told.clear();
         let _ = self.engine.unit(seat, told);
         self.count(seat, told);
-        tell_all(sink, watchers, seat, told)
+        tell_all(sink, &mut self.line, watchers, seat, told)
     }
 
     // Runs a seat until its call ends.
@@ -202,7 +205,7 @@ impl<E: Engine> Play<E> {
             (told_piece (entry seat (Event.Begin call)) ∷ []) }
     {
         self.engine.start(seat, call);
-        tell(sink, watchers, seat, &Event::Begin { call })
+        tell(sink, &mut self.line, watchers, seat, &Event::Begin { call })
     }
 
     /// Takes a line of the body: a call that may begin, units, or a table of counts.

@@ -30,7 +30,7 @@ use Rattle.wfe_table.specs.Calls.{IsMade, IsMissed}
 use Rattle.wfe_table.specs.Places.{Adoption, Found, Missed, Took, notes_over, over_view, post_over}
 use Rattle.wfe_table.specs.Public.{SeatNow}
 use Rattle.wfe_table.specs.Sound.{IsMet}
-use Rattle.wfe_table.proofs.Made.{made_by, made_over, met_more}
+use Rattle.wfe_table.proofs.Made.{Rests, made_by, made_over, met_more}
 
 -- the seat is as its code has it, once a call that noted nothing has left this list
 abbrev view_of : Post → List Lifetime → Report → Notes → SeatView
@@ -104,11 +104,11 @@ told_layout place old new result h = (adoption_of place old new result h).1.ends
 abbrev pub IsAnswered : (layout : Layout) (old new : SeatNow) (place : ℕ) → Result ℕ ℕ → Type 0
 IsAnswered layout old new place result = MatchResult result (λ count. IsMade layout old new (names.Adopt place) (answers.Adopted count)) (λ found. IsMissed layout old new place found)
 
-pub told_made : (layout : Layout) (old new : SeatNow) (place : ℕ) (result : Result ℕ ℕ) → IsTracked layout new.track → IsTold place old.track new.track result → IsAnswered layout old new place result
-told_made layout old new place (Ok count) t a = made_by layout old new (names.Adopt place) (answers.Adopted count) a.ops a.more t a.ends a.grows
-told_made layout old new place (Err found) t a = record {
-  made = made_by layout old new (names.Adopt place) (not_taken found) a.adoption.ops a.adoption.more t a.adoption.ends a.adoption.grows;
+pub told_made : (layout : Layout) (old new : SeatNow) (place : ℕ) (result : Result ℕ ℕ) → Rests layout old.track → IsTracked layout new.track → IsTold place old.track new.track result → IsAnswered layout old new place result
+told_made layout old new place (Ok count) r t a = made_by layout old new (names.Adopt place) (answers.Adopted count) a.ops a.more r t a.ends a.grows
+told_made layout old new place (Err found) r t a = record {
+  made = made_by layout old new (names.Adopt place) (not_taken found) a.adoption.ops a.adoption.more r t a.adoption.ends a.adoption.grows;
   exchange = a.exchange;
-  word = made_over layout old new (names.Adopt place) (not_taken found) a.adoption.ops a.adoption.more t a.adoption.ends a.adoption.grows ∙ a.word;
+  word = made_over layout old new (names.Adopt place) (not_taken found) a.adoption.ops a.adoption.more r t a.adoption.ends a.adoption.grows ∙ a.word;
   apart = a.apart;
 }

@@ -1,5 +1,5 @@
 -- The words of a table that ends, one after another.
-use Rattle.std.proofs.Common.{List, [], ap, arith, length, subst, suc, sym, take, zero, ℕ, ◌++◌, ◌+◌, ◌≡◌, ◌≤◌, ◌∙◌, ◌∷◌}
+use Rattle.std.proofs.Common.{List, [], ap, arith, length, subst, suc, sym, take, zero, ℕ, ◌++◌, ◌+◌, ◌<◌, ◌≡◌, ◌≤◌, ◌∙◌, ◌∷◌}
 use Rattle.std.proofs.lemmas.List.{take_all}
 use mathlib.Core.Option.{some}
 use lib.ListN.{get_elem?}
@@ -14,7 +14,9 @@ use Rattle.wfe_drive_rule.specs.history.History.{Item, record_of}
 use Rattle.wfe_drive_rule.specs.history.Record.{Past}
 use Rattle.laws.specs.StateAt.{clock_of}
 use Rattle.law_all.specs.RunLaw.{AtClose, RunLaw}
+use Rattle.law_all.specs.RunOrder.{RunOrder}
 use Rattle.law_all.specs.Runs.{at_close, logs_of}
+use Rattle.law_all.proofs.RunOrder.{runs_have_order}
 use Rattle.law_all.proofs.Runs.Lawful.{runs_are_lawful}
 use Rattle.wfe_table.specs.Closing.{IsLeft, closing_of}
 
@@ -34,6 +36,13 @@ closing_is layout p closed h =
     let queue = h.queue in
     let used = h.used in
     cc
+
+-- over plain numbers: a word below the end has a spot in the block, and past the end all are read
+pub below_end : (word last count : ℕ) → word < last → last ≡ count → word < count
+below_end word last count low e = omega (arith, low, e)
+
+pub in_block : (n at most size : ℕ) → n ≡ at → at < most → size ≡ most → n < size
+in_block n at most size e low s = omega (arith, e, low, s)
 
 -- all words are in the room
 pub left : (layout : Layout) (words : List ℕ) (tracks : List Track) (room : Words) (closed : Closed) (count : ℕ) → Ended layout words tracks → room ≡ record { layout = layout; list = take count words } → length words ≤ count
@@ -55,4 +64,6 @@ left layout words tracks room closed count e is most read closed_by =
       numbers = e.seats;
       run = subst (RunLaw layout.config (logs_of layout e.items)) (sym (closing_is layout (record_of layout e.items) closed closed_is))
           (runs_are_lawful layout e.items (record { valid = e.valid; idle = e.idle }));
+      order = subst (RunOrder layout.config (logs_of layout e.items)) (sym (closing_is layout (record_of layout e.items) closed closed_is))
+          (runs_have_order layout e.items (record { valid = e.valid; idle = e.idle }));
     }

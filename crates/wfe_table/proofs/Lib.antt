@@ -9,6 +9,7 @@ pub mod Backs
 pub mod Bounded
 pub mod Departs
 pub mod Gathered
+pub mod Hearing
 pub mod Kept
 pub mod LeftWords
 pub mod Listed

@@ -1,5 +1,5 @@
 -- A call that a seat has made on the shared table: the seat after it is sound, and what its record says.
-use Rattle.std.proofs.Common.{List, [], ap, false, refl, subst, sym, true, ℕ, ◌++◌, ◌∙◌, ◌≡◌}
+use Rattle.std.proofs.Common.{List, [], ap, false, refl, subst, sym, true, ℕ, ◌++◌, ◌∙◌, ◌∷◌, ◌≡◌}
 use Rattle.wfe_core.specs.Locals.{Group, Local, busy_in}
 use Rattle.wfe_core.specs.declared.op.Op.{Op}
 use Rattle.wfe_core.specs.declared.post.Post.{Post}
@@ -9,16 +9,17 @@ use Rattle.wfe_core.specs.words.Place.{is_valid}
 use Rattle.wfe_core.specs.words.declared.layout.Layout.{Layout}
 use Rattle.wfe_drive_rule.specs.drive_cells.Unit.{SeatView, shown}
 use Rattle.law_all.specs.Logs.Reports.{IsReported}
-use Rattle.law_all.specs.Logs.Versions.{Counts, met_by, met_in}
+use Rattle.law_all.specs.Logs.Answered.{Says}
+use Rattle.law_all.specs.Logs.Versions.{Counts, counts_of, met_by, met_in}
 use Rattle.law_all.proofs.Logs.Reports.{records_report}
 use Rattle.law_all.proofs.Logs.Meets.{logs_extend}
-use Rattle.law_all.proofs.Records.{logs_answer}
+use Rattle.law_all.proofs.Records.{calls_answer, logs_answer}
 use Rattle.law_all.proofs.Whole.{histories_are_lawful}
 use Rattle.wfe_drive_call.specs.drive_words.Called.{Called, Ends, Here, LeadsTo}
 use Rattle.wfe_drive_call.specs.drive_words.Comes.{departs}
 use Rattle.wfe_drive_rule.specs.Handles.{IsResting, IsSeated, IsTracked}
-use Rattle.wfe_drive_rule.specs.Views.{Handle, call_in, entered, own, seat_of, standing}
-use Rattle.wfe_drive_rule.specs.history.History.{Item, record_of}
+use Rattle.wfe_drive_rule.specs.Views.{Handle, Track, call_in, entered, own, seat_of, standing}
+use Rattle.wfe_drive_rule.specs.history.History.{Item, record_of, world_of}
 use Rattle.wfe_drive_rule.proofs.Seated.{resting_slot}
 use Rattle.wfe_table.specs.Calls.{IsLawfulPast, IsMade, group_of}
 use Rattle.wfe_table.specs.Public.{SeatNow}
@@ -72,26 +73,47 @@ is_lawful : (layout : Layout) (past : List Item) → is_valid layout ≡ true �
 unfolding IsLawfulPast
 is_lawful layout past valid = histories_are_lawful layout past valid
 
+-- the seat before its call: it stands where its past leaves it, and no call is under way
+pub record Rests (layout : Layout) (track : Track) : Type 0 where
+  pub tracked : IsTracked layout track
+  pub idle : busy_in track.local.phase ≡ false
+
+pub rests_as : (layout key : Layout) (slot : ℕ) (handle : Handle) → IsSeated layout slot handle → IsResting handle → layout ≡ key → Rests key (own handle.0)
+rests_as layout key slot handle s r e = record { tracked = subst (λ (d : Layout). IsTracked d (own handle.0)) e s.tracked; idle = ap (λ (l : Local). busy_in l.phase) (sym (stands_at handle r)) ∙ r }
+
+-- what the answer says by what the seat's past had before the call
+says_known : (layout : Layout) (old new : SeatNow) (call : Call) (answer : Answer) (ops : List (Op × ℕ)) (more : List Item) → Rests layout old.track → IsTracked layout new.track → Ends call answer ops old.track.local new.track.local
+    → new.track.past ≡ old.track.past ++ more → Says layout.config (counts_of (record_of layout old.track.past)) (record_of layout new.track.past) call answer
+says_known layout old new call answer ops more r t ends grows =
+    let i : ℕ = seat_of old.track in
+    let group : Group = group_of call answer new in
+    let now : (world_of layout (old.track.past ++ more)).seat i ≡ new.track.local =
+    ap (λ (z : List Item). (world_of layout z).seat i) (sym grows) ∙ ap (world_of layout new.track.past).seat (sym ends.left.place.seat) ∙ t.stood in
+    subst (λ (z : List Item). Says layout.config (counts_of (record_of layout old.track.past)) (record_of layout z) call answer) (sym grows)
+    (calls_answer layout old.track.past more i [] group r.tracked.valid (ap (λ (l : Local). busy_in l.phase) r.tracked.stood ∙ r.idle)
+    (ap (λ (l : Local). l.log) now ∙ ends.left.log ∙ ap (λ (l : Local). l.log ++ group ∷ []) (sym r.tracked.stood)))
+
 -- what the record of the seat's history says of the call
-pub made_by : (layout : Layout) (old new : SeatNow) (call : Call) (answer : Answer) (ops : List (Op × ℕ)) (more : List Item) → IsTracked layout new.track → Ends call answer ops old.track.local new.track.local
+pub made_by : (layout : Layout) (old new : SeatNow) (call : Call) (answer : Answer) (ops : List (Op × ℕ)) (more : List Item) → Rests layout old.track → IsTracked layout new.track → Ends call answer ops old.track.local new.track.local
     → new.track.past ≡ old.track.past ++ more → IsMade layout old new call answer
-made_by layout old new call answer ops more t ends grows = record {
+made_by layout old new call answer ops more r t ends grows = record {
   ops = ops;
   ends = ends;
   more = more;
   grows = grows;
   tracked = t;
   answered = logs_answer layout new.track.past (seat_of new.track) old.track.local.log [] (group_of call answer new) t.valid (ap (λ (l : Local). l.log) t.stood ∙ ends.left.log);
+  known = says_known layout old new call answer ops more r t ends grows;
   lawful = is_lawful layout new.track.past t.valid;
   reported = subst (λ (l : Local). IsReported layout (seat_of new.track) (record_of layout new.track.past) l.desk.report) t.stood
       (records_report layout new.track.past (seat_of new.track) t.valid (ap (λ (l : Local). busy_in l.phase) t.stood ∙ ap busy_in ends.left.idle));
 }
 
 -- its operations are these
-pub made_over : (layout : Layout) (old new : SeatNow) (call : Call) (answer : Answer) (ops : List (Op × ℕ)) (more : List Item) (t : IsTracked layout new.track) (ends : Ends call answer ops old.track.local new.track.local)
-    (grows : new.track.past ≡ old.track.past ++ more) → (made_by layout old new call answer ops more t ends grows).ops ≡ ops
+pub made_over : (layout : Layout) (old new : SeatNow) (call : Call) (answer : Answer) (ops : List (Op × ℕ)) (more : List Item) (r : Rests layout old.track) (t : IsTracked layout new.track) (ends : Ends call answer ops old.track.local new.track.local)
+    (grows : new.track.past ≡ old.track.past ++ more) → (made_by layout old new call answer ops more r t ends grows).ops ≡ ops
 unfolding made_by
-made_over layout old new call answer ops more t ends grows = refl
+made_over layout old new call answer ops more r t ends grows = refl
 
 -- the handle's slot is that of its seat's number, on a table of this layout
 pub seated_as : (layout : Layout) (slot : ℕ) (post : Post) (handle : Handle) → IsSeated layout slot handle → post.layout ≡ layout → slot ≡ post.seat → IsSeated post.layout post.seat handle

@@ -26,6 +26,7 @@ use Rattle.wfe_drive_rule.specs.history.History.{Item}
 use Rattle.wfe_drive_rule.specs.inv.Places.{is_leaving}
 use Rattle.wfe_drive_rule.specs.Handles.{IsSeated, MovesNone, adopts}
 use Rattle.wfe_drive_rule.specs.Views.{Handle, call_in, leave_if, own, standing}
+use Rattle.wfe_drive_rule.proofs.Allowed.{entered_same}
 use Rattle.wfe_table.specs.Parting.{Parted}
 use Rattle.wfe_table.proofs.TableWords.{StepMade}
 use Rattle.wfe_table.proofs.Walked.{ran_more}
@@ -198,3 +199,7 @@ has_index layout seat index s i = grind (arith, nat_tests)
 
 pub has_seat : (n m : ℕ) → n < m → nat_lt n m ≡ true
 has_seat n m h = grind (arith, nat_tests)
+
+-- the post's layout is the table's
+pub parted_layout : (layout : Layout) (seat : ℕ) (post : Post) (old : Handle) (phase : Phase) (first : Bool) (now : Handle) → Parted layout seat post old phase first now → post.layout ≡ layout
+parted_layout layout seat post old phase first now p = sym p.place.layout ∙ (entered_same (own now.0).local (call_in now.1)).layout ∙ p.seated.tracked.layout_is

@@ -6,7 +6,7 @@ use Rattle.std.specs.Prelude.{None, ◌-◌, ◌^◌}
 use Rattle.wfe_core.specs.words.declared.layout.Layout.{Layout}
 use Rattle.wfe_core.specs.defs.declared.call.Call.{Call}
 use Rattle.wfe_core.specs.defs.declared.call.Call.TheVariants as names
-use Rattle.wfe_core.specs.Locals.{Local, after, busy_in, may_begin, stays}
+use Rattle.wfe_core.specs.Locals.{Local, after, asks, busy_in, may_begin, stays}
 use Rattle.wfe_core.specs.World.{offered}
 use Rattle.wfe_drive_rule.specs.history.History.{Item, Steps, world_of}
 use Rattle.wfe_drive_call.specs.drive_words.Comes.{Comes, Given, lent}
@@ -14,6 +14,9 @@ use Rattle.wfe_drive_call.proofs.drive_words.Histories.{few_steps, settles}
 use Rattle.wfe_drive_rule.specs.Handles.{IsHeld, IsSeated, MovesNone, adopts}
 use Rattle.wfe_drive_rule.specs.Moves.{Told}
 use Rattle.wfe_drive_rule.specs.Views.{Handle, Track, call_in, entered, own, seat_of, standing}
+use Rattle.wfe_drive_rule.specs.drive_cells.Operations.{word_in}
+use Rattle.wfe_drive_rule.specs.drive_cells.Spots.{located, spot}
+use Rattle.wfe_drive_rule.specs.drive_cells.declared.located.Located.{Located}
 use Rattle.wfe_drive_rule.proofs.Allowed.{entered_same}
 use Rattle.wfe_drive_rule.proofs.Standing.{held_stand, held_tell, staying_moves}
 use Rattle.wfe_drive_rule.proofs.Acting.{held_of}
@@ -85,3 +88,9 @@ pub moves_none : (layout : Layout) (slot : ℕ) (handle : Handle) (l : Local) �
 moves_none layout slot handle l s e busy stay =
     let staying : stays (standing handle).call ≡ true = ap (λ (k : Local). stays k.call) e ∙ stay in
     staying_moves layout slot handle s (ap (λ (k : Local). busy_in k.phase) e ∙ busy) (λ c. absurd (true≢false (sym staying ∙ ap stays c))) (stays_adopts (standing handle).call staying)
+
+-- the spot that comes with an operation is that of its word in the table
+pub spot_standing : (layout : Layout) (slot : ℕ) (handle : Handle) (l : Local) (op : Located) → IsSeated layout slot handle → standing handle ≡ l → op ≡ located l.post.layout (asks l) → op.spot ≡ spot layout (word_in op.op)
+spot_standing layout slot handle l op s e o =
+    let table : l.post.layout ≡ layout = ap (λ (k : Local). k.post.layout) (sym e) ∙ (entered_same (own handle.0).local (call_in handle.1)).layout ∙ s.tracked.layout_is in
+    ap (λ (at : Located). at.spot) o ∙ ap (λ (d : Layout). spot d (word_in (asks l))) table ∙ ap (λ (at : Located). spot layout (word_in at.op)) (sym o)

@@ -9,8 +9,10 @@ use Rattle.wfe_core.specs.defs.declared.call.Call.TheVariants as calls
 use Rattle.wfe_core.specs.Keep.{not_taken}
 use Rattle.wfe_core.specs.words.declared.layout.Layout.{Layout}
 use Rattle.wfe_drive_rule.specs.history.History.{Item, record_of}
+use Rattle.law_all.specs.Logs.Answered.{Says}
 use Rattle.law_all.specs.Logs.Records.{IsAnswered}
 use Rattle.law_all.specs.Logs.Reports.{IsReported}
+use Rattle.law_all.specs.Logs.Versions.{counts_of}
 use Rattle.law_all.specs.Whole.{IsLawful}
 use Rattle.wfe_drive_call.specs.drive_words.Called.{Ends}
 use Rattle.wfe_drive_rule.specs.Handles.{IsTracked}
@@ -46,6 +48,9 @@ pub record IsMade (layout : Layout) (old new : SeatNow) (call : Call) (answer : 
   pub tracked : IsTracked layout new.track
   -- the answer says what is so by the record of that history: see the texts of `law_logs`
   pub answered : IsAnswered layout.config (seat_of new.track) (record_of layout new.track.past) old.track.local.log (group_of call answer new)
+  -- the same by the counts of the seat's past as it was before the call: no version and no number that it tells is older than these, and
+  -- none that any call had told whose past that one begins with
+  pub known : Says layout.config (counts_of (record_of layout old.track.past)) (record_of layout new.track.past) call answer
   -- that history keeps all laws, of its record and of its turns, with what histories keep beyond them. So a call that is refused leaves
   -- map and queue as they were without it, a call that answers Full lacked nothing but a row, and one that holds nothing found a bucket
   -- that was never changed

@@ -3,6 +3,7 @@ use Rattle.std.specs.Prelude.{All, Contains, List, false, length, map, ℕ, ◌+
 use Rattle.wfe_core.specs.words.declared.layout.Layout.{Layout}
 use Rattle.wfe_core.specs.World.{is_busy}
 use Rattle.law_all.specs.RunLaw.{AtClose, RunLaw}
+use Rattle.law_all.specs.RunOrder.{RunOrder}
 use Rattle.law_all.specs.Runs.{logs_of}
 use Rattle.wfe_table_end.specs.ClosedTable.{IsClosed, Reaches}
 use Rattle.wfe_table_end.specs.Contents.{IsRead, filling_of}
@@ -39,6 +40,8 @@ pub record IsLeft (layout : Layout) (tracks : List Track) (closed : Closed) : Ty
   pub closed_is : IsClosed layout (record_of layout items) closed
   -- what the calls of all seats were answered, each seat's in their order, meets the law of runs with it
   pub run : RunLaw layout.config (logs_of layout items) (closing_of closed)
+  -- and they are in one order, as of a map and a queue used by one call after another, which come to what is answered
+  pub order : RunOrder layout.config (logs_of layout items) (closing_of closed)
 
 -- fewer seats than the table has; or enough of them, and memory ran out
 abbrev pub IsHandedBack : TableNow → List SeatNow → CloseError → Type 0

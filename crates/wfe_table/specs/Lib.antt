@@ -11,6 +11,7 @@ pub mod Backs
 pub mod Calls
 pub mod Closing
 pub mod Gone
+pub mod Hearing
 pub mod Making
 pub mod Parting
 pub mod Places

@@ -13,7 +13,7 @@ use Rattle.wfe_table.specs.declared.words.TableWords.{TableWords}
 pub record IsFit (w : TableWords) : Type 0 where
   pub ids : w.handle.now.table_id ≡ w.ledger.now.table_id
   pub sized : IsSized w.ledger.now.table_id w.ledger.now.key
-  pub seated : IsSeated w.ledger.now.key w.slot w.handle.now.me
+  pub seated : IsSeated w.ledger.now.key w.seat w.handle.now.me
   -- a history comes to the state at which its seat stands
   pub comes : Comes (standing w.handle.now.me)
   -- its slot holds a call at most until the call's first step
@@ -24,12 +24,12 @@ pub record IsLater (v w : TableWords) : Type 0 where
   pub handle : w.handle.ghost_name ≡ v.handle.ghost_name
   pub ids : w.handle.now.table_id ≡ v.handle.now.table_id
   pub ledger : w.ledger ≡ v.ledger
-  pub slot : w.slot ≡ v.slot
+  pub seat : w.seat ≡ v.seat
   pub more : List Item
   pub grows : (own w.handle.now.me.0).past ≡ (own v.handle.now.me.0).past ++ more
 
 pub later_self : (w : TableWords) → IsLater w w
-later_self w = record { handle = refl; ids = refl; ledger = refl; slot = refl; more = []; grows = sym (append-nil (own w.handle.now.me.0).past) }
+later_self w = record { handle = refl; ids = refl; ledger = refl; seat = refl; more = []; grows = sym (append-nil (own w.handle.now.me.0).past) }
 
 pub later_on : (u v w : TableWords) → IsLater u v → IsLater v w → IsLater u w
 later_on u v w a b =
@@ -37,7 +37,7 @@ later_on u v w a b =
       handle = b.handle ∙ a.handle;
       ids = b.ids ∙ a.ids;
       ledger = b.ledger ∙ a.ledger;
-      slot = b.slot ∙ a.slot;
+      seat = b.seat ∙ a.seat;
       more = a.more ++ b.more;
       grows = b.grows ∙ ap (λ (p : List Item). p ++ b.more) a.grows ∙ append_assoc (own u.handle.now.me.0).past a.more b.more;
     }

@@ -11,6 +11,7 @@ use crate::seat::Seat;
 use crate::shared::Shared;
 use std::alloc::Global;
 use wfe_core::Layout;
+use wfe_drive_cells::Spots;
 use wfe_drive_rule::{Handle, Ledger, OwnedLedger, finish, take_in};
 use wfe_table_end::{Closed, ClosedRoom};
 
@@ -67,8 +68,9 @@ pub(crate) fn read_end(
     ensures { IsLeft layout handle.me.0.tracks result }
 {
     let closed = wfe_drive_rule::close(ledger, handle);
+    let spots = Spots::new(&layout);
     for word in 0..layout.words() {
-        room.push(closed.word(word as usize));
+        room.push(closed.word(spots.at(word)));
     }
     finish(closed);
     room.read()

@@ -34,9 +34,8 @@ impl Seat {
             report: _,
             notes: _,
         } = desk;
-        let slot = post.seat as usize;
         let word = post.layout.place(post.seat);
-        leave_on(ledger, &mut handle, slot, word, &post, list);
+        leave_on(ledger, &mut handle, post.seat, word, &post, list);
         LeftSeat::new(handle)
     }
 }

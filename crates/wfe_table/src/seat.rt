@@ -7,10 +7,11 @@ ghost use Rattle.wfe_core.specs.defs.declared.call.Answer.TheVariants.{Adopted a
 ghost use Rattle.wfe_core.specs.defs.declared.call.Call.TheVariants.{Adopt as AdoptCall, Get as GetCall};
 ghost use Rattle.law_all.specs.Logs.Versions.{met_by, met_in, seen_in, version_told};
 ghost use Rattle.wfe_drive_rule.specs.Handles.{IsGathered, IsResting, IsSeated, IsSized};
-ghost use Rattle.wfe_drive_rule.specs.Views.{fresh_track, own, seat_of};
+ghost use Rattle.wfe_drive_rule.specs.Views.{fresh_track, own, seat_of, tidings};
 ghost use Rattle.wfe_drive_rule.specs.history.History.{record_of};
 ghost use Rattle.wfe_table.specs.Backs.{WentBack};
 ghost use Rattle.wfe_table.specs.Calls.{IsMade, IsMissed};
+ghost use Rattle.wfe_table.specs.Hearing.{IsAware, IsNews};
 ghost use Rattle.wfe_table.specs.Public.{SeatNow};
 ghost use Rattle.wfe_table.specs.Sound.{IsMet};
 
@@ -21,7 +22,7 @@ use std::alloc::Global;
 use std::marker::Model;
 use wfe_core::{Answer, Call, Desk, Layout, NoMemory, Notes, Post, RetireList, ScanReport};
 use wfe_drive_call::{bucket_for, drive_call, drive_get};
-use wfe_drive_rule::{Handle, Ledger, give_slot};
+use wfe_drive_rule::{Handle, Ledger, give_slot, hear_news, tell_news};
 use wfe_table_words::Got;
 
 /// A seat of a shared table, with which one thread makes calls. It may move to another thread. It is
@@ -38,6 +39,7 @@ pub struct Seat {
 
 impl Model for Seat {
     ghost use Rattle.wfe_drive_rule.specs.Views.{own};
+    ghost use Rattle.wfe_table.specs.Hearing.{IsAware, IsNews};
     ghost use Rattle.wfe_table.specs.Public.{SeatNow};
     ghost use Rattle.wfe_table.specs.Sound.{IsSound};
 
@@ -82,12 +84,12 @@ impl Seat {
     {
         let bucket = bucket_for(key, &self.post.layout);
         let answer = {
-            let slot = self.post.seat as usize;
+            let seat = self.post.seat;
             let handle = &mut self.handle;
             let mut words = TableWords {
                 ledger,
                 handle,
-                slot,
+                seat,
                 first: true,
             };
             drive_get(&mut words, &mut self.post, &mut self.desk, key, bucket)
@@ -144,12 +146,12 @@ impl Seat {
         ensures made { IsMade ledger.now.key self.old self.new call result }
     {
         let answer = {
-            let slot = self.post.seat as usize;
+            let seat = self.post.seat;
             let handle = &mut self.handle;
             let mut words = TableWords {
                 ledger,
                 handle,
-                slot,
+                seat,
                 first: true,
             };
             drive_call(&mut words, &mut self.post, &mut self.desk, call)
@@ -180,6 +182,30 @@ impl Seat {
         )
     }
 
+    // How far the seat's history is known, in a handle of its own.
+    pub(crate) fn tell(&mut self, ledger: &Ledger) -> Handle
+        requires table { self.old.table ≡ ledger.now.table_id }
+        requires layout { self.old.track.local.post.layout ≡ ledger.now.key }
+        requires sized { IsSized ledger.now.table_id ledger.now.key }
+        ensures same { self.new ≡ self.old }
+        ensures told { (result.table_id ≡ self.old.table) × (result.me ≡ (tidings self.old.track.past, [])) }
+    {
+        tell_news(ledger, &mut self.handle, self.post.seat)
+    }
+
+    // The seat hears what another handle tells.
+    pub(crate) fn hear(&mut self, ledger: &Ledger, news: Handle)
+        requires table { self.old.table ≡ ledger.now.table_id }
+        requires layout { self.old.track.local.post.layout ≡ ledger.now.key }
+        requires sized { IsSized ledger.now.table_id ledger.now.key }
+        requires news { (news.table_id ≡ ledger.now.table_id) × IsNews news.me }
+        ensures table { self.new.table ≡ self.old.table }
+        ensures layout { self.new.track.local.post.layout ≡ self.old.track.local.post.layout }
+        ensures aware { IsAware ledger.now.key self.old self.new news.me.0.heard }
+    {
+        hear_news(ledger, &mut self.handle, self.post.seat, news);
+    }
+
     // The handle alone, without its slot.
     pub(crate) fn bare(self, ledger: &Ledger) -> Handle
         requires table { self.table ≡ ledger.now.table_id }
@@ -195,7 +221,7 @@ impl Seat {
             desk: _,
             seen: _,
         } = self;
-        give_slot(ledger, &mut handle, post.seat as usize);
+        give_slot(ledger, &mut handle, post.seat);
         handle
     }
 

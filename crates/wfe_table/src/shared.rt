@@ -67,7 +67,7 @@ impl Shared {
         };
         for number in 1..count {
             let mut handle = split(&ledger.shared, &mut first);
-            take_slot(&ledger.shared, &mut handle, number as usize);
+            take_slot(&ledger.shared, &mut handle, number);
             let seat = Seat::new(alloc, handle, number, layout)?;
             if seats.push(seat).is_err() {
                 return Err(NoMemory);

@@ -11,11 +11,13 @@ ghost use Rattle.wfe_drive_call.specs.drive_words.Called.{at_phase};
 ghost use Rattle.wfe_drive_call.specs.drive_words.Comes.{departs};
 ghost use Rattle.wfe_drive_rule.specs.drive_cells.Unit.{shown};
 ghost use Rattle.wfe_drive_rule.specs.Handles.{IsResting, IsSeated, IsSized};
+ghost use Rattle.wfe_drive_rule.specs.drive_cells.Spots.{spot as spot_of};
 ghost use Rattle.wfe_drive_rule.specs.Views.{own};
 ghost use Rattle.wfe_drive_rule.specs.inv.rows.Facts.{Listing};
 ghost use Rattle.wfe_table.specs.Places.{Adoption, Found, Missed, Took, notes_over, post_over};
 
 use wfe_core::{Call, Desk, Post, RetireList};
+use wfe_drive_cells::spot_at;
 use wfe_drive_rule::{Handle, Ledger, adopt_list, begin, mark_place};
 
 // An adoption of a seat, whose handle, post and desk go through it together: how many rows are in the list
@@ -47,7 +49,8 @@ pub(crate) fn take_list(
         (λ found. Found place found (own handle.old.me.0) (own handle.new.me.0)) }
 {
     let word = post.layout.place(place);
-    match take_on(ledger, handle, post.seat as usize, word, place) {
+    let spot = spot_at(&post.layout, word);
+    match take_on(ledger, handle, post.seat, word, spot, place) {
         Ok(list) => {
             append(&mut desk.list, &list);
             end_call(post, desk, 2);
@@ -78,27 +81,29 @@ fn end_call(post: &mut Post, desk: &mut Desk, steps: u64)
 fn take_on(
     ledger: &Ledger,
     handle: &mut Handle,
-    slot: usize,
+    seat: u32,
     word: u32,
+    spot: usize,
     place: u32,
 ) -> Result<RetireList, u64>
     requires ids { handle.old.table_id ≡ ledger.now.table_id }
     requires sized { IsSized ledger.now.table_id ledger.now.key }
-    requires seated { IsSeated ledger.now.key slot handle.old.me }
+    requires seated { IsSeated ledger.now.key seat handle.old.me }
     requires resting { IsResting handle.old.me }
     requires there { (own handle.old.me.0).local.call ≢ calls.Leave }
     requires place { place < ledger.now.key.config.seats }
     requires word { word ≡ number ledger.now.key (PlaceOf place) }
+    requires spot { spot ≡ spot_of ledger.now.key word }
     ensures ids { handle.new.table_id ≡ handle.old.table_id }
-    ensures seated { IsSeated ledger.now.key slot handle.new.me }
+    ensures seated { IsSeated ledger.now.key seat handle.new.me }
     ensures resting { IsResting handle.new.me }
     ensures taken { IfOk result (λ list. (list.slots ≡ ledger.now.key.config.slots) × Took place (own handle.old.me.0) list.lives handle.new.me) }
     ensures missed { IfErr result (λ found. (found ≢ 1) × Missed place found (own handle.old.me.0) handle.new.me) }
 {
-    begin(ledger, handle, slot, Call::Adopt { place });
-    match adopt_list(ledger, handle, slot, word, place) {
+    begin(ledger, handle, seat, Call::Adopt { place });
+    match adopt_list(ledger, handle, seat, word, spot, place) {
         Ok(list) => {
-            mark_place(ledger, handle, slot, word, place);
+            mark_place(ledger, handle, seat, word, spot, place);
             Ok(list)
         }
         Err(found) => Err(found),

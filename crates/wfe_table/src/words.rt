@@ -1,6 +1,6 @@
 // One seat's words on the shared table, for one call.
-use wfe_core::{Call, Op};
-use wfe_drive_call::Words;
+use wfe_core::Call;
+use wfe_drive_call::{Located, Words};
 use wfe_drive_rule::{Handle, Ledger, begin, step};
 
 /// The table with a seat's handle on it. It lives for one call.
@@ -8,7 +8,7 @@ use wfe_drive_rule::{Handle, Ledger, begin, step};
 pub(crate) struct TableWords<'a> {
     pub(crate) ledger: &'a Ledger,
     pub(crate) handle: &'a mut Handle,
-    pub(crate) slot: usize,
+    pub(crate) seat: u32,
     /// Whether the call has made no step yet.
     pub(crate) first: bool,
 }
@@ -37,15 +37,15 @@ impl<'a> Words for TableWords<'a> {
     #[inline(always)]
     fn start(&mut self, call: Call) {
         self.first = true;
-        begin(self.ledger, self.handle, self.slot, call);
+        begin(self.ledger, self.handle, self.seat, call);
     }
 
     #[inline(always)]
-    fn perform(&mut self, op: Op) -> u64 {
+    fn perform(&mut self, op: Located) -> u64 {
         if self.first {
             self.first = false;
-            return step(self.ledger, self.handle, self.slot, op, true);
+            return step(self.ledger, self.handle, self.seat, op.op, op.spot, true);
         }
-        step(self.ledger, self.handle, self.slot, op, false)
+        step(self.ledger, self.handle, self.seat, op.op, op.spot, false)
     }
 }

@@ -1,5 +1,5 @@
 // A line of text in the making, in an array of its own.
-ghost use Rattle.std.specs.Prelude.{◌≡◌, ◌<◌, ◌≤◌, ◌+◌, [], ◌∷◌, ◌++◌, List, length, take};
+ghost use Rattle.std.specs.Prelude.{◌≡◌, ◌<◌, ◌≤◌, ◌+◌, [], ◌∷◌, ◌++◌, List, length, take, drop};
 ghost use Rattle.std.specs.Fmt.{decimal};
 
 use std::marker::Model;
@@ -45,7 +45,8 @@ impl Line {
         self.len = 0;
     }
 
-    fn push(&mut self, byte: u8)
+    /// Appends one byte.
+    pub(crate) fn push(&mut self, byte: u8)
         requires { length self.old < 1024 }
         ensures { self.new ≡ self.old ++ byte ∷ [] }
     {
@@ -58,9 +59,9 @@ impl Line {
         requires { length self.old + length bytes.now ≤ 1024 }
         ensures { self.new ≡ self.old ++ bytes.now }
     {
-        for byte in bytes {
-            self.push(*byte);
-        }
+        let end = self.len + bytes.len();
+        self.bytes[self.len..end].copy_from_slice(bytes);
+        self.len = end;
     }
 
     /// Appends the number in decimal, without leading zeros.
@@ -71,9 +72,31 @@ impl Line {
     {
         if number < 10 {
             self.push(b'0' + number as u8);
-        } else {
-            self.number(number / 10);
+        } else if number < 100 {
+            self.push(b'0' + (number / 10) as u8);
             self.push(b'0' + (number % 10) as u8);
+        } else {
+            let mut digits = [0; 20];
+            let start = write_digits(number, &mut digits);
+            self.text(&digits[start..]);
         }
     }
+}
+
+// Writes the digits from the last to the first so that they end where the array does, and answers
+// where they start.
+fn write_digits(number: u64, digits: &mut [u8; 20]) -> usize
+    ensures within { result ≤ 20 }
+    ensures written { drop result digits.new ≡ decimal number }
+{
+    let mut left = number;
+    let mut at = digits.len();
+    while left >= 10 {
+        at -= 1;
+        digits[at] = b'0' + (left % 10) as u8;
+        left /= 10;
+    }
+    at -= 1;
+    digits[at] = b'0' + left as u8;
+    at
 }

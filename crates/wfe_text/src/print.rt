@@ -16,7 +16,7 @@ fn word(line: &mut Line, bytes: &[u8])
     ensures text { line.new ≡ line.old ++ (32 ∷ bytes.now) }
     ensures room { length line.new ≤ length line.old + 21 }
 {
-    line.text(b" ");
+    line.push(b' ');
     line.text(bytes);
 }
 
@@ -36,7 +36,7 @@ fn number(line: &mut Line, number: u64)
     ensures text { line.new ≡ line.old ++ (32 ∷ decimal number) }
     ensures room { length line.new ≤ length line.old + 21 }
 {
-    line.text(b" ");
+    line.push(b' ');
     digits(line, number);
 }
 
@@ -46,7 +46,8 @@ fn lettered(line: &mut Line, letter: u8, number: u32)
     ensures text { line.new ≡ line.old ++ (32 ∷ letter ∷ decimal number) }
     ensures room { length line.new ≤ length line.old + 22 }
 {
-    line.text(&[b' ', letter]);
+    line.push(b' ');
+    line.push(letter);
     digits(line, number as u64);
 }
 
@@ -98,7 +99,7 @@ fn print_guard(line: &mut Line, guard: Guard)
         Guard::Helper { seat } => lettered(line, b'h', seat),
         Guard::Index { seat, index } => {
             lettered(line, b'i', seat);
-            line.text(b".");
+            line.push(b'.');
             digits(line, index as u64);
         }
         Guard::Whole { seat } => lettered(line, b'v', seat),
@@ -227,7 +228,7 @@ pub fn print_event(seat: u32, event: &Event, line: &mut Line)
     line.clear();
     digits(line, seat as u64);
     print_event_words(line, *event);
-    line.text(b"\n");
+    line.push(b'\n');
 }
 
 fn print_seat(line: &mut Line, seat: Option<u32>)
@@ -253,7 +254,7 @@ pub fn print_table(seat: Option<u32>, retired: u64, back: u64, waiting: u64, lin
     word_and_numbers(line, b"retired", &[retired]);
     word_and_numbers(line, b"back", &[back]);
     word_and_numbers(line, b"waiting", &[waiting]);
-    line.text(b"\n");
+    line.push(b'\n');
 }
 
 /// Sets the line to a row of a watcher: the watcher's place among all watchers, counted from 0,
@@ -265,7 +266,7 @@ pub fn print_watch(place: u64, a: u64, b: u64, c: u64, line: &mut Line)
     line.clear();
     line.text(b"watch");
     numbers(line, &[place, a, b, c]);
-    line.text(b"\n");
+    line.push(b'\n');
 }
 
 /// Sets the line to a line of a summary: what is counted, in at most 20 bytes, and its number.
@@ -277,7 +278,7 @@ pub fn print_count(name: &[u8], number: u64, line: &mut Line)
     line.clear();
     line.text(name);
     numbers(line, &[number]);
-    line.text(b"\n");
+    line.push(b'\n');
 }
 
 fn scheme_name(scheme: SchemeKind) -> &'static [u8]
@@ -317,5 +318,5 @@ pub fn print_header(version: u32, config: &Config, line: &mut Line)
     line.text(b"record");
     number(line, version as u64);
     print_setting(line, config);
-    line.text(b"\n");
+    line.push(b'\n');
 }

@@ -22,11 +22,11 @@ use Rattle.law_all.specs.RunLaw.{backs_in, bucket_in, gives, no_bucket, total, u
 use Rattle.law_all.specs.Runs.{AddsUp, Agrees, RunsAddUp, RunsAgree, RunsAreLawful, RunsKeep, RunsList, RunsTick, Ticks, at_close, logs_of}
 
 -- a bucket of the closed table is that of the record
-bucket_closed : (layout : Layout) (p : Past) (b : ℕ) → b < layout.config.buckets → bucket_in b (at_close layout p) ≡ filling_at p b
+pub bucket_closed : (layout : Layout) (p : Past) (b : ℕ) → b < layout.config.buckets → bucket_in b (at_close layout p) ≡ filling_at p b
 bucket_closed layout p b low = get_or-map-range_with_len (filling_at p) 0 layout.config.buckets b b no_bucket low (omega arith)
 
 -- all changes of a bucket are those up to its last version
-all_changes : (cs : List Change) → pairs_after (take (length cs) cs) ≡ pairs_after cs
+pub all_changes : (cs : List Change) → pairs_after (take (length cs) cs) ≡ pairs_after cs
 all_changes cs = ap pairs_after (take_all (length cs) cs (omega arith))
 
 -- a number of a range passes a test exactly where it is among those that do

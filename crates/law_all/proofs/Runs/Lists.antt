@@ -74,7 +74,7 @@ none_logged n k (Then p i event) h low =
     let other : (k == i) ≡ false = grind (arith, nat_tests) in
     (other_inner k i p event other).log ∙ none_logged n k p h.1 low
 
-log_is : (layout : Layout) (items : List Item) → AtRest layout items → (k : ℕ) → log_in (logs_of layout items) k ≡ log_of k (record_of layout items)
+pub log_is : (layout : Layout) (items : List Item) → AtRest layout items → (k : ℕ) → log_in (logs_of layout items) k ≡ log_of k (record_of layout items)
 log_is layout items rest k = by (nat_lt k layout.config.seats) refl
   where
     by : (within : Bool) → nat_lt k layout.config.seats ≡ within → log_in (logs_of layout items) k ≡ log_of k (record_of layout items)

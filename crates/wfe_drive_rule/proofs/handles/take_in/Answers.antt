@@ -1,6 +1,7 @@
 -- The rule holds where two handles are one.
 use Rattle.wfe_drive_rule.proofs.Joining.{joins}
 use Rattle.wfe_drive_rule.proofs.Seated.{some_words}
+use Rattle.wfe_drive_rule.proofs.Shown.{joins_shown}
 use Rattle.wfe_drive_rule.proofs.handles.take_in.Goals as goal
 
 pub join_seat-requires : goal.join_seat-requires
@@ -11,5 +12,5 @@ join_seat-requires c =
       c.requires.ids.1,
       other.slots,
       some_words _ _ c.requires.sized.words_are,
-      joins _ _ _ _ _ own.holds other.holds,
+      joins_shown _ _ _ _ _ _ _ (joins _ _ _ _ _ own.holds other.holds),
     )

@@ -14,6 +14,7 @@ use Rattle.wfe_drive_runs.proofs.Readying.{plausible_stepped, ready_stepped, val
 use Rattle.wfe_core.specs.declared.post.Post.{Post}
 use Rattle.wfe_drive_runs.proofs.Still.{walk_next, walk_still}
 use Rattle.wfe_drive_runs.proofs.Turning.{asks_seat, may_here, run_ended, run_went, then_turns, turns_as, turns_once}
+use Rattle.wfe_drive_words.specs.drive_cells.Spots.{located}
 use Rattle.wfe_drive_runs.proofs.base_run.run.Goals as goal
 
 pub loop-end-init : goal.loop-end-init
@@ -37,7 +38,7 @@ loop-end-init g c =
 pub step-found-requires-clause-asks : goal.step-found-requires-clause-asks
 step-found-requires-clause-asks g c =
     let (why, h) = c.loop-end.invariant.here in
-    (_, asks_seat (at_phase (Runs why (g.M.Machine.phase c.loop-end.machine)) c.loop-end.post c.loop-end.desk) h refl c.next_op-op.ensures)
+    (_, asks_seat (at_phase (Runs why (g.M.Machine.phase c.loop-end.machine)) c.loop-end.post c.loop-end.desk) h refl (c.of-at.ensures ∙ ap (located c.loop-end.post.layout) c.next_op-op.ensures))
 
 pub overflow_add-post : goal.overflow_add-post
 overflow_add-post g c =
@@ -54,7 +55,7 @@ take-ended-requires-clause-ready g c = ready_stepped (g.M.Machine.phase c.loop-e
 pub take-ended-requires-clause-plausible : goal.take-ended-requires-clause-plausible
 take-ended-requires-clause-plausible g c =
     let (why, h) = c.loop-end.invariant.here in
-    let asks = asks_seat (at_phase (Runs why (g.M.Machine.phase c.loop-end.machine)) c.loop-end.post c.loop-end.desk) h refl c.next_op-op.ensures in
+    let asks = asks_seat (at_phase (Runs why (g.M.Machine.phase c.loop-end.machine)) c.loop-end.post c.loop-end.desk) h refl (c.of-at.ensures ∙ ap (located c.loop-end.post.layout) c.next_op-op.ensures) in
     plausible_stepped (g.M.Machine.phase c.loop-end.machine) c.loop-end.post c.step-found.result (c.step-found.ensures.steps _ asks).take.plausible
 
 pub loop-end-preserved : goal.loop-end-preserved
@@ -69,7 +70,7 @@ loop-end-preserved g c =
     run_went why next t c.take-ended.new.post desk c.take-ended.new.told left c.take-ended.ensures.post c.take-ended.ensures.told c.in_default.ensures.outcome noted in
     let (why, h) = c.loop-end.invariant.here in
     let now : SeatView = at_phase (Runs why base) c.loop-end.post c.loop-end.desk in
-    let here = here_on h (leads_as _ _ (is why) (c.step-found.ensures.steps _ (asks_seat now h refl c.next_op-op.ensures)).leads) in
+    let here = here_on h (leads_as _ _ (is why) (c.step-found.ensures.steps _ (asks_seat now h refl (c.of-at.ensures ∙ ap (located c.loop-end.post.layout) c.next_op-op.ensures))).leads) in
     let may = may_here (g.W.Words.comes c.step-found.new.words) c.step-found.ensures.valid here in
     record {
       valid = c.step-found.ensures.valid;
@@ -87,7 +88,7 @@ loop-end-preserved g c =
       noted = may.noted;
       leads = λ why h.
           let y = c.loop-end.invariant.leads why h in
-          let x = c.step-found.ensures.steps _ (asks_seat (at_phase (Runs why base) c.loop-end.post c.loop-end.desk) (here_on h y) refl c.next_op-op.ensures) in
+          let x = c.step-found.ensures.steps _ (asks_seat (at_phase (Runs why base) c.loop-end.post c.loop-end.desk) (here_on h y) refl (c.of-at.ensures ∙ ap (located c.loop-end.post.layout) c.next_op-op.ensures)) in
           then_leads y (leads_as _ _ (is why) x.leads);
     }
 
@@ -98,7 +99,7 @@ returns-in-Some-clause-ends g c = λ why h.
     let desk : Desk = desk_of c.loop-end.desk in
     let y = c.loop-end.invariant.leads why h in
     let now : SeatView = at_phase (Runs why base) c.loop-end.post c.loop-end.desk in
-    let x = c.step-found.ensures.steps _ (asks_seat now (here_on h y) refl c.next_op-op.ensures) in
+    let x = c.step-found.ensures.steps _ (asks_seat now (here_on h y) refl (c.of-at.ensures ∙ ap (located c.loop-end.post.layout) c.next_op-op.ensures)) in
     record {
       before = desk;
       told = c.take-ended.new.told;

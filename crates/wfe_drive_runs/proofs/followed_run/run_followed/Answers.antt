@@ -14,6 +14,7 @@ use Rattle.wfe_drive_runs.proofs.Followings.{follow_ended, follow_went, op_follo
 use Rattle.wfe_drive_words.proofs.Leading.{few_here, here_on, leads_as, leads_none, then_leads}
 use Rattle.wfe_drive_runs.proofs.Readying.{plausible_stepped, ready_stepped, valid_stepped}
 use Rattle.wfe_drive_runs.proofs.Turning.{asks_seat, may_here}
+use Rattle.wfe_drive_words.specs.drive_cells.Spots.{located}
 use Rattle.wfe_drive_runs.proofs.followed_run.run_followed.Goals as goal
 
 pub loop-end-init : goal.loop-end-init
@@ -38,7 +39,7 @@ pub step-found-requires-clause-asks : goal.step-found-requires-clause-asks
 step-found-requires-clause-asks g c =
     let (why, h) = c.loop-end.invariant.here in
     let base : Base = protect_phase c.loop-end.machine in
-    (_, asks_seat (at_phase (Runs why (following base)) c.loop-end.post c.loop-end.desk) h refl (op_follows base c.loop-end.post c.loop-end.invariant.alone c.next_op-op.ensures))
+    (_, asks_seat (at_phase (Runs why (following base)) c.loop-end.post c.loop-end.desk) h refl (c.of-at.ensures ∙ ap (located c.loop-end.post.layout) (op_follows base c.loop-end.post c.loop-end.invariant.alone c.next_op-op.ensures)))
 
 pub overflow_add-post : goal.overflow_add-post
 overflow_add-post g c =
@@ -56,7 +57,7 @@ pub take-ended-requires-clause-plausible : goal.take-ended-requires-clause-plaus
 take-ended-requires-clause-plausible g c =
     let (why, h) = c.loop-end.invariant.here in
     let base : Base = protect_phase c.loop-end.machine in
-    let asks = asks_seat (at_phase (Runs why (following base)) c.loop-end.post c.loop-end.desk) h refl (op_follows base c.loop-end.post c.loop-end.invariant.alone c.next_op-op.ensures) in
+    let asks = asks_seat (at_phase (Runs why (following base)) c.loop-end.post c.loop-end.desk) h refl (c.of-at.ensures ∙ ap (located c.loop-end.post.layout) (op_follows base c.loop-end.post c.loop-end.invariant.alone c.next_op-op.ensures)) in
     plausible_stepped base c.loop-end.post c.step-found.result (plausible_follows base c.loop-end.post c.step-found.result c.loop-end.invariant.alone (c.step-found.ensures.steps _ asks).take.plausible)
 
 pub loop-end-preserved : goal.loop-end-preserved
@@ -71,7 +72,7 @@ loop-end-preserved g c =
     follow_went why c.args._parent base next (stepped c.loop-end.post) c.take-ended.new.post c.step-found.result desk c.take-ended.new.told left alone c.in_default.ensures.outcome c.take-ended.ensures.post c.take-ended.ensures.told noted in
     let (why, h) = c.loop-end.invariant.here in
     let now : SeatView = at_phase (Runs why (following base)) c.loop-end.post c.loop-end.desk in
-    let here = here_on h (leads_as _ _ (is why) (c.step-found.ensures.steps _ (asks_seat now h refl (op_follows base c.loop-end.post alone c.next_op-op.ensures))).leads) in
+    let here = here_on h (leads_as _ _ (is why) (c.step-found.ensures.steps _ (asks_seat now h refl (c.of-at.ensures ∙ ap (located c.loop-end.post.layout) (op_follows base c.loop-end.post alone c.next_op-op.ensures)))).leads) in
     let may = may_here (g.W.Words.comes c.step-found.new.words) c.step-found.ensures.valid here in
     let still = stays_next c.args._parent base next (stepped c.loop-end.post) c.step-found.result alone c.in_default.ensures.outcome in
     record {
@@ -87,7 +88,7 @@ loop-end-preserved g c =
       noted = may.noted;
       leads = λ why h.
           let y = c.loop-end.invariant.leads why h in
-          let x = c.step-found.ensures.steps _ (asks_seat (at_phase (Runs why (following base)) c.loop-end.post c.loop-end.desk) (here_on h y) refl (op_follows base c.loop-end.post alone c.next_op-op.ensures)) in
+          let x = c.step-found.ensures.steps _ (asks_seat (at_phase (Runs why (following base)) c.loop-end.post c.loop-end.desk) (here_on h y) refl (c.of-at.ensures ∙ ap (located c.loop-end.post.layout) (op_follows base c.loop-end.post alone c.next_op-op.ensures))) in
           then_leads y (leads_as _ _ (is why) x.leads);
     }
 
@@ -100,7 +101,7 @@ returns-in-Some-clause-follows g c = λ why h.
     let noted : desk_of left ≡ noting desk c.take-ended.new.told = ap (λ (notes : Notes). let d : Desk = record desk { notes = notes } in d) c.note_all.ensures.notes in
     let y = c.loop-end.invariant.leads why h in
     let now : SeatView = at_phase (Runs why (following base)) c.loop-end.post c.loop-end.desk in
-    let x = c.step-found.ensures.steps _ (asks_seat now (here_on h y) refl (op_follows base c.loop-end.post alone c.next_op-op.ensures)) in
+    let x = c.step-found.ensures.steps _ (asks_seat now (here_on h y) refl (c.of-at.ensures ∙ ap (located c.loop-end.post.layout) (op_follows base c.loop-end.post alone c.next_op-op.ensures))) in
     follow_ended why c.args._parent c.in-Some.end base (stepped c.loop-end.post) c.take-ended.new.post c.step-found.result desk c.take-ended.new.told left alone c.in-Some.ensures.outcome c.take-ended.ensures.post c.take-ended.ensures.told noted (then_leads y x.leads)
 
 pub returns-in-Some-clause-same : goal.returns-in-Some-clause-same

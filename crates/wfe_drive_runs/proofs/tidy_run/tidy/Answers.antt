@@ -16,6 +16,7 @@ use Rattle.wfe_drive_words.specs.Path.{stepped}
 use Rattle.wfe_drive_runs.proofs.Still.{tidy_still}
 use Rattle.wfe_drive_runs.proofs.Tidying.{tidy_begins, tidy_busy, tidy_ends, tidy_goes, tidy_may_ask, tidy_plausible, tidy_ready}
 use Rattle.wfe_drive_runs.proofs.Turning.{asks_seat, may_here, then_turns, turns_as, turns_once, went_on}
+use Rattle.wfe_drive_words.specs.drive_cells.Spots.{located}
 use Rattle.wfe_drive_runs.proofs.tidy_run.tidy.Goals as goal
 
 pub loop-clock-init : goal.loop-clock-init
@@ -43,7 +44,7 @@ loop-clock-init g c =
 pub step-found-requires-clause-asks : goal.step-found-requires-clause-asks
 step-found-requires-clause-asks g c =
     let (later, h) = c.loop-clock.invariant.here in
-    (_, asks_seat (at_phase (tidy_phase later c.loop-clock.machine) c.loop-clock.post c.loop-clock.desk) h (tidy_busy later c.loop-clock.machine) (c.next_op-op.ensures later))
+    (_, asks_seat (at_phase (tidy_phase later c.loop-clock.machine) c.loop-clock.post c.loop-clock.desk) h (tidy_busy later c.loop-clock.machine) (c.of-at.ensures ∙ ap (located c.loop-clock.post.layout) (c.next_op-op.ensures later)))
 
 pub overflow_add-post : goal.overflow_add-post
 overflow_add-post g c =
@@ -63,7 +64,7 @@ take-ended-requires-clause-ready g c =
 pub take-ended-requires-clause-plausible : goal.take-ended-requires-clause-plausible
 take-ended-requires-clause-plausible g c =
     let (later, h) = c.loop-clock.invariant.here in
-    let asks = asks_seat (at_phase (tidy_phase later c.loop-clock.machine) c.loop-clock.post c.loop-clock.desk) h (tidy_busy later c.loop-clock.machine) (c.next_op-op.ensures later) in
+    let asks = asks_seat (at_phase (tidy_phase later c.loop-clock.machine) c.loop-clock.post c.loop-clock.desk) h (tidy_busy later c.loop-clock.machine) (c.of-at.ensures ∙ ap (located c.loop-clock.post.layout) (c.next_op-op.ensures later)) in
     tidy_plausible later c.loop-clock.machine c.loop-clock.post c.step-found.result (c.step-found.ensures.steps _ asks).take.plausible
 
 pub loop-clock-preserved : goal.loop-clock-preserved
@@ -77,7 +78,7 @@ loop-clock-preserved g c =
     ap seat_after (c.take-ended.ensures.turn later ∙ tidy_goes later c.take-ended.new.post desk c.take-ended.new.told c.take-ended.result c.take-ended.new.self c.in_default.is)
     ∙ went_on (tidy_phase later c.take-ended.new.self) c.take-ended.new.post desk c.take-ended.new.told left noted in
     let (later, h) = c.loop-clock.invariant.here in
-    let here = here_on h (leads_as _ _ (is later) (c.step-found.ensures.steps _ (asks_seat (now later) h (tidy_busy later c.loop-clock.machine) (c.next_op-op.ensures later))).leads) in
+    let here = here_on h (leads_as _ _ (is later) (c.step-found.ensures.steps _ (asks_seat (now later) h (tidy_busy later c.loop-clock.machine) (c.of-at.ensures ∙ ap (located c.loop-clock.post.layout) (c.next_op-op.ensures later)))).leads) in
     let may = may_here (g.W.Words.comes c.step-found.new.words) c.step-found.ensures.valid here in
     record {
       valid = c.step-found.ensures.valid;
@@ -92,7 +93,7 @@ loop-clock-preserved g c =
       noted = may.noted;
       leads = λ later still h.
           let y = c.loop-clock.invariant.leads later still h in
-          let x = c.step-found.ensures.steps _ (asks_seat (now later) (here_on h y) (tidy_busy later c.loop-clock.machine) (c.next_op-op.ensures later)) in
+          let x = c.step-found.ensures.steps _ (asks_seat (now later) (here_on h y) (tidy_busy later c.loop-clock.machine) (c.of-at.ensures ∙ ap (located c.loop-clock.post.layout) (c.next_op-op.ensures later))) in
           then_leads y (leads_as _ _ (is later) x.leads);
     }
 
@@ -101,7 +102,7 @@ returns-in-Some-clause-ends g c = λ later still h.
     let desk : Desk = desk_of c.take-ended.new.desk in
     let now : SeatView = at_phase (tidy_phase later c.loop-clock.machine) c.loop-clock.post c.loop-clock.desk in
     let y = c.loop-clock.invariant.leads later still h in
-    let x = c.step-found.ensures.steps _ (asks_seat now (here_on h y) (tidy_busy later c.loop-clock.machine) (c.next_op-op.ensures later)) in
+    let x = c.step-found.ensures.steps _ (asks_seat now (here_on h y) (tidy_busy later c.loop-clock.machine) (c.of-at.ensures ∙ ap (located c.loop-clock.post.layout) (c.next_op-op.ensures later))) in
     record {
       before = desk;
       told = c.take-ended.new.told;

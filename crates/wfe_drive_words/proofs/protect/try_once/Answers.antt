@@ -52,3 +52,9 @@ overflow_cast-result g c =
     let s = tries_by t c.args.index c.args.root c.args.era c.args.post.now c.publish.result c.load_link.result c.load_clock.result c.step-link.result c.step-link-2.result c.step-seen.result p c.publish.ensures c.step-link.ensures.steps c.load_link.ensures c.step-link-2.ensures.steps c.load_clock.ensures c.step-seen.ensures.steps in
     let fits : EraFits c.step-seen.result = s.third.take.plausible in
     omega (arith, fits.1)
+
+pub returns-then-seen-era-clause-same : goal.returns-then-seen-era-clause-same
+returns-then-seen-era-clause-same g c = g.W.Words.same_on _ _ _ c.step-link.ensures.same (g.W.Words.same_on _ _ _ c.step-link-2.ensures.same c.step-seen.ensures.same)
+
+pub returns-clause-same : goal.returns-clause-same
+returns-clause-same g c = g.W.Words.same_on _ _ _ c.step-link.ensures.same (g.W.Words.same_on _ _ _ c.step-link-2.ensures.same c.step-seen.ensures.same)

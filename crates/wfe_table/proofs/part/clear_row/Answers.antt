@@ -4,13 +4,15 @@ use Rattle.wfe_core.specs.Locals.{busy_in}
 use Rattle.wfe_core.specs.declared.op.Op.TheVariants.{Store}
 use Rattle.wfe_core.specs.words.Place.Place.{Index}
 use Rattle.wfe_core.specs.words.Place.{number}
+use Rattle.wfe_core.specs.words.declared.layout.Layout.{Layout}
+use Rattle.wfe_drive_rule.specs.drive_cells.Spots.{spot}
 use Rattle.wfe_drive_rule.specs.Views.{standing}
-use Rattle.wfe_table.proofs.Parts.{asks_clear, cleared_next, fits_post, has_index, parting_later, parting_moves, parts_at, parts_on}
+use Rattle.wfe_table.proofs.Parts.{asks_clear, cleared_next, fits_post, has_index, parting_later, parted_layout, parting_moves, parts_at, parts_on}
 use Rattle.wfe_table.proofs.TableWords.{comes_standing, step_made}
 use Rattle.wfe_table.proofs.part.clear_row.Goals as goal
 
-pub index-requires-clause-there : goal.index-requires-clause-there
-index-requires-clause-there c =
+pub index-word-requires-clause-there : goal.index-word-requires-clause-there
+index-word-requires-clause-there c =
     let p = c.requires.parted.1 in
     has_index c.args.post.now.layout c.args.post.now.seat c.args.index c.requires.valid.seat (fits_post _ (comes_standing _ _ _ p.seated) c.args.rows c.args.index c.args.post.now p.at p.place)
 
@@ -26,8 +28,11 @@ pub step-requires-clause-asks : goal.step-requires-clause-asks
 step-requires-clause-asks c =
     let p = c.requires.parted.1 in
     let post = c.args.post.now in
-    ap (λ (n : ℕ). Store n c.shown_word.result) c.index.ensures ∙ ap (λ (n : ℕ). Store (number post.layout (Index post.seat c.args.index)) n) c.shown_word.ensures
+    ap (λ (n : ℕ). Store n c.shown_word.result) c.index-word.ensures ∙ ap (λ (n : ℕ). Store (number post.layout (Index post.seat c.args.index)) n) c.shown_word.ensures
     ∙ asks_clear c.args.rows c.args.index (standing c.args.handle.now.me) post p.at p.place p.tags
+
+pub step-requires-clause-spot : goal.step-requires-clause-spot
+step-requires-clause-spot c = c.spot_at-spot.ensures ∙ ap (λ (d : Layout). spot d c.index-word.result) (parted_layout _ _ _ _ _ _ _ c.requires.parted.1)
 
 pub step-requires-clause-seated : goal.step-requires-clause-seated
 step-requires-clause-seated c = let p = c.requires.parted.1 in p.seated

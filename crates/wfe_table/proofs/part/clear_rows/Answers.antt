@@ -35,16 +35,16 @@ loop-index-preserved c =
           let parted = made.parted c.args.handle.now.me (parts_at _ _ _ _ _ _ _ _ i.parted (row_by _ c.has_rows-rows.result index rows had shows i.rows below (sym c.is_some.ensures ∙ w.if-is_some.true))) in
           record {
             ids = ap (λ h. h.table_id) w.handle-is ∙ made.ids ∙ i.ids;
-            parted = subst (λ (first : Bool). Parted c.args.ledger.now.key c.args.slot c.args.post.now c.args.handle.now.me (parting_from (index + 1) (standing c.if-is_some.handle.me).post) first c.if-is_some.handle.me) (sym w.first-is)
-                (subst (λ h. Parted c.args.ledger.now.key c.args.slot c.args.post.now c.args.handle.now.me (parting_from (index + 1) (standing h.me).post) false h.me) (sym w.handle-is) parted);
+            parted = subst (λ (first : Bool). Parted c.args.ledger.now.key c.args.seat c.args.post.now c.args.handle.now.me (parting_from (index + 1) (standing c.if-is_some.handle.me).post) first c.if-is_some.handle.me) (sym w.first-is)
+                (subst (λ h. Parted c.args.ledger.now.key c.args.seat c.args.post.now c.args.handle.now.me (parting_from (index + 1) (standing h.me).post) false h.me) (sym w.handle-is) parted);
             rows = ap (λ h. drop (index + 1) (standing h.me).post.standing) w.handle-is ∙ row_gone index rows had _ i.rows made.stands;
           }
       | else-is_some w ↦
           let parted = parts_at _ _ _ _ _ _ _ _ i.parted (no_row (publishes_rows (scheme_of (standing c.loop-index.handle.me).post)) index rows had i.rows below (sym c.is_some.ensures ∙ w.if-is_some.false)) in
           record {
             ids = ap (λ h. h.table_id) w.handle-is ∙ i.ids;
-            parted = subst (λ (first : Bool). Parted c.args.ledger.now.key c.args.slot c.args.post.now c.args.handle.now.me (parting_from (index + 1) (standing c.if-is_some.handle.me).post) first c.if-is_some.handle.me) (sym w.first-is)
-                (subst (λ h. Parted c.args.ledger.now.key c.args.slot c.args.post.now c.args.handle.now.me (parting_from (index + 1) (standing h.me).post) c.loop-index.first h.me) (sym w.handle-is) parted);
+            parted = subst (λ (first : Bool). Parted c.args.ledger.now.key c.args.seat c.args.post.now c.args.handle.now.me (parting_from (index + 1) (standing c.if-is_some.handle.me).post) first c.if-is_some.handle.me) (sym w.first-is)
+                (subst (λ h. Parted c.args.ledger.now.key c.args.seat c.args.post.now c.args.handle.now.me (parting_from (index + 1) (standing h.me).post) c.loop-index.first h.me) (sym w.handle-is) parted);
             rows = ap (λ h. drop (index + 1) (standing h.me).post.standing) w.handle-is ∙ next_same index rows had i.rows;
           }
     ]

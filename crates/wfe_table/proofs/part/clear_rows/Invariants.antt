@@ -8,6 +8,6 @@ use Rattle.wfe_table.proofs.part.clear_rows.Given as goal
 abbrev pub invariant-loop-index : goal.invariant-loop-index
 invariant-loop-index l = record {
   ids : l.handle.table_id ≡ l.fn.ledger.table_id;
-  parted : Parted l.fn.ledger.key l.fn.slot l.fn.post l.fn.handle.me (parting_from l.index (standing l.handle.me).post) l.first l.handle.me;
+  parted : Parted l.fn.ledger.key l.fn.seat l.fn.post l.fn.handle.me (parting_from l.index (standing l.handle.me).post) l.first l.handle.me;
   rows : drop l.index (standing l.handle.me).post.standing ≡ drop l.index l.fn.post.standing;
 }

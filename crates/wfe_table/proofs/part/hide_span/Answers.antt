@@ -2,13 +2,15 @@
 use Rattle.std.proofs.Common.{ap, refl, ℕ, ◌∙◌}
 use Rattle.wfe_core.specs.Locals.{busy_in}
 use Rattle.wfe_core.specs.declared.op.Op.TheVariants.{Store}
+use Rattle.wfe_core.specs.words.declared.layout.Layout.{Layout}
+use Rattle.wfe_drive_rule.specs.drive_cells.Spots.{spot}
 use Rattle.wfe_drive_rule.specs.Views.{standing}
-use Rattle.wfe_table.proofs.Parts.{asks_hide, has_seat, hidden_next, parting_later, parting_moves, parts_at, parts_on}
+use Rattle.wfe_table.proofs.Parts.{asks_hide, has_seat, hidden_next, parting_later, parted_layout, parting_moves, parts_at, parts_on}
 use Rattle.wfe_table.proofs.TableWords.{step_made}
 use Rattle.wfe_table.proofs.part.hide_span.Goals as goal
 
-pub interval-requires-clause-there : goal.interval-requires-clause-there
-interval-requires-clause-there c = has_seat _ _ c.requires.valid.seat
+pub interval-word-requires-clause-there : goal.interval-word-requires-clause-there
+interval-word-requires-clause-there c = has_seat _ _ c.requires.valid.seat
 
 pub step-requires-clause-busy : goal.step-requires-clause-busy
 step-requires-clause-busy c = ap busy_in c.requires.parted.at
@@ -16,7 +18,10 @@ step-requires-clause-busy c = ap busy_in c.requires.parted.at
 pub step-requires-clause-asks : goal.step-requires-clause-asks
 step-requires-clause-asks c =
     let p = c.requires.parted in
-    ap (λ (n : ℕ). Store n 0) c.interval.ensures ∙ asks_hide (standing c.args.handle.now.me) c.args.post.now p.at p.place
+    ap (λ (n : ℕ). Store n 0) c.interval-word.ensures ∙ asks_hide (standing c.args.handle.now.me) c.args.post.now p.at p.place
+
+pub step-requires-clause-spot : goal.step-requires-clause-spot
+step-requires-clause-spot c = c.spot_at-spot.ensures ∙ ap (λ (d : Layout). spot d c.interval-word.result) (parted_layout _ _ _ _ _ _ _ c.requires.parted)
 
 pub step-requires-clause-seated : goal.step-requires-clause-seated
 step-requires-clause-seated c = c.requires.parted.seated

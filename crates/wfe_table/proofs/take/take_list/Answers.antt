@@ -10,6 +10,7 @@ use Rattle.wfe_core.specs.words.Place.Place.{PlaceOf}
 use Rattle.wfe_core.specs.words.declared.layout.Layout.{Layout}
 use Rattle.wfe_drive_call.specs.drive_words.Comes.{departs}
 use Rattle.wfe_drive_rule.specs.Handles.{IsSeated}
+use Rattle.wfe_drive_rule.specs.drive_cells.Spots.{spot}
 use Rattle.wfe_drive_rule.specs.Views.{own}
 use Rattle.wfe_table.proofs.Adopted.{few_rows, fits_more, here_over, lives_of, missed_adopts, room_over, took_adopts}
 use Rattle.wfe_table.proofs.Made.{seated_as}
@@ -29,6 +30,12 @@ take_on-requires-clause-there c = λ e. absurd (false≢true (sym c.requires.the
 
 pub take_on-requires-clause-word : goal.take_on-requires-clause-word
 take_on-requires-clause-word c = c.place-word.ensures ∙ ap (λ (d : Layout). number d (PlaceOf c.args.place)) c.requires.key
+
+pub spot_at-spot-requires : goal.spot_at-spot-requires
+spot_at-spot-requires c = c.requires.seated.tracked.valid
+
+pub take_on-requires-clause-spot : goal.take_on-requires-clause-spot
+take_on-requires-clause-spot c = c.spot_at-spot.ensures ∙ ap (λ (d : Layout). spot d c.place-word.result) c.requires.key
 
 pub append-requires : goal.append-requires
 append-requires c = record { fits = fits_more (own c.args.handle.now.me.0).local c.args.post.now c.args.desk.now c.in-Ok.list.lives c.requires.here c.requires.room c.in-Ok.ensures.taken.1.listing }

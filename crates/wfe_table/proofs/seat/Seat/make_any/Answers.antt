@@ -13,7 +13,7 @@ use Rattle.wfe_table.specs.Public.{SeatNow}
 use Rattle.wfe_table.specs.Sound.{IsMet}
 use Rattle.std.proofs.lemmas.Bool.{true≢false}
 use Rattle.wfe_table.proofs.TableWords.{comes_standing}
-use Rattle.wfe_table.proofs.Made.{made_by, met_more, over, rests_here, seated_as, still_there}
+use Rattle.wfe_table.proofs.Made.{made_by, met_more, over, rests_as, rests_here, seated_as, still_there}
 use Rattle.wfe_table.proofs.seat.Seat.make_any.Goals as goal
 
 pub drive_call-answer-requires-clause-valid : goal.drive_call-answer-requires-clause-valid
@@ -47,7 +47,7 @@ invariant_of-self c =
     let key : c.self.inside.post.layout ≡ c.args.ledger.now.key = sym (ap (λ (v : SeatView). v.post.layout) i.here) ∙ ap (λ (s : SeatNow). s.track.local.post.layout) c.self.view_is ∙ c.requires.layout in
     let log = (own c.self.inside.handle.me.0).local.log in
     record {
-      seated = seated_as new.words.ledger.now.key new.words.slot new.post new.words.handle.now.me d.valid.seated (table ∙ key ∙ sym (ap (λ ledger. ledger.now.key) d.same.ledger)) (d.same.slot ∙ sym d.place.seat);
+      seated = seated_as new.words.ledger.now.key new.words.seat new.post new.words.handle.now.me d.valid.seated (table ∙ key ∙ sym (ap (λ ledger. ledger.now.key) d.same.ledger)) (d.same.seat ∙ sym d.place.seat);
       resting = o.resting;
       here = o.here;
       room = d.room;
@@ -64,7 +64,8 @@ returns-clause-made c =
     let new = c.drive_call-answer.new in
     let o = over c.args.call c.drive_call-answer.result c.self.inside.handle.me new.words.handle.now.me _ _ (at_phase Idle c.self.inside.post c.self.inside.desk) (at_phase Idle new.post new.desk) i.resting i.here d.called in
     let old : SeatNow = record { table = c.self.inside.handle.table_id; track = own c.self.inside.handle.me.0 } in
+    let key : c.self.inside.post.layout ≡ c.args.ledger.now.key = sym (ap (λ (v : SeatView). v.post.layout) i.here) ∙ ap (λ (s : SeatNow). s.track.local.post.layout) c.self.view_is ∙ c.requires.layout in
     let later : SeatNow = record { table = new.words.handle.now.table_id; track = own new.words.handle.now.me.0 } in
     let tracked : IsTracked c.args.ledger.now.key (own new.words.handle.now.me.0) = subst (λ (l : Layout). IsTracked l (own new.words.handle.now.me.0)) (ap (λ ledger. ledger.now.key) d.same.ledger) d.valid.seated.tracked in
     subst (λ (s : SeatNow). IsMade c.args.ledger.now.key s later c.args.call c.drive_call-answer.result) c.self.view_is
-    (made_by c.args.ledger.now.key old later c.args.call c.drive_call-answer.result o.ops d.same.more tracked o.ends d.same.grows)
+    (made_by c.args.ledger.now.key old later c.args.call c.drive_call-answer.result o.ops d.same.more (rests_as _ _ _ _ i.seated i.resting key) tracked o.ends d.same.grows)

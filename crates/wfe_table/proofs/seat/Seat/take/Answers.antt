@@ -6,6 +6,7 @@ use Rattle.wfe_drive_rule.specs.Views.{own}
 use Rattle.wfe_drive_rule.specs.drive_cells.Unit.{SeatView}
 use Rattle.wfe_table.specs.Public.{SeatNow}
 use Rattle.wfe_table.proofs.Adopted.{IsAnswered, told_layout, told_made, told_met, told_there}
+use Rattle.wfe_table.proofs.Made.{rests_as}
 use Rattle.wfe_table.proofs.seat.Seat.take.Goals as goal
 
 pub take_list-requires-clause-ids : goal.take_list-requires-clause-ids
@@ -44,4 +45,4 @@ returns-clause-made c =
     let old : SeatNow = record { table = c.self.inside.handle.table_id; track = own c.self.inside.handle.me.0 } in
     let tracked : IsTracked c.args.ledger.now.key (own new.handle.me.0) = subst (λ (d : Layout). IsTracked d (own new.handle.me.0)) (e.key ∙ key) e.seated.tracked in
     subst (λ (s : SeatNow). IsAnswered c.args.ledger.now.key s later c.args.place c.take_list.result) c.self.view_is
-    (told_made c.args.ledger.now.key old later c.args.place c.take_list.result tracked e.made)
+    (told_made c.args.ledger.now.key old later c.args.place c.take_list.result (rests_as _ _ _ _ c.self.invariant.seated c.self.invariant.resting key) tracked e.made)

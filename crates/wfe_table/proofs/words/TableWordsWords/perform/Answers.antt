@@ -1,8 +1,9 @@
-use Rattle.std.proofs.Common.{ap, subst, ◌∙◌, ◌≡◌}
-use Rattle.wfe_core.specs.Locals.{Local, after, busy_in}
+use Rattle.std.proofs.Common.{ap, subst, sym, ◌∙◌, ◌≡◌}
+use Rattle.wfe_core.specs.Locals.{Local, after, asks, busy_in}
 use Rattle.wfe_drive_call.specs.drive_words.Comes.{Given, lent}
 use Rattle.wfe_drive_rule.specs.Views.{standing}
-use Rattle.wfe_table.proofs.TableWords.{moves_none, step_made}
+use Rattle.wfe_table.proofs.TableWords.{moves_none, spot_standing, step_made}
+use Rattle.wfe_drive_rule.specs.drive_cells.declared.located.Located.{Located}
 use Rattle.wfe_table.proofs.words.TableWordsWords.perform.Goals as goal
 
 pub returns-then-self-clause-at : goal.returns-then-self-clause-at
@@ -24,6 +25,18 @@ pub returns-clause-rest : goal.returns-clause-rest
 returns-clause-rest c =
     let busy = ap (λ (k : Local). busy_in k.phase) c.requires.asks.1 ∙ c.requires.asks.2 in
     (step_made _ _ c.step-2.result c.args.self.now.handle.now.me c.step-2.new.handle.me c.requires.valid.seated busy c.step-2.ensures.told c.step-2.ensures.slot).falls
+
+pub step-requires-clause-asks : goal.step-requires-clause-asks
+step-requires-clause-asks c = ap (λ (at : Located). at.op) c.requires.asks.3 ∙ ap asks (sym c.requires.asks.1)
+
+pub step-requires-clause-spot : goal.step-requires-clause-spot
+step-requires-clause-spot c = spot_standing _ _ _ c.requires.asks.0 c.args.op c.requires.valid.seated c.requires.asks.1 c.requires.asks.3
+
+pub step-requires-2-clause-asks : goal.step-requires-2-clause-asks
+step-requires-2-clause-asks c = ap (λ (at : Located). at.op) c.requires.asks.3 ∙ ap asks (sym c.requires.asks.1)
+
+pub step-requires-2-clause-spot : goal.step-requires-2-clause-spot
+step-requires-2-clause-spot c = spot_standing _ _ _ c.requires.asks.0 c.args.op c.requires.valid.seated c.requires.asks.1 c.requires.asks.3
 
 pub step-requires-clause-moves : goal.step-requires-clause-moves
 step-requires-clause-moves c = moves_none _ _ _ c.requires.asks.0 c.requires.valid.seated c.requires.asks.1 c.requires.asks.2 c.requires.asks.4

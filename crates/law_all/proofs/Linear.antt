@@ -1,0 +1,3 @@
+-- Each history is linearizable.
+pub mod Hands
+pub mod Resting

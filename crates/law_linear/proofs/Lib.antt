@@ -1,0 +1,11 @@
+pub mod Ending
+pub mod Ends
+pub mod Marking
+pub mod Ordered
+pub mod Positions
+pub mod Refused
+pub mod Rested
+pub mod Search
+pub mod Setting
+pub mod Stages
+pub mod Telling

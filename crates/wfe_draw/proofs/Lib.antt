@@ -1,0 +1,5 @@
+pub mod Bytes
+pub mod Holding
+pub mod Places
+pub mod Reading
+pub mod Taking

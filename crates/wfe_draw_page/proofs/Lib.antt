@@ -1,0 +1,4 @@
+pub mod Plains
+pub mod Texts
+pub mod Frames
+pub mod Marks
