@@ -7,7 +7,8 @@ bench/threads.py [--calls N] [--repeats R] [--threads 1,2,4] [--profile | --buil
 The proved program is `wfe_bench`. The plain one is `bench/plain`, built here with `rustc` at its highest level in two
 placements: dense, each word beside the next, and placed, where the clock, the words of seats and the queue's head and
 tail have a line of the cache each. The third is a map and a queue on crossbeam-epoch, built with `cargo` from the source
-that Debian's librust-crossbeam-epoch-dev installs, and left out where there is none. All make the same calls: gets alone
+that Debian's librust-crossbeam-epoch-dev installs, and left out where there is none. Two more make the proved calls through C and
+through the crate for Rust (`bench/border`), where `rt lib` in crates/wfe_c has made the archive. All make the same calls: gets alone
 (`reads`), nine gets and a put (`mixed`), puts alone (`puts`), and an enqueue and a dequeue by turns (`pairs`), those of
 the table under each scheme. It prints
 
@@ -41,6 +42,7 @@ WORKS = {"reads": 4, "mixed": 4, "puts": 1, "pairs": 1}
 BESIDE = (("proved", "placed"), ("proved", "crossbeam"), ("placed", "crossbeam"))
 TOP = os.path.dirname(os.path.dirname(os.path.realpath(__file__)))
 PROVED = f"{TOP}/crates/wfe_bench/out/wfe_bench"
+ARCHIVE = f"{TOP}/crates/wfe_c/out/libwfe_c.a"
 REGISTRY = "/usr/share/cargo/registry"
 MANIFEST = f"""[package]
 name = "plain"
@@ -56,6 +58,16 @@ crossbeam-epoch = "0.9"
 crossbeam-utils = "0.8"
 [lints.rust]
 unexpected_cfgs = "allow"
+"""
+BORDER = f"""[package]
+name = "calls"
+version = "0.0.0"
+edition = "2021"
+[[bin]]
+name = "calls"
+path = {json.dumps(f"{TOP}/bench/border/calls.rs")}
+[dependencies]
+wfe = {{ path = {json.dumps(f"{TOP}/bindings/rust")} }}
 """
 
 
@@ -86,6 +98,26 @@ def built_crossbeam(folder):
     with open(f"{folder}/crossbeam/Cargo.lock", encoding="utf-8") as lock:
         version = re.search(r'name = "crossbeam-epoch"\nversion = "(.*)"', lock.read())
     return f"{folder}/crossbeam/target/release/plain", f"crossbeam-epoch {version[1]}"
+
+
+def built_border(folder):
+    """The programs that make the proved calls through C and through Rust, as far as there is what makes them."""
+    if not os.path.exists(ARCHIVE):
+        print("C and Rust are left out: `rt lib` in crates/wfe_c makes the archive first")
+        return {}
+    at = f"{folder}/border"
+    subprocess.run(["make", "--silent", f"{at}/libwfe_c.a", f"OUT={at}"], cwd=f"{TOP}/bindings/c", check=True)
+    subprocess.run(["cc", "-std=c11", "-O3", "-pthread", f"-I{TOP}/bindings/c", f"{TOP}/bench/border/calls.c", f"{at}/libwfe_c.a",
+                    "-o", f"{at}/calls"], check=True)
+    found = {"C": f"{at}/calls"}
+    if shutil.which("cargo") is None:
+        print("Rust is left out: there is no cargo")
+        return found
+    with open(f"{at}/Cargo.toml", "w", encoding="utf-8") as manifest:
+        manifest.write(BORDER)
+    subprocess.run(["cargo", "build", "--quiet", "--release", "--offline", "--target-dir", "target"], cwd=at, check=True,
+                   env={**os.environ, "WFE_LIB": at})
+    return {**found, "Rust": f"{at}/target/release/calls"}
 
 
 def burst(program, work, threads, calls):
@@ -165,7 +197,7 @@ def print_machine(options):
 
 def columns(folder):
     """The file of each program, by its name in the tables."""
-    found = {"proved": PROVED, "dense": built_plain(folder), "placed": built_plain(folder, "placed")}
+    found = {"proved": PROVED, **built_border(folder), "dense": built_plain(folder), "placed": built_plain(folder, "placed")}
     crossbeam, told = built_crossbeam(folder)
     if crossbeam:
         found["crossbeam"] = crossbeam
@@ -228,14 +260,16 @@ def instructions(program, scheme, work, calls):
 
 
 def print_profile(folder):
-    """Prints instructions a call of the proved program and of the plain one in both placements."""
-    files = PROVED, built_plain(folder), built_plain(folder, "placed")
+    """Prints instructions a call of the proved program, from Rattle and through C and Rust, and of the plain one in both placements."""
+    border = built_border(folder)
+    files = PROVED, built_plain(folder), built_plain(folder, "placed"), *border.values()
     print_head("Instructions a call on one thread",
-               ["work", "scheme", "proved", "dense", "placed", "proved to dense", "proved to placed"])
+               ["work", "scheme", "proved", "dense", "placed", *border, "proved to dense", "proved to placed", *(f"more by {it}" for it in border)])
     for work in WORKS:
         for scheme in SCHEMES:
             counts = [instructions(file, scheme, work, 20_001) for file in files]
-            print_row([work, f"`{scheme}`", *(f"{it:,.0f}" for it in counts), *(f"{counts[0] / it:.2f}" for it in counts[1:])])
+            print_row([work, f"`{scheme}`", *(f"{it:,.0f}" for it in counts), *(f"{counts[0] / it:.2f}" for it in counts[1:3]),
+                       *(f"{it - counts[0]:.1f}" for it in counts[3:])])
 
 
 def print_builds(folder, options):

@@ -1,11 +1,11 @@
 pub use Rattle.inv_ends.proofs.model as model
-pub use Rattle.inv_contents.proofs as contents
 pub use Rattle.inv_ends.proofs.covers as covers
 pub use Rattle.inv_ends.proofs as ends
 pub use Rattle.inv_ends.proofs.requests as requests
 pub use Rattle.inv_ends.proofs.rows
 pub use Rattle.inv_ends.proofs.shapes as shapes
 pub use Rattle.inv_ends.proofs.history as history
+pub mod Contents
 pub mod Each
 pub mod Finish
 pub mod Inv

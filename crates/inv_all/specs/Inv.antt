@@ -18,8 +18,8 @@ use Rattle.inv_ends.specs.covers.Covers.{number_shown, shown, takes_or_frees}
 use Rattle.inv_ends.specs.model.Guards.{own_guard}
 use Rattle.inv_ends.specs.model.words.Schemes.{publishes_rows}
 use Rattle.inv_ends.specs.covers.Held.{Holds}
-use Rattle.inv_contents.specs.Told.{AllRight, LookRight}
-use Rattle.inv_contents.specs.Gives.{AllQueueRight}
+use Rattle.inv_all.specs.Contents.Told.{AllRight, LookRight}
+use Rattle.inv_all.specs.Contents.Gives.{AllQueueRight}
 use Rattle.inv_all.specs.Known.{Known}
 
 -- views exist of which all parts hold

@@ -20,10 +20,10 @@ use Rattle.inv_ends.specs.covers.Held.{Held}
 use Rattle.inv_ends.specs.covers.Rests.{Rests}
 use Rattle.inv_ends.specs.Helped.{Helped}
 use Rattle.inv_ends.specs.Links.{Links}
-use Rattle.inv_contents.specs.Contents.{Contents}
-use Rattle.inv_contents.specs.Stands.{Stands}
-use Rattle.inv_contents.specs.Bounded.{Bounded}
-use Rattle.inv_contents.specs.Items.{Items}
+use Rattle.inv_all.specs.Contents.Contents.{Contents}
+use Rattle.inv_all.specs.Contents.Stands.{Stands}
+use Rattle.inv_all.specs.Contents.Bounded.{Bounded}
+use Rattle.inv_all.specs.Contents.Items.{Items}
 use Rattle.inv_ends.specs.Losses.{Losses}
 use Rattle.inv_all.specs.Rounds.{Rounds}
 

@@ -1,20 +1,20 @@
 -- That no call loses more rounds than was changed since its root was loaded, and that it loses few.
 use Rattle.std.specs.Prelude.{ℕ, ◌≡◌, true, false}
-use Rattle.inv_contents.specs.words.Place.{is_valid}
-use Rattle.inv_contents.specs.words.declared.layout.Layout.{Layout}
-use Rattle.inv_contents.specs.defs.declared.call.Call.{Call}
-use Rattle.inv_contents.specs.model.World.{World, start, begin, step, is_busy}
-use Rattle.inv_contents.specs.rows.Rows.{View}
-use Rattle.inv_contents.specs.rows.Queue.{Line}
-use Rattle.inv_contents.specs.rows.Chain.{Both, first_line, line_after}
+use Rattle.inv_ends.specs.model.words.Place.{is_valid}
+use Rattle.inv_ends.specs.model.words.declared.layout.Layout.{Layout}
+use Rattle.inv_ends.specs.model.defs.declared.call.Call.{Call}
+use Rattle.inv_ends.specs.model.World.{World, start, begin, step, is_busy}
+use Rattle.inv_ends.specs.rows.Rows.{View}
+use Rattle.inv_ends.specs.rows.Queue.{Line}
+use Rattle.inv_ends.specs.rows.Chain.{Both, first_line, line_after}
 use Rattle.inv_ends.specs.requests.Views.{View as Asking}
 use Rattle.inv_ends.specs.requests.Views.Deal.{Quiet}
 use Rattle.inv_ends.specs.shapes.Slots.{Slots}
 use Rattle.inv_ends.specs.requests.NextDeals.{next_deals}
 use Rattle.inv_ends.specs.requests.Standing.{Requests}
 use Rattle.inv_ends.specs.Origins.{Origins, OriginsNeeds}
-use Rattle.inv_contents.specs.Items.{Items}
-use Rattle.inv_contents.specs.Bounded.{Bounded}
+use Rattle.inv_all.specs.Contents.Items.{Items}
+use Rattle.inv_all.specs.Contents.Bounded.{Bounded}
 use Rattle.inv_ends.specs.Losses.{Losses, LossNeeds}
 use Rattle.inv_all.specs.Tallies.{tally, phase_paced, good_link}
 

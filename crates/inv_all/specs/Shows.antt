@@ -5,8 +5,8 @@ use Rattle.inv_ends.specs.model.words.Place.Place.{Head, Row}
 use Rattle.inv_ends.specs.model.World.{World}
 use Rattle.inv_ends.specs.requests.Paces.{InTime, MovesOn}
 use Rattle.inv_ends.specs.requests.Pending.{Pending}
-use Rattle.inv_contents.specs.Buckets.{BucketShows}
-use Rattle.inv_contents.specs.Gives.{QueueCounts}
+use Rattle.inv_all.specs.Contents.Buckets.{BucketShows}
+use Rattle.inv_all.specs.Contents.Gives.{QueueCounts}
 use Rattle.inv_all.specs.Inv.{Inv}
 
 pub record Timely (w : World) (k : ℕ) : Type 0 where

@@ -2,19 +2,19 @@
 -- or a row was queued, since its root was loaded; or where a walk has failed. So the rounds lost are no more than those. Where rows are
 -- published each attempt of a protection is a round, which is lost where the reload finds another link.
 use Rattle.std.specs.Prelude.{ℕ, ◌≡◌, ◌≤◌, ◌+◌, ◌-◌, ◌%◌, ◌==◌, ◌&&◌, ◌||◌, not, Bool, true, false, if◌then◌else◌, nat_le, length}
-use Rattle.inv_contents.specs.words.Place.Place.{Bucket, Head, Tail, Row}
-use Rattle.inv_contents.specs.defs.declared.event.Root.{Root}
-use Rattle.inv_contents.specs.defs.declared.event.Root.TheVariants as roots
-use Rattle.inv_contents.specs.model.Phases.{Base, HazardAt, ProtectAt}
-use Rattle.inv_contents.specs.model.Phases.Base.{Protect}
-use Rattle.inv_contents.specs.model.Phases.HazardAt.{FirstLink, PublishLink, CheckLink}
-use Rattle.inv_contents.specs.model.Phases.ProtectAt.{ByHazard}
-use Rattle.inv_contents.specs.words.Schemes.{publishes_rows}
-use Rattle.inv_contents.specs.model.Rest.{is_told, lost_by}
-use Rattle.inv_contents.specs.model.Rounds.{key_of}
-use Rattle.inv_contents.specs.model.Calls.{ChangeKept, EnqueueKept, Task, Gets, Changes, Holds, Enqueues, Dequeues, Next, Again, MakeRoom, Answering, Retiring, AfterScan, Answered, Repeated, Counted, Why, Opens, FollowsHead, Fills, ClearsNext, Clears, Finishes, GivesUp, Retires, Tidies, Advances, Releases, EnqueueAt, LoadNumber, LoadNext, PassTail, ExchangeNext, ExchangeTail, DequeueAt, LoadTail, SwingTail, TakeNumber, TakeValue, ExchangeHead, Work, Getting, Changing, Enqueuing, Dequeuing, Keeping, Phase, Idle, Runs, Scans, Works}
-use Rattle.inv_contents.specs.model.World.{World}
-use Rattle.inv_contents.specs.rows.Queue.{Line}
+use Rattle.inv_ends.specs.model.words.Place.Place.{Bucket, Head, Tail, Row}
+use Rattle.inv_ends.specs.model.defs.declared.event.Root.{Root}
+use Rattle.inv_ends.specs.model.defs.declared.event.Root.TheVariants as roots
+use Rattle.inv_ends.specs.model.Phases.{Base, HazardAt, ProtectAt}
+use Rattle.inv_ends.specs.model.Phases.Base.{Protect}
+use Rattle.inv_ends.specs.model.Phases.HazardAt.{FirstLink, PublishLink, CheckLink}
+use Rattle.inv_ends.specs.model.Phases.ProtectAt.{ByHazard}
+use Rattle.inv_ends.specs.model.words.Schemes.{publishes_rows}
+use Rattle.inv_ends.specs.model.Rest.{is_told, lost_by}
+use Rattle.inv_ends.specs.model.Rounds.{key_of}
+use Rattle.inv_ends.specs.model.Calls.{ChangeKept, EnqueueKept, Task, Gets, Changes, Holds, Enqueues, Dequeues, Next, Again, MakeRoom, Answering, Retiring, AfterScan, Answered, Repeated, Counted, Why, Opens, FollowsHead, Fills, ClearsNext, Clears, Finishes, GivesUp, Retires, Tidies, Advances, Releases, EnqueueAt, LoadNumber, LoadNext, PassTail, ExchangeNext, ExchangeTail, DequeueAt, LoadTail, SwingTail, TakeNumber, TakeValue, ExchangeHead, Work, Getting, Changing, Enqueuing, Dequeuing, Keeping, Phase, Idle, Runs, Scans, Works}
+use Rattle.inv_ends.specs.model.World.{World}
+use Rattle.inv_ends.specs.rows.Queue.{Line}
 
 -- whether rows are published, the roots and next links, how often each bucket was changed, and what grows with each row queued or
 -- tail moved, and with each row taken or tail moved

@@ -1,6 +1,9 @@
-//! The invariant whole (`Known.antt`), in each World of a history. What it gives there, how machines end (`Outcomes.antt`), and
-//! how few rounds a call loses. Each function here does nothing, and carries a theorem.
+//! The invariant whole (`Known.antt`), in each World of a history, and of its parts what rows of map and queue hold and calls have
+//! read (`Contents/Knows.antt`). What the whole gives there, how machines end (`Outcomes.antt`), and how few rounds a call loses. Each
+//! function here does nothing, and carries a theorem.
 #![tactic(auto)]
+
+mod row_contents;
 
 ghost use Rattle.inv_all.specs.Ends.{InvEnds};
 ghost use Rattle.inv_all.specs.Finish.{CallsFinish};
@@ -11,6 +14,13 @@ ghost use Rattle.inv_all.specs.Outcomes.{MachinesEnd};
 ghost use Rattle.inv_all.specs.Places.{InvPlaceMoves, InvPlaces};
 ghost use Rattle.inv_all.specs.Shows.{InvShows, InvTimes};
 ghost use Rattle.inv_all.specs.Rounds.{RoundsBegin, RoundsGive, RoundsKept, RoundsStart};
+
+pub use row_contents::{
+    bounded_begin, bounded_kept, bounded_start, buckets_show, calls_begin, calls_read,
+    changes_know, contents_begin, contents_kept, contents_looked, contents_start, contents_told,
+    empty_right, items_begin, items_count, items_kept, items_start, items_told, last_number,
+    mute_books, stands_begin, stands_kept, stands_start, work_finds_fit,
+};
 
 /// The invariant holds at the start of a table with a valid setting.
 pub fn inv_start()

@@ -1,9 +1,9 @@
-pub use Rattle.inv_covers.proofs as covers
-pub use Rattle.inv_covers.proofs.shapes as shapes
-pub use Rattle.inv_covers.proofs.model as model
+pub use Rattle.inv_rows.proofs.Covering as covers
+pub use Rattle.inv_rows.proofs.Shapes as shapes
+pub use Rattle.inv_rows.proofs.model as model
 pub use Rattle.model_history.proofs as history
-pub use Rattle.inv_covers.proofs.Requests as requests
-pub use Rattle.inv_covers.proofs.rows
+pub use Rattle.inv_rows.proofs.Covering.Requests as requests
+pub use Rattle.inv_rows.proofs as rows
 pub mod Ends
 pub mod Handover
 pub mod Links

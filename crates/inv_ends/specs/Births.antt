@@ -1,20 +1,20 @@
 -- A row is retired with the birth era under which it was given last.
 use Rattle.std.specs.Prelude.{ℕ, ◌≡◌, ◌==◌, true, if◌then◌else◌, List, [], ◌∷◌}
-use Rattle.inv_covers.specs.words.Place.{is_valid}
-use Rattle.inv_covers.specs.words.declared.layout.Layout.{Layout}
-use Rattle.inv_covers.specs.defs.declared.call.Call.{Call}
-use Rattle.inv_covers.specs.defs.declared.event.Event.{Event}
-use Rattle.inv_covers.specs.defs.declared.event.Event.TheVariants as events
-use Rattle.inv_covers.specs.model.Phases.{AllocateAt, Base}
-use Rattle.inv_covers.specs.model.Phases.AllocateAt.{StoreLife}
-use Rattle.inv_covers.specs.model.Phases.Base.{Allocate}
-use Rattle.inv_covers.specs.model.Calls.{Phase, Runs}
-use Rattle.inv_covers.specs.model.World.{World, start, step, begin, told_in}
-use Rattle.inv_covers.specs.shapes.Eras.{Eras}
-use Rattle.inv_covers.specs.shapes.Seats.{Seats}
-use Rattle.inv_covers.specs.rows.Rows.{View, has_life}
-use Rattle.inv_covers.specs.rows.Rows.RowMove.{Lists}
-use Rattle.inv_covers.specs.rows.Agree.{Agree, RowsNeeds, rows_after, first_rows}
+use Rattle.inv_rows.specs.words.Place.{is_valid}
+use Rattle.inv_rows.specs.words.declared.layout.Layout.{Layout}
+use Rattle.inv_rows.specs.defs.declared.call.Call.{Call}
+use Rattle.inv_rows.specs.defs.declared.event.Event.{Event}
+use Rattle.inv_rows.specs.defs.declared.event.Event.TheVariants as events
+use Rattle.inv_rows.specs.model.Phases.{AllocateAt, Base}
+use Rattle.inv_rows.specs.model.Phases.AllocateAt.{StoreLife}
+use Rattle.inv_rows.specs.model.Phases.Base.{Allocate}
+use Rattle.inv_rows.specs.model.Calls.{Phase, Runs}
+use Rattle.inv_rows.specs.model.World.{World, start, step, begin, told_in}
+use Rattle.inv_rows.specs.Shapes.Eras.{Eras}
+use Rattle.inv_rows.specs.Shapes.Seats.{Seats}
+use Rattle.inv_rows.specs.Rows.{View, has_life}
+use Rattle.inv_rows.specs.Rows.RowMove.{Lists}
+use Rattle.inv_rows.specs.Agree.{Agree, RowsNeeds, rows_after, first_rows}
 use Rattle.inv_ends.specs.Told.{move_of}
 
 -- the birth era of each row after an event, and after all that is told: that of its last Give

@@ -1,20 +1,20 @@
 -- That the steps which a call has left fall at each of its own steps, and rise at no step of another seat.
 use Rattle.std.specs.Prelude.{ℕ, ◌≡◌, ◌≤◌, ◌<◌, ◌+◌, ◌^◌, ◌==◌, true, false, length}
-use Rattle.inv_covers.specs.words.Place.{is_valid}
-use Rattle.inv_covers.specs.words.Place.Place.{Clock}
-use Rattle.inv_covers.specs.words.declared.layout.Layout.{Layout}
-use Rattle.inv_covers.specs.defs.declared.call.Call.{Call}
-use Rattle.inv_covers.specs.defs.declared.event.Root.{Root}
-use Rattle.inv_covers.specs.model.Calls.{FollowsHead, Runs}
-use Rattle.inv_covers.specs.model.Phases.{Aim}
-use Rattle.inv_covers.specs.model.Phases.Base.{Protect}
-use Rattle.inv_covers.specs.model.Phases.HazardAt.{CheckLink}
-use Rattle.inv_covers.specs.model.Phases.ProtectAt.{ByHazard}
-use Rattle.inv_covers.specs.model.Rest.{rest}
-use Rattle.inv_covers.specs.model.World.{World, start, begin, step, is_busy, finds}
-use Rattle.inv_covers.specs.shapes.Seats.{Seats}
-use Rattle.inv_covers.specs.shapes.Eras.{Eras}
-use Rattle.inv_covers.specs.shapes.Slots.{Slots, SlotsNeeds}
+use Rattle.inv_rows.specs.words.Place.{is_valid}
+use Rattle.inv_rows.specs.words.Place.Place.{Clock}
+use Rattle.inv_rows.specs.words.declared.layout.Layout.{Layout}
+use Rattle.inv_rows.specs.defs.declared.call.Call.{Call}
+use Rattle.inv_rows.specs.defs.declared.event.Root.{Root}
+use Rattle.inv_rows.specs.model.Calls.{FollowsHead, Runs}
+use Rattle.inv_rows.specs.model.Phases.{Aim}
+use Rattle.inv_rows.specs.model.Phases.Base.{Protect}
+use Rattle.inv_rows.specs.model.Phases.HazardAt.{CheckLink}
+use Rattle.inv_rows.specs.model.Phases.ProtectAt.{ByHazard}
+use Rattle.inv_rows.specs.model.Rest.{rest}
+use Rattle.inv_rows.specs.model.World.{World, start, begin, step, is_busy, finds}
+use Rattle.inv_rows.specs.Shapes.Seats.{Seats}
+use Rattle.inv_rows.specs.Shapes.Eras.{Eras}
+use Rattle.inv_rows.specs.Shapes.Slots.{Slots, SlotsNeeds}
 use Rattle.inv_ends.specs.Losses.{Losses, LossNeeds}
 
 -- what the other parts give: shape, eras and ranges before and after the step, what a scan finds of its list, and that where

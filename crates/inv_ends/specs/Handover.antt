@@ -1,28 +1,28 @@
 -- Under Wait-Free Eras what helper and index words hold stays held, from a link's load to the row that stands.
 use Rattle.std.specs.Prelude.{ℕ, ◌≡◌, ◌<◌, true, false, Some}
-use Rattle.inv_covers.specs.words.Place.{is_valid}
-use Rattle.inv_covers.specs.words.Place.Place.{Clock}
-use Rattle.inv_covers.specs.words.declared.layout.Layout.{Layout}
-use Rattle.inv_covers.specs.defs.declared.call.Call.{Call}
-use Rattle.inv_covers.specs.model.Posts.{stands}
-use Rattle.inv_covers.specs.model.Phases.{Base}
-use Rattle.inv_covers.specs.model.Calls.{Why, Runs}
-use Rattle.inv_covers.specs.model.World.{World, start, begin, step, finds}
-use Rattle.inv_covers.specs.shapes.Eras.{Eras}
-use Rattle.inv_covers.specs.words.Schemes.{helps}
-use Rattle.inv_covers.specs.shapes.Seats.{Seats}
-use Rattle.inv_covers.specs.shapes.Slots.{Slots}
-use Rattle.inv_covers.specs.Requests.NextDeals.{next_deals}
-use Rattle.inv_covers.specs.Requests.Parents.{Parents}
-use Rattle.inv_covers.specs.Requests.Standing.{Requests}
-use Rattle.inv_covers.specs.Requests.Views.{Deal, View as Asked}
-use Rattle.inv_covers.specs.Requests.Views.Deal.{Quiet}
-use Rattle.inv_covers.specs.rows.Agree.{rows_after}
-use Rattle.inv_covers.specs.rows.Hands.{row_move}
-use Rattle.inv_covers.specs.rows.Rows.{View}
-use Rattle.inv_covers.specs.Covers.{takes_or_frees, CoversNeeds, Scanning}
-use Rattle.inv_covers.specs.Held.{tries_base, follows_row, RootsNeeds, Held}
-use Rattle.inv_covers.specs.Rests.{Rests}
+use Rattle.inv_rows.specs.words.Place.{is_valid}
+use Rattle.inv_rows.specs.words.Place.Place.{Clock}
+use Rattle.inv_rows.specs.words.declared.layout.Layout.{Layout}
+use Rattle.inv_rows.specs.defs.declared.call.Call.{Call}
+use Rattle.inv_rows.specs.model.Posts.{stands}
+use Rattle.inv_rows.specs.model.Phases.{Base}
+use Rattle.inv_rows.specs.model.Calls.{Why, Runs}
+use Rattle.inv_rows.specs.model.World.{World, start, begin, step, finds}
+use Rattle.inv_rows.specs.Shapes.Eras.{Eras}
+use Rattle.inv_rows.specs.words.Schemes.{helps}
+use Rattle.inv_rows.specs.Shapes.Seats.{Seats}
+use Rattle.inv_rows.specs.Shapes.Slots.{Slots}
+use Rattle.inv_rows.specs.Covering.Requests.NextDeals.{next_deals}
+use Rattle.inv_rows.specs.Covering.Requests.Parents.{Parents}
+use Rattle.inv_rows.specs.Covering.Requests.Standing.{Requests}
+use Rattle.inv_rows.specs.Covering.Requests.Views.{Deal, View as Asked}
+use Rattle.inv_rows.specs.Covering.Requests.Views.Deal.{Quiet}
+use Rattle.inv_rows.specs.Agree.{rows_after}
+use Rattle.inv_rows.specs.Hands.{row_move}
+use Rattle.inv_rows.specs.Rows.{View}
+use Rattle.inv_rows.specs.Covering.Covers.{takes_or_frees, CoversNeeds, Scanning}
+use Rattle.inv_rows.specs.Covering.Held.{tries_base, follows_row, RootsNeeds, Held}
+use Rattle.inv_rows.specs.Covering.Rests.{Rests}
 use Rattle.inv_ends.specs.Helped.{helper_holds, answered_from, passed_to, Helped}
 
 -- what a step of seat i takes of other parts at the World before it

@@ -1,9 +1,9 @@
-pub use Rattle.inv_covers.specs as covers
-pub use Rattle.inv_covers.specs.shapes as shapes
-pub use Rattle.inv_covers.specs.model as model
+pub use Rattle.inv_rows.specs.Covering as covers
+pub use Rattle.inv_rows.specs.Shapes as shapes
+pub use Rattle.inv_rows.specs.model as model
 pub use Rattle.model_history.specs as history
-pub use Rattle.inv_covers.specs.Requests as requests
-pub use Rattle.inv_covers.specs.rows
+pub use Rattle.inv_rows.specs.Covering.Requests as requests
+pub use Rattle.inv_rows.specs as rows
 pub mod Births
 pub mod Falls
 pub mod Handover

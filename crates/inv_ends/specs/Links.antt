@@ -2,40 +2,40 @@
 -- last; from the queue's ends to a row that was in the queue since it was claimed last, and from the head to the head's row
 -- while that is in the queue; and the next link of a row that is followed is still that row's.
 use Rattle.std.specs.Prelude.{ℕ, ◌≡◌, ◌+◌, ◌-◌, ◌==◌, ◌%◌, ◌&&◌, ◌||◌, not, Bool, true, false, Some}
-use Rattle.inv_covers.specs.words.Place.{Place}
-use Rattle.inv_covers.specs.words.Place.Place.{Clock, Row}
-use Rattle.inv_covers.specs.words.Packed.{read_request}
-use Rattle.inv_covers.specs.words.declared.layout.Layout.{Layout}
-use Rattle.inv_covers.specs.words.declared.packed.Request.TheVariants as requests
-use Rattle.inv_covers.specs.defs.declared.call.Call.{Call}
-use Rattle.inv_covers.specs.defs.declared.event.Root.{Root}
-use Rattle.inv_covers.specs.defs.declared.event.Root.TheVariants as roots
-use Rattle.inv_covers.specs.model.declared.ends.ProtectEnd.TheVariants as protect_ends
-use Rattle.inv_covers.specs.model.Book.{Book}
-use Rattle.inv_covers.specs.model.Machine.{after}
-use Rattle.inv_covers.specs.model.Posts.{counted}
-use Rattle.inv_covers.specs.model.Phases.{Aim, ProtectAt, Base, Ends, Protected}
-use Rattle.inv_covers.specs.model.Phases.Base.{Protect}
-use Rattle.inv_covers.specs.model.Rounds.{key_of}
-use Rattle.inv_covers.specs.model.Calls.{ChangeKept, Task, Gets, Changes, Holds, Why, Opens, FollowsHead, Runs}
-use Rattle.inv_covers.specs.model.World.{World, start, begin, step, is_busy, finds}
-use Rattle.inv_covers.specs.shapes.Seats.{Seats}
-use Rattle.inv_covers.specs.words.Schemes.{helps}
-use Rattle.inv_covers.specs.Requests.NextDeals.{next_deals}
-use Rattle.inv_covers.specs.Requests.Parents.{rises_at}
-use Rattle.inv_covers.specs.Requests.Standing.{Requests}
-use Rattle.inv_covers.specs.Requests.Views.{View as Asking}
-use Rattle.inv_covers.specs.Requests.Views.Deal.{Quiet}
-use Rattle.inv_covers.specs.rows.Rows.{View}
-use Rattle.inv_covers.specs.rows.Rows.Status.{Linked}
-use Rattle.inv_covers.specs.rows.Hands.{row_move}
-use Rattle.inv_covers.specs.rows.Agree.{rows_after, first_rows}
-use Rattle.inv_covers.specs.rows.Queue.{Line}
-use Rattle.inv_covers.specs.rows.Chain.{Both, QueueNeeds, queue_of, line_after, first_line}
-use Rattle.inv_covers.specs.rows.Follow.{at_asks, AnswersFit}
-use Rattle.inv_covers.specs.rows.Tries.{is_tail, is_head, FromHead}
-use Rattle.inv_covers.specs.Covers.{takes_or_frees, CoversNeeds, Scanning}
-use Rattle.inv_covers.specs.Held.{under, tries_base, Held}
+use Rattle.inv_rows.specs.words.Place.{Place}
+use Rattle.inv_rows.specs.words.Place.Place.{Clock, Row}
+use Rattle.inv_rows.specs.words.Packed.{read_request}
+use Rattle.inv_rows.specs.words.declared.layout.Layout.{Layout}
+use Rattle.inv_rows.specs.words.declared.packed.Request.TheVariants as requests
+use Rattle.inv_rows.specs.defs.declared.call.Call.{Call}
+use Rattle.inv_rows.specs.defs.declared.event.Root.{Root}
+use Rattle.inv_rows.specs.defs.declared.event.Root.TheVariants as roots
+use Rattle.inv_rows.specs.model.declared.ends.ProtectEnd.TheVariants as protect_ends
+use Rattle.inv_rows.specs.model.Book.{Book}
+use Rattle.inv_rows.specs.model.Machine.{after}
+use Rattle.inv_rows.specs.model.Posts.{counted}
+use Rattle.inv_rows.specs.model.Phases.{Aim, ProtectAt, Base, Ends, Protected}
+use Rattle.inv_rows.specs.model.Phases.Base.{Protect}
+use Rattle.inv_rows.specs.model.Rounds.{key_of}
+use Rattle.inv_rows.specs.model.Calls.{ChangeKept, Task, Gets, Changes, Holds, Why, Opens, FollowsHead, Runs}
+use Rattle.inv_rows.specs.model.World.{World, start, begin, step, is_busy, finds}
+use Rattle.inv_rows.specs.Shapes.Seats.{Seats}
+use Rattle.inv_rows.specs.words.Schemes.{helps}
+use Rattle.inv_rows.specs.Covering.Requests.NextDeals.{next_deals}
+use Rattle.inv_rows.specs.Covering.Requests.Parents.{rises_at}
+use Rattle.inv_rows.specs.Covering.Requests.Standing.{Requests}
+use Rattle.inv_rows.specs.Covering.Requests.Views.{View as Asking}
+use Rattle.inv_rows.specs.Covering.Requests.Views.Deal.{Quiet}
+use Rattle.inv_rows.specs.Rows.{View}
+use Rattle.inv_rows.specs.Rows.Status.{Linked}
+use Rattle.inv_rows.specs.Hands.{row_move}
+use Rattle.inv_rows.specs.Agree.{rows_after, first_rows}
+use Rattle.inv_rows.specs.Queue.{Line}
+use Rattle.inv_rows.specs.Chain.{Both, QueueNeeds, queue_of, line_after, first_line}
+use Rattle.inv_rows.specs.Follow.{at_asks, AnswersFit}
+use Rattle.inv_rows.specs.Tries.{is_tail, is_head, FromHead}
+use Rattle.inv_rows.specs.Covering.Covers.{takes_or_frees, CoversNeeds, Scanning}
+use Rattle.inv_rows.specs.Covering.Held.{under, tries_base, Held}
 use Rattle.inv_ends.specs.Tracked.{root_in, Tracked}
 use Rattle.inv_ends.specs.Origins.{OriginsNeeds, Origins}
 

@@ -1,15 +1,15 @@
 -- What steps tell of retire lists: that a seat leaves its list, and that another takes it over.
 use Rattle.std.specs.Prelude.{ℕ, ◌≡◌, ◌==◌, ◌++◌, Bool, true, false, if◌then◌else◌, List, [], ◌∷◌, length}
 use Rattle.std.specs.List.{filter}
-use Rattle.inv_covers.specs.words.Place.Place.{PlaceOf}
-use Rattle.inv_covers.specs.defs.declared.call.Answer.TheVariants as answers
-use Rattle.inv_covers.specs.defs.declared.event.Event.{Event}
-use Rattle.inv_covers.specs.defs.declared.event.Event.TheVariants as events
-use Rattle.inv_covers.specs.model.Calls.{KeepAt, MarkLeft, MarkTaken, TakeList, Work, Keeping, Phase, Works}
-use Rattle.inv_covers.specs.model.Keep.{not_taken}
-use Rattle.inv_covers.specs.model.Posts.{counted}
-use Rattle.inv_covers.specs.model.World.{World, finds, list_in, offered, step, told_in}
-use Rattle.inv_covers.specs.rows.Rows.RowMove.{Adopts}
+use Rattle.inv_rows.specs.words.Place.Place.{PlaceOf}
+use Rattle.inv_rows.specs.defs.declared.call.Answer.TheVariants as answers
+use Rattle.inv_rows.specs.defs.declared.event.Event.{Event}
+use Rattle.inv_rows.specs.defs.declared.event.Event.TheVariants as events
+use Rattle.inv_rows.specs.model.Calls.{KeepAt, MarkLeft, MarkTaken, TakeList, Work, Keeping, Phase, Works}
+use Rattle.inv_rows.specs.model.Keep.{not_taken}
+use Rattle.inv_rows.specs.model.Posts.{counted}
+use Rattle.inv_rows.specs.model.World.{World, finds, list_in, offered, step, told_in}
+use Rattle.inv_rows.specs.Rows.RowMove.{Adopts}
 use Rattle.inv_ends.specs.Told.{move_of}
 
 abbrev pub is_of_lists : Event → Bool

@@ -1,21 +1,21 @@
 -- How many rounds a call has lost, by where it stands: no more than its task may lose.
 use Rattle.std.specs.Prelude.{ℕ, ◌≡◌, ◌≤◌, ◌+◌, ◌==◌, Bool, true, false, List, None}
-use Rattle.inv_covers.specs.words.declared.config.Config.{Config}
-use Rattle.inv_covers.specs.model.declared.ends.ProtectEnd.TheVariants as protect_ends
-use Rattle.inv_covers.specs.model.Rest.{rounds_most, is_told, has_walked}
-use Rattle.inv_covers.specs.defs.declared.event.Event.{Event}
-use Rattle.inv_covers.specs.defs.declared.event.Root.{Root}
-use Rattle.inv_covers.specs.model.Locals.{rounds_told}
-use Rattle.inv_covers.specs.model.Machine as machine
-use Rattle.inv_covers.specs.model.Posts.{counted}
-use Rattle.inv_covers.specs.model.Phases.{Aim, Base, Walk, Ends, Protected}
-use Rattle.inv_covers.specs.model.Phases.HazardAt.{CheckLink}
-use Rattle.inv_covers.specs.model.Phases.ProtectAt.{ByHazard}
-use Rattle.inv_covers.specs.model.Phases.AllocateAt.{ClaimSlot}
-use Rattle.inv_covers.specs.model.Phases.Base.{Allocate, Protect, Reload}
-use Rattle.inv_covers.specs.model.Calls.{ChangeKept, EnqueueKept, Task, Gets, Changes, Holds, Enqueues, Dequeues, Next, Again, MakeRoom, Answering, Retiring, AfterScan, Answered, Repeated, Counted, Why, Opens, FollowsHead, Fills, ClearsNext, Clears, Finishes, GivesUp, Retires, Tidies, Advances, Releases, ExchangeRoot, PassTail, ExchangeNext, SwingTail, ExchangeHead, Work, Getting, Changing, Enqueuing, Dequeuing, Keeping, Phase, Idle, Runs, Scans, Works}
-use Rattle.inv_covers.specs.model.World.{World, finds}
-use Rattle.inv_covers.specs.words.Schemes.{has_one_interval, publishes_rows}
+use Rattle.inv_rows.specs.words.declared.config.Config.{Config}
+use Rattle.inv_rows.specs.model.declared.ends.ProtectEnd.TheVariants as protect_ends
+use Rattle.inv_rows.specs.model.Rest.{rounds_most, is_told, has_walked}
+use Rattle.inv_rows.specs.defs.declared.event.Event.{Event}
+use Rattle.inv_rows.specs.defs.declared.event.Root.{Root}
+use Rattle.inv_rows.specs.model.Locals.{rounds_told}
+use Rattle.inv_rows.specs.model.Machine as machine
+use Rattle.inv_rows.specs.model.Posts.{counted}
+use Rattle.inv_rows.specs.model.Phases.{Aim, Base, Walk, Ends, Protected}
+use Rattle.inv_rows.specs.model.Phases.HazardAt.{CheckLink}
+use Rattle.inv_rows.specs.model.Phases.ProtectAt.{ByHazard}
+use Rattle.inv_rows.specs.model.Phases.AllocateAt.{ClaimSlot}
+use Rattle.inv_rows.specs.model.Phases.Base.{Allocate, Protect, Reload}
+use Rattle.inv_rows.specs.model.Calls.{ChangeKept, EnqueueKept, Task, Gets, Changes, Holds, Enqueues, Dequeues, Next, Again, MakeRoom, Answering, Retiring, AfterScan, Answered, Repeated, Counted, Why, Opens, FollowsHead, Fills, ClearsNext, Clears, Finishes, GivesUp, Retires, Tidies, Advances, Releases, ExchangeRoot, PassTail, ExchangeNext, SwingTail, ExchangeHead, Work, Getting, Changing, Enqueuing, Dequeuing, Keeping, Phase, Idle, Runs, Scans, Works}
+use Rattle.inv_rows.specs.model.World.{World, finds}
+use Rattle.inv_rows.specs.words.Schemes.{has_one_interval, publishes_rows}
 
 -- the rounds that have found their root, once so many had and a step has told this
 abbrev pub rounds_in : Config → ℕ → List Event → ℕ

@@ -1,24 +1,24 @@
 -- A move of the clock answers first: no request that it has seen pending is still pending when it exchanges the clock.
 use Rattle.std.specs.Prelude.{ℕ, ◌≡◌, ◌<◌, ◌==◌, ◌&&◌, ◌||◌, nat_lt, Bool, true, false, if◌then◌else◌, Option, Some, None}
-use Rattle.inv_covers.specs.words.Packed.{read_request}
-use Rattle.inv_covers.specs.words.Place.{is_valid}
-use Rattle.inv_covers.specs.words.declared.layout.Layout.{Layout}
-use Rattle.inv_covers.specs.words.declared.packed.Request.{Request}
-use Rattle.inv_covers.specs.words.declared.packed.Request.TheVariants as requests
-use Rattle.inv_covers.specs.defs.declared.call.Call.{Call}
-use Rattle.inv_covers.specs.model.Memory.{upd}
-use Rattle.inv_covers.specs.model.Posts.{tag_of}
-use Rattle.inv_covers.specs.model.Phases.{MoveAt, Base}
-use Rattle.inv_covers.specs.model.Phases.MoveAt.{LoadEra, LoadRequest, ShowEra, LoadAsked, CheckEra, AnswerAsked, LoadReserved, HandOver, HideEra, HideLate, ExchangeClock}
-use Rattle.inv_covers.specs.model.Phases.Base.{Move}
-use Rattle.inv_covers.specs.model.Calls.{Why, Phase, Runs}
-use Rattle.inv_covers.specs.model.World.{World, start, step, begin, finds}
-use Rattle.inv_covers.specs.shapes.Seats.{Seats}
-use Rattle.inv_covers.specs.Requests.Needs.{Needs}
-use Rattle.inv_covers.specs.Requests.NextDeals.{next_deals}
-use Rattle.inv_covers.specs.Requests.Standing.{Requests}
-use Rattle.inv_covers.specs.Requests.Views.{View, Deal}
-use Rattle.inv_covers.specs.Requests.Views.Deal.{Quiet, Open, Answered, Passed, Taken}
+use Rattle.inv_rows.specs.words.Packed.{read_request}
+use Rattle.inv_rows.specs.words.Place.{is_valid}
+use Rattle.inv_rows.specs.words.declared.layout.Layout.{Layout}
+use Rattle.inv_rows.specs.words.declared.packed.Request.{Request}
+use Rattle.inv_rows.specs.words.declared.packed.Request.TheVariants as requests
+use Rattle.inv_rows.specs.defs.declared.call.Call.{Call}
+use Rattle.inv_rows.specs.model.Memory.{upd}
+use Rattle.inv_rows.specs.model.Posts.{tag_of}
+use Rattle.inv_rows.specs.model.Phases.{MoveAt, Base}
+use Rattle.inv_rows.specs.model.Phases.MoveAt.{LoadEra, LoadRequest, ShowEra, LoadAsked, CheckEra, AnswerAsked, LoadReserved, HandOver, HideEra, HideLate, ExchangeClock}
+use Rattle.inv_rows.specs.model.Phases.Base.{Move}
+use Rattle.inv_rows.specs.model.Calls.{Why, Phase, Runs}
+use Rattle.inv_rows.specs.model.World.{World, start, step, begin, finds}
+use Rattle.inv_rows.specs.Shapes.Seats.{Seats}
+use Rattle.inv_rows.specs.Covering.Requests.Needs.{Needs}
+use Rattle.inv_rows.specs.Covering.Requests.NextDeals.{next_deals}
+use Rattle.inv_rows.specs.Covering.Requests.Standing.{Requests}
+use Rattle.inv_rows.specs.Covering.Requests.Views.{View, Deal}
+use Rattle.inv_rows.specs.Covering.Requests.Views.Deal.{Quiet, Open, Answered, Passed, Taken}
 
 -- the request of this tag and index is pending
 abbrev pub open_at : ℕ → ℕ → Deal → Bool

@@ -1,15 +1,15 @@
 -- Where a step tells Null: the link that a try has checked, that an answer has, or that is loaded where it is published, is null.
 use Rattle.std.specs.Prelude.{Bool, false, ℕ, ◌==◌, ◌&&◌, ◌≡◌}
-use Rattle.inv_covers.specs.model.Phases.ProtectAt.{CheckClock, CheckUpper, TakeAnswer, ByHazard}
-use Rattle.inv_covers.specs.model.Phases.HazardAt.{FirstLink, PublishLink, CheckLink}
-use Rattle.inv_covers.specs.model.declared.post.Post.{Post}
-use Rattle.inv_covers.specs.model.Phases.{HazardAt, ProtectAt, Base}
-use Rattle.inv_covers.specs.model.Posts.{upper}
-use Rattle.inv_covers.specs.model.Phases.Base.{Protect}
-use Rattle.inv_covers.specs.model.Calls.{Phase, Runs}
-use Rattle.inv_covers.specs.model.World.{World, finds, told_in}
+use Rattle.inv_rows.specs.model.Phases.ProtectAt.{CheckClock, CheckUpper, TakeAnswer, ByHazard}
+use Rattle.inv_rows.specs.model.Phases.HazardAt.{FirstLink, PublishLink, CheckLink}
+use Rattle.inv_rows.specs.model.declared.post.Post.{Post}
+use Rattle.inv_rows.specs.model.Phases.{HazardAt, ProtectAt, Base}
+use Rattle.inv_rows.specs.model.Posts.{upper}
+use Rattle.inv_rows.specs.model.Phases.Base.{Protect}
+use Rattle.inv_rows.specs.model.Calls.{Phase, Runs}
+use Rattle.inv_rows.specs.model.World.{World, finds, told_in}
 use Rattle.std.specs.List.{list_any}
-use Rattle.inv_covers.specs.defs.Events.{is_null}
+use Rattle.inv_rows.specs.defs.Events.{is_null}
 
 -- the link that is loaded is null
 abbrev pub null_hazard : HazardAt → ℕ → Bool

@@ -1,32 +1,32 @@
 -- What was true of a root and a link when the link was loaded stays true of them as long as the link is tracked.
 use Rattle.std.specs.Prelude.{ℕ, ◌≡◌, ◌<◌, ◌+◌, ◌==◌, ◌&&◌, ◌||◌, Bool, true, false, [], Option, Some, None}
-use Rattle.inv_covers.specs.words.Place.{is_valid}
-use Rattle.inv_covers.specs.words.Packed.{read_request}
-use Rattle.inv_covers.specs.words.declared.layout.Layout.{Layout}
-use Rattle.inv_covers.specs.words.declared.packed.Request.TheVariants as requests
-use Rattle.inv_covers.specs.defs.declared.call.Call.{Call}
-use Rattle.inv_covers.specs.defs.declared.event.Root.{Root}
-use Rattle.inv_covers.specs.model.declared.ends.FollowEnd.TheVariants as follow_ends
-use Rattle.inv_covers.specs.model.declared.ends.ProtectEnd.TheVariants as protect_ends
-use Rattle.inv_covers.specs.model.Links.{link_place}
-use Rattle.inv_covers.specs.model.Machine.{after}
-use Rattle.inv_covers.specs.model.declared.post.Post.{Post}
-use Rattle.inv_covers.specs.model.Posts.{counted, upper}
-use Rattle.inv_covers.specs.model.Phases.{Aim, ProtectAt, MoveAt, Base, Ending, Ends, Followed, Protected}
-use Rattle.inv_covers.specs.model.Phases.ProtectAt.{LoadClock, PublishEra, LoadLink, CheckClock, PublishRequest, LoadOwnClock, PublishHelper, LoadOwnLink, CheckOwnClock, AnswerOwn, LoadAnswer, TakeAnswer, WithdrawRequest, WithdrawHelper, LoadWithin, CheckUpper, RaiseUpper, ByHazard}
-use Rattle.inv_covers.specs.model.Phases.HazardAt.{FirstLink, PublishLink, CheckLink}
-use Rattle.inv_covers.specs.model.Phases.MoveAt.{LoadEra, LoadRequest, ShowEra, LoadAsked}
-use Rattle.inv_covers.specs.model.Phases.Base.{Begin, Protect, Reload, Clear, Finish, Release, Allocate, Write, GiveUp, Retire, Move}
-use Rattle.inv_covers.specs.model.Calls.{Why, Phase, Idle, Runs, Scans, Works}
-use Rattle.inv_covers.specs.model.World.{World, start, begin, step, is_busy, finds, told_in}
-use Rattle.inv_covers.specs.shapes.Eras.{Eras}
-use Rattle.inv_covers.specs.shapes.Seats.{Seats, root_by}
-use Rattle.inv_covers.specs.Requests.Needs.{Needs}
-use Rattle.inv_covers.specs.Requests.NextDeals.{next_deals}
-use Rattle.inv_covers.specs.Requests.Standing.{Requests}
-use Rattle.inv_covers.specs.Requests.Views.{View}
-use Rattle.inv_covers.specs.Requests.Views.Deal.{Quiet}
-use Rattle.inv_covers.specs.rows.Follow.{at_asks}
+use Rattle.inv_rows.specs.words.Place.{is_valid}
+use Rattle.inv_rows.specs.words.Packed.{read_request}
+use Rattle.inv_rows.specs.words.declared.layout.Layout.{Layout}
+use Rattle.inv_rows.specs.words.declared.packed.Request.TheVariants as requests
+use Rattle.inv_rows.specs.defs.declared.call.Call.{Call}
+use Rattle.inv_rows.specs.defs.declared.event.Root.{Root}
+use Rattle.inv_rows.specs.model.declared.ends.FollowEnd.TheVariants as follow_ends
+use Rattle.inv_rows.specs.model.declared.ends.ProtectEnd.TheVariants as protect_ends
+use Rattle.inv_rows.specs.model.Links.{link_place}
+use Rattle.inv_rows.specs.model.Machine.{after}
+use Rattle.inv_rows.specs.model.declared.post.Post.{Post}
+use Rattle.inv_rows.specs.model.Posts.{counted, upper}
+use Rattle.inv_rows.specs.model.Phases.{Aim, ProtectAt, MoveAt, Base, Ending, Ends, Followed, Protected}
+use Rattle.inv_rows.specs.model.Phases.ProtectAt.{LoadClock, PublishEra, LoadLink, CheckClock, PublishRequest, LoadOwnClock, PublishHelper, LoadOwnLink, CheckOwnClock, AnswerOwn, LoadAnswer, TakeAnswer, WithdrawRequest, WithdrawHelper, LoadWithin, CheckUpper, RaiseUpper, ByHazard}
+use Rattle.inv_rows.specs.model.Phases.HazardAt.{FirstLink, PublishLink, CheckLink}
+use Rattle.inv_rows.specs.model.Phases.MoveAt.{LoadEra, LoadRequest, ShowEra, LoadAsked}
+use Rattle.inv_rows.specs.model.Phases.Base.{Begin, Protect, Reload, Clear, Finish, Release, Allocate, Write, GiveUp, Retire, Move}
+use Rattle.inv_rows.specs.model.Calls.{Why, Phase, Idle, Runs, Scans, Works}
+use Rattle.inv_rows.specs.model.World.{World, start, begin, step, is_busy, finds, told_in}
+use Rattle.inv_rows.specs.Shapes.Eras.{Eras}
+use Rattle.inv_rows.specs.Shapes.Seats.{Seats, root_by}
+use Rattle.inv_rows.specs.Covering.Requests.Needs.{Needs}
+use Rattle.inv_rows.specs.Covering.Requests.NextDeals.{next_deals}
+use Rattle.inv_rows.specs.Covering.Requests.Standing.{Requests}
+use Rattle.inv_rows.specs.Covering.Requests.Views.{View}
+use Rattle.inv_rows.specs.Covering.Requests.Views.Deal.{Quiet}
+use Rattle.inv_rows.specs.Follow.{at_asks}
 use Rattle.inv_ends.specs.Tracked.{root_in, Tracked}
 
 -- the step loads a link, for the own protection or for the request of another seat, and may carry it from there on

@@ -1,27 +1,27 @@
 -- What stands at the indexes of a seat is what its steps tell: Held, Copied and Clear, each where it happens.
 use Rattle.std.specs.Prelude.{Bool, false, true, ℕ, ◌==◌, ◌&&◌, ◌+◌, ◌≡◌, ◌≤◌, ◌<◌, Option, Some, None}
-use Rattle.inv_covers.specs.defs.declared.event.Root.{Root}
-use Rattle.inv_covers.specs.defs.declared.event.Root.TheVariants as roots
-use Rattle.inv_covers.specs.model.Phases.ProtectAt.{CheckClock, CheckUpper, TakeAnswer, ByHazard}
-use Rattle.inv_covers.specs.model.Phases.HazardAt.{CheckLink}
-use Rattle.inv_covers.specs.model.declared.post.Post.{Post}
-use Rattle.inv_covers.specs.model.Phases.{ProtectAt, Base}
-use Rattle.inv_covers.specs.Held.{leads, Held, Holds}
-use Rattle.inv_covers.specs.model.Posts.{upper, stands}
-use Rattle.inv_covers.specs.model.Phases.Base.{Protect, Reload}
-use Rattle.inv_covers.specs.model.Calls.{KeepAt, LoadHeld, StoreHeld, Work, Keeping, Phase, Runs, Works}
-use Rattle.inv_covers.specs.model.Rounds.{scheme_of}
-use Rattle.inv_covers.specs.model.World.{World, finds, told_in, step}
+use Rattle.inv_rows.specs.defs.declared.event.Root.{Root}
+use Rattle.inv_rows.specs.defs.declared.event.Root.TheVariants as roots
+use Rattle.inv_rows.specs.model.Phases.ProtectAt.{CheckClock, CheckUpper, TakeAnswer, ByHazard}
+use Rattle.inv_rows.specs.model.Phases.HazardAt.{CheckLink}
+use Rattle.inv_rows.specs.model.declared.post.Post.{Post}
+use Rattle.inv_rows.specs.model.Phases.{ProtectAt, Base}
+use Rattle.inv_rows.specs.Covering.Held.{leads, Held, Holds}
+use Rattle.inv_rows.specs.model.Posts.{upper, stands}
+use Rattle.inv_rows.specs.model.Phases.Base.{Protect, Reload}
+use Rattle.inv_rows.specs.model.Calls.{KeepAt, LoadHeld, StoreHeld, Work, Keeping, Phase, Runs, Works}
+use Rattle.inv_rows.specs.model.Rounds.{scheme_of}
+use Rattle.inv_rows.specs.model.World.{World, finds, told_in, step}
 use Rattle.std.specs.List.{list_any}
-use Rattle.inv_covers.specs.defs.Events.{is_held}
-use Rattle.inv_covers.specs.shapes.Seats.{Seats}
-use Rattle.inv_covers.specs.shapes.Slots.{Slots}
-use Rattle.inv_covers.specs.words.Place.{is_valid}
-use Rattle.inv_covers.specs.words.Schemes.{has_one_interval}
-use Rattle.inv_covers.specs.words.declared.config.Config.{Config}
-use Rattle.inv_covers.specs.Rests.{Rests}
-use Rattle.inv_covers.specs.rows.Rows.{View}
-use Rattle.inv_covers.specs.model.Guards.{own_guard}
+use Rattle.inv_rows.specs.defs.Events.{is_held}
+use Rattle.inv_rows.specs.Shapes.Seats.{Seats}
+use Rattle.inv_rows.specs.Shapes.Slots.{Slots}
+use Rattle.inv_rows.specs.words.Place.{is_valid}
+use Rattle.inv_rows.specs.words.Schemes.{has_one_interval}
+use Rattle.inv_rows.specs.words.declared.config.Config.{Config}
+use Rattle.inv_rows.specs.Covering.Rests.{Rests}
+use Rattle.inv_rows.specs.Rows.{View}
+use Rattle.inv_rows.specs.model.Guards.{own_guard}
 use Rattle.inv_ends.specs.Stands.{is_clear, is_copied, stood}
 
 -- the row of a next link stands only once the head was loaded again

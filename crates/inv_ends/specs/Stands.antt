@@ -1,7 +1,7 @@
 -- What stands at the indexes of a seat by what its steps tell.
 use Rattle.std.specs.Prelude.{ℕ, ◌==◌, ◌&&◌, Bool, false, if◌then◌else◌, List, [], ◌∷◌, Option, Some, None}
-use Rattle.inv_covers.specs.defs.declared.event.Event.{Event}
-use Rattle.inv_covers.specs.defs.declared.event.Event.TheVariants as events
+use Rattle.inv_rows.specs.defs.declared.event.Event.{Event}
+use Rattle.inv_rows.specs.defs.declared.event.Event.TheVariants as events
 
 -- the row is told to stand at the index no more
 abbrev pub is_clear : ℕ → ℕ → Event → Bool

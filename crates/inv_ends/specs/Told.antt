@@ -1,24 +1,24 @@
 -- What a step tells of rows is its move of rows, and no step tells that a row that stands is given, unused or back.
-use Rattle.inv_covers.specs.defs.declared.event.Event.{Event}
+use Rattle.inv_rows.specs.defs.declared.event.Event.{Event}
 use Rattle.std.specs.Prelude.{List, ℕ, [], ◌∷◌, ◌≡◌, ◌≤◌, Bool, false, ◌==◌, Some}
 use Rattle.std.specs.List.{filter, list_any}
-use Rattle.inv_covers.specs.defs.Events.{is_of_rows}
-use Rattle.inv_covers.specs.model.Phases.{AllocateAt, Base}
-use Rattle.inv_covers.specs.model.Phases.AllocateAt.{ClaimSlot, LoadBirth, StoreLife}
-use Rattle.inv_covers.specs.model.Phases.Base.{Allocate}
-use Rattle.inv_covers.specs.model.Calls.{Phase, Runs}
-use Rattle.inv_covers.specs.rows.Rows.RowMove.{Adopts, Appends, Bears, Claims, Drops, Links, Lists, Pops, Reads, Replaces, Returns, Seals, Stays}
-use Rattle.inv_covers.specs.rows.Rows.{RowMove, View}
-use Rattle.inv_covers.specs.defs.declared.event.Event.TheVariants as events
-use Rattle.inv_covers.specs.model.World.{World, finds, told_in}
-use Rattle.inv_covers.specs.rows.Hands.{row_move}
-use Rattle.inv_covers.specs.rows.Rows.Status.{Cut, Sealed, Born, Free, Listed}
-use Rattle.inv_covers.specs.rows.Agree.{Agree, RowsNeeds}
-use Rattle.inv_covers.specs.words.Place.Place.{Clock}
-use Rattle.inv_covers.specs.shapes.Eras.{Eras}
-use Rattle.inv_covers.specs.Covers.{CoversNeeds, Scanning}
-use Rattle.inv_covers.specs.Held.{Held}
-use Rattle.inv_covers.specs.model.Posts.{stands}
+use Rattle.inv_rows.specs.defs.Events.{is_of_rows}
+use Rattle.inv_rows.specs.model.Phases.{AllocateAt, Base}
+use Rattle.inv_rows.specs.model.Phases.AllocateAt.{ClaimSlot, LoadBirth, StoreLife}
+use Rattle.inv_rows.specs.model.Phases.Base.{Allocate}
+use Rattle.inv_rows.specs.model.Calls.{Phase, Runs}
+use Rattle.inv_rows.specs.Rows.RowMove.{Adopts, Appends, Bears, Claims, Drops, Links, Lists, Pops, Reads, Replaces, Returns, Seals, Stays}
+use Rattle.inv_rows.specs.Rows.{RowMove, View}
+use Rattle.inv_rows.specs.defs.declared.event.Event.TheVariants as events
+use Rattle.inv_rows.specs.model.World.{World, finds, told_in}
+use Rattle.inv_rows.specs.Hands.{row_move}
+use Rattle.inv_rows.specs.Rows.Status.{Cut, Sealed, Born, Free, Listed}
+use Rattle.inv_rows.specs.Agree.{Agree, RowsNeeds}
+use Rattle.inv_rows.specs.words.Place.Place.{Clock}
+use Rattle.inv_rows.specs.Shapes.Eras.{Eras}
+use Rattle.inv_rows.specs.Covering.Covers.{CoversNeeds, Scanning}
+use Rattle.inv_rows.specs.Covering.Held.{Held}
+use Rattle.inv_rows.specs.model.Posts.{stands}
 
 -- what is told of rows
 abbrev pub of_rows : List Event → List Event

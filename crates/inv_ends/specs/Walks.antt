@@ -1,22 +1,22 @@
 -- A walk that ends with Full has seen each row taken: the slots that a step of this walk has shown taken.
 use Rattle.std.specs.Prelude.{ℕ, ◌≡◌, ◌≤◌, ◌+◌, ◌==◌, ◌&&◌, ◌||◌, nat_le, nat_lt, Bool, true, false, if◌then◌else◌}
-use Rattle.inv_covers.specs.words.Place.{claim_word, is_valid}
-use Rattle.inv_covers.specs.words.declared.layout.Layout.{Layout}
-use Rattle.inv_covers.specs.defs.declared.call.Call.{Call}
-use Rattle.inv_covers.specs.model.declared.ends.AllocateEnd.TheVariants as allocate_ends
-use Rattle.inv_covers.specs.model.Allocate.{is_claimed}
-use Rattle.inv_covers.specs.model.Machine.{after}
-use Rattle.inv_covers.specs.model.Memory.{upd}
-use Rattle.inv_covers.specs.model.Posts.{counted}
-use Rattle.inv_covers.specs.model.Phases.{Walk, AllocateAt, Base, Ends}
-use Rattle.inv_covers.specs.model.Phases.AllocateAt.{LoadBirth, ClaimSlot, StoreLife}
-use Rattle.inv_covers.specs.model.Phases.Base.{Allocate}
-use Rattle.inv_covers.specs.model.Phases.Ending.{Allocated}
-use Rattle.inv_covers.specs.model.Calls.{Why, Phase, Runs}
-use Rattle.inv_covers.specs.model.World.{World, start, step, begin, finds}
-use Rattle.inv_covers.specs.shapes.Seats.{Seats}
-use Rattle.inv_covers.specs.rows.Rows.{View, is_taken}
-use Rattle.inv_covers.specs.rows.Agree.{Agree}
+use Rattle.inv_rows.specs.words.Place.{claim_word, is_valid}
+use Rattle.inv_rows.specs.words.declared.layout.Layout.{Layout}
+use Rattle.inv_rows.specs.defs.declared.call.Call.{Call}
+use Rattle.inv_rows.specs.model.declared.ends.AllocateEnd.TheVariants as allocate_ends
+use Rattle.inv_rows.specs.model.Allocate.{is_claimed}
+use Rattle.inv_rows.specs.model.Machine.{after}
+use Rattle.inv_rows.specs.model.Memory.{upd}
+use Rattle.inv_rows.specs.model.Posts.{counted}
+use Rattle.inv_rows.specs.model.Phases.{Walk, AllocateAt, Base, Ends}
+use Rattle.inv_rows.specs.model.Phases.AllocateAt.{LoadBirth, ClaimSlot, StoreLife}
+use Rattle.inv_rows.specs.model.Phases.Base.{Allocate}
+use Rattle.inv_rows.specs.model.Phases.Ending.{Allocated}
+use Rattle.inv_rows.specs.model.Calls.{Why, Phase, Runs}
+use Rattle.inv_rows.specs.model.World.{World, start, step, begin, finds}
+use Rattle.inv_rows.specs.Shapes.Seats.{Seats}
+use Rattle.inv_rows.specs.Rows.{View, is_taken}
+use Rattle.inv_rows.specs.Agree.{Agree}
 
 -- the slots that a seat's walk has seen taken, after a step that found this: none where the walk begins, and in a step of
 -- the walk those that the claim word shows that it found

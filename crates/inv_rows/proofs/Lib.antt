@@ -1,5 +1,6 @@
 pub use Rattle.wfe_core.proofs as model
 pub use Rattle.wfe_core.proofs.words
+pub mod Covering
 pub mod Facts
 pub mod Fits
 pub mod Follow

@@ -1,7 +1,10 @@
-//! Each seat's shape (`Shapes/Seats.antt`); which rows are free, claimed, linked, cut, by whom (`Rows.antt`). These, and eras
-//! up to the clock (`Shapes/Eras.antt`), are parts of the invariant. Each function here does nothing, and carries a theorem.
+//! Each seat's shape (`Shapes/Seats.antt`); which rows are free, claimed, linked, cut, by whom (`Rows.antt`); when a guard covers a
+//! row (`Covering/Covers.antt`); requests, and movers that help (`Covering/Requests/Parts.antt`). These, and eras up to the clock
+//! (`Shapes/Eras.antt`), are parts of the invariant. Each function here does nothing, and carries a theorem.
 #![tactic(auto)]
 
+mod covers;
+mod movers;
 mod seats;
 
 ghost use Rattle.inv_rows.specs.Agree.{RowsBegin, RowsKept, RowsStart};
@@ -9,6 +12,14 @@ ghost use Rattle.inv_rows.specs.Chain.{QueueBegin, QueueKept, QueueStart};
 ghost use Rattle.inv_rows.specs.Facts.{LinedStays, QueueEnds, QueueShows, RowWordsStay, RowsShow};
 ghost use Rattle.inv_rows.specs.Tries.{WholeBegin, WholeKept, WholeStart};
 
+pub use covers::{
+    covered_rows_stay, covers_stay, followed_rows_stand, guards_are_read, guards_rest, loads_cover,
+    rows_are_held, scans_give_back_unmet, standing_rows_stay,
+};
+pub use movers::{
+    copied_words_stay, moves_end_in_time, parents_stand, pending_requests_hold_the_clock,
+    protections_end_in_time, published_links_stay, requests_hold, requests_tell,
+};
 pub use seats::{
     few_go_back, links_stay_within, phases_give, seats_keep_their_shape, steps_are_ready,
     words_decode,

@@ -34,7 +34,7 @@ use Rattle.law_held.specs.inv.shapes.Seats.{kind_of, suits}
 use Rattle.law_held.specs.inv.history.Record.Past.{Then}
 use Rattle.law_held.specs.inv.history.Record.{Each, Past, tells_of}
 use Rattle.law_held.proofs.inv.Inv.Whole.{contents_need}
-use Rattle.law_held.proofs.inv.contents.Contents.Keeps.{rises_counted}
+use Rattle.law_held.proofs.inv.Contents.Contents.Keeps.{rises_counted}
 use Rattle.law_reasons.proofs.inv.ends.Handover.Asks.{run_of}
 use Rattle.law_held.proofs.inv.history.AllOf.{all_of, of_along, of_weaker}
 use Rattle.law_held.proofs.inv.history.MayTell as mays

@@ -198,18 +198,36 @@ impl<S: Scheme> ChangeBucket<S> {
         ensures kept { Keeps post.old post.new desk.old desk.new told.new 4 }
     {
         match self.run(post, desk, found, told) {
-            Some(step) => match lead::<S>(&self.kept, step, post, told) {
-                Then::Stands(at) => {
-                    self.stand(at);
-                    None
-                }
-                Then::Begins => {
-                    self.stand(State::Starts);
-                    None
-                }
-                Then::Answers(answer) => Some(answer),
-            },
+            Some(Changed::Goes(at)) => {
+                self.stand(State::Works(at));
+                None
+            }
+            Some(step) => self.lead_on(step, post, told),
             None => None,
+        }
+    }
+
+    // A step leads on. It stands apart, so that a step that goes on where it stands makes no room for
+    // where another one leads.
+    #[inline(never)]
+    fn lead_on(&mut self, step: Changed, post: &mut Post, told: &mut Told) -> Option<Answer>
+        requires valid { IsValid post.old }
+        requires scheme { post.old.layout.config.scheme ≡ S.kind }
+        requires few { length told.old ≤ 3 }
+        requires within { LedWithin (kept_of self.old.kept) step }
+        ensures steps { (desk : ModelDesk) → Steps (led (kept_of self.old.kept) step post.old desk told.old) post.new desk told.new result (change_phase ⟦<S as Rounds>⟧.all_phases (kept_of self.new.kept) self.new.at post.new) }
+        ensures seat { SameSeat post.old post.new told.new 4 }
+    {
+        match lead::<S>(&self.kept, step, post, told) {
+            Then::Stands(at) => {
+                self.stand(at);
+                None
+            }
+            Then::Begins => {
+                self.stand(State::Starts);
+                None
+            }
+            Then::Answers(answer) => Some(answer),
         }
     }
 }

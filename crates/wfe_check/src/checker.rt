@@ -58,6 +58,7 @@ impl Checker {
             → Judged IsChecked version config p seat event.now answer self.new) }
     {
         // Each of the kinds that come most often has code of its own, so that no part asks again which it is.
+        // For this the parts' functions that are handed the event are inlined.
         let event = *event;
         match event {
             Event::Begin { .. } => self.judged(seat, &event),
@@ -65,6 +66,8 @@ impl Checker {
             Event::Reserve { .. } => self.judged(seat, &event),
             Event::Read { .. } => self.judged(seat, &event),
             Event::Held { .. } => self.judged(seat, &event),
+            Event::Clear { .. } => self.judged(seat, &event),
+            Event::Link { .. } => self.judged(seat, &event),
             _ => self.judged(seat, &event),
         }
     }

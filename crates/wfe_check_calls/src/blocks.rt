@@ -1,5 +1,5 @@
 // What the blocks of a seat's call come to: the rounds in which a scan reads all guards.
-ghost use Rattle.std.specs.Prelude.{◌≡◌, ◌<◌, ◌+◌, IfOk};
+ghost use Rattle.std.specs.Prelude.{◌≡◌, ◌<◌, ◌+◌, IfOk, OnOk};
 ghost use Rattle.laws.specs.EraLaw.{moves_right};
 ghost use Rattle.laws.specs.ScanLaw.{blocks_by, blocks_right, begun_block, is_given_one as is_given_row, is_scan_call, is_scanned as is_block_done, may_begin as may_begin_block, no_blocks, retired_block};
 ghost use Rattle.wfe_check_calls.specs.Seats.{shown_blocks};
@@ -94,10 +94,10 @@ impl Blocks {
         }
     }
 
-    /// After an event of the seat, where there are `all` guards, and a block is due at each `every`
-    /// retirements. NoMemory: a count has passed the numbers of 64 bits.
+    // After an event of the seat, where there are `all` guards, and a block is due at each `every`
+    // retirements. NoMemory: a count has passed the numbers of 64 bits.
     #[inline(always)]
-    pub fn after(self, event: &Event, all: u32, every: u32) -> Result<Blocks, NoMemory>
+    fn after(self, event: &Event, all: u32, every: u32) -> Result<Blocks, NoMemory>
         requires { 0 < every }
         ensures { IfOk result (λ blocks. shown_blocks blocks ≡ blocks_by all every event.now (shown_blocks self)) }
     {
@@ -133,7 +133,28 @@ impl Blocks {
         }
     }
 
+    /// Takes an event of the seat: most change nothing, and write nothing.
+    #[inline(always)]
+    pub fn note(&mut self, event: &Event, all: u32, every: u32) -> Result<(), NoMemory>
+        requires { 0 < every }
+        ensures { OnOk result (shown_blocks self.new ≡ blocks_by all every event.now (shown_blocks self.old)) }
+    {
+        match event {
+            Event::Begin { .. }
+            | Event::Give { .. }
+            | Event::Retire { .. }
+            | Event::Era { .. }
+            | Event::Read { .. }
+            | Event::Saw { .. } => {
+                *self = self.after(event, all, every)?;
+                Ok(())
+            }
+            _ => Ok(()),
+        }
+    }
+
     // Whether a block may begin.
+    #[inline(always)]
     fn may_begin(self, call: Option<Call>) -> bool
         ensures { result ≡ may_begin_block call (shown_blocks self) self.due }
     {
@@ -144,6 +165,7 @@ impl Blocks {
     }
 
     // Whether no block is due any more.
+    #[inline(always)]
     fn is_scanned(self, call: Option<Call>) -> bool
         ensures { result ≡ is_block_done call (shown_blocks self) }
     {

@@ -47,8 +47,9 @@ impl Grant {
         }
     }
 
-    /// After an event of the seat.
-    pub fn after(self, event: &Event) -> Grant
+    // After an event of the seat.
+    #[inline(always)]
+    fn after(self, event: &Event) -> Grant
         ensures { shown_grant result ≡ granted_by event.now (shown_grant self) }
     {
         match *event {
@@ -73,6 +74,20 @@ impl Grant {
                 slot,
             } => self.linked_to(slot),
             _ => self,
+        }
+    }
+
+    /// Takes an event of the seat: most change nothing, and write nothing.
+    #[inline(always)]
+    pub fn note(&mut self, event: &Event)
+        ensures { shown_grant self.new ≡ granted_by event.now (shown_grant self.old) }
+    {
+        match event {
+            Event::Begin { .. } | Event::Give { .. } | Event::Unused { .. } | Event::Link { .. } =>
+                {
+                    *self = self.after(event);
+                }
+            _ => {}
         }
     }
 

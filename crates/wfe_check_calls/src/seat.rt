@@ -1,5 +1,5 @@
 // What a record says of the calls of one seat, with the changes that an event of the seat makes.
-ghost use Rattle.std.specs.Prelude.{◌≡◌, ◌<◌, ◌||◌, IfOk, OnOk};
+ghost use Rattle.std.specs.Prelude.{◌≡◌, ◌<◌, ◌||◌, IfOk, OnOk, Some, false, true};
 ghost use Rattle.laws.specs.Lists.{is_left as is_leaving};
 ghost use Rattle.laws.specs.Once.{retires_right};
 ghost use Rattle.laws.specs.StateAt.{began_by, cuts_by, has_root as has_root_call, is_among as is_among_rows, opened_by, rooted_by, without_one as without_row};
@@ -28,70 +28,6 @@ pub(crate) struct Seat {
     pub blocks: Blocks,
     // The rows that it has cut and not retired since, the last one first.
     pub cuts: Vec<u32>,
-}
-
-#[inline(always)]
-fn open_after(event: &Event, before: bool) -> bool
-    ensures { result ≡ opened_by event.now before }
-{
-    match event {
-        Event::Begin { .. } => true,
-        Event::End { .. } => false,
-        _ => before,
-    }
-}
-
-#[inline(always)]
-fn left_after(event: &Event, before: bool) -> bool
-    ensures { result ≡ (is_leaving event.now || before) }
-{
-    match event {
-        Event::Left { .. } => true,
-        _ => before,
-    }
-}
-
-#[inline(always)]
-fn began_after(event: &Event, before: Option<Call>) -> Option<Call>
-    ensures { result ≡ began_by event.now before }
-{
-    match *event {
-        Event::Begin { call } => Some(call),
-        _ => before,
-    }
-}
-
-#[inline(always)]
-fn rooted_after(event: &Event, before: bool) -> bool
-    ensures { result ≡ rooted_by event.now before }
-{
-    match *event {
-        Event::Begin { .. } => false,
-        Event::Held { index, .. } | Event::Null { index, .. } => index == 0 || before,
-        _ => before,
-    }
-}
-
-#[inline(always)]
-fn null_after(event: &Event, before: bool) -> bool
-    ensures { result ≡ null_told_by event.now before }
-{
-    match *event {
-        Event::Begin { .. } => false,
-        Event::Null { index, .. } => index == 0 || before,
-        _ => before,
-    }
-}
-
-#[inline(always)]
-fn moved_after(event: &Event, before: bool) -> bool
-    ensures { result ≡ moved_by event.now before }
-{
-    match event {
-        Event::Begin { .. } => false,
-        Event::Era { .. } => true,
-        _ => before,
-    }
 }
 
 // Takes the first of these rows out, where it is among them.
@@ -158,6 +94,44 @@ impl Seat {
         }
     }
 
+    // A call begins.
+    #[inline(always)]
+    fn begin(&mut self, call: Call)
+        ensures { self.new ≡ record self.old { in_call = true; began = Some call; rooted = false; null = false; moved = false } }
+    {
+        self.in_call = true;
+        self.began = Some(call);
+        self.rooted = false;
+        self.null = false;
+        self.moved = false;
+    }
+
+    // Takes an event into what is known of the call: only what the event changes is written.
+    #[inline(always)]
+    fn note_call(&mut self, event: &Event)
+        ensures { self.new ≡ record self.old {
+          in_call = opened_by event.now self.old.in_call;
+          left = is_leaving event.now || self.old.left;
+          began = began_by event.now self.old.began;
+          rooted = rooted_by event.now self.old.rooted;
+          null = null_told_by event.now self.old.null;
+          moved = moved_by event.now self.old.moved;
+        } }
+    {
+        match *event {
+            Event::Begin { call } => self.begin(call),
+            Event::End { .. } => self.in_call = false,
+            Event::Held { index, .. } => self.rooted = index == 0 || self.rooted,
+            Event::Null { index, .. } => {
+                self.rooted = index == 0 || self.rooted;
+                self.null = index == 0 || self.null;
+            }
+            Event::Era { .. } => self.moved = true,
+            Event::Left { .. } => self.left = true,
+            _ => {}
+        }
+    }
+
     /// Takes an event of the seat, where there are `all` guards, and a block is due at each `every`
     /// retirements. NoMemory: a count has passed the numbers of 64 bits, or there is none for a row.
     #[inline(always)]
@@ -166,14 +140,9 @@ impl Seat {
         ensures { OnOk result (shown_seat self.new ≡ seat_by all every event.now (shown_seat self.old)) }
     {
         note_cuts(&mut self.cuts, event)?;
-        self.blocks = self.blocks.after(event, all, every)?;
-        self.grant = self.grant.after(event);
-        self.in_call = open_after(event, self.in_call);
-        self.left = left_after(event, self.left);
-        self.began = began_after(event, self.began);
-        self.rooted = rooted_after(event, self.rooted);
-        self.null = null_after(event, self.null);
-        self.moved = moved_after(event, self.moved);
+        self.blocks.note(event, all, every)?;
+        self.grant.note(event);
+        self.note_call(event);
         Ok(())
     }
 

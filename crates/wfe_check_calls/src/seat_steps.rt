@@ -92,6 +92,7 @@ impl Seat {
 
     /// After an event of the seat, where its helper word publishes or not. NoMemory: a count has passed
     /// the numbers of 64 bits.
+    #[inline(always)]
     pub fn after(self, seat: u32, helps: bool, event: &Event) -> Result<Seat, NoMemory>
         ensures { IfOk result (λ after. after ≡ seat_by seat helps event.now self) }
     {

@@ -155,6 +155,7 @@ impl Word {
 
     /// After an event that speaks of it, of its own seat or of another one, where it has published
     /// `last`. NoMemory: a count has passed the numbers of 64 bits.
+    #[inline(always)]
     pub fn after(self, own: bool, last: Option<Interval>, event: &Event) -> Result<Word, NoMemory>
         ensures { IfOk result (λ word. word ≡ word_by own last event.now self) }
     {

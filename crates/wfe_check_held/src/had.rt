@@ -23,6 +23,7 @@ pub(crate) fn place_of(found: Option<u32>) -> usize
 
 /// Tells the grid an event of a seat, at the position after it. `seats` are those before it, and
 /// `found` is what the call's root has, where it begins one.
+#[inline(always)]
 pub(crate) fn tell_had(
     had: &mut Grid,
     seats: &[Seat],

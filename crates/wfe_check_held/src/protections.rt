@@ -263,6 +263,7 @@ fn told_index(event: &Event) -> Option<u32>
     }
 }
 
+#[inline(always)]
 fn change_set(sets: &mut [RowSet], place: usize, event: &Event) -> Result<(), NoMemory>
     ensures sure { told_row event.now ≡ None → IsOk result }
     ensures changed { OnOk result (sets.new ≡ slice_set sets.old place (set_after event.now (get_or sets.old place []))) }

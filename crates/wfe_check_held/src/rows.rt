@@ -63,6 +63,7 @@ fn pass(rows: &mut Vec<Row>, slot: u32, position: u64)
 
 /// Tells the rows an event of any seat. `position` is the one after it, and `last` the last row of
 /// the queue before it.
+#[inline(always)]
 pub(crate) fn tell_rows(rows: &mut Vec<Row>, event: &Event, position: u64, last: Option<u32>)
     ensures count { length rows.new.items ≡ length rows.old.items }
     ensures each { (s : ℕ) → s < length rows.old.items →

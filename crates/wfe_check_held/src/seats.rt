@@ -18,20 +18,6 @@ pub(crate) struct Seat {
     pub(crate) call: Option<Call>,
 }
 
-/// A seat after an event of the seat, at the position after it and with the clock before it.
-pub(crate) fn seat_after(cell: Seat, event: &Event, position: u64, clock: u64) -> Seat
-    ensures { result ≡ after event.now position clock cell }
-{
-    match event {
-        Event::Begin { call } => Seat {
-            begun: position,
-            clock,
-            call: Some(*call),
-        },
-        _ => cell,
-    }
-}
-
 /// Whether the call looks at a root.
 pub(crate) fn looks(call: Option<Call>) -> bool
     ensures { result ≡ does_look call }
@@ -96,6 +82,7 @@ pub(crate) fn first_seats(alloc: Global, seats: u32) -> Result<Vec<Seat>, NoMemo
 }
 
 /// Tells a seat its event.
+#[inline(always)]
 pub(crate) fn tell_seats(seats: &mut Vec<Seat>, seat: u32, event: &Event, position: u64, clock: u64)
     requires { seat < length seats.old.items }
     ensures count { length seats.new.items ≡ length seats.old.items }
@@ -104,6 +91,12 @@ pub(crate) fn tell_seats(seats: &mut Vec<Seat>, seat: u32, event: &Event, positi
         ≡ (if i == seat then after event.now position clock (seat_at seats.old.items i)
         else seat_at seats.old.items i) }
 {
-    let cell = seats[seat as usize];
-    seats[seat as usize] = seat_after(cell, event, position, clock);
+    // A seat is kept whole by all but one kind of event.
+    if let Event::Begin { call } = *event {
+        seats[seat as usize] = Seat {
+            begun: position,
+            clock,
+            call: Some(call),
+        };
+    }
 }

@@ -52,16 +52,22 @@ fn open<J: Judge>(alloc: Global, line: &[u8]) -> Result<Progress<J>, Refusal>
 }
 
 impl<J: Judge> Progress<J> {
+    // Takes the first line. It stands apart, so that no other line pays for the room that a new judge takes.
+    #[inline(never)]
+    fn begin(&mut self, alloc: Global, line: &[u8]) -> Result<bool, Refusal>
+        ensures { (told : Told) → told.entries ≡ Start → Tells J.judges result told (with_header told (header_in (words line.now))) self.new }
+    {
+        *self = open(alloc, line)?;
+        Ok(false)
+    }
+
     /// Takes a whole line, without its line feed, and answers whether it is an entry.
     pub(crate) fn take(&mut self, alloc: Global, line: &[u8]) -> Result<bool, Refusal>
         requires some { (stage : Stage) × (entries : Past) × IsAt J.judges self.old stage entries }
         ensures { (told : Told) → IsAt J.judges self.old told.stage told.entries → Tells J.judges result told (told_after told line.now) self.new }
     {
         match self {
-            Progress::First => {
-                *self = open(alloc, line)?;
-                Ok(false)
-            }
+            Progress::First => self.begin(alloc, line),
             Progress::Body {
                 version,
                 config,

@@ -40,8 +40,8 @@ fn feed_at(bytes: &[u8]) -> usize
     ensures before { (k : ℕ) → k < result → slice_index bytes.now k ≢ 10 }
     ensures found { result < length bytes.now → slice_index bytes.now result ≡ 10 }
 {
-    for (i, byte) in bytes.iter().enumerate() {
-        if *byte == b'\n' {
+    for i in 0..bytes.len() {
+        if bytes[i] == b'\n' {
             return i;
         }
     }

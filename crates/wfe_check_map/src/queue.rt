@@ -60,6 +60,7 @@ impl Queue {
     }
 
     /// Notes an event, up to which with itself there are so many entries.
+    #[inline(always)]
     pub fn note(&mut self, event: &Event, stamp: u64) -> Result<(), NoMemory>
         ensures { OnOk result (self.new ≡ queue_after event.now stamp self.old) }
     {

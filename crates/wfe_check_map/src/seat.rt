@@ -95,6 +95,7 @@ impl Seat {
     }
 
     /// Notes an event of the seat that takes over no list, where there are so many guards in all.
+    #[inline(always)]
     pub fn note(&mut self, event: &Event, all: u64) -> Result<(), NoMemory>
         ensures { OnOk result (OwnStep all event.now self.old self.new) }
     {

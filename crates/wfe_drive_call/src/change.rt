@@ -29,6 +29,7 @@ fn make_round<W: Words>(
     requires room { HasRoom desk.old post.old.layout }
     requires here { Here (W.at words.old) (at_phase (round (Changes (kept_of kept.old)) post.old) post.old desk.old) }
     ensures valid { W.valid words.new }
+    ensures later { W.later words.new }
     ensures same { W.same words.old words.new }
     ensures rest { W.rest words.new < W.rest words.old }
     ensures room { HasRoom desk.new post.new.layout }
@@ -46,6 +47,7 @@ fn make_round<W: Words>(
 
 /// Makes a put or a remove from its first step to its answer, and a put that names a version. Under 2GE
 /// its seat keeps no row.
+#[inline(always)]
 pub fn change_bucket<W: Words>(
     words: &mut W,
     post: &mut Post,

@@ -47,6 +47,7 @@ fn take_item<W: Words>(words: &mut W, post: &mut Post, desk: &mut Desk) -> Round
     requires here { Here (W.at words.old) (at_phase (round Dequeues post.old) post.old desk.old) }
     requires room { HasRoom desk.old post.old.layout }
     ensures valid { W.valid words.new }
+    ensures later { W.later words.new }
     ensures same { W.same words.old words.new }
     ensures rest { W.rest words.new < W.rest words.old }
     ensures room { HasRoom desk.new post.new.layout }
@@ -69,11 +70,13 @@ fn take_item<W: Words>(words: &mut W, post: &mut Post, desk: &mut Desk) -> Round
 #[inline(always)]
 fn take_next<W: Words>(words: &mut W, post: &mut Post, desk: &mut Desk, head: u32) -> RoundEnd
     requires valid { W.valid words.old }
+    requires later { W.later words.old }
     requires free { IsFree post.old }
     requires spanned { IsSpanned post.old }
     requires here { Here (W.at words.old) (at_phase (Works (Dequeuing (LoadTail head))) post.old desk.old) }
     requires room { HasRoom desk.old post.old.layout }
     ensures valid { W.valid words.new }
+    ensures later { W.later words.new }
     ensures same { W.same words.old words.new }
     ensures rest { W.rest words.new ≤ W.rest words.old }
     ensures room { HasRoom desk.new post.new.layout }

@@ -18,10 +18,12 @@ use wfe_drive_runs::{
 // round comes.
 fn make_room<W: Words>(words: &mut W, post: &mut Post, desk: &mut Desk)
     requires valid { W.valid words.old }
+    requires later { W.later words.old }
     requires free { IsFree post.old }
     requires room { HasRoom desk.old post.old.layout }
     requires here { (task : Task) × (index_of task ≡ 0) × Here (W.at words.old) (clearing_at task MakeRoomNext post.old (desk_of desk.old)) }
     ensures valid { W.valid words.new }
+    ensures later { W.later words.new }
     ensures same { W.same words.old words.new }
     ensures rest { W.rest words.new < W.rest words.old }
     ensures room { HasRoom desk.new post.new.layout }
@@ -44,6 +46,7 @@ fn answer_call<W: Words>(
     answer: Answer,
 ) -> Answer
     requires valid { W.valid words.old }
+    requires later { W.later words.old }
     requires free { IsFree post.old }
     requires room { HasRoom desk.old post.old.layout }
     requires here { (task : Task) × (index_of task ≡ 0) × (taken_of task ≡ taken) × Here (W.at words.old) (clearing_at task (Answering answer) post.old (desk_of desk.old)) }
@@ -73,6 +76,7 @@ fn retire_cut<W: Words>(
     answer: Answer,
 ) -> Answer
     requires valid { W.valid words.old }
+    requires later { W.later words.old }
     requires free { IsFree post.old }
     requires room { HasRoom desk.old post.old.layout }
     requires here { (task : Task) × (index_of task ≡ 0) × Here (W.at words.old) (clearing_at task (Retiring slot (model_with_clock answer StillMove)) post.old (desk_of desk.old)) }
@@ -98,6 +102,7 @@ pub fn end_round<W: Words>(
     ending: RoundEnd,
 ) -> Option<Answer>
     requires valid { W.valid words.old }
+    requires later { W.later words.old }
     requires free { IsFree post.old }
     requires room { HasRoom desk.old post.old.layout }
     requires here { (task : Task) × (index_of task ≡ 0) × (taken_of task ≡ taken) × Here (W.at words.old) (clearing_at task (next_of ending) post.old (desk_of desk.old)) }

@@ -56,6 +56,7 @@ fn link_item<W: Words>(words: &mut W, post: &mut Post, desk: &mut Desk, item: &m
     requires here { Here (W.at words.old) (at_phase (round (Enqueues (kept_of item.old)) post.old) post.old desk.old) }
     requires room { HasRoom desk.old post.old.layout }
     ensures valid { W.valid words.new }
+    ensures later { W.later words.new }
     ensures same { W.same words.old words.new }
     ensures rest { W.rest words.new < W.rest words.old }
     ensures room { HasRoom desk.new post.new.layout }
@@ -91,9 +92,11 @@ fn link_filled<W: Words>(
     item: &mut Item,
 ) -> RoundEnd
     requires valid { W.valid words.old }
+    requires later { W.later words.old }
     requires here { Here (W.at words.old) (at_phase (Runs (Fills (Enqueues (kept_of item.old))) (filling (kept_of item.old))) post.old desk.old) }
     requires room { HasRoom desk.old post.old.layout }
     ensures valid { W.valid words.new }
+    ensures later { W.later words.new }
     ensures same { W.same words.old words.new }
     ensures rest { W.rest words.new ≤ W.rest words.old }
     ensures room { HasRoom desk.new post.new.layout }

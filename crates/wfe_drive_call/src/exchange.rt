@@ -41,10 +41,12 @@ pub fn exchange<W: Words>(
     slot: u32,
 ) -> RoundEnd
     requires valid { W.valid words.old }
+    requires later { W.later words.old }
     requires own { IsValid post.old }
     requires slot { slot ≤ post.old.layout.config.slots }
     requires here { Here (W.at words.old) (works_at (kept_of kept.old) (ExchangeRoot slot) post.old (desk_of _desk.now)) }
     ensures valid { W.valid words.new }
+    ensures later { W.later words.new }
     ensures same { W.same words.old words.new }
     ensures rest { W.rest words.new < W.rest words.old }
     ensures post { post.new ≡ record post.old { steps = post.old.steps + 1 } }

@@ -23,10 +23,12 @@ fn row_for<W: Words>(
     kept: &mut Kept,
 ) -> Option<u32>
     requires valid { W.valid words.old }
+    requires later { W.later words.old }
     requires room { HasRoom desk.old post.old.layout }
     requires free { IsFree post.old }
     requires here { Here (W.at words.old) (fills_at (kept_of kept.old) (filling (kept_of kept.old)) post.old (desk_of desk.old)) }
     ensures valid { W.valid words.new }
+    ensures later { W.later words.new }
     ensures same { W.same words.old words.new }
     ensures rest { W.rest words.new ≤ W.rest words.old }
     ensures room { HasRoom desk.new post.new.layout }
@@ -64,10 +66,12 @@ fn link_row<W: Words>(
     slot: u32,
 ) -> RoundEnd
     requires valid { W.valid words.old }
+    requires later { W.later words.old }
     requires taken { (kept_of kept.old).taken ≡ Some slot }
     requires free { IsFree post.old }
     requires here { Here (W.at words.old) (writes_at (kept_of kept.old) slot 1 post.old (desk_of _desk.now)) }
     ensures valid { W.valid words.new }
+    ensures later { W.later words.new }
     ensures same { W.same words.old words.new }
     ensures rest { W.rest words.new < W.rest words.old }
     ensures layout { post.new.layout ≡ post.old.layout }
@@ -90,10 +94,12 @@ pub fn fill_row<W: Words>(
     kept: &mut Kept,
 ) -> RoundEnd
     requires valid { W.valid words.old }
+    requires later { W.later words.old }
     requires room { HasRoom desk.old post.old.layout }
     requires free { IsFree post.old }
     requires here { Here (W.at words.old) (fills_at (with_change (kept_of kept.old)) (filling (with_change (kept_of kept.old))) post.old (desk_of desk.old)) }
     ensures valid { W.valid words.new }
+    ensures later { W.later words.new }
     ensures same { W.same words.old words.new }
     ensures rest { W.rest words.new ≤ W.rest words.old }
     ensures room { HasRoom desk.new post.new.layout }

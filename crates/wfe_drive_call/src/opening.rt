@@ -18,10 +18,12 @@ use wfe_drive_runs::{Words, open_round};
 #[inline(always)]
 fn read_held<W: Words>(words: &mut W, post: &mut Post, _desk: &Desk, kept: &mut Kept, slot: u32)
     requires valid { W.valid words.old }
+    requires later { W.later words.old }
     requires slot { slot ≤ post.old.layout.config.slots }
     requires free { IsFree post.old }
     requires here { Here (W.at words.old) (works_at (at_link (kept_of kept.old) (slot + 1)) (LoadVersion slot) post.old (desk_of _desk.now)) }
     ensures valid { W.valid words.new }
+    ensures later { W.later words.new }
     ensures same { W.same words.old words.new }
     ensures rest { W.rest words.new ≤ W.rest words.old }
     ensures layout { post.new.layout ≡ post.old.layout }
@@ -43,6 +45,7 @@ pub fn begin_round<W: Words>(words: &mut W, post: &mut Post, desk: &mut Desk, ke
     requires room { HasRoom desk.old post.old.layout }
     requires here { Here (W.at words.old) (at_phase (round (Changes (kept_of kept.old)) post.old) post.old desk.old) }
     ensures valid { W.valid words.new }
+    ensures later { W.later words.new }
     ensures same { W.same words.old words.new }
     ensures rest { W.rest words.new < W.rest words.old }
     ensures room { HasRoom desk.new post.new.layout }

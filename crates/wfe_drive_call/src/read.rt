@@ -27,6 +27,7 @@ fn read_pairs<W: Words>(
     before: u64,
 ) -> u64
     requires valid { W.valid words.old }
+    requires later { W.later words.old }
     requires own { IsValid post.now }
     requires slot { slot ≤ post.now.layout.config.slots }
     requires first { first ≡ number post.now.layout (Row slot 0) }
@@ -34,6 +35,7 @@ fn read_pairs<W: Words>(
     requires none { (kept_of kept.old).pairs ≡ [] }
     requires here { Here (W.at words.old) (pairs_at (kept_of kept.old) slot count (step_post post.now before) (desk_of _desk.now)) }
     ensures valid { W.valid words.new }
+    ensures later { W.later words.new }
     ensures same { W.same words.old words.new }
     ensures rest { W.rest words.new ≤ W.rest words.old }
     ensures leads { Leads (W.at words.old) (W.at words.new) (W.stands words.old) (W.stands words.new)
@@ -62,20 +64,23 @@ pub fn read_row<W: Words>(
     before: u64,
 ) -> u64
     requires valid { W.valid words.old }
+    requires later { W.later words.old }
     requires own { IsValid post.now }
     requires slot { slot ≤ post.now.layout.config.slots }
     requires none { (kept_of kept.old).pairs ≡ [] }
     requires here { Here (W.at words.old) (works_at (kept_of kept.old) (LoadVersion slot) (step_post post.now before) (desk_of _desk.now)) }
     ensures valid { W.valid words.new }
+    ensures later { W.later words.new }
     ensures same { W.same words.old words.new }
     ensures rest { W.rest words.new ≤ W.rest words.old }
     ensures leads { Leads (W.at words.old) (W.at words.new) (W.stands words.old) (W.stands words.new)
         (works_at (kept_of kept.old) (LoadVersion slot) (step_post post.now before) (desk_of _desk.now)) (read_at (kept_of kept.new) (step_post post.now result) (desk_of _desk.now)) }
 {
-    let first = post.layout.row(slot, 0);
-    let version = step(words, load_cell(post, slot, first, 1));
+    let place = *post;
+    let first = place.layout.row(slot, 0);
+    let version = step(words, load_cell(&place, slot, first, 1));
     kept.version = version;
-    let count = step(words, load_cell(post, slot, first, 2)) as u32;
+    let count = step(words, load_cell(&place, slot, first, 2)) as u32;
     let desk = _desk;
-    read_pairs(words, post, desk, kept, slot, first, count, before + 2)
+    read_pairs(words, &place, desk, kept, slot, first, count, before + 2)
 }

@@ -27,12 +27,14 @@ fn write_pairs<W: Words>(
     before: u64,
 ) -> u64
     requires valid { W.valid words.old }
+    requires later { W.later words.old }
     requires own { IsValid post.now }
     requires slot { slot ≤ post.now.layout.config.slots }
     requires first { first ≡ number post.now.layout (Row slot 0) }
     requires few { length (kept_of kept.now).pairs ≤ post.now.layout.config.pairs }
     requires here { Here (W.at words.old) (wrote_at (kept_of kept.now) slot 2 (step_post post.now before) (desk_of _desk.now)) }
     ensures valid { W.valid words.new }
+    ensures later { W.later words.new }
     ensures same { W.same words.old words.new }
     ensures rest { W.rest words.new ≤ W.rest words.old }
     ensures leads { Leads (W.at words.old) (W.at words.new) (W.stands words.old) (W.stands words.new)
@@ -63,21 +65,24 @@ pub fn write_row<W: Words>(
     before: u64,
 ) -> u64
     requires valid { W.valid words.old }
+    requires later { W.later words.old }
     requires own { IsValid post.now }
     requires slot { slot ≤ post.now.layout.config.slots }
     requires few { length (kept_of kept.now).pairs ≤ post.now.layout.config.pairs }
     requires here { Here (W.at words.old) (writes_at (kept_of kept.now) slot 1 (step_post post.now before) (desk_of _desk.now)) }
     ensures valid { W.valid words.new }
+    ensures later { W.later words.new }
     ensures same { W.same words.old words.new }
     ensures rest { W.rest words.new ≤ W.rest words.old }
     ensures leads { Leads (W.at words.old) (W.at words.new) (W.stands words.old) (W.stands words.new)
         (writes_at (kept_of kept.now) slot 1 (step_post post.now before) (desk_of _desk.now))
         (works_at (kept_of kept.now) (ExchangeRoot (slot_in (kept_of kept.now).taken)) (step_post post.now result) (desk_of _desk.now)) }
 {
-    let first = post.layout.row(slot, 0);
+    let place = *post;
+    let first = place.layout.row(slot, 0);
     let count = kept.pairs.len() as u64;
-    step(words, store_cell(post, slot, first, 1, kept.version + 1));
-    step(words, store_cell(post, slot, first, 2, count));
+    step(words, store_cell(&place, slot, first, 1, kept.version + 1));
+    step(words, store_cell(&place, slot, first, 2, count));
     let desk = _desk;
-    write_pairs(words, post, desk, kept, slot, first, before + 2)
+    write_pairs(words, &place, desk, kept, slot, first, before + 2)
 }

@@ -40,6 +40,8 @@ impl Words for KeptCells {
 
     ghost valid = { λ w. Unit {0} };
 
+    ghost later = { λ w. Unit {0} };
+
     ghost same = { λ v w. Unit {0} };
 
     ghost same_self = { λ w. tt };
@@ -60,6 +62,10 @@ impl Words for KeptCells {
             self.lost = true;
         }
         found
+    }
+
+    fn perform_on(&mut self, op: Located) -> u64 {
+        self.perform(op)
     }
 }
 

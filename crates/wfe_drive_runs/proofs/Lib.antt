@@ -7,9 +7,10 @@ pub mod Followings
 pub mod Fronts
 pub mod Holds
 pub mod Noted
+pub mod Moving
 pub mod Readying
 pub mod Rounding
+pub mod Scanning
 pub mod Spanning
 pub mod Still
-pub mod Tidying
 pub mod Turning

@@ -14,10 +14,10 @@ use Rattle.wfe_core.specs.DeskHeld.{desk_of}
 use Rattle.wfe_core.specs.Desks.{Desk, noting}
 use Rattle.wfe_core.specs.Locals.{Local}
 use Rattle.wfe_core.specs.Phases.{Alone, Base, Endless, Ending}
-use Rattle.wfe_core.specs.Phases.Base.{Allocate}
+use Rattle.wfe_core.specs.Phases.Base.{Allocate, Move}
 use Rattle.wfe_core.specs.Posts.{with_row}
 use Rattle.wfe_core.specs.Rounds.{clearing, clearing_next, index_of, kept_row, root_of}
-use Rattle.wfe_core.specs.Scan.{scanned}
+use Rattle.wfe_core.specs.Scan.{giving_back, scanned, unmet_from}
 use Rattle.wfe_core.specs.Steps.{after_move, resume, run_turn}
 use Rattle.wfe_core.specs.words.Schemes.{has_one_interval}
 use Rattle.wfe_core.specs.declared.desk.Desk.{Desk as HeldDesk}
@@ -113,7 +113,12 @@ Protects task root post = (index_of task ≡ 0) × (root_of task post ≡ root)
 abbrev pub claimed_at : Why → (birth found : ℕ) → Post → Desk → SeatView
 claimed_at why birth found post desk = seat_after (run_turn why desk (after_claim_slot birth (walk_from post.layout.config.slots post.cursor) post found))
 
--- a walk over the rows changes nothing of what stands
+-- a walk over the rows, or a move of the clock, changes nothing of what stands
 abbrev pub IsWalk : Base → Type 0
 IsWalk (Allocate at) = Unit {0}
+IsWalk (Move at) = Unit {0}
 IsWalk base = ⊥
+
+-- a scan has read all guards: the first row from a place of the list on that may go back is to, or the scan is over
+abbrev pub giving_at : AfterScan → (place : ℕ) → Post → Desk → CallTurn
+giving_at later place post desk = giving_back later post desk [] (unmet_from desk place)

@@ -17,9 +17,11 @@ pub fn run<W: Words, M: Machine>(
     desk: &mut Desk,
 ) -> M::End
     requires valid { W.valid words.old }
+    requires later { W.later words.old }
     requires here { (why : Why) × Here (W.at words.old) (at_phase (Runs why (M.phase machine)) post.old desk.old) }
     requires room { HasRoom desk.old post.old.layout }
     ensures valid { W.valid words.new }
+    ensures later { W.later words.new }
     ensures same { W.same words.old words.new }
     ensures rest { W.rest words.new < W.rest words.old }
     ensures room { HasRoom desk.new post.new.layout }

@@ -23,20 +23,23 @@ use wfe_drive_words::{Located, Words, step};
 #[inline(always)]
 pub fn write_item<W: Words>(words: &mut W, post: &mut Post, slot: u32, number: u64, value: u64)
     requires valid { W.valid words.old }
+    requires later { W.later words.old }
     requires own { IsValid post.old }
     requires slot { SlotFits post.old slot }
     requires here { (why : Why) × (desk : ModelDesk) × Here (W.at words.old) (seat_of (Runs why (Write slot (QueueRow number value) 0)) post.old desk) }
     ensures valid { W.valid words.new }
+    ensures later { W.later words.new }
     ensures same { W.same words.old words.new }
     ensures rest { W.rest words.new < W.rest words.old }
     ensures post { post.new ≡ record post.old { steps = post.old.steps + 3 } }
     ensures turns { (why : Why) (desk : ModelDesk) → Here (W.at words.old) (seat_of (Runs why (Write slot (QueueRow number value) 0)) post.old desk)
         → TurnsTo (W.at words.old) (W.at words.new) (W.stands words.old) (W.stands words.new) (seat_of (Runs why (Write slot (QueueRow number value) 0)) post.old desk) (resume why Done post.new (kept_desk desk) []) }
 {
-    let first = post.layout.row(slot, 0);
-    step(words, store_cell(post, slot, first, 0, 0));
-    step(words, store_cell(post, slot, first, 1, number));
-    step(words, store_cell(post, slot, first, 2, value));
+    let place = *post;
+    let first = place.layout.row(slot, 0);
+    step(words, store_cell(&place, slot, first, 0, 0));
+    step(words, store_cell(&place, slot, first, 1, number));
+    step(words, store_cell(&place, slot, first, 2, value));
     post.steps += 3;
 }
 

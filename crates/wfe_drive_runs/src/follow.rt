@@ -41,6 +41,7 @@ pub fn follow_next<W: Words>(
     requires here { (why : Why) × Here (W.at words.old) (at_phase (Runs why (follow_base post.old.layout.config.scheme parent)) post.old desk.old) }
     requires room { HasRoom desk.old post.old.layout }
     ensures valid { W.valid words.new }
+    ensures later { W.later words.new }
     ensures same { W.same words.old words.new }
     ensures rest { W.rest words.new < W.rest words.old }
     ensures room { HasRoom desk.new post.new.layout }
@@ -69,6 +70,7 @@ fn follow_by_index<W: Words>(
     requires here { (why : Why) × Here (W.at words.old) (at_phase (Runs why (follow_base post.old.layout.config.scheme parent)) post.old desk.old) }
     requires room { HasRoom desk.old post.old.layout }
     ensures valid { W.valid words.new }
+    ensures later { W.later words.new }
     ensures same { W.same words.old words.new }
     ensures rest { W.rest words.new < W.rest words.old }
     ensures room { HasRoom desk.new post.new.layout }
@@ -98,6 +100,7 @@ fn follow_under<W: Words, P: ByIndex>(
     requires here { (why : Why) × Here (W.at words.old) (at_phase (Runs why (follow_base post.old.layout.config.scheme parent)) post.old desk.old) }
     requires room { HasRoom desk.old post.old.layout }
     ensures valid { W.valid words.new }
+    ensures later { W.later words.new }
     ensures same { W.same words.old words.new }
     ensures rest { W.rest words.new < W.rest words.old }
     ensures room { HasRoom desk.new post.new.layout }
@@ -106,7 +109,8 @@ fn follow_under<W: Words, P: ByIndex>(
     ensures leads { (why : Why) → Here (W.at words.old) (at_phase (Runs why (follow_base post.old.layout.config.scheme parent)) post.old desk.old)
         → LeadsSo (W.at words.old) (W.at words.new) (W.stands words.old) (W.stands words.new) (at_phase (Runs why (follow_base post.old.layout.config.scheme parent)) post.old desk.old) why (FollowedEnd result) post.new desk.new }
 {
-    match P::protect(words, post, 1, Root::Next(parent)) {
+    let place = *post;
+    match P::protect(words, &place, 1, Root::Next(parent)) {
         Bounded::Within(guarded) => follow_link(words, post, desk, parent, guarded),
         Bounded::Used { steps } => ask(words, post, desk, parent, steps),
     }
@@ -120,6 +124,7 @@ fn follow_ibr<W: Words>(words: &mut W, post: &mut Post, _desk: &Desk, parent: u3
     requires span { IsSome post.old.span }
     requires here { (why : Why) × Here (W.at words.old) (at_phase (Runs why (follow_base IbrKind parent)) post.old _desk.now) }
     ensures valid { W.valid words.new }
+    ensures later { W.later words.new }
     ensures same { W.same words.old words.new }
     ensures rest { W.rest words.new < W.rest words.old }
     ensures layout { post.new.layout ≡ post.old.layout }
@@ -147,10 +152,12 @@ fn follow_link<W: Words>(
     guarded: Guarded,
 ) -> FollowEnd
     requires valid { W.valid words.old }
+    requires later { W.later words.old }
     requires few { post.old.steps < 2 ^ 62 }
     requires some { guarded.steps < 2 ^ 62 + 4 }
     requires here { (why : Why) × (n : ℕ) × Here (W.at words.old) (held_at (followed_trial why (desk_of _desk.now) 0 post.old.steps) 1 (NextOf parent) n guarded.link guarded.era (post.old.steps + guarded.steps) post.old) }
     ensures valid { W.valid words.new }
+    ensures later { W.later words.new }
     ensures same { W.same words.old words.new }
     ensures rest { W.rest words.new ≤ W.rest words.old }
     ensures layout { post.new.layout ≡ post.old.layout }
@@ -175,9 +182,11 @@ fn ask<W: Words>(
     steps: u64,
 ) -> FollowEnd
     requires valid { W.valid words.old }
+    requires later { W.later words.old }
     requires here { (why : Why) × Here (W.at words.old) (protecting (followed_trial why (desk_of desk.old) steps (post.old.steps + steps)) 1 (NextOf parent) PublishRequest post.old) }
     requires room { HasRoom desk.old post.old.layout }
     ensures valid { W.valid words.new }
+    ensures later { W.later words.new }
     ensures same { W.same words.old words.new }
     ensures rest { W.rest words.new < W.rest words.old }
     ensures room { HasRoom desk.new post.new.layout }
@@ -204,8 +213,10 @@ fn reload<W: Words>(
     slot: u32,
 ) -> FollowEnd
     requires valid { W.valid words.old }
+    requires later { W.later words.old }
     requires here { (why : Why) × (era : ℕ) × (n : ℕ) × Here (W.at words.old) (at_phase (Runs why (Reload parent 1 slot era n)) post.old _desk.now) }
     ensures valid { W.valid words.new }
+    ensures later { W.later words.new }
     ensures same { W.same words.old words.new }
     ensures rest { W.rest words.new < W.rest words.old }
     ensures layout { post.new.layout ≡ post.old.layout }

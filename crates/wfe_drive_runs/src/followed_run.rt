@@ -21,10 +21,12 @@ pub fn run_followed<W: Words>(
     _parent: u32,
 ) -> ProtectEnd
     requires valid { W.valid words.old }
+    requires later { W.later words.old }
     requires of { IsNextAlone _parent (protect_phase machine) }
     requires here { (why : Why) × Here (W.at words.old) (at_phase (Runs why (following (protect_phase machine))) post.old desk.old) }
     requires room { HasRoom desk.old post.old.layout }
     ensures valid { W.valid words.new }
+    ensures later { W.later words.new }
     ensures same { W.same words.old words.new }
     ensures rest { W.rest words.new < W.rest words.old }
     ensures room { HasRoom desk.new post.new.layout }

@@ -22,8 +22,10 @@ use wfe_drive_words::{Located, Words, load_cell, step};
 #[inline(always)]
 pub fn read_end<W: Words>(words: &mut W, post: &mut Post, _head: u32) -> u64
     requires valid { W.valid words.old }
+    requires later { W.later words.old }
     requires here { (desk : ModelDesk) × Here (W.at words.old) (seat_of (Works (Dequeuing (LoadTail _head))) post.old desk) }
     ensures valid { W.valid words.new }
+    ensures later { W.later words.new }
     ensures same { W.same words.old words.new }
     ensures rest { W.rest words.new ≤ W.rest words.old }
     ensures post { post.new ≡ record post.old { steps = post.old.steps + 1 } }
@@ -40,8 +42,10 @@ pub fn read_end<W: Words>(words: &mut W, post: &mut Post, _head: u32) -> u64
 #[inline(always)]
 pub fn swing_tail<W: Words>(words: &mut W, post: &mut Post, head: u32, next: u32)
     requires valid { W.valid words.old }
+    requires later { W.later words.old }
     requires here { (desk : ModelDesk) × Here (W.at words.old) (seat_of (Works (Dequeuing (calls.SwingTail head next))) post.old desk) }
     ensures valid { W.valid words.new }
+    ensures later { W.later words.new }
     ensures same { W.same words.old words.new }
     ensures rest { W.rest words.new ≤ W.rest words.old }
     ensures post { post.new ≡ record post.old { steps = post.old.steps + 1 } }
@@ -58,10 +62,12 @@ pub fn swing_tail<W: Words>(words: &mut W, post: &mut Post, head: u32, next: u32
 #[inline(always)]
 pub fn take<W: Words>(words: &mut W, post: &mut Post, head: u32, next: u32) -> RoundEnd
     requires valid { W.valid words.old }
+    requires later { W.later words.old }
     requires own { IsValid post.old }
     requires next { SlotFits post.old next }
     requires here { (desk : ModelDesk) × Here (W.at words.old) (seat_of (Works (Dequeuing (TakeNumber head next))) post.old desk) }
     ensures valid { W.valid words.new }
+    ensures later { W.later words.new }
     ensures same { W.same words.old words.new }
     ensures rest { W.rest words.new ≤ W.rest words.old }
     ensures post { post.new ≡ record post.old { steps = post.old.steps + 3 } }
@@ -69,10 +75,11 @@ pub fn take<W: Words>(words: &mut W, post: &mut Post, head: u32, next: u32) -> R
         → Leads (W.at words.old) (W.at words.new) (W.stands words.old) (W.stands words.new) (seat_of (Works (Dequeuing (TakeNumber head next))) post.old desk)
         (clearing_next_at (next_of result) post.new desk) }
 {
-    let first = post.layout.row(next, 0);
-    let number = step(words, load_cell(post, next, first, 1));
-    let value = step(words, load_cell(post, next, first, 2));
-    let found = step(words, move_head(post, head, next));
+    let place = *post;
+    let first = place.layout.row(next, 0);
+    let number = step(words, load_cell(&place, next, first, 1));
+    let value = step(words, load_cell(&place, next, first, 2));
+    let found = step(words, move_head(&place, head, next));
     post.steps += 3;
     if found != head as u64 + 1 {
         return RoundEnd::Again;

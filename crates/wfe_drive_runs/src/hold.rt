@@ -32,6 +32,7 @@ pub fn hold_by_index<W: Words>(
     requires here { (why : Why) × Here (W.at words.old) (at_phase (Runs why (protect_base post.old.layout.config.scheme index root)) post.old desk.old) }
     requires room { HasRoom desk.old post.old.layout }
     ensures valid { W.valid words.new }
+    ensures later { W.later words.new }
     ensures same { W.same words.old words.new }
     ensures rest { W.rest words.new < W.rest words.old }
     ensures room { HasRoom desk.new post.new.layout }
@@ -63,6 +64,7 @@ fn hold_under<W: Words, P: ByIndex>(
     requires here { (why : Why) × Here (W.at words.old) (at_phase (Runs why (protect_base post.old.layout.config.scheme index root)) post.old desk.old) }
     requires room { HasRoom desk.old post.old.layout }
     ensures valid { W.valid words.new }
+    ensures later { W.later words.new }
     ensures same { W.same words.old words.new }
     ensures rest { W.rest words.new < W.rest words.old }
     ensures room { HasRoom desk.new post.new.layout }
@@ -71,7 +73,8 @@ fn hold_under<W: Words, P: ByIndex>(
     ensures leads { (why : Why) → Here (W.at words.old) (at_phase (Runs why (protect_base post.old.layout.config.scheme index root)) post.old desk.old) → (era : ℕ)
         × LeadsSo (W.at words.old) (W.at words.new) (W.stands words.old) (W.stands words.new) (at_phase (Runs why (protect_base post.old.layout.config.scheme index root)) post.old desk.old) why (ProtectedEnd (end_of result era)) post.new desk.new }
 {
-    match P::protect(words, post, index, root) {
+    let place = *post;
+    match P::protect(words, &place, index, root) {
         Bounded::Within(guarded) => stand(post, index, guarded),
         Bounded::Used { steps } => ask(words, post, desk, index, root, steps),
     }
@@ -106,9 +109,11 @@ fn ask<W: Words>(
     steps: u64,
 ) -> Option<u32>
     requires valid { W.valid words.old }
+    requires later { W.later words.old }
     requires here { (why : Why) × Here (W.at words.old) (protecting (asked_trial why (desk_of desk.old) steps (post.old.steps + steps)) index root PublishRequest post.old) }
     requires room { HasRoom desk.old post.old.layout }
     ensures valid { W.valid words.new }
+    ensures later { W.later words.new }
     ensures same { W.same words.old words.new }
     ensures rest { W.rest words.new < W.rest words.old }
     ensures room { HasRoom desk.new post.new.layout }

@@ -23,9 +23,11 @@ pub fn fill_item<W: Words>(
     item: &mut Item,
 ) -> Option<u32>
     requires valid { W.valid words.old }
+    requires later { W.later words.old }
     requires here { Here (W.at words.old) (at_phase (Runs (Fills (Enqueues (kept_of item.old))) (filling (kept_of item.old))) post.old desk.old) }
     requires room { HasRoom desk.old post.old.layout }
     ensures valid { W.valid words.new }
+    ensures later { W.later words.new }
     ensures same { W.same words.old words.new }
     ensures rest { W.rest words.new ≤ W.rest words.old }
     ensures room { HasRoom desk.new post.new.layout }
@@ -58,9 +60,11 @@ pub fn fill_item<W: Words>(
 #[inline(always)]
 fn write<W: Words>(words: &mut W, post: &mut Post, _desk: &Desk, item: &Item, slot: u32)
     requires valid { W.valid words.old }
+    requires later { W.later words.old }
     requires taken { item.now.taken ≡ Some slot }
     requires here { Here (W.at words.old) (at_phase (Runs (Fills (Enqueues (kept_of item.now))) (writing slot (new_item (kept_of item.now)))) post.old _desk.now) }
     ensures valid { W.valid words.new }
+    ensures later { W.later words.new }
     ensures same { W.same words.old words.new }
     ensures rest { W.rest words.new ≤ W.rest words.old }
     ensures post { post.new ≡ record post.old { steps = post.old.steps + 3 } }

@@ -4,10 +4,12 @@
 #![tactic(auto)]
 
 mod base_run;
+mod clock_run;
 mod fill;
 mod follow;
 mod followed_run;
 mod front;
+mod guarding;
 mod hold;
 mod item;
 mod item_row;
@@ -15,9 +17,11 @@ mod opening;
 mod retirement;
 mod round_end;
 mod rows;
+mod scan_run;
 mod span;
 mod tail;
 mod tidy_run;
+mod unmet;
 
 pub use base_run::run;
 pub use fill::{store_cell, write_item};

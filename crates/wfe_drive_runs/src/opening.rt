@@ -29,6 +29,7 @@ pub fn open_round<W: Words>(
     requires here { (task : Task) × Protects task root post.old × Here (W.at words.old) (at_phase (round task post.old) post.old desk.old) }
     requires room { HasRoom desk.old post.old.layout }
     ensures valid { W.valid words.new }
+    ensures later { W.later words.new }
     ensures same { W.same words.old words.new }
     ensures rest { W.rest words.new < W.rest words.old }
     ensures room { HasRoom desk.new post.new.layout }

@@ -26,8 +26,10 @@ use wfe_drive_words::{Located, Words, load_clock, note_steps, step};
 
 /// Retires the row, and then tidies where that is due. It answers the outcome of the move; `Still` where
 /// there is none, as the call's answer says before it.
+#[inline(always)]
 pub fn retire<W: Words>(words: &mut W, post: &mut Post, desk: &mut Desk, slot: u32) -> ClockMove
     requires valid { W.valid words.old }
+    requires later { W.later words.old }
     requires here { (answer : ModelAnswer) × (with_clock answer StillMove ≡ answer) × Here (W.at words.old) (at_phase (Runs (Retires answer) (Retiring (LoadLife slot))) post.old desk.old) }
     requires room { HasRoom desk.old post.old.layout }
     ensures valid { W.valid words.new }
@@ -52,11 +54,13 @@ pub fn retire<W: Words>(words: &mut W, post: &mut Post, desk: &mut Desk, slot: u
 #[inline(always)]
 fn store_life<W: Words>(words: &mut W, post: &mut Post, desk: &mut Desk, slot: u32) -> Lifetime
     requires valid { W.valid words.old }
+    requires later { W.later words.old }
     requires own { IsValid post.old }
     requires slot { SlotFits post.old slot }
     requires here { (answer : ModelAnswer) × Here (W.at words.old) (at_phase (Runs (Retires answer) (Retiring (LoadLife slot))) post.old desk.old) }
     requires room { HasRoom desk.old post.old.layout }
     ensures valid { W.valid words.new }
+    ensures later { W.later words.new }
     ensures same { W.same words.old words.new }
     ensures room { HasRoom desk.new post.new.layout }
     ensures layout { post.new.layout ≡ post.old.layout }
@@ -66,10 +70,11 @@ fn store_life<W: Words>(words: &mut W, post: &mut Post, desk: &mut Desk, slot: u
         (at_phase (Runs (Retires answer) (Retiring (LoadLife slot))) post.old desk.old)
         (tidying answer post.new (with_life (desk_of desk.old) result) (retire_told result) (post.new.retired % post.new.layout.config.every == 0)) }
 {
-    let word = step(words, load_life(post, slot));
+    let place = *post;
+    let word = step(words, load_life(&place, slot));
     let birth = birth_of(word);
-    let retire = step(words, load_clock(post)) as u32;
-    step(words, store_lifetime(post, slot, birth, retire));
+    let retire = step(words, load_clock(&place)) as u32;
+    step(words, store_lifetime(&place, slot, birth, retire));
     let life = Lifetime {
         slot,
         birth,

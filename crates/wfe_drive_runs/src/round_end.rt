@@ -21,8 +21,10 @@ use wfe_drive_words::{Words, publish_as, publishes_rows, step};
 #[inline(always)]
 fn clear<W: Words>(words: &mut W, post: &mut Post, index: u32)
     requires valid { W.valid words.old }
+    requires later { W.later words.old }
     requires here { (why : Why) × (desk : ModelDesk) × Here (W.at words.old) (seat_of (Runs why (Clear (shows_rows post.old.layout.config.scheme) index)) post.old desk) }
     ensures valid { W.valid words.new }
+    ensures later { W.later words.new }
     ensures same { W.same words.old words.new }
     ensures rest { W.rest words.new < W.rest words.old }
     ensures post { post.new ≡ record post.old { standing = slice_set post.old.standing index None; steps = post.old.steps + 1 } }
@@ -38,9 +40,11 @@ fn clear<W: Words>(words: &mut W, post: &mut Post, index: u32)
 #[inline(always)]
 fn close<W: Words>(words: &mut W, post: &mut Post)
     requires valid { W.valid words.old }
+    requires later { W.later words.old }
     requires clears { has_one_interval post.old.layout.config.scheme ≡ false }
     requires here { (task : Task) × (next : Next) × (desk : ModelDesk) × (index_of task ≡ 0) × Here (W.at words.old) (clearing_at task next post.old desk) }
     ensures valid { W.valid words.new }
+    ensures later { W.later words.new }
     ensures same { W.same words.old words.new }
     ensures rest { W.rest words.new < W.rest words.old }
     ensures post { post.new ≡ record post.old { standing = slice_set post.old.standing 0 None; steps = post.old.steps + 1 } }
@@ -54,9 +58,11 @@ fn close<W: Words>(words: &mut W, post: &mut Post)
 #[inline(always)]
 pub fn close_next<W: Words>(words: &mut W, post: &mut Post)
     requires valid { W.valid words.old }
+    requires later { W.later words.old }
     requires free { IsFree post.old }
     requires here { (next : Next) × (desk : ModelDesk) × Here (W.at words.old) (clearing_next_at next post.old desk) }
     ensures valid { W.valid words.new }
+    ensures later { W.later words.new }
     ensures same { W.same words.old words.new }
     ensures rest { W.rest words.new ≤ W.rest words.old }
     ensures layout { post.new.layout ≡ post.old.layout }
@@ -74,9 +80,11 @@ pub fn close_next<W: Words>(words: &mut W, post: &mut Post)
 #[inline(always)]
 pub fn close_round<W: Words>(words: &mut W, post: &mut Post)
     requires valid { W.valid words.old }
+    requires later { W.later words.old }
     requires free { IsFree post.old }
     requires here { (task : Task) × (next : Next) × (desk : ModelDesk) × (index_of task ≡ 0) × Finishing next × Here (W.at words.old) (clearing_at task next post.old desk) }
     ensures valid { W.valid words.new }
+    ensures later { W.later words.new }
     ensures same { W.same words.old words.new }
     ensures rest { W.rest words.new < W.rest words.old }
     ensures layout { post.new.layout ≡ post.old.layout }
@@ -94,9 +102,11 @@ pub fn close_round<W: Words>(words: &mut W, post: &mut Post)
 #[inline(always)]
 pub fn close_again<W: Words>(words: &mut W, post: &mut Post)
     requires valid { W.valid words.old }
+    requires later { W.later words.old }
     requires free { IsFree post.old }
     requires here { (task : Task) × (desk : ModelDesk) × (index_of task ≡ 0) × Here (W.at words.old) (clearing_at task Again post.old desk) }
     ensures valid { W.valid words.new }
+    ensures later { W.later words.new }
     ensures same { W.same words.old words.new }
     ensures rest { W.rest words.new ≤ W.rest words.old }
     ensures layout { post.new.layout ≡ post.old.layout }

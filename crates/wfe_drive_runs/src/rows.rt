@@ -31,11 +31,14 @@ use wfe_drive_words::{Located, Words, load_clock, note_steps, step};
 use wfe_slots::{Allocate, GiveUp, is_taken, slot_after};
 
 /// Takes the first row that is free from the seat's cursor on.
+#[inline(always)]
 pub fn take_row<W: Words>(words: &mut W, post: &mut Post, desk: &mut Desk) -> AllocateEnd
     requires valid { W.valid words.old }
+    requires later { W.later words.old }
     requires here { (why : Why) × Here (W.at words.old) (at_phase (Runs why (Allocating LoadBirth)) post.old desk.old) }
     requires room { HasRoom desk.old post.old.layout }
     ensures valid { W.valid words.new }
+    ensures later { W.later words.new }
     ensures same { W.same words.old words.new }
     ensures rest { W.rest words.new < W.rest words.old }
     ensures room { HasRoom desk.new post.new.layout }
@@ -46,9 +49,10 @@ pub fn take_row<W: Words>(words: &mut W, post: &mut Post, desk: &mut Desk) -> Al
         → EndsSo (W.at words.old) (W.at words.new) (W.stands words.old) (W.stands words.new)
         (at_phase (Runs why (Allocating LoadBirth)) post.old desk.old) why (Allocated result) post.new desk.new }
 {
-    let birth = step(words, load_clock(post)) as u32;
-    let slot = post.cursor;
-    let found = step(words, set_claim(post, slot));
+    let place = *post;
+    let birth = step(words, load_clock(&place)) as u32;
+    let slot = place.cursor;
+    let found = step(words, set_claim(&place, slot));
     post.steps += 2;
     if is_taken(found, slot) {
         return match walk_past(post, birth, found) {
@@ -56,7 +60,7 @@ pub fn take_row<W: Words>(words: &mut W, post: &mut Post, desk: &mut Desk) -> Al
             Err(end) => end,
         };
     }
-    step(words, store_birth(post, slot, birth));
+    step(words, store_birth(&place, slot, birth));
     post.steps += 1;
     post.cursor = slot_after(post.layout.config().slots, slot);
     note_given(desk, slot, birth);
@@ -125,6 +129,7 @@ pub fn give_up<W: Words>(
     answer: Answer,
 ) -> Answer
     requires valid { W.valid words.old }
+    requires later { W.later words.old }
     requires here { Here (W.at words.old) (at_phase (Runs (GivesUp answer) (GivingUp slot)) post.old desk.old) }
     requires room { HasRoom desk.old post.old.layout }
     ensures valid { W.valid words.new }

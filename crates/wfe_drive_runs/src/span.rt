@@ -60,6 +60,7 @@ pub fn hold_ibr<W: Words>(
     requires outer { Outer root }
     requires here { (why : Why) × Here (W.at words.old) (at_phase (Runs why (protect_base IbrKind index root)) post.old _desk.now) }
     ensures valid { W.valid words.new }
+    ensures later { W.later words.new }
     ensures same { W.same words.old words.new }
     ensures rest { W.rest words.new < W.rest words.old }
     ensures layout { post.new.layout ≡ post.old.layout }
@@ -82,10 +83,12 @@ pub fn hold_ibr<W: Words>(
 #[inline(always)]
 pub fn close_span<W: Words>(words: &mut W, post: &mut Post)
     requires valid { W.valid words.old }
+    requires later { W.later words.old }
     requires scheme { post.old.layout.config.scheme ≡ IbrKind }
     requires free { kept_row post.old ≡ None }
     requires here { (task : Task) × (next : Next) × (desk : ModelDesk) × (index_of task ≡ 0) × Finishing next × Here (W.at words.old) (clearing_at task next post.old desk) }
     ensures valid { W.valid words.new }
+    ensures later { W.later words.new }
     ensures same { W.same words.old words.new }
     ensures rest { W.rest words.new < W.rest words.old }
     ensures post { post.new ≡ record post.old { standing = slice_set post.old.standing 0 None; span = None; steps = post.old.steps + 1 } }

@@ -24,10 +24,12 @@ use wfe_drive_words::{Located, Words, load_cell, step};
 #[inline(always)]
 pub fn read_tail<W: Words>(words: &mut W, post: &mut Post, item: &mut Item) -> u32
     requires valid { W.valid words.old }
+    requires later { W.later words.old }
     requires own { IsValid post.old }
     requires tail { SlotFits post.old item.old.tail }
     requires here { (desk : ModelDesk) × Here (W.at words.old) (seat_of (Works (Enqueuing (kept_of item.old) LoadNumber)) post.old desk) }
     ensures valid { W.valid words.new }
+    ensures later { W.later words.new }
     ensures same { W.same words.old words.new }
     ensures rest { W.rest words.new ≤ W.rest words.old }
     ensures post { post.new ≡ record post.old { steps = post.old.steps + 2 } }
@@ -36,9 +38,10 @@ pub fn read_tail<W: Words>(words: &mut W, post: &mut Post, item: &mut Item) -> u
         → Leads (W.at words.old) (W.at words.new) (W.stands words.old) (W.stands words.new) (seat_of (Works (Enqueuing (kept_of item.old) LoadNumber)) post.old desk)
         (seat_after (at_next (kept_of item.new) result post.new (kept_desk desk) (result == 0))) }
 {
-    let first = post.layout.row(item.tail, 0);
-    let number = step(words, load_cell(post, item.tail, first, 1));
-    let next = step(words, load_cell(post, item.tail, first, 0)) as u32;
+    let place = *post;
+    let first = place.layout.row(item.tail, 0);
+    let number = step(words, load_cell(&place, item.tail, first, 1));
+    let next = step(words, load_cell(&place, item.tail, first, 0)) as u32;
     item.number = number;
     post.steps += 2;
     next
@@ -48,8 +51,10 @@ pub fn read_tail<W: Words>(words: &mut W, post: &mut Post, item: &mut Item) -> u
 #[inline(always)]
 pub fn pass_tail<W: Words>(words: &mut W, post: &mut Post, item: &Item, next: u32)
     requires valid { W.valid words.old }
+    requires later { W.later words.old }
     requires here { (desk : ModelDesk) × Here (W.at words.old) (seat_of (Works (Enqueuing (kept_of item.now) (PassTail next))) post.old desk) }
     ensures valid { W.valid words.new }
+    ensures later { W.later words.new }
     ensures same { W.same words.old words.new }
     ensures rest { W.rest words.new ≤ W.rest words.old }
     ensures post { post.new ≡ record post.old { steps = post.old.steps + 1 } }
@@ -65,8 +70,10 @@ pub fn pass_tail<W: Words>(words: &mut W, post: &mut Post, item: &Item, next: u3
 #[inline(always)]
 pub fn append<W: Words>(words: &mut W, post: &mut Post, item: &mut Item, slot: u32) -> RoundEnd
     requires valid { W.valid words.old }
+    requires later { W.later words.old }
     requires here { (desk : ModelDesk) × Here (W.at words.old) (seat_of (Works (Enqueuing (kept_of item.old) (ExchangeNext slot))) post.old desk) }
     ensures valid { W.valid words.new }
+    ensures later { W.later words.new }
     ensures same { W.same words.old words.new }
     ensures rest { W.rest words.new ≤ W.rest words.old }
     ensures layout { post.new.layout ≡ post.old.layout }
@@ -75,13 +82,14 @@ pub fn append<W: Words>(words: &mut W, post: &mut Post, item: &mut Item, slot: u
         → Leads (W.at words.old) (W.at words.new) (W.stands words.old) (W.stands words.new) (seat_of (Works (Enqueuing (kept_of item.old) (ExchangeNext slot))) post.old desk)
         (clearing_at (Enqueues (kept_of item.new)) (next_of result) post.new desk) }
 {
-    let found = step(words, link_next(post, item.tail, slot));
+    let place = *post;
+    let found = step(words, link_next(&place, item.tail, slot));
     if found != 0 {
         post.steps += 1;
         return RoundEnd::Again;
     }
     item.taken = None;
-    step(words, move_tail(post, item.tail, slot + 1));
+    step(words, move_tail(&place, item.tail, slot + 1));
     post.steps += 2;
     RoundEnd::Answers(Answer::Queued {
         number: item.number + 1,

@@ -3,23 +3,25 @@ ghost use Rattle.std.specs.Prelude.{◌≡◌, ◌<◌};
 ghost use Rattle.wfe_core.specs.defs.declared.call.ClockMove.TheVariants.{Still as StillMove};
 ghost use Rattle.wfe_core.specs.Calls.{AfterScan};
 ghost use Rattle.wfe_core.specs.DeskHeld.{HasRoom};
-ghost use Rattle.wfe_core.specs.Rounds.{first_tidy, helps as do_help};
+ghost use Rattle.wfe_core.specs.Rounds.{first_tidy};
 ghost use Rattle.wfe_core.specs.Steps.{after_move};
-ghost use Rattle.wfe_core.specs.words.Schemes.{moves as do_move};
 ghost use Rattle.wfe_drive_words.specs.Called.{Here, at_phase};
 ghost use Rattle.wfe_drive_runs.specs.Pieces.{ScansSo};
 
-use wfe_call_rounds::Tidy;
-use wfe_core::{ClockMove, Desk, Post, SchemeKind, Told};
-use wfe_drive_words::{Located, Words, step};
+use crate::clock_run::move_clock;
+use crate::scan_run::scan;
+use wfe_core::{ClockMove, Desk, Post};
+use wfe_drive_words::Words;
 
 /// Moves the clock, where the scheme has retirements move it, and then scans. It answers the outcome of the
 /// move, in eras; `Still` where there is none.
 pub fn tidy<W: Words>(words: &mut W, post: &mut Post, desk: &mut Desk) -> ClockMove
     requires valid { W.valid words.old }
+    requires later { W.later words.old }
     requires here { (later : AfterScan) × (after_move later StillMove ≡ later) × Here (W.at words.old) (at_phase (first_tidy later post.old) post.old desk.old) }
     requires room { HasRoom desk.old post.old.layout }
     ensures valid { W.valid words.new }
+    ensures later { W.later words.new }
     ensures same { W.same words.old words.new }
     ensures rest { W.rest words.new < W.rest words.old }
     ensures room { HasRoom desk.new post.new.layout }
@@ -29,41 +31,7 @@ pub fn tidy<W: Words>(words: &mut W, post: &mut Post, desk: &mut Desk) -> ClockM
         → ScansSo (W.at words.old) (W.at words.new) (W.stands words.old) (W.stands words.new)
         (at_phase (first_tidy later post.old) post.old desk.old) later result post.new desk.new }
 {
-    let scheme = post.layout.config().scheme;
-    let mut machine = Tidy::new(moves(scheme), helps(scheme));
-    let mut told = Told::new();
-    loop {
-        let op = machine.next_op(post);
-        let at = Located::of(&post.layout, op);
-        let found = step(words, at);
-        post.steps += 1;
-        told.clear();
-        let ended = machine.take(post, desk, found, &mut told);
-        desk.notes.note_all(&told);
-        if let Some(clock) = ended {
-            return clock;
-        }
-    }
-}
-
-// Whether retirements move the clock.
-#[inline(always)]
-fn moves(kind: SchemeKind) -> bool
-    ensures { result ≡ do_move kind }
-{
-    match kind {
-        SchemeKind::He | SchemeKind::Ibr | SchemeKind::Wfe => true,
-        SchemeKind::Hp => false,
-    }
-}
-
-// Whether those that move it answer pending requests first.
-#[inline(always)]
-fn helps(kind: SchemeKind) -> bool
-    ensures { result ≡ do_help kind }
-{
-    match kind {
-        SchemeKind::Wfe => true,
-        SchemeKind::He | SchemeKind::Ibr | SchemeKind::Hp => false,
-    }
+    let clock = move_clock(words, post, desk);
+    scan(words, post, desk);
+    clock
 }

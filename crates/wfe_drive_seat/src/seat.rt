@@ -13,6 +13,7 @@ ghost use Rattle.wfe_core.specs.Steps.{call_op, phase_turn};
 ghost use Rattle.wfe_core.specs.Valid.{IsValid};
 ghost use Rattle.wfe_drive_seat.specs.Leaving.{MayMove, given_seat, joined_views, leaving, lets_go, seat_in, seat_let, told_let, words_let};
 ghost use Rattle.wfe_drive_seat.specs.Seats.{Suits, engaged_phase, is_engaged};
+ghost use Rattle.wfe_drive_seat.specs.declared.seat.Engaged.TheVariants.{Free};
 
 use crate::letting::let_next;
 use std::alloc::Global;
@@ -118,7 +119,7 @@ impl<H: CallMachine, I: CallMachine, W: CallMachine, P: CallMachine> SeatState<H
             .engaged
             .unit(cells, &mut self.post, &mut self.desk, told);
         if answer.is_some() {
-            self.engaged = Engaged::Free;
+            self.engaged.end();
         }
         answer
     }
@@ -241,7 +242,16 @@ impl<H: CallMachine, I: CallMachine, W: CallMachine, P: CallMachine> Engaged<H, 
         self.take(post, desk, found, told)
     }
 
+    // No call is under way. It stands apart, so that a step that ends no call makes no room for this.
+    #[inline(never)]
+    fn end(&mut self)
+        ensures { self.new ≡ Free }
+    {
+        *self = Engaged::Free;
+    }
+
     // The operation that the call asks for.
+    #[inline(always)]
     fn next_op(&self, post: &Post, desk: &Desk) -> Op
         requires engaged { is_engaged self.now ≡ true }
         requires valid { IsValid post.now }

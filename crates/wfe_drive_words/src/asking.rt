@@ -8,7 +8,7 @@ ghost use Rattle.wfe_drive_words.specs.Called.{Here};
 ghost use Rattle.wfe_drive_words.specs.Path.{BoundedFits, Leads, Trial, asked_after, asked_at, asks_from, bounded_at, protecting, publishing};
 
 use crate::Words;
-use crate::path::{load_clock, publish, step};
+use crate::path::{any_step, load_clock, publish, step};
 use crate::protect::{Guarded, Tried, try_once};
 use wfe_core::{Post, Root};
 
@@ -29,11 +29,13 @@ pub fn try_within<W: Words>(
     first: u32,
 ) -> Bounded
     requires valid { W.valid words.old }
+    requires later { W.later words.old }
     requires own { IsValid post.now }
     requires index { IndexFits post.now index }
     requires root { RootFits post.now.layout root }
     requires here { (t : Trial) × Here (W.at words.old) (publishing (asked_after t 0) index root first post.now) }
     ensures valid { W.valid words.new }
+    ensures later { W.later words.new }
     ensures same { W.same words.old words.new }
     ensures rest { W.rest words.new ≤ W.rest words.old }
     ensures fits { BoundedFits post.now 1000 result }
@@ -71,13 +73,14 @@ pub fn protect_wfe<W: Words>(words: &mut W, post: &Post, index: u32, root: Root)
     requires root { RootFits post.now.layout root }
     requires here { (t : Trial) × Here (W.at words.old) (protecting (asks_from t) index root (LoadClock (Failed 0)) post.now) }
     ensures valid { W.valid words.new }
+    ensures later { W.later words.new }
     ensures same { W.same words.old words.new }
     ensures rest { W.rest words.new < W.rest words.old }
     ensures fits { BoundedFits post.now 1001 result }
     ensures leads { (t : Trial) → Here (W.at words.old) (protecting (asks_from t) index root (LoadClock (Failed 0)) post.now) → (n : ℕ)
         × Leads (W.at words.old) (W.at words.new) (W.stands words.old) (W.stands words.new) (protecting (asks_from t) index root (LoadClock (Failed 0)) post.now) (asked_at t index root post.now n result) }
 {
-    let era = step(words, load_clock(post)) as u32;
+    let era = any_step(words, load_clock(post)) as u32;
     match try_within(words, post, index, root, era) {
         Bounded::Within(guarded) => Bounded::Within(Guarded {
             link: guarded.link,

@@ -29,6 +29,7 @@ pub trait ByIndex {
         requires root { RootFits post.now.layout root }
         requires here { (t : Trial) × Here (W.at words.old) (protects_from t index root post.now) }
         ensures valid { W.valid words.new }
+        ensures later { W.later words.new }
         ensures same { W.same words.old words.new }
         ensures rest { W.rest words.new < W.rest words.old }
         ensures fits { BoundedFits post.now (2 ^ 62 + 4) result }

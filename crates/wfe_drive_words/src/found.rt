@@ -23,10 +23,12 @@ pub struct Found {
 #[inline(always)]
 pub fn find<W: Words>(words: &mut W, post: &Post, key: u64, slot: u32) -> Found
     requires valid { W.valid words.old }
+    requires later { W.later words.old }
     requires own { IsValid post.now }
     requires slot { slot ≤ post.now.layout.config.slots }
     requires here { (r : Reader) × (r.post.layout ≡ post.now.layout) × Here (W.at words.old) (reading key r 0 (FindVersion slot)) }
     ensures valid { W.valid words.new }
+    ensures later { W.later words.new }
     ensures same { W.same words.old words.new }
     ensures few { result.steps < 2 ^ 32 }
     ensures leads { (r : Reader) → r.post.layout ≡ post.now.layout → Here (W.at words.old) (reading key r 0 (FindVersion slot))
@@ -50,12 +52,14 @@ pub fn find_key<W: Words>(
     count: u32,
 ) -> Found
     requires valid { W.valid words.old }
+    requires later { W.later words.old }
     requires own { IsValid post.now }
     requires slot { slot ≤ post.now.layout.config.slots }
     requires first { first ≡ number post.now.layout (Row slot 0) }
     requires count { count ≤ post.now.layout.config.pairs }
     requires here { (r : Reader) × (r.post.layout ≡ post.now.layout) × Here (W.at words.old) (next_pair key r 2 slot version count 0) }
     ensures valid { W.valid words.new }
+    ensures later { W.later words.new }
     ensures same { W.same words.old words.new }
     ensures few { result.steps < 2 ^ 32 }
     ensures leads { (r : Reader) → r.post.layout ≡ post.now.layout → Here (W.at words.old) (next_pair key r 2 slot version count 0)

@@ -84,7 +84,7 @@ fn get_guarded<W: Words, P: ByIndex>(
     let root = Root::Bucket(bucket);
     match P::protect(words, &place, 0, root) {
         Bounded::Within(guarded) => {
-            let found = find_held(words, post, key, guarded.link);
+            let found = find_held(words, &place, key, guarded.link);
             close_get(words, &place, post, desk, found, guarded.steps)
         }
         Bounded::Used { steps } => ask(words, post, desk, key, root, steps),
@@ -144,12 +144,14 @@ pub fn root_for(key: u64, post: &Post) -> Root
 #[inline(always)]
 fn find_held<W: Words>(words: &mut W, post: &Post, key: u64, link: u32) -> Found
     requires valid { W.valid words.old }
+    requires later { W.later words.old }
     requires own { IsValid post.now }
     requires clears { has_one_interval post.now.layout.config.scheme ≡ false }
     requires link { LinkFits post.now link }
     requires here { (desk : ModelDesk) × (bucket : ℕ) × (n : ℕ) × (era : ℕ) × (steps : ℕ)
         × Here (W.at words.old) (held_at (get_trial key desk 0) 0 (roots.Bucket bucket) n link era steps post.now) }
     ensures valid { W.valid words.new }
+    ensures later { W.later words.new }
     ensures same { W.same words.old words.new }
     ensures few { result.steps < 2 ^ 32 }
     ensures leads { (desk : ModelDesk) (bucket n era steps : ℕ)
@@ -179,6 +181,7 @@ fn close_get<W: Words>(
     before: u64,
 ) -> Answer
     requires valid { W.valid words.old }
+    requires later { W.later words.old }
     requires own { IsValid post.old }
     requires place { place.now ≡ post.old }
     requires clears { has_one_interval post.old.layout.config.scheme ≡ false }

@@ -23,7 +23,7 @@ ghost use Rattle.wfe_drive_words.specs.Path.{Closes, Leads, beginning_at, begun_
 use crate::Words;
 use crate::found::{Found, find};
 use crate::get::{answer_of, note_steps};
-use crate::path::{load_clock, step};
+use crate::path::{any_step, load_clock, step};
 use crate::within::{protect_within, store_span};
 use wfe_core::{Answer, Desk, Op, Post, Root};
 use wfe_drive_cells::Located;
@@ -65,12 +65,13 @@ pub fn begin_span<W: Words>(words: &mut W, post: &Post) -> u32
     requires own { IsValid post.now }
     requires here { (task : Task) × (desk : ModelDesk) × (steps : ℕ) × Here (W.at words.old) (beginning_at task desk post.now steps LoadLower) }
     ensures valid { W.valid words.new }
+    ensures later { W.later words.new }
     ensures same { W.same words.old words.new }
     ensures rest { W.rest words.new < W.rest words.old }
     ensures leads { (task : Task) (desk : ModelDesk) (steps : ℕ) → Here (W.at words.old) (beginning_at task desk post.now steps LoadLower)
         → Leads (W.at words.old) (W.at words.new) (W.stands words.old) (W.stands words.new) (beginning_at task desk post.now steps LoadLower) (begun_at task desk post.now (steps + 2) result) }
 {
-    let era = step(words, load_clock(post)) as u32;
+    let era = any_step(words, load_clock(post)) as u32;
     step(words, store_span(post, era, era));
     era
 }
@@ -79,11 +80,13 @@ pub fn begin_span<W: Words>(words: &mut W, post: &Post) -> u32
 #[inline(always)]
 fn find_within<W: Words>(words: &mut W, post: &Post, key: u64, link: u32) -> Found
     requires valid { W.valid words.old }
+    requires later { W.later words.old }
     requires own { IsValid post.now }
     requires link { LinkFits post.now link }
     requires here { (p : ModelPost) × (p.layout ≡ post.now.layout) × (desk : ModelDesk) × (bucket : ℕ) × (n : ℕ) × (era : ℕ) × (steps : ℕ)
         × Here (W.at words.old) (held_at (get_trial key desk 0) 0 (roots.Bucket bucket) n link era steps p) }
     ensures valid { W.valid words.new }
+    ensures later { W.later words.new }
     ensures same { W.same words.old words.new }
     ensures few { result.steps < 2 ^ 32 }
     ensures leads { (p : ModelPost) (desk : ModelDesk) (bucket n era steps : ℕ) → p.layout ≡ post.now.layout → p.layout.config.scheme ≡ IbrKind → kept_row p ≡ None
@@ -121,6 +124,7 @@ fn end_get<W: Words>(
     before: u64,
 ) -> Answer
     requires valid { W.valid words.old }
+    requires later { W.later words.old }
     requires own { IsValid post.old }
     requires room { HasRoom desk.old post.old.layout }
     requires here { (key : ℕ) × (lo : ℕ) × (hi : ℕ) × Here (W.at words.old) (ending_at key (spanned post.old lo hi) (desk_of desk.old) (post.old.steps + before) found) }

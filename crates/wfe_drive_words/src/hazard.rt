@@ -9,7 +9,7 @@ ghost use Rattle.wfe_drive_words.specs.Called.{Here};
 ghost use Rattle.wfe_drive_words.specs.Path.{Leads, Trial, checked_at, guarded_at, hazarding, protecting};
 
 use crate::Words;
-use crate::path::{load_link, publish_as, step};
+use crate::path::{any_step, load_link, publish_as, step};
 use crate::protect::Guarded;
 use wfe_core::{Post, Root};
 
@@ -25,11 +25,13 @@ fn is_over(link: u32, found: u32) -> bool
 #[inline(always)]
 pub fn check_once<W: Words>(words: &mut W, post: &Post, index: u32, root: Root, link: u32) -> u32
     requires valid { W.valid words.old }
+    requires later { W.later words.old }
     requires own { IsValid post.now }
     requires index { IndexFits post.now index }
     requires root { RootFits post.now.layout root }
     requires here { (t : Trial) × Here (W.at words.old) (hazarding t index root link post.now) }
     ensures valid { W.valid words.new }
+    ensures later { W.later words.new }
     ensures same { W.same words.old words.new }
     ensures rest { W.rest words.new < W.rest words.old }
     ensures fits { LinkFits post.now result }
@@ -45,11 +47,13 @@ pub fn check_once<W: Words>(words: &mut W, post: &Post, index: u32, root: Root, 
 #[inline(always)]
 pub fn check_on<W: Words>(words: &mut W, post: &Post, index: u32, root: Root, first: u32) -> Guarded
     requires valid { W.valid words.old }
+    requires later { W.later words.old }
     requires own { IsValid post.now }
     requires index { IndexFits post.now index }
     requires root { RootFits post.now.layout root }
     requires here { (t : Trial) × Here (W.at words.old) (hazarding t index root first post.now) }
     ensures valid { W.valid words.new }
+    ensures later { W.later words.new }
     ensures same { W.same words.old words.new }
     ensures rest { W.rest words.new ≤ W.rest words.old }
     ensures fits { LinkFits post.now result.link }
@@ -82,6 +86,7 @@ pub fn protect_hp<W: Words>(words: &mut W, post: &Post, index: u32, root: Root) 
     requires root { RootFits post.now.layout root }
     requires here { (t : Trial) × Here (W.at words.old) (protecting t index root (ByHazard FirstLink) post.now) }
     ensures valid { W.valid words.new }
+    ensures later { W.later words.new }
     ensures same { W.same words.old words.new }
     ensures rest { W.rest words.new < W.rest words.old }
     ensures fits { LinkFits post.now result.link }
@@ -89,7 +94,7 @@ pub fn protect_hp<W: Words>(words: &mut W, post: &Post, index: u32, root: Root) 
     ensures leads { (t : Trial) → Here (W.at words.old) (protecting t index root (ByHazard FirstLink) post.now) → (n : ℕ)
         × Leads (W.at words.old) (W.at words.new) (W.stands words.old) (W.stands words.new) (protecting t index root (ByHazard FirstLink) post.now) (guarded_at t index root post.now n result) }
 {
-    let link = step(words, load_link(post, root)) as u32;
+    let link = any_step(words, load_link(post, root)) as u32;
     if link == 0 {
         return Guarded {
             link,

@@ -23,7 +23,9 @@ pub use facts::{answers_leave_groups, histories_ready_seats};
 pub use get::{bucket_for, get_by_index, note_steps, root_for};
 pub use get_span::{begin_span, get_ibr_in, store_none};
 pub use machine::drive_on;
-pub use path::{load_cell, load_clock, load_link, publish, publish_as, publishes_rows, step};
+pub use path::{
+    any_step, load_cell, load_clock, load_link, publish, publish_as, publishes_rows, step,
+};
 pub use protect::{Guarded, Tried, try_on, try_once};
 pub use wfe_bucketmap_read::{He, Hp, Wfe};
 pub use wfe_drive_cells::Located;

@@ -18,15 +18,31 @@ use wfe_drive_cells::Located;
 
 // Makes the step that the seat's state asks for, whichever state that is.
 #[inline(always)]
-pub fn step<W: Words>(words: &mut W, op: Located) -> u64
+pub fn any_step<W: Words>(words: &mut W, op: Located) -> u64
     requires valid { W.valid words.old }
     requires asks { (seat : SeatView) × AsksFor (W.at words.old) seat op }
     ensures valid { W.valid words.new }
+    ensures later { W.later words.new }
     ensures same { W.same words.old words.new }
     ensures rest { W.rest words.new < W.rest words.old }
     ensures steps { StepFrom (W.at words.old) (W.at words.new) (W.stands words.old) (W.stands words.new) op result }
 {
     words.perform(op)
+}
+
+// The same, where the call has made a step before.
+#[inline(always)]
+pub fn step<W: Words>(words: &mut W, op: Located) -> u64
+    requires valid { W.valid words.old }
+    requires later { W.later words.old }
+    requires asks { (seat : SeatView) × AsksFor (W.at words.old) seat op }
+    ensures valid { W.valid words.new }
+    ensures later { W.later words.new }
+    ensures same { W.same words.old words.new }
+    ensures rest { W.rest words.new < W.rest words.old }
+    ensures steps { StepFrom (W.at words.old) (W.at words.new) (W.stands words.old) (W.stands words.new) op result }
+{
+    words.perform_on(op)
 }
 
 // A load of the clock.

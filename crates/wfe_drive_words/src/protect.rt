@@ -9,7 +9,7 @@ ghost use Rattle.wfe_drive_words.specs.Called.{Here};
 ghost use Rattle.wfe_drive_words.specs.Path.{Leads, Publishes, Trial, TriedFits, endless, guarded_at, protecting, publishing, tried_at};
 
 use crate::Words;
-use crate::path::{load_clock, load_link, publish, step};
+use crate::path::{any_step, load_clock, load_link, publish, step};
 use wfe_core::{Post, Root};
 
 // What a try came to: the link, or the era that the clock was at.
@@ -31,11 +31,13 @@ pub struct Guarded {
 #[inline(always)]
 pub fn try_once<W: Words>(words: &mut W, post: &Post, index: u32, root: Root, era: u32) -> Tried
     requires valid { W.valid words.old }
+    requires later { W.later words.old }
     requires own { IsValid post.now }
     requires index { IndexFits post.now index }
     requires root { RootFits post.now.layout root }
     requires here { (t : Trial) × Publishes (W.at words.old) t index root era post.now }
     ensures valid { W.valid words.new }
+    ensures later { W.later words.new }
     ensures same { W.same words.old words.new }
     ensures rest { W.rest words.new < W.rest words.old }
     ensures fits { TriedFits post.now result }
@@ -56,11 +58,13 @@ pub fn try_once<W: Words>(words: &mut W, post: &Post, index: u32, root: Root, er
 #[inline(always)]
 pub fn try_on<W: Words>(words: &mut W, post: &Post, index: u32, root: Root, first: u32) -> Guarded
     requires valid { W.valid words.old }
+    requires later { W.later words.old }
     requires own { IsValid post.now }
     requires index { IndexFits post.now index }
     requires root { RootFits post.now.layout root }
     requires here { (t : Trial) × Publishes (W.at words.old) (endless t) index root first post.now }
     ensures valid { W.valid words.new }
+    ensures later { W.later words.new }
     ensures same { W.same words.old words.new }
     ensures rest { W.rest words.new ≤ W.rest words.old }
     ensures fits { LinkFits post.now result.link }
@@ -94,6 +98,7 @@ pub fn protect_he<W: Words>(words: &mut W, post: &Post, index: u32, root: Root) 
     requires root { RootFits post.now.layout root }
     requires here { (t : Trial) × Here (W.at words.old) (protecting t index root (LoadClock Endless) post.now) }
     ensures valid { W.valid words.new }
+    ensures later { W.later words.new }
     ensures same { W.same words.old words.new }
     ensures rest { W.rest words.new < W.rest words.old }
     ensures fits { LinkFits post.now result.link }
@@ -101,7 +106,7 @@ pub fn protect_he<W: Words>(words: &mut W, post: &Post, index: u32, root: Root) 
     ensures leads { (t : Trial) → Here (W.at words.old) (protecting t index root (LoadClock Endless) post.now) → (n : ℕ)
         × Leads (W.at words.old) (W.at words.new) (W.stands words.old) (W.stands words.new) (protecting t index root (LoadClock Endless) post.now) (guarded_at t index root post.now n result) }
 {
-    let era = step(words, load_clock(post)) as u32;
+    let era = any_step(words, load_clock(post)) as u32;
     let tried = try_on(words, post, index, root, era);
     Guarded {
         link: tried.link,

@@ -12,7 +12,7 @@ ghost use Rattle.wfe_drive_words.specs.Called.{Here};
 ghost use Rattle.wfe_drive_words.specs.Path.{Leads, LookedFits, Trial, looked_at, protecting, spanned, within_at};
 
 use crate::Words;
-use crate::path::{load_clock, load_link, step};
+use crate::path::{any_step, load_clock, load_link, step};
 use crate::protect::Guarded;
 use wfe_core::{Op, Post, Root, Span, span_word};
 use wfe_drive_cells::Located;
@@ -43,6 +43,7 @@ pub fn look<W: Words>(words: &mut W, post: &Post, root: Root, lo: u32, hi: u32) 
     requires root { RootFits post.now.layout root }
     requires here { (t : Trial) × (index : ℕ) × Here (W.at words.old) (protecting t index root LoadWithin (spanned post.now lo hi)) }
     ensures valid { W.valid words.new }
+    ensures later { W.later words.new }
     ensures same { W.same words.old words.new }
     ensures rest { W.rest words.new < W.rest words.old }
     ensures fits { LookedFits post.now lo result }
@@ -50,7 +51,7 @@ pub fn look<W: Words>(words: &mut W, post: &Post, root: Root, lo: u32, hi: u32) 
     ensures leads { (t : Trial) (index : ℕ) → Here (W.at words.old) (protecting t index root LoadWithin (spanned post.now lo hi))
         → Leads (W.at words.old) (W.at words.new) (W.stands words.old) (W.stands words.new) (protecting t index root LoadWithin (spanned post.now lo hi)) (looked_at t index root lo hi post.now result) }
 {
-    let link = step(words, load_link(post, root)) as u32;
+    let link = any_step(words, load_link(post, root)) as u32;
     let era = step(words, load_clock(post)) as u32;
     if era == hi {
         return Looked::Stands { link };
@@ -67,6 +68,7 @@ pub fn protect_within<W: Words>(words: &mut W, post: &Post, root: Root, lo: u32,
     requires root { RootFits post.now.layout root }
     requires here { (t : Trial) × (index : ℕ) × Here (W.at words.old) (protecting t index root LoadWithin (spanned post.now lo hi)) }
     ensures valid { W.valid words.new }
+    ensures later { W.later words.new }
     ensures same { W.same words.old words.new }
     ensures rest { W.rest words.new < W.rest words.old }
     ensures fits { LinkFits post.now result.link }

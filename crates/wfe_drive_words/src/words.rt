@@ -22,6 +22,9 @@ pub trait Words: Drop {
     /// What holds between calls of the methods.
     ghost valid: { Self → Type 0 };
 
+    /// What holds once the call under way has made a step.
+    ghost later: { Self → Type 0 };
+
     /// The second is the first, some steps later.
     ghost same: { Self → Self → Type 0 };
 
@@ -54,6 +57,22 @@ pub trait Words: Drop {
         requires asks { (l : Local) × at self.old l × (busy_in l.phase ≡ true) × (op ≡ located l.post.layout (asks l))
             × (stays l.call ≡ true) }
         ensures valid { valid self.new }
+        ensures later { later self.new }
+        ensures same { same self.old self.new }
+        ensures at { (l : Local) → at self.old l → busy_in l.phase ≡ true → op ≡ located l.post.layout (asks l)
+            → (g : Given l result) × at self.new (after (lent g) result) }
+        ensures rest { rest self.new < rest self.old }
+        ensures stands { (xs : List (Operation × ℕ)) → stands self.old xs
+            → stands self.new (xs ++ (op.op, result) ∷ []) };
+
+    /// The same, where the call has made a step before.
+    fn perform_on(&mut self, op: Located) -> u64
+        requires valid { valid self.old }
+        requires later { later self.old }
+        requires asks { (l : Local) × at self.old l × (busy_in l.phase ≡ true) × (op ≡ located l.post.layout (asks l))
+            × (stays l.call ≡ true) }
+        ensures valid { valid self.new }
+        ensures later { later self.new }
         ensures same { same self.old self.new }
         ensures at { (l : Local) → at self.old l → busy_in l.phase ≡ true → op ≡ located l.post.layout (asks l)
             → (g : Given l result) × at self.new (after (lent g) result) }

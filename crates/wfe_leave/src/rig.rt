@@ -102,6 +102,7 @@ impl<C: Cells> LeaveRig<C> {
     /// Makes one unit of the seat's call: exactly one operation on the words, and exactly one step of
     /// the model. Its events are told, and the answer is Some where the call ended. It takes no
     /// memory, and leaves a call that goes on fewer units.
+    #[inline(always)]
     pub fn unit(&mut self, seat: u32, told: &mut Told) -> Option<Answer>
         requires seat { seat < self.old.layout.config.seats }
         requires busy { busy_in (seat_at self.old seat).phase ≡ true }
@@ -143,6 +144,7 @@ impl<C: MakeCells> Engine for LeaveRig<C> {
         LeaveRig::start(self, seat, call)
     }
 
+    #[inline(always)]
     fn unit(&mut self, seat: u32, told: &mut Told) -> Option<Answer> {
         LeaveRig::unit(self, seat, told)
     }

@@ -87,6 +87,7 @@ fn call_unit<C: Cells>(rig: &mut Rig<C>, seat: u32, told: &mut Told) -> Made
 }
 
 // A seat that leaves lets go of something that stands, or leaves its list once nothing does.
+#[inline(never)]
 fn part_unit<C: Cells>(
     rig: &mut Rig<C>,
     layout: Layout,
@@ -118,6 +119,7 @@ fn part_unit<C: Cells>(
 }
 
 // A seat takes over the list that another has left, if one is left there.
+#[inline(never)]
 fn take_unit<C: Cells>(
     rig: &mut Rig<C>,
     layout: Layout,
@@ -156,6 +158,7 @@ fn take_unit<C: Cells>(
 }
 
 // It marks the list as taken over.
+#[inline(never)]
 fn mark_unit<C: Cells>(
     rig: &mut Rig<C>,
     layout: Layout,

@@ -2,8 +2,8 @@
 use Rattle.std.specs.Prelude.{ℕ}
 use Rattle.wfe_table.specs.history.defs.declared.call.Answer.{Answer}
 use Rattle.wfe_table.specs.history.defs.declared.call.Answer.TheVariants as answers
-use Rattle.wfe_table_words.specs.declared.answers.AdoptEnd.{AdoptEnd}
-use Rattle.wfe_table_words.specs.declared.answers.AdoptEnd.TheVariants as adopts
+use Rattle.wfe_table_end.specs.declared.answers.AdoptEnd.{AdoptEnd}
+use Rattle.wfe_table_end.specs.declared.answers.AdoptEnd.TheVariants as adopts
 
 abbrev pub adopt_answer : AdoptEnd → Answer
 adopt_answer (adopts.Adopted count) = answers.Adopted count

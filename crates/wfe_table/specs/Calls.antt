@@ -18,15 +18,15 @@ use Rattle.wfe_drive_call.specs.drive_words.Called.{Ends}
 use Rattle.wfe_drive_rule.specs.Handles.{IsTracked}
 use Rattle.wfe_drive_rule.specs.Views.{seat_of}
 use Rattle.wfe_table.specs.Public.{SeatNow}
-use Rattle.wfe_table_words.specs.declared.answers.Looked.{Looked}
-use Rattle.wfe_table_words.specs.declared.refusals.PutIfRefusal.{PutIfRefusal}
-use Rattle.wfe_table_words.specs.declared.refusals.PutIfRefusal.TheVariants as put_ifs
-use Rattle.wfe_table_words.specs.declared.refusals.PutRefusal.{PutRefusal}
-use Rattle.wfe_table_words.specs.declared.refusals.PutRefusal.TheVariants as puts
-use Rattle.wfe_table_words.specs.declared.refusals.RemoveRefusal.{RemoveRefusal}
-use Rattle.wfe_table_words.specs.declared.refusals.RemoveRefusal.TheVariants as removes
-use Rattle.wfe_table_words.specs.declared.refusals.EnqueueRefusal.{EnqueueRefusal}
-use Rattle.wfe_table_words.specs.declared.refusals.EnqueueRefusal.TheVariants as enqueues
+use Rattle.wfe_table_end.specs.declared.answers.Looked.{Looked}
+use Rattle.wfe_table_end.specs.declared.refusals.PutIfRefusal.{PutIfRefusal}
+use Rattle.wfe_table_end.specs.declared.refusals.PutIfRefusal.TheVariants as put_ifs
+use Rattle.wfe_table_end.specs.declared.refusals.PutRefusal.{PutRefusal}
+use Rattle.wfe_table_end.specs.declared.refusals.PutRefusal.TheVariants as puts
+use Rattle.wfe_table_end.specs.declared.refusals.RemoveRefusal.{RemoveRefusal}
+use Rattle.wfe_table_end.specs.declared.refusals.RemoveRefusal.TheVariants as removes
+use Rattle.wfe_table_end.specs.declared.refusals.EnqueueRefusal.{EnqueueRefusal}
+use Rattle.wfe_table_end.specs.declared.refusals.EnqueueRefusal.TheVariants as enqueues
 
 -- the call, its answer and its notes
 abbrev pub group_of : Call → Answer → SeatNow → Group

@@ -5,7 +5,6 @@ pub use Rattle.wfe_drive_rule.specs.inv as inv
 pub use Rattle.wfe_drive_rule.specs.history as history
 pub use Rattle.wfe_drive_cells.specs as drive_cells
 pub use Rattle.wfe_table_end.specs as closed
-pub use Rattle.wfe_table_words.specs as table_words
 pub mod Answers
 pub mod Backs
 pub mod Calls

@@ -3,8 +3,8 @@ use Rattle.std.specs.Prelude.{Err, Ok, ◌≡◌}
 use Rattle.wfe_core.specs.words.Place.{layout_of}
 use Rattle.wfe_core.specs.words.declared.config.Config.{Config}
 use Rattle.wfe_core.specs.words.declared.layout.Layout.{Layout}
-use Rattle.wfe_table_words.specs.declared.refusals.MakeError.{MakeError}
-use Rattle.wfe_table_words.specs.declared.refusals.MakeError.TheVariants as errors
+use Rattle.wfe_table_end.specs.declared.refusals.MakeError.{MakeError}
+use Rattle.wfe_table_end.specs.declared.refusals.MakeError.TheVariants as errors
 
 -- the setting's first number out of range; or the setting was taken, and memory ran out
 abbrev pub IsRefused : Config → MakeError → Type 0

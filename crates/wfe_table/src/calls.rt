@@ -11,7 +11,7 @@ ghost use Rattle.wfe_table.specs.Public.{IsOf, stands_at, steps_of};
 use crate::seat::Seat;
 use crate::shared::Shared;
 use wfe_core::{Answer, Call, ClockMove};
-use wfe_table_words::{
+use wfe_table_end::{
     Done, Empty, EnqueueRefusal, Got, Looked, PutIfRefusal, PutRefusal, Queued, RemoveRefusal,
     Scanned, Taken,
 };

@@ -8,7 +8,7 @@ ghost use Rattle.wfe_table.specs.history.defs.declared.call.Call.TheVariants as 
 ghost use Rattle.wfe_table.specs.Answers.{adopt_answer, adopt_steps};
 
 use crate::{LeftSeat, Seat, Shared};
-use wfe_table_words::AdoptEnd;
+use wfe_table_end::AdoptEnd;
 
 /// The seat leaves its table: it lets go of all that stands at its indexes, and its list of retired rows
 /// stays with the table, where another seat may adopt it. Keep what is given back until the table is closed.

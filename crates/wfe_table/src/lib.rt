@@ -33,9 +33,8 @@ pub use wfe_core::{
     Answer, Call, ClockMove, Config, Guard, Interval, Layout, Lifetime, NoMemory, Notes,
     RetireList, ScanReport, SchemeKind, Shown,
 };
-pub use wfe_table_end::{BucketRow, Closed, ClosedRoom};
-pub use wfe_table_words::{
-    AdoptEnd, Done, Empty, EnqueueRefusal, Got, Looked, MakeError, PutIfRefusal, PutRefusal,
-    Queued, RemoveRefusal, Scanned, Taken, usual,
+pub use wfe_table_end::{
+    AdoptEnd, BucketRow, Closed, ClosedRoom, Done, Empty, EnqueueRefusal, Got, Looked, MakeError,
+    PutIfRefusal, PutRefusal, Queued, RemoveRefusal, Scanned, Taken, usual,
 };
 pub use wfe_words::{BadConfig, Field};

@@ -23,7 +23,7 @@ use std::marker::Model;
 use wfe_core::{Answer, Call, Desk, Layout, NoMemory, Notes, Post, RetireList, ScanReport};
 use wfe_drive_call::{bucket_for, drive_call, drive_get};
 use wfe_drive_rule::{Handle, Ledger, give_slot, hear_news, tell_news};
-use wfe_table_words::Got;
+use wfe_table_end::Got;
 
 /// A seat of a shared table, with which one thread makes calls. It may move to another thread. It is
 /// seen as the table that it is of, its local state, and the history up to its own last step; of these
@@ -74,6 +74,7 @@ impl Seat {
     }
 
     // Makes a get on the table that the seat is of, in code of its own.
+    #[inline(always)]
     pub(crate) fn get(&mut self, ledger: &Ledger, key: u64) -> Got
         requires table { self.old.table ≡ ledger.now.table_id }
         requires layout { self.old.track.local.post.layout ≡ ledger.now.key }
@@ -111,6 +112,7 @@ impl Seat {
     }
 
     // Makes a whole call of a seat that stays, on the table that it is of. A get is compiled apart from the others.
+    #[inline(always)]
     pub(crate) fn make(&mut self, ledger: &Ledger, call: Call) -> Answer
         requires table { self.old.table ≡ ledger.now.table_id }
         requires layout { self.old.track.local.post.layout ≡ ledger.now.key }
@@ -270,6 +272,7 @@ impl Seat {
 }
 
 // The key of a call whose answer tells a version of the key's bucket, and that version.
+#[inline(always)]
 fn version_told(call: Call, answer: Answer) -> Option<(u64, u64)>
     ensures { result ≡ version_told call answer }
 {
@@ -300,6 +303,7 @@ fn version_told(call: Call, answer: Answer) -> Option<(u64, u64)>
 }
 
 // The versions seen, with the answer of one call more.
+#[inline(always)]
 fn meet(seen: &mut Vec<u64>, layout: Layout, call: Call, answer: Answer)
     requires valid { is_valid layout ≡ true }
     requires met { (met : _) × IsMet layout.config.buckets met seen.old.items }

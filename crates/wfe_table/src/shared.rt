@@ -14,8 +14,7 @@ use std::alloc::Global;
 use std::marker::Model;
 use wfe_core::{Answer, Call, Config, Layout, NoMemory};
 use wfe_drive_rule::{OwnedLedger, open, split, take_slot};
-use wfe_table_end::{Closed, ClosedRoom};
-use wfe_table_words::MakeError;
+use wfe_table_end::{Closed, ClosedRoom, MakeError};
 
 /// A table of words that threads share. Calls are made on it with its seats. It is seen as which table
 /// it is, and its layout.
@@ -115,6 +114,7 @@ impl Shared {
     /// Makes a call on a seat of this table, named by a value, and gives its answer. The call must be one
     /// that may begin: the indexes that it names are from 2 on and the table has them, and a copy goes
     /// upwards; and the seat neither leaves by it nor takes over what another has left.
+    #[inline(always)]
     pub fn call(&self, seat: &mut Seat, call: Call) -> Answer
         requires of { IsOf seat.old self.now }
         requires may { may_begin self.now.layout.config call ≡ true }

@@ -14,8 +14,8 @@ pub(crate) struct TableWords<'a> {
 }
 
 impl<'a> Words for TableWords<'a> {
-    ghost use Rattle.std.specs.Prelude.{◌-◌, ◌≡◌, ◌^◌};
-    ghost use Rattle.wfe_drive_rule.specs.Views.{standing};
+    ghost use Rattle.std.specs.Prelude.{◌-◌, ◌≡◌, ◌^◌, None};
+    ghost use Rattle.wfe_drive_rule.specs.Views.{call_in, standing};
     ghost use Rattle.wfe_table.specs.TableWords.{IsFit, IsLater, comes_by, later_on, later_self};
 
     ghost at = { λ w l. standing w.handle.now.me ≡ l };
@@ -25,6 +25,8 @@ impl<'a> Words for TableWords<'a> {
     ghost rest = { λ w. 2 ^ 62 - (standing w.handle.now.me).post.steps };
 
     ghost valid = { λ w. IsFit w };
+
+    ghost later = { λ w. call_in w.handle.now.me.1 ≡ None };
 
     ghost same = { IsLater };
 
@@ -46,6 +48,11 @@ impl<'a> Words for TableWords<'a> {
             self.first = false;
             return step(self.ledger, self.handle, self.seat, op.op, op.spot, true);
         }
+        step(self.ledger, self.handle, self.seat, op.op, op.spot, false)
+    }
+
+    #[inline(always)]
+    fn perform_on(&mut self, op: Located) -> u64 {
         step(self.ledger, self.handle, self.seat, op.op, op.spot, false)
     }
 }

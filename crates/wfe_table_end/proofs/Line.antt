@@ -9,7 +9,7 @@ use Rattle.std.proofs.lemmas.Map.Steps.{le-length_from_below}
 use Rattle.std.specs.List.{list_any, range_with_len}
 use Rattle.std.specs.Prelude.{slice_index_or, ◌==◌}
 use Rattle.law_reasons.specs.inv.Inv.{Inv}
-use Rattle.law_reasons.specs.inv.contents.Reads.{value_under}
+use Rattle.law_reasons.specs.inv.Contents.Reads.{value_under}
 use Rattle.law_reasons.specs.inv.rows.Chain.{queue_of}
 use Rattle.law_reasons.specs.inv.rows.Queue.{in_queue}
 use Rattle.law_reasons.specs.inv.rows.Rows.{Status, is_taken}

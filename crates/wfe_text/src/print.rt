@@ -10,6 +10,7 @@ use wfe_defs::{Answer, ClockMove, Event, Guard, Interval, Root};
 use wfe_words::{Config, SchemeKind};
 
 // A word after a space.
+#[inline(always)]
 fn word(line: &mut Line, bytes: &[u8])
     requires room { length line.old ≤ 1000 }
     requires short { length bytes.now ≤ 20 }
@@ -64,6 +65,7 @@ fn numbers(line: &mut Line, numbers: &[u64])
 }
 
 // A word and numbers, each after a space.
+#[inline(always)]
 fn word_and_numbers(line: &mut Line, name: &[u8], of: &[u64])
     requires room { length line.old ≤ 800 }
     requires short { length name.now ≤ 20 }
@@ -75,6 +77,8 @@ fn word_and_numbers(line: &mut Line, name: &[u8], of: &[u64])
     numbers(line, of);
 }
 
+// It is part of each place that prints one, which knows how many numbers its phrase has.
+#[inline(always)]
 fn print_phrase(line: &mut Line, phrase: Phrase)
     requires room { length line.old ≤ 800 }
     requires short { length (first_word (phrase_words phrase)) ≤ 20 }
@@ -90,6 +94,7 @@ fn print_phrase(line: &mut Line, phrase: Phrase)
     }
 }
 
+#[inline(always)]
 fn print_guard(line: &mut Line, guard: Guard)
     requires { length line.old ≤ 800 }
     ensures text { line.new ≡ line.old ++ (32 ∷ guard_word guard) }

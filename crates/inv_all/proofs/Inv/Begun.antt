@@ -27,10 +27,10 @@ use Rattle.inv_ends.proofs.rows.Whole.{whole_start, whole_begin}
 use Rattle.inv_ends.proofs.covers.Begun.{held_start, held_begin}
 use Rattle.inv_ends.proofs.covers.Kept.{scans_start, scans_begin}
 use Rattle.inv_ends.proofs.covers.Resting.{rests_start, rests_begin, spans_rest}
-use Rattle.inv_contents.proofs.Contents.Begun.{contents_start, contents_begin}
-use Rattle.inv_contents.proofs.Stands.Kept.{stands_start, stands_begin}
-use Rattle.inv_contents.proofs.Items.Begun.{items_start, items_begin}
-use Rattle.inv_contents.proofs.Items.Bounds.{bounded_start, bounded_begin}
+use Rattle.inv_all.proofs.Contents.Contents.Begun.{contents_start, contents_begin}
+use Rattle.inv_all.proofs.Contents.Stands.Kept.{stands_start, stands_begin}
+use Rattle.inv_all.proofs.Contents.Items.Begun.{items_start, items_begin}
+use Rattle.inv_all.proofs.Contents.Items.Bounds.{bounded_start, bounded_begin}
 use Rattle.inv_ends.proofs.Handover.Begun.{handover_start, handover_begin}
 use Rattle.inv_ends.proofs.Links.Kept.{links_start, links_begin}
 use Rattle.inv_ends.proofs.Rest.Lasting.{losses_start, losses_begin}

@@ -57,8 +57,8 @@ use Rattle.inv_ends.specs.covers.Held.{Held, tries_base, tries_protect, under}
 use Rattle.inv_ends.specs.covers.Held as held
 use Rattle.inv_ends.proofs.covers.Rows.{listed_other}
 use Rattle.inv_ends.specs.Helped.{Helped, answered_from, helper_holds, move_holds, passed_to, turn_holds}
-use Rattle.inv_contents.specs.Contents.{Contents}
-use Rattle.inv_contents.specs.Items.{Items}
+use Rattle.inv_all.specs.Contents.Contents.{Contents}
+use Rattle.inv_all.specs.Contents.Items.{Items}
 use Rattle.inv_ends.specs.Links.{Links, links_to}
 use Rattle.inv_ends.specs.Tracked.{Tracked, root_in}
 use Rattle.inv_ends.specs.Tracked as tracked

@@ -42,11 +42,11 @@ use Rattle.inv_ends.specs.covers.Held.{Held}
 use Rattle.inv_ends.proofs.covers.Held.{held_kept}
 use Rattle.inv_ends.proofs.covers.Kept.{scans_kept}
 use Rattle.inv_ends.proofs.covers.Resting.{rests_kept}
-use Rattle.inv_contents.proofs.Contents.Kept.{contents_kept}
+use Rattle.inv_all.proofs.Contents.Contents.Kept.{contents_kept}
 use Rattle.inv_ends.specs.Helped.{Helped}
-use Rattle.inv_contents.proofs.Stands.Kept.{stands_kept}
-use Rattle.inv_contents.proofs.Items.Kept.{items_kept}
-use Rattle.inv_contents.proofs.Items.Bounds.{bounded_kept}
+use Rattle.inv_all.proofs.Contents.Stands.Kept.{stands_kept}
+use Rattle.inv_all.proofs.Contents.Items.Kept.{items_kept}
+use Rattle.inv_all.proofs.Contents.Items.Bounds.{bounded_kept}
 use Rattle.inv_ends.proofs.Handover.Kept.{handover_kept}
 use Rattle.inv_ends.proofs.Links.Kept.{links_kept}
 use Rattle.inv_ends.specs.Falls.{RestNeeds}

@@ -4,12 +4,12 @@ use Rattle.inv_ends.specs.model.words.Place.Place.{Index}
 use Rattle.inv_ends.specs.model.words.Schemes.{publishes_rows}
 use Rattle.inv_ends.proofs.covers.Begun.{standing_stays}
 use Rattle.inv_ends.proofs.requests.Known.{copying}
-use Rattle.inv_contents.proofs.Contents.Kept.{contents_looked, contents_told}
-use Rattle.inv_contents.proofs.Items.Gives.{items_told, items_count, empty_right}
+use Rattle.inv_all.proofs.Contents.Contents.Kept.{contents_looked, contents_told}
+use Rattle.inv_all.proofs.Contents.Items.Gives.{items_told, items_count, empty_right}
 use Rattle.inv_ends.proofs.requests.Falling.{moves_on, needs_of}
 use Rattle.inv_ends.proofs.requests.Paced.{in_time}
 use Rattle.inv_ends.proofs.requests.Pending.{pending}
-use Rattle.inv_contents.proofs.Contents.Buckets.{buckets_show}
+use Rattle.inv_all.proofs.Contents.Contents.Buckets.{buckets_show}
 use Rattle.inv_all.specs.Shows.{InvTimes, InvShows}
 use Rattle.inv_all.specs.Inv.{InvCopies, InvTells, InvStays}
 use Rattle.inv_all.proofs.Inv.Guards.{copied_shows}

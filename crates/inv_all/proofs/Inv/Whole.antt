@@ -19,15 +19,15 @@ use Rattle.inv_ends.specs.rows.Tries.{base_tries, WholeNeeds}
 use Rattle.inv_ends.proofs.rows.Whole.{whole_needs}
 use Rattle.inv_ends.specs.covers.Covers.{takes_or_frees, CoversNeeds}
 use Rattle.inv_ends.specs.covers.Held.{under}
-use Rattle.inv_contents.specs.Contents.{ContentsNeeds}
+use Rattle.inv_all.specs.Contents.Contents.{ContentsNeeds}
 use Rattle.inv_ends.specs.Handover.{HandoverNeeds, IsLeft, RowsLeft}
 use Rattle.inv_ends.specs.Origins.{OriginsNeeds}
 use Rattle.inv_ends.specs.Tracked.{carries_in, root_for, root_in, Tracked, Carried}
 use Rattle.inv_ends.specs.Links.{LinksNeeds, LinksShow}
-use Rattle.inv_contents.specs.Stands.{nexts_in, read_index}
-use Rattle.inv_contents.specs.Items.{ItemsNeeds}
-use Rattle.inv_contents.proofs.Items.Gives.{last_number}
-use Rattle.inv_contents.proofs.Items.Finds.{work_finds_fit}
+use Rattle.inv_all.specs.Contents.Stands.{nexts_in, read_index}
+use Rattle.inv_all.specs.Contents.Items.{ItemsNeeds}
+use Rattle.inv_all.proofs.Contents.Items.Gives.{last_number}
+use Rattle.inv_all.proofs.Contents.Items.Finds.{work_finds_fit}
 use Rattle.inv_ends.proofs.Handover.Kept.{rows_stay}
 use Rattle.inv_ends.proofs.Links.Given.{links_give}
 use Rattle.inv_ends.proofs.Links.Tried.{held_links_stay}

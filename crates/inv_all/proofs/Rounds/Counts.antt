@@ -1,24 +1,24 @@
 -- What a step makes of the roots, the links and the counts: counts never fall, and where a root is another one has risen.
 use Rattle.std.proofs.Common.{length-append, bit_or, bit_and, ℕ, ◌≡◌, ◌≤◌, ◌+◌, ◌-◌, Bool, true, false, [], ◌∷◌, arith, refl}
 use Rattle.std.proofs.lemmas.Bool.Decides.{nat_tests}
-use Rattle.inv_contents.specs.words.Place.{Place, same}
-use Rattle.inv_contents.specs.words.Place.Place.{Clock, Helper, Index, Interval, Bucket, Head, Tail, Claim, Life, Row, PlaceOf, Request as RequestOf}
-use Rattle.inv_contents.specs.model.Memory.{Load, Store, Cas, Or, And, written, change, Move as Memory}
-use Rattle.inv_contents.specs.defs.declared.event.Event.TheVariants as events
-use Rattle.inv_contents.specs.defs.declared.event.Root.TheVariants as roots
-use Rattle.inv_contents.specs.defs.declared.fold.Change.TheVariants as changes
-use Rattle.inv_contents.specs.model.Book.{Book, booked, booked_all, booked_link, with_change}
-use Rattle.inv_contents.specs.defs.declared.event.Event.{Event}
-use Rattle.inv_contents.specs.defs.declared.event.Root.{Root}
-use Rattle.inv_contents.specs.defs.declared.fold.Change.{Change}
+use Rattle.inv_ends.specs.model.words.Place.{Place, same}
+use Rattle.inv_ends.specs.model.words.Place.Place.{Clock, Helper, Index, Interval, Bucket, Head, Tail, Claim, Life, Row, PlaceOf, Request as RequestOf}
+use Rattle.inv_ends.specs.model.Memory.{Load, Store, Cas, Or, And, written, change, Move as Memory}
+use Rattle.inv_ends.specs.model.defs.declared.event.Event.TheVariants as events
+use Rattle.inv_ends.specs.model.defs.declared.event.Root.TheVariants as roots
+use Rattle.inv_ends.specs.model.defs.declared.fold.Change.TheVariants as changes
+use Rattle.inv_ends.specs.model.Book.{Book, booked, booked_all, booked_link, with_change}
+use Rattle.inv_ends.specs.model.defs.declared.event.Event.{Event}
+use Rattle.inv_ends.specs.model.defs.declared.event.Root.{Root}
+use Rattle.inv_ends.specs.model.defs.declared.fold.Change.{Change}
 use Rattle.inv_all.proofs.Rounds.Grows.{Grows}
 use Rattle.inv_all.specs.Tallies.{Tally}
-use Rattle.inv_contents.specs.rows.Queue.{Line}
-use Rattle.inv_contents.specs.words.Schemes.{publishes_rows}
-use Rattle.inv_contents.specs.words.declared.config.Config.{Config}
+use Rattle.inv_ends.specs.rows.Queue.{Line}
+use Rattle.inv_ends.specs.model.words.Schemes.{publishes_rows}
+use Rattle.inv_ends.specs.model.words.declared.config.Config.{Config}
 use Rattle.std.specs.Prelude.{List, ◌++◌, length, nat_le, if◌then◌else◌, ◌==◌}
-use Rattle.inv_contents.proofs.rows.Words.{put_other}
-use Rattle.inv_contents.proofs.model.Facts.{same_or}
+use Rattle.inv_ends.proofs.rows.Words.{put_other}
+use Rattle.inv_ends.proofs.model.Facts.{same_or}
 
 -- the counts of these words, this book and this line
 abbrev pub tally_of : Config → (Place → ℕ) → Book → Line → Tally

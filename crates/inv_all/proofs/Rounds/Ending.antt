@@ -1,35 +1,35 @@
 -- Each step keeps what is known of rounds, and so no call loses more than it may.
-use Rattle.inv_contents.specs.model.Keep as keeps
+use Rattle.inv_ends.specs.model.Keep as keeps
 use Rattle.std.proofs.Common.{ℕ, ◌∙◌, ◌≡◌, ◌≤◌, ◌+◌, ◌*◌, ◌-◌, Bool, true, false, arith, refl, sym, ap, subst}
 use Rattle.std.proofs.lemmas.Bool.Decides.{nat_tests}
-use Rattle.inv_contents.specs.words.Place.{Place}
-use Rattle.inv_contents.specs.words.Place.Place.{Clock, Bucket, Head, Tail, Row}
-use Rattle.inv_contents.specs.model.Phases.Base.{Move, Allocate, Begin, Clear, Finish, GiveUp, Protect, Release, Reload, Retire, Write}
-use Rattle.inv_contents.specs.model.Memory.{bump}
-use Rattle.inv_contents.specs.model.Steps as steps
-use Rattle.inv_contents.specs.model.Machine as machine
-use Rattle.inv_contents.specs.rows.Rows.{View}
+use Rattle.inv_ends.specs.model.words.Place.{Place}
+use Rattle.inv_ends.specs.model.words.Place.Place.{Clock, Bucket, Head, Tail, Row}
+use Rattle.inv_ends.specs.model.Phases.Base.{Move, Allocate, Begin, Clear, Finish, GiveUp, Protect, Release, Reload, Retire, Write}
+use Rattle.inv_ends.specs.model.Memory.{bump}
+use Rattle.inv_ends.specs.model.Steps as steps
+use Rattle.inv_ends.specs.model.Machine as machine
+use Rattle.inv_ends.specs.rows.Rows.{View}
 use Rattle.inv_ends.specs.requests.Views.{View as Asking}
 use Rattle.inv_ends.specs.shapes.Frame.{phase_left as stands_at}
 use Rattle.inv_ends.proofs.shapes.Kept.{one_moves}
-use Rattle.inv_contents.specs.defs.declared.event.Root.TheVariants as roots
-use Rattle.inv_contents.specs.defs.declared.fold.Change.TheVariants as changes
-use Rattle.inv_contents.specs.defs.declared.call.Call.TheVariants as names
-use Rattle.inv_contents.specs.model.Calls.{CallTurn, ChangeKept, Phase, Why, Task, LetGo}
-use Rattle.inv_contents.specs.model.Calls.Phase.{Idle, Runs, Scans, Works}
-use Rattle.inv_contents.specs.model.Calls.LetGo.{Dropped, Rehold, Released}
-use Rattle.inv_contents.specs.model.Calls.Task.{Changes, Dequeues, Enqueues, Gets, Holds}
-use Rattle.inv_contents.specs.model.Calls.Why.{Opens, Fills, FollowsHead}
-use Rattle.inv_contents.specs.model.Links.{link_place}
-use Rattle.inv_contents.specs.model.Locals.{Local, busy_in, rounds_told, turn, begun_post}
-use Rattle.inv_contents.specs.model.Phases.{Aim, Base, MoveAt, ProtectAt, Outcome}
-use Rattle.inv_contents.specs.model.Phases.MoveAt.{AnswerAsked, CheckEra, ExchangeClock, HandOver, HideEra, HideLate, LoadAsked, LoadEra, LoadRequest, LoadReserved, ShowEra}
-use Rattle.inv_contents.specs.model.Posts.{counted, stands, upper}
-use Rattle.inv_contents.specs.model.Rounds.{key_of, let_index, letting, letting_by, release_base, scheme_of}
-use Rattle.inv_contents.specs.model.World.{World, begin, finds, is_busy, offered, start, step}
-use Rattle.inv_contents.specs.model.declared.post.Post.{Post}
-use Rattle.inv_contents.specs.defs.declared.call.Call.{Call}
-use Rattle.inv_contents.specs.defs.declared.event.Root.{Root}
+use Rattle.inv_ends.specs.model.defs.declared.event.Root.TheVariants as roots
+use Rattle.inv_ends.specs.model.defs.declared.fold.Change.TheVariants as changes
+use Rattle.inv_ends.specs.model.defs.declared.call.Call.TheVariants as names
+use Rattle.inv_ends.specs.model.Calls.{CallTurn, ChangeKept, Phase, Why, Task, LetGo}
+use Rattle.inv_ends.specs.model.Calls.Phase.{Idle, Runs, Scans, Works}
+use Rattle.inv_ends.specs.model.Calls.LetGo.{Dropped, Rehold, Released}
+use Rattle.inv_ends.specs.model.Calls.Task.{Changes, Dequeues, Enqueues, Gets, Holds}
+use Rattle.inv_ends.specs.model.Calls.Why.{Opens, Fills, FollowsHead}
+use Rattle.inv_ends.specs.model.Links.{link_place}
+use Rattle.inv_ends.specs.model.Locals.{Local, busy_in, rounds_told, turn, begun_post}
+use Rattle.inv_ends.specs.model.Phases.{Aim, Base, MoveAt, ProtectAt, Outcome}
+use Rattle.inv_ends.specs.model.Phases.MoveAt.{AnswerAsked, CheckEra, ExchangeClock, HandOver, HideEra, HideLate, LoadAsked, LoadEra, LoadRequest, LoadReserved, ShowEra}
+use Rattle.inv_ends.specs.model.Posts.{counted, stands, upper}
+use Rattle.inv_ends.specs.model.Rounds.{key_of, let_index, letting, letting_by, release_base, scheme_of}
+use Rattle.inv_ends.specs.model.World.{World, begin, finds, is_busy, offered, start, step}
+use Rattle.inv_ends.specs.model.declared.post.Post.{Post}
+use Rattle.inv_ends.specs.model.defs.declared.call.Call.{Call}
+use Rattle.inv_ends.specs.model.defs.declared.event.Root.{Root}
 use Rattle.inv_ends.proofs.shapes.Frame.{seat_stays, seat_steps, begin_begins, begin_stays}
 use Rattle.inv_ends.specs.shapes.Seats.{PhaseFits, Run, root_by, task_root}
 use Rattle.inv_ends.proofs.Origins.Kept.{origins_kept, origins_begin, origins_start}
@@ -45,33 +45,33 @@ use Rattle.inv_all.proofs.Rounds.Paced.{round_paced, parts_paced}
 use Rattle.inv_all.proofs.Rounds.Protects.{is_protecting, none_tracked}
 use Rattle.inv_all.specs.Rounds.{RoundsKept, RoundsNeeds, Rounds, RoundsBegin, RoundsGive, RoundsStart}
 use Rattle.inv_all.specs.Tallies.{Tally, good_link, root_test, task_most, phase_good, phase_paced, tally, fills_paced, once, task_good}
-use Rattle.inv_contents.specs.rows.Chain.{line_after, first_line}
-use Rattle.inv_contents.specs.rows.Queue.{Line, follows_in}
+use Rattle.inv_ends.specs.rows.Chain.{line_after, first_line}
+use Rattle.inv_ends.specs.rows.Queue.{Line, follows_in}
 use Rattle.std.specs.Prelude.{Option, Some, None, ◌==◌, ◌%◌}
-use Rattle.inv_contents.specs.model.declared.ends.ProtectEnd.TheVariants as protect_ends
-use Rattle.inv_contents.specs.model.Calls.ChangeAt.{ExchangeRoot}
-use Rattle.inv_contents.specs.model.Calls.DequeueAt.{ExchangeHead, SwingTail}
-use Rattle.inv_contents.specs.model.Calls.EnqueueAt.{ExchangeNext, PassTail}
-use Rattle.inv_contents.specs.model.Calls.Work.{Changing, Dequeuing, Enqueuing}
-use Rattle.inv_contents.specs.model.Phases.Aim.{Alone, Follows}
-use Rattle.inv_contents.specs.model.Phases.AllocateAt.{ClaimSlot}
-use Rattle.inv_contents.specs.model.Phases.BeginAt.{LoadLower, PublishSpan}
-use Rattle.inv_contents.specs.model.Phases.Ending.{Protected}
-use Rattle.inv_contents.specs.model.Phases.Outcome.{Ends}
-use Rattle.inv_contents.specs.model.Rest.{has_walked, is_told, lost_by, rounds_most}
-use Rattle.inv_contents.proofs.Items.Gives.{items_count}
+use Rattle.inv_ends.specs.model.declared.ends.ProtectEnd.TheVariants as protect_ends
+use Rattle.inv_ends.specs.model.Calls.ChangeAt.{ExchangeRoot}
+use Rattle.inv_ends.specs.model.Calls.DequeueAt.{ExchangeHead, SwingTail}
+use Rattle.inv_ends.specs.model.Calls.EnqueueAt.{ExchangeNext, PassTail}
+use Rattle.inv_ends.specs.model.Calls.Work.{Changing, Dequeuing, Enqueuing}
+use Rattle.inv_ends.specs.model.Phases.Aim.{Alone, Follows}
+use Rattle.inv_ends.specs.model.Phases.AllocateAt.{ClaimSlot}
+use Rattle.inv_ends.specs.model.Phases.BeginAt.{LoadLower, PublishSpan}
+use Rattle.inv_ends.specs.model.Phases.Ending.{Protected}
+use Rattle.inv_ends.specs.model.Phases.Outcome.{Ends}
+use Rattle.inv_ends.specs.model.Rest.{has_walked, is_told, lost_by, rounds_most}
+use Rattle.inv_all.proofs.Contents.Items.Gives.{items_count}
 use Rattle.inv_ends.proofs.Rest.Kept.{turn_rows}
 use Rattle.inv_ends.proofs.Rest.Told.{by_rows, lost_after}
-use Rattle.inv_contents.specs.model.Phases.HazardAt.{CheckLink}
-use Rattle.inv_contents.specs.model.Phases.ProtectAt.{ByHazard}
+use Rattle.inv_ends.specs.model.Phases.HazardAt.{CheckLink}
+use Rattle.inv_ends.specs.model.Phases.ProtectAt.{ByHazard}
 use Rattle.inv_ends.proofs.Rest.Seats.{follows_alone}
 use Rattle.inv_ends.specs.Losses.{is_queue}
 use Rattle.inv_all.proofs.Rounds.Machines.{EndGood, never_null, own_opened}
 use Rattle.inv_all.proofs.Rounds.Worlds.{next_number}
 use Rattle.inv_ends.proofs.covers.Held.{finds_at}
-use Rattle.inv_contents.proofs.model.Facts.{same_both, if_by}
-use Rattle.inv_contents.specs.defs.declared.lifetime.Interval.{Interval}
-use Rattle.inv_contents.specs.words.Schemes.{has_one_interval, publishes_rows}
+use Rattle.inv_ends.proofs.model.Facts.{same_both, if_by}
+use Rattle.inv_ends.specs.model.defs.declared.lifetime.Interval.{Interval}
+use Rattle.inv_ends.specs.model.words.Schemes.{has_one_interval, publishes_rows}
 
 -- what is in a root that the step loads is good
 

@@ -1,17 +1,17 @@
 -- The same of the steps that write a root, the tail, the head or a next link.
 use Rattle.std.proofs.Common.{ℕ, ◌∙◌, ◌≡◌, ◌≤◌, ◌+◌, ◌-◌, Bool, true, false, arith, refl, ap, subst}
 use Rattle.std.proofs.lemmas.Bool.Decides.{nat_tests}
-use Rattle.inv_contents.specs.words.Place.{Place, same}
-use Rattle.inv_contents.specs.words.Place.Place.{Bucket, Head, Tail, Row}
-use Rattle.inv_contents.specs.model.Memory.{Store, Cas, written, put}
-use Rattle.inv_contents.specs.model.Book.{Book, booked_all}
-use Rattle.inv_contents.specs.defs.declared.event.Event.{Event}
+use Rattle.inv_ends.specs.model.words.Place.{Place, same}
+use Rattle.inv_ends.specs.model.words.Place.Place.{Bucket, Head, Tail, Row}
+use Rattle.inv_ends.specs.model.Memory.{Store, Cas, written, put}
+use Rattle.inv_ends.specs.model.Book.{Book, booked_all}
+use Rattle.inv_ends.specs.model.defs.declared.event.Event.{Event}
 use Rattle.inv_all.proofs.Rounds.Counts.{book_grows, tally_of}
 use Rattle.inv_all.proofs.Rounds.Grows.{Grows}
-use Rattle.inv_contents.specs.rows.Queue.{Line}
-use Rattle.inv_contents.specs.words.declared.config.Config.{Config}
+use Rattle.inv_ends.specs.rows.Queue.{Line}
+use Rattle.inv_ends.specs.model.words.declared.config.Config.{Config}
 use Rattle.std.specs.Prelude.{List, length, nat_le, if◌then◌else◌, ◌==◌, ◌||◌}
-use Rattle.inv_contents.proofs.model.Facts.{same_or, number_is, or_more}
+use Rattle.inv_ends.proofs.model.Facts.{same_or, number_is, or_more}
 
 above : (n m : ℕ) → n + 1 ≤ m → nat_le (n + 1) m ≡ true
 above n m h = grind (arith, nat_tests, h)

@@ -1,41 +1,41 @@
 -- What a step loads is good, so each step keeps all; and what follows for the rounds that a call may lose.
 use Rattle.std.proofs.Common.{ℕ, ◌∙◌, ◌≡◌, ◌<◌, ◌+◌, true, false, arith, refl, sym, ap, subst}
 use Rattle.std.proofs.lemmas.Bool.Decides.{nat_tests}
-use Rattle.inv_contents.specs.words.Place.{Place}
-use Rattle.inv_contents.specs.words.Place.Place.{Bucket, Head, Tail}
-use Rattle.inv_contents.specs.model.Phases.Base.{Move, Allocate, Begin, Clear, Finish, GiveUp, Protect, Release, Reload, Retire, Write}
-use Rattle.inv_contents.specs.model.Memory.{bump, written}
-use Rattle.inv_contents.specs.model.Steps as steps
-use Rattle.inv_contents.specs.model.Machine as machine
-use Rattle.inv_contents.specs.rows.Rows.{View}
+use Rattle.inv_ends.specs.model.words.Place.{Place}
+use Rattle.inv_ends.specs.model.words.Place.Place.{Bucket, Head, Tail}
+use Rattle.inv_ends.specs.model.Phases.Base.{Move, Allocate, Begin, Clear, Finish, GiveUp, Protect, Release, Reload, Retire, Write}
+use Rattle.inv_ends.specs.model.Memory.{bump, written}
+use Rattle.inv_ends.specs.model.Steps as steps
+use Rattle.inv_ends.specs.model.Machine as machine
+use Rattle.inv_ends.specs.rows.Rows.{View}
 use Rattle.inv_ends.specs.requests.Views.{View as Asking}
-use Rattle.inv_contents.specs.defs.declared.event.Root.TheVariants as roots
-use Rattle.inv_contents.specs.model.Calls.{CallTurn, ChangeKept, Phase, Task, Why}
-use Rattle.inv_contents.specs.model.Calls.CallOutcome.{GoesOn}
-use Rattle.inv_contents.specs.model.Calls.Phase.{Idle, Runs, Scans, Works}
-use Rattle.inv_contents.specs.model.Calls.Task.{Changes, Dequeues, Enqueues, Gets, Holds}
-use Rattle.inv_contents.specs.model.Calls.Why.{Advances, Clears, ClearsNext, Fills, Finishes, FollowsHead, GivesUp, Opens, Releases, Retires, Tidies}
-use Rattle.inv_contents.specs.model.Desks.{Desk}
-use Rattle.inv_contents.specs.model.Links.{link_place}
-use Rattle.inv_contents.specs.model.Phases.{Aim, Base, MoveAt, ProtectAt}
-use Rattle.inv_contents.specs.model.Phases.MoveAt.{LoadAsked, LoadEra, LoadRequest, ShowEra}
-use Rattle.inv_contents.specs.model.Phases.ProtectAt.{AnswerOwn, ByHazard, CheckClock, CheckOwnClock, CheckUpper, LoadAnswer, LoadClock, LoadLink, LoadOwnClock, LoadOwnLink, LoadWithin, PublishEra, PublishHelper, PublishRequest, RaiseUpper, TakeAnswer, WithdrawHelper, WithdrawRequest}
-use Rattle.inv_contents.specs.model.Phases.HazardAt.{CheckLink, FirstLink, PublishLink}
+use Rattle.inv_ends.specs.model.defs.declared.event.Root.TheVariants as roots
+use Rattle.inv_ends.specs.model.Calls.{CallTurn, ChangeKept, Phase, Task, Why}
+use Rattle.inv_ends.specs.model.Calls.CallOutcome.{GoesOn}
+use Rattle.inv_ends.specs.model.Calls.Phase.{Idle, Runs, Scans, Works}
+use Rattle.inv_ends.specs.model.Calls.Task.{Changes, Dequeues, Enqueues, Gets, Holds}
+use Rattle.inv_ends.specs.model.Calls.Why.{Advances, Clears, ClearsNext, Fills, Finishes, FollowsHead, GivesUp, Opens, Releases, Retires, Tidies}
+use Rattle.inv_ends.specs.model.Desks.{Desk}
+use Rattle.inv_ends.specs.model.Links.{link_place}
+use Rattle.inv_ends.specs.model.Phases.{Aim, Base, MoveAt, ProtectAt}
+use Rattle.inv_ends.specs.model.Phases.MoveAt.{LoadAsked, LoadEra, LoadRequest, ShowEra}
+use Rattle.inv_ends.specs.model.Phases.ProtectAt.{AnswerOwn, ByHazard, CheckClock, CheckOwnClock, CheckUpper, LoadAnswer, LoadClock, LoadLink, LoadOwnClock, LoadOwnLink, LoadWithin, PublishEra, PublishHelper, PublishRequest, RaiseUpper, TakeAnswer, WithdrawHelper, WithdrawRequest}
+use Rattle.inv_ends.specs.model.Phases.HazardAt.{CheckLink, FirstLink, PublishLink}
 use Rattle.inv_ends.proofs.Rest.Told.{by_rows}
-use Rattle.inv_contents.specs.model.Rest.{is_told, lost_by}
-use Rattle.inv_contents.specs.model.Rounds.{key_of}
-use Rattle.inv_contents.specs.model.World.{World, step}
-use Rattle.inv_contents.specs.model.declared.post.Post.{Post}
-use Rattle.inv_contents.proofs.model.Facts.{same_number, or_left_true, both}
-use Rattle.inv_contents.specs.defs.declared.event.Root.{Root}
+use Rattle.inv_ends.specs.model.Rest.{is_told, lost_by}
+use Rattle.inv_ends.specs.model.Rounds.{key_of}
+use Rattle.inv_ends.specs.model.World.{World, step}
+use Rattle.inv_ends.specs.model.declared.post.Post.{Post}
+use Rattle.inv_ends.proofs.model.Facts.{same_number, or_left_true, both}
+use Rattle.inv_ends.specs.model.defs.declared.event.Root.{Root}
 use Rattle.inv_ends.specs.shapes.Seats.{PhaseFits, Run, Seats}
 use Rattle.inv_ends.specs.Origins.{loads_asked, loads_at, loads_link}
 use Rattle.inv_ends.specs.Tracked.{root_base, root_for, root_in}
 use Rattle.inv_ends.specs.requests.Roles.{shows}
 use Rattle.inv_all.specs.Rounds.{RoundsNeeds}
 use Rattle.inv_all.specs.Tallies.{Tally, changes_so_far, passes_so_far, phase_good, since_test, tally, task_good}
-use Rattle.inv_contents.specs.rows.Chain.{line_after}
-use Rattle.inv_contents.specs.rows.Queue.{Line}
+use Rattle.inv_ends.specs.rows.Chain.{line_after}
+use Rattle.inv_ends.specs.rows.Queue.{Line}
 use Rattle.std.specs.Prelude.{nat_le, not, ◌==◌, ◌%◌}
 
 some_number : (n : ℕ) → 0 < n → (n == 0) ≡ false

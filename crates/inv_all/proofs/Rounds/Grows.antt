@@ -1,26 +1,26 @@
 -- What was lost stays no more than what has changed since, while that grows.
 use Rattle.std.proofs.Common.{ℕ, ◌≡◌, ◌≤◌, ◌+◌, ◌-◌, Bool, true, false, arith, refl}
 use Rattle.std.proofs.lemmas.Bool.Decides.{nat_tests}
-use Rattle.inv_contents.specs.model.Calls.{AfterScan, ChangeKept, DequeueAt, EnqueueAt, EnqueueKept, Next, Phase, Task, Why, Work}
-use Rattle.inv_contents.specs.model.Calls.AfterScan.{Answered, Counted, Repeated}
-use Rattle.inv_contents.specs.model.Calls.DequeueAt.{ExchangeHead, LoadTail, SwingTail, TakeNumber, TakeValue}
-use Rattle.inv_contents.specs.model.Calls.EnqueueAt.{ExchangeNext, ExchangeTail, LoadNext, LoadNumber, PassTail}
-use Rattle.inv_contents.specs.model.Calls.Next.{Again, Answering, MakeRoom, Retiring}
-use Rattle.inv_contents.specs.model.Calls.Phase.{Idle, Runs, Scans, Works}
-use Rattle.inv_contents.specs.model.Calls.Task.{Changes, Dequeues, Enqueues, Gets, Holds}
-use Rattle.inv_contents.specs.model.Calls.Why.{Advances, Clears, ClearsNext, Fills, Finishes, FollowsHead, GivesUp, Opens, Releases, Retires, Tidies}
-use Rattle.inv_contents.specs.model.Calls.Work.{Changing, Dequeuing, Enqueuing, Getting, Keeping}
-use Rattle.inv_contents.specs.model.Phases.{Base, HazardAt, ProtectAt}
-use Rattle.inv_contents.specs.model.Phases.Base.{Protect}
-use Rattle.inv_contents.specs.model.Phases.HazardAt.{CheckLink, FirstLink, PublishLink}
-use Rattle.inv_contents.specs.model.Phases.ProtectAt.{ByHazard}
-use Rattle.inv_contents.specs.model.Rest.{is_told, lost_by}
-use Rattle.inv_contents.specs.model.Rounds.{key_of}
+use Rattle.inv_ends.specs.model.Calls.{AfterScan, ChangeKept, DequeueAt, EnqueueAt, EnqueueKept, Next, Phase, Task, Why, Work}
+use Rattle.inv_ends.specs.model.Calls.AfterScan.{Answered, Counted, Repeated}
+use Rattle.inv_ends.specs.model.Calls.DequeueAt.{ExchangeHead, LoadTail, SwingTail, TakeNumber, TakeValue}
+use Rattle.inv_ends.specs.model.Calls.EnqueueAt.{ExchangeNext, ExchangeTail, LoadNext, LoadNumber, PassTail}
+use Rattle.inv_ends.specs.model.Calls.Next.{Again, Answering, MakeRoom, Retiring}
+use Rattle.inv_ends.specs.model.Calls.Phase.{Idle, Runs, Scans, Works}
+use Rattle.inv_ends.specs.model.Calls.Task.{Changes, Dequeues, Enqueues, Gets, Holds}
+use Rattle.inv_ends.specs.model.Calls.Why.{Advances, Clears, ClearsNext, Fills, Finishes, FollowsHead, GivesUp, Opens, Releases, Retires, Tidies}
+use Rattle.inv_ends.specs.model.Calls.Work.{Changing, Dequeuing, Enqueuing, Getting, Keeping}
+use Rattle.inv_ends.specs.model.Phases.{Base, HazardAt, ProtectAt}
+use Rattle.inv_ends.specs.model.Phases.Base.{Protect}
+use Rattle.inv_ends.specs.model.Phases.HazardAt.{CheckLink, FirstLink, PublishLink}
+use Rattle.inv_ends.specs.model.Phases.ProtectAt.{ByHazard}
+use Rattle.inv_ends.specs.model.Rest.{is_told, lost_by}
+use Rattle.inv_ends.specs.model.Rounds.{key_of}
 use Rattle.inv_all.specs.Tallies.{Since, Tally, at_paced, bucket_good, dequeue_paced, enqueue_paced, fills_paced, hazard_paced, head_since, lag_since, later_paced, next_paced, next_since, once, open_paced, phase_paced, published_since, root_since, since_test, tail_since, task_most, task_paced, why_paced, work_paced, head_good, passes_so_far, phase_good, tail_good, task_good, why_good}
 use Rattle.std.specs.Prelude.{nat_le, ◌==◌, ◌||◌, ◌%◌, not}
-use Rattle.inv_contents.specs.defs.declared.event.Root.TheVariants as roots
-use Rattle.inv_contents.specs.defs.declared.event.Root.{Root}
-use Rattle.inv_contents.proofs.model.Facts.{first_of, rest_of, both, or_more}
+use Rattle.inv_ends.specs.model.defs.declared.event.Root.TheVariants as roots
+use Rattle.inv_ends.specs.model.defs.declared.event.Root.{Root}
+use Rattle.inv_ends.proofs.model.Facts.{first_of, rest_of, both, or_more}
 
 -- counts never fall; where a root, the tail or the head is another, the count of it has risen, and so where a row is linked
 pub record Grows (t u : Tally) : Type 0 where

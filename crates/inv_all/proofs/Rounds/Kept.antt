@@ -1,45 +1,45 @@
 -- Each step keeps what is known of the rounds that calls have lost.
 use Rattle.std.proofs.Common.{ℕ, ◌∙◌, ◌≡◌, ◌≤◌, ◌+◌, ◌-◌, Bool, true, false, arith, refl, sym, ap, subst}
 use Rattle.std.proofs.lemmas.Bool.Decides.{nat_tests}
-use Rattle.inv_contents.specs.words.Place.{Place}
-use Rattle.inv_contents.specs.words.Place.Place.{Bucket, Head, Tail, Row}
-use Rattle.inv_contents.specs.model.Memory.{written}
-use Rattle.inv_contents.specs.model.Phases.Base.{Move, Allocate, Begin, Clear, Finish, GiveUp, Protect, Release, Reload, Retire, Write}
-use Rattle.inv_contents.specs.model.Steps as steps
-use Rattle.inv_contents.specs.model.Change as alters
-use Rattle.inv_contents.specs.rows.Rows.{View}
+use Rattle.inv_ends.specs.model.words.Place.{Place}
+use Rattle.inv_ends.specs.model.words.Place.Place.{Bucket, Head, Tail, Row}
+use Rattle.inv_ends.specs.model.Memory.{written}
+use Rattle.inv_ends.specs.model.Phases.Base.{Move, Allocate, Begin, Clear, Finish, GiveUp, Protect, Release, Reload, Retire, Write}
+use Rattle.inv_ends.specs.model.Steps as steps
+use Rattle.inv_ends.specs.model.Change as alters
+use Rattle.inv_ends.specs.rows.Rows.{View}
 use Rattle.inv_ends.specs.requests.Views.{View as Asking}
-use Rattle.inv_contents.specs.model.Calls.{ChangeKept, EnqueueKept, Phase, Why, Work}
-use Rattle.inv_contents.specs.model.Calls.ChangeAt.{ExchangeRoot, LoadCount, LoadKey, LoadValue, LoadVersion}
-use Rattle.inv_contents.specs.model.Calls.DequeueAt.{ExchangeHead, LoadTail, SwingTail, TakeNumber, TakeValue}
-use Rattle.inv_contents.specs.model.Calls.EnqueueAt.{ExchangeNext, ExchangeTail, LoadNext, LoadNumber, PassTail}
-use Rattle.inv_contents.specs.model.Calls.Phase.{Idle, Runs, Scans, Works}
-use Rattle.inv_contents.specs.model.Calls.Why.{FollowsHead}
-use Rattle.inv_contents.specs.model.Calls.Work.{Changing, Dequeuing, Enqueuing, Getting, Keeping}
-use Rattle.inv_contents.specs.model.Phases.{Base, RowOf}
-use Rattle.inv_contents.specs.model.Phases.RowOf.{MapRow, QueueRow}
-use Rattle.inv_contents.specs.model.Rounds.{key_of}
-use Rattle.inv_contents.specs.model.World.{World, finds, offered, step}
-use Rattle.inv_contents.specs.model.WriteRow.{first_written, last_written, row_word}
-use Rattle.inv_contents.specs.model.declared.post.Post.{Post}
+use Rattle.inv_ends.specs.model.Calls.{ChangeKept, EnqueueKept, Phase, Why, Work}
+use Rattle.inv_ends.specs.model.Calls.ChangeAt.{ExchangeRoot, LoadCount, LoadKey, LoadValue, LoadVersion}
+use Rattle.inv_ends.specs.model.Calls.DequeueAt.{ExchangeHead, LoadTail, SwingTail, TakeNumber, TakeValue}
+use Rattle.inv_ends.specs.model.Calls.EnqueueAt.{ExchangeNext, ExchangeTail, LoadNext, LoadNumber, PassTail}
+use Rattle.inv_ends.specs.model.Calls.Phase.{Idle, Runs, Scans, Works}
+use Rattle.inv_ends.specs.model.Calls.Why.{FollowsHead}
+use Rattle.inv_ends.specs.model.Calls.Work.{Changing, Dequeuing, Enqueuing, Getting, Keeping}
+use Rattle.inv_ends.specs.model.Phases.{Base, RowOf}
+use Rattle.inv_ends.specs.model.Phases.RowOf.{MapRow, QueueRow}
+use Rattle.inv_ends.specs.model.Rounds.{key_of}
+use Rattle.inv_ends.specs.model.World.{World, finds, offered, step}
+use Rattle.inv_ends.specs.model.WriteRow.{first_written, last_written, row_word}
+use Rattle.inv_ends.specs.model.declared.post.Post.{Post}
 use Rattle.inv_ends.specs.shapes.Seats.{PhaseFits, Run, Seats}
 use Rattle.inv_all.proofs.Rounds.Grows.{Grows}
 use Rattle.inv_all.proofs.Rounds.Paced.{WorkNow}
 use Rattle.inv_all.proofs.Rounds.Worlds.{next_number, phase_counts, write_right}
 use Rattle.inv_all.specs.Rounds.{RoundsNeeds}
 use Rattle.inv_all.specs.Tallies.{Since, Tally, once, tally, why_paced, work_paced}
-use Rattle.inv_contents.proofs.rows.Steps.{of_taken}
-use Rattle.inv_contents.proofs.rows.Went.{born_unlined}
-use Rattle.inv_contents.specs.rows.Chain.{Both, line_after}
-use Rattle.inv_contents.specs.rows.Hands.{hand_in, is_right}
-use Rattle.inv_contents.specs.rows.Queue.{Line, follows_in}
-use Rattle.inv_contents.specs.words.declared.layout.Layout.{Layout}
+use Rattle.inv_ends.proofs.rows.Steps.{of_taken}
+use Rattle.inv_ends.proofs.rows.Went.{born_unlined}
+use Rattle.inv_ends.specs.rows.Chain.{Both, line_after}
+use Rattle.inv_ends.specs.rows.Hands.{hand_in, is_right}
+use Rattle.inv_ends.specs.rows.Queue.{Line, follows_in}
+use Rattle.inv_ends.specs.model.words.declared.layout.Layout.{Layout}
 use Rattle.std.specs.Prelude.{nat_le, if◌then◌else◌, ◌==◌, ◌||◌, ◌%◌}
 use Rattle.inv_ends.proofs.covers.Held.{finds_at}
-use Rattle.inv_contents.proofs.rows.Runs.{taken_slot}
-use Rattle.inv_contents.proofs.model.Facts.{first_of, same_both, number_is, le_of_test}
-use Rattle.inv_contents.proofs.rows.Kept.{busy_plays}
-use Rattle.inv_contents.specs.model.Locals.{busy_in}
+use Rattle.inv_ends.proofs.rows.Runs.{taken_slot}
+use Rattle.inv_ends.proofs.model.Facts.{first_of, same_both, number_is, le_of_test}
+use Rattle.inv_ends.proofs.rows.Kept.{busy_plays}
+use Rattle.inv_ends.specs.model.Locals.{busy_in}
 
 pub or_false : (a b : Bool) → (a || b) ≡ true → a ≡ false → b ≡ true
 or_false true b h e = absurd (cc)

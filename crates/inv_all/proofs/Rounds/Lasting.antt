@@ -1,39 +1,39 @@
 -- The rounds that calls have lost, from the start on, where a call begins, and over each step.
 use Rattle.std.proofs.Common.{ℕ, ◌∙◌, ◌≡◌, ◌-◌, Bool, true, false, [], ◌∷◌, arith, refl, sym, ap, subst}
 use Rattle.std.proofs.lemmas.Bool.Decides.{nat_tests}
-use Rattle.inv_contents.specs.words.Place.Place.{Clock}
-use Rattle.inv_contents.specs.model.Phases.Base.{Move, Allocate, Begin, Clear, Finish, GiveUp, Protect, Release, Reload, Retire, Write}
-use Rattle.inv_contents.specs.model.Memory.{bump}
-use Rattle.inv_contents.specs.model.Steps as steps
-use Rattle.inv_contents.specs.model.Change as alters
-use Rattle.inv_contents.specs.model.Machine as machine
-use Rattle.inv_contents.specs.rows.Rows.{View}
+use Rattle.inv_ends.specs.model.words.Place.Place.{Clock}
+use Rattle.inv_ends.specs.model.Phases.Base.{Move, Allocate, Begin, Clear, Finish, GiveUp, Protect, Release, Reload, Retire, Write}
+use Rattle.inv_ends.specs.model.Memory.{bump}
+use Rattle.inv_ends.specs.model.Steps as steps
+use Rattle.inv_ends.specs.model.Change as alters
+use Rattle.inv_ends.specs.model.Machine as machine
+use Rattle.inv_ends.specs.rows.Rows.{View}
 use Rattle.inv_ends.specs.requests.Views.{View as Asking}
 use Rattle.inv_ends.specs.shapes.Frame.{phase_left as stands_at}
 use Rattle.inv_ends.proofs.Rest.Runs.{EndsWell, ends_well}
-use Rattle.inv_contents.specs.defs.declared.event.Event.TheVariants as events
-use Rattle.inv_contents.specs.defs.declared.event.Root.TheVariants as roots
-use Rattle.inv_contents.specs.defs.declared.call.Answer.TheVariants as answers
-use Rattle.inv_contents.specs.model.declared.ends.ProtectEnd.TheVariants as protect_ends
-use Rattle.inv_contents.specs.model.Calls.{CallOutcome, CallTurn, ChangeKept, Phase, Task, Why}
-use Rattle.inv_contents.specs.model.Calls.CallOutcome.{Answers, GoesOn}
-use Rattle.inv_contents.specs.model.Calls.Next.{Answering}
-use Rattle.inv_contents.specs.model.Calls.Phase.{Idle, Runs, Scans, Works}
-use Rattle.inv_contents.specs.model.Calls.Task.{Changes, Dequeues, Enqueues, Gets, Holds}
-use Rattle.inv_contents.specs.model.Calls.Why.{Advances, Clears, ClearsNext, Fills, Finishes, FollowsHead, GivesUp, Opens, Releases, Retires, Tidies}
-use Rattle.inv_contents.specs.model.Desks.{Desk}
-use Rattle.inv_contents.specs.model.Locals.{Local, rounds_told, settled, turn}
-use Rattle.inv_contents.specs.model.Phases.{Base, Outcome, Aim, ProtectAt, Turn}
-use Rattle.inv_contents.specs.model.Phases.Ending.{Allocated, Clocked, Done, Followed, Protected, Retired}
-use Rattle.inv_contents.specs.model.Phases.Outcome.{Ends, Goes}
-use Rattle.inv_contents.specs.model.Posts.{counted, upper}
-use Rattle.inv_contents.specs.model.Rounds.{bucket_of, clear_base, clear_post, clear_told, clearing, clearing_by, finish_base, finish_span, finishing_by, given_up, index_of, scheme_of, taken_of, kept_row, key_of}
-use Rattle.inv_contents.specs.model.Steps.{resumed}
-use Rattle.inv_contents.specs.model.World.{World, finds, offered, step}
-use Rattle.inv_contents.specs.model.declared.post.Post.{Post}
-use Rattle.inv_contents.specs.defs.declared.call.Answer.{Answer}
-use Rattle.inv_contents.specs.defs.declared.event.Event.{Event}
-use Rattle.inv_contents.specs.defs.declared.event.Root.{Root}
+use Rattle.inv_ends.specs.model.defs.declared.event.Event.TheVariants as events
+use Rattle.inv_ends.specs.model.defs.declared.event.Root.TheVariants as roots
+use Rattle.inv_ends.specs.model.defs.declared.call.Answer.TheVariants as answers
+use Rattle.inv_ends.specs.model.declared.ends.ProtectEnd.TheVariants as protect_ends
+use Rattle.inv_ends.specs.model.Calls.{CallOutcome, CallTurn, ChangeKept, Phase, Task, Why}
+use Rattle.inv_ends.specs.model.Calls.CallOutcome.{Answers, GoesOn}
+use Rattle.inv_ends.specs.model.Calls.Next.{Answering}
+use Rattle.inv_ends.specs.model.Calls.Phase.{Idle, Runs, Scans, Works}
+use Rattle.inv_ends.specs.model.Calls.Task.{Changes, Dequeues, Enqueues, Gets, Holds}
+use Rattle.inv_ends.specs.model.Calls.Why.{Advances, Clears, ClearsNext, Fills, Finishes, FollowsHead, GivesUp, Opens, Releases, Retires, Tidies}
+use Rattle.inv_ends.specs.model.Desks.{Desk}
+use Rattle.inv_ends.specs.model.Locals.{Local, rounds_told, settled, turn}
+use Rattle.inv_ends.specs.model.Phases.{Base, Outcome, Aim, ProtectAt, Turn}
+use Rattle.inv_ends.specs.model.Phases.Ending.{Allocated, Clocked, Done, Followed, Protected, Retired}
+use Rattle.inv_ends.specs.model.Phases.Outcome.{Ends, Goes}
+use Rattle.inv_ends.specs.model.Posts.{counted, upper}
+use Rattle.inv_ends.specs.model.Rounds.{bucket_of, clear_base, clear_post, clear_told, clearing, clearing_by, finish_base, finish_span, finishing_by, given_up, index_of, scheme_of, taken_of, kept_row, key_of}
+use Rattle.inv_ends.specs.model.Steps.{resumed}
+use Rattle.inv_ends.specs.model.World.{World, finds, offered, step}
+use Rattle.inv_ends.specs.model.declared.post.Post.{Post}
+use Rattle.inv_ends.specs.model.defs.declared.call.Answer.{Answer}
+use Rattle.inv_ends.specs.model.defs.declared.event.Event.{Event}
+use Rattle.inv_ends.specs.model.defs.declared.event.Root.{Root}
 use Rattle.inv_ends.proofs.shapes.Frame.{seat_steps, seat_stays}
 use Rattle.inv_ends.specs.shapes.Seats.{PhaseFits, Run, task_root}
 use Rattle.inv_ends.specs.Origins.{loads_at}
@@ -48,28 +48,28 @@ use Rattle.inv_all.proofs.Rounds.Machines.{EndGood, Found, found_good, Steps, ne
 use Rattle.inv_all.proofs.Rounds.Paced.{TurnPaced, scan_paced, work_turn_paced}
 use Rattle.inv_all.specs.Rounds.{Rounds, RoundsNeeds}
 use Rattle.inv_all.specs.Tallies.{Tally, later_paced, phase_good, phase_paced, tally, task_good, why_paced, work_paced, good_link, why_good}
-use Rattle.inv_contents.specs.rows.Chain.{line_after}
-use Rattle.inv_contents.specs.rows.Queue.{Line}
-use Rattle.inv_contents.specs.words.declared.config.SchemeKind.{SchemeKind}
+use Rattle.inv_ends.specs.rows.Chain.{line_after}
+use Rattle.inv_ends.specs.rows.Queue.{Line}
+use Rattle.inv_ends.specs.model.words.declared.config.SchemeKind.{SchemeKind}
 use Rattle.std.specs.Prelude.{List, ◌++◌, Option, Some, None, ◌==◌, ◌<◌, ◌%◌}
-use Rattle.inv_contents.specs.model.Phases.Aim.{Alone, Follows}
-use Rattle.inv_contents.specs.model.Rest.{is_told, lost_by}
+use Rattle.inv_ends.specs.model.Phases.Aim.{Alone, Follows}
+use Rattle.inv_ends.specs.model.Rest.{is_told, lost_by}
 use Rattle.inv_ends.specs.requests.Standing.{Requests}
 use Rattle.inv_ends.proofs.Rest.Kept.{linked_of, turn_rows}
 use Rattle.inv_ends.proofs.shapes.Inside.{shape_moves}
 use Rattle.inv_ends.proofs.shapes.Kept.{counted_fits, run_counted}
 use Rattle.inv_ends.specs.shapes.Slots.{PhaseIn}
 use Rattle.inv_ends.proofs.covers.Held.{finds_at}
-use Rattle.inv_contents.specs.words.Schemes.{publishes_rows}
-use Rattle.inv_contents.specs.words.Place.{Place}
-use Rattle.inv_contents.specs.words.Place.Place.{Bucket, Head, Tail}
-use Rattle.inv_contents.specs.model.Links.{link_place}
-use Rattle.inv_contents.specs.model.Phases.HazardAt.{CheckLink, FirstLink, PublishLink}
-use Rattle.inv_contents.specs.model.Phases.ProtectAt.{ByHazard}
-use Rattle.inv_contents.proofs.model.Facts.{same_number}
+use Rattle.inv_ends.specs.model.words.Schemes.{publishes_rows}
+use Rattle.inv_ends.specs.model.words.Place.{Place}
+use Rattle.inv_ends.specs.model.words.Place.Place.{Bucket, Head, Tail}
+use Rattle.inv_ends.specs.model.Links.{link_place}
+use Rattle.inv_ends.specs.model.Phases.HazardAt.{CheckLink, FirstLink, PublishLink}
+use Rattle.inv_ends.specs.model.Phases.ProtectAt.{ByHazard}
+use Rattle.inv_ends.proofs.model.Facts.{same_number}
 use Rattle.inv_ends.proofs.Rest.Seats.{counts_task, follows_alone}
 use Rattle.inv_all.proofs.Rounds.Protects.{is_protecting, none_tracked}
-use Rattle.inv_contents.proofs.model.Schemes.{each_clear, each_finish}
+use Rattle.inv_ends.proofs.model.Schemes.{each_clear, each_finish}
 
 -- what a load finds in the root of a task
 found_in : (w : World) (i : ℕ) (v : View) (l : Line) (z : Asking) (task : Task) (root : Root) (found : ℕ) → RoundsNeeds w i v l z → root ≡ task_root w.layout.config.buckets task → found ≡ w.mem (link_place root) → ((p : Place) → (step w i).mem p ≡ w.mem p) → Found (tally (step w i) (line_after w i l)) task found

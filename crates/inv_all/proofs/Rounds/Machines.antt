@@ -1,53 +1,53 @@
 -- A machine's step has lost no more rounds than has changed.
 use Rattle.std.proofs.Common.{ℕ, ◌∙◌, ◌≡◌, ◌≤◌, ◌+◌, ◌-◌, Bool, true, false, [], ◌∷◌, arith, refl, sym, ap, subst}
 use Rattle.std.proofs.lemmas.Bool.Decides.{nat_tests}
-use Rattle.inv_contents.specs.model.Steps as steps
-use Rattle.inv_contents.specs.model.Phases.Base.{Move, Allocate, Begin, Clear, Finish, GiveUp, Protect, Release, Reload, Retire, Write}
-use Rattle.inv_contents.specs.model.Memory.{bump}
+use Rattle.inv_ends.specs.model.Steps as steps
+use Rattle.inv_ends.specs.model.Phases.Base.{Move, Allocate, Begin, Clear, Finish, GiveUp, Protect, Release, Reload, Retire, Write}
+use Rattle.inv_ends.specs.model.Memory.{bump}
 use Rattle.inv_ends.proofs.Rest.Runs.{EndsWell, ends_well, none_lost}
-use Rattle.inv_contents.specs.words.Place.Place.{Clock}
-use Rattle.inv_contents.specs.defs.declared.event.Event.TheVariants as events
-use Rattle.inv_contents.specs.defs.declared.call.Answer.TheVariants as answers
-use Rattle.inv_contents.specs.model.declared.ends.ProtectEnd.TheVariants as protect_ends
-use Rattle.inv_contents.specs.model.declared.ends.FollowEnd.TheVariants as follow_ends
-use Rattle.inv_contents.specs.model.declared.ends.AllocateEnd.TheVariants as allocate_ends
+use Rattle.inv_ends.specs.model.words.Place.Place.{Clock}
+use Rattle.inv_ends.specs.model.defs.declared.event.Event.TheVariants as events
+use Rattle.inv_ends.specs.model.defs.declared.call.Answer.TheVariants as answers
+use Rattle.inv_ends.specs.model.declared.ends.ProtectEnd.TheVariants as protect_ends
+use Rattle.inv_ends.specs.model.declared.ends.FollowEnd.TheVariants as follow_ends
+use Rattle.inv_ends.specs.model.declared.ends.AllocateEnd.TheVariants as allocate_ends
 use Rattle.inv_ends.proofs.Rest.Told.{Tells, base_steady, by_rows, hazard_lost, lost_after, protect_steady, protect_tells, reload_steady}
-use Rattle.inv_contents.specs.model.Allocate.{is_claimed, next_slot, walk_past, walking}
-use Rattle.inv_contents.specs.model.Calls.{AfterScan, LetGo, Next, Task, Why}
-use Rattle.inv_contents.specs.model.Calls.Next.{Answering}
-use Rattle.inv_contents.specs.model.Calls.Phase.{Runs}
-use Rattle.inv_contents.specs.model.Calls.Task.{Changes, Dequeues, Enqueues, Gets, Holds}
-use Rattle.inv_contents.specs.model.Calls.Why.{Advances, Clears, ClearsNext, Fills, Finishes, FollowsHead, GivesUp, Opens, Releases, Retires, Tidies}
-use Rattle.inv_contents.specs.model.Desks.{Desk}
-use Rattle.inv_contents.specs.model.Follow.{after_reload}
-use Rattle.inv_contents.specs.model.Guards.{from_to}
-use Rattle.inv_contents.specs.model.Locals.{counts_at, rounds_told}
-use Rattle.inv_contents.specs.model.Machine.{after, hazard_turn, protect_turn}
-use Rattle.inv_contents.specs.model.Phases.{Aim, AllocateAt, Base, HazardAt, Outcome, ProtectAt, RowOf, Turn, Walk, ends, goes}
-use Rattle.inv_contents.specs.model.Phases.Aim.{Alone, Follows}
-use Rattle.inv_contents.specs.model.Phases.AllocateAt.{ClaimSlot, LoadBirth, StoreLife}
-use Rattle.inv_contents.specs.model.Phases.BeginAt.{LoadLower, PublishSpan}
-use Rattle.inv_contents.specs.model.Phases.Ending.{Allocated, Clocked, Done, Followed, Protected, Retired}
-use Rattle.inv_contents.specs.model.Phases.Outcome.{Ends, Goes}
-use Rattle.inv_contents.specs.model.Phases.ProtectAt.{AnswerOwn, ByHazard, CheckClock, CheckOwnClock, CheckUpper, LoadAnswer, LoadClock, LoadLink, LoadOwnClock, LoadOwnLink, LoadWithin, PublishEra, PublishHelper, PublishRequest, RaiseUpper, TakeAnswer, WithdrawHelper, WithdrawRequest}
-use Rattle.inv_contents.specs.model.Phases.HazardAt.{CheckLink, FirstLink, PublishLink}
-use Rattle.inv_contents.specs.words.Schemes.{publishes_rows}
-use Rattle.inv_contents.specs.words.declared.config.SchemeKind.{SchemeKind}
-use Rattle.inv_contents.specs.words.declared.layout.Layout.{Layout}
+use Rattle.inv_ends.specs.model.Allocate.{is_claimed, next_slot, walk_past, walking}
+use Rattle.inv_ends.specs.model.Calls.{AfterScan, LetGo, Next, Task, Why}
+use Rattle.inv_ends.specs.model.Calls.Next.{Answering}
+use Rattle.inv_ends.specs.model.Calls.Phase.{Runs}
+use Rattle.inv_ends.specs.model.Calls.Task.{Changes, Dequeues, Enqueues, Gets, Holds}
+use Rattle.inv_ends.specs.model.Calls.Why.{Advances, Clears, ClearsNext, Fills, Finishes, FollowsHead, GivesUp, Opens, Releases, Retires, Tidies}
+use Rattle.inv_ends.specs.model.Desks.{Desk}
+use Rattle.inv_ends.specs.model.Follow.{after_reload}
+use Rattle.inv_ends.specs.model.Guards.{from_to}
+use Rattle.inv_ends.specs.model.Locals.{counts_at, rounds_told}
+use Rattle.inv_ends.specs.model.Machine.{after, hazard_turn, protect_turn}
+use Rattle.inv_ends.specs.model.Phases.{Aim, AllocateAt, Base, HazardAt, Outcome, ProtectAt, RowOf, Turn, Walk, ends, goes}
+use Rattle.inv_ends.specs.model.Phases.Aim.{Alone, Follows}
+use Rattle.inv_ends.specs.model.Phases.AllocateAt.{ClaimSlot, LoadBirth, StoreLife}
+use Rattle.inv_ends.specs.model.Phases.BeginAt.{LoadLower, PublishSpan}
+use Rattle.inv_ends.specs.model.Phases.Ending.{Allocated, Clocked, Done, Followed, Protected, Retired}
+use Rattle.inv_ends.specs.model.Phases.Outcome.{Ends, Goes}
+use Rattle.inv_ends.specs.model.Phases.ProtectAt.{AnswerOwn, ByHazard, CheckClock, CheckOwnClock, CheckUpper, LoadAnswer, LoadClock, LoadLink, LoadOwnClock, LoadOwnLink, LoadWithin, PublishEra, PublishHelper, PublishRequest, RaiseUpper, TakeAnswer, WithdrawHelper, WithdrawRequest}
+use Rattle.inv_ends.specs.model.Phases.HazardAt.{CheckLink, FirstLink, PublishLink}
+use Rattle.inv_ends.specs.model.words.Schemes.{publishes_rows}
+use Rattle.inv_ends.specs.model.words.declared.config.SchemeKind.{SchemeKind}
+use Rattle.inv_ends.specs.model.words.declared.layout.Layout.{Layout}
 use Rattle.inv_all.proofs.Rounds.Grows.{most_of, open_task, paced_of}
 use Rattle.inv_all.proofs.Rounds.Kept.{lost_more}
-use Rattle.inv_contents.specs.model.Posts.{counted, reserves_span, upper, with_row, with_span, withdrawn}
-use Rattle.inv_contents.specs.model.Protect.{failed_once, protect_end, protected}
-use Rattle.inv_contents.specs.model.Rest.{is_told, lost_by, rounds_most}
-use Rattle.inv_contents.specs.model.Rounds.{key_of}
-use Rattle.inv_contents.specs.model.SlowPath.{answer_in, lost_turn, own_request}
-use Rattle.inv_contents.specs.model.Steps.{resumed, run_turn}
-use Rattle.inv_contents.specs.model.World.{World, finds, offered}
-use Rattle.inv_contents.specs.model.WriteRow.{after_write, last_written}
-use Rattle.inv_contents.specs.model.declared.post.Post.{Post}
-use Rattle.inv_contents.specs.defs.declared.call.Answer.{Answer}
-use Rattle.inv_contents.specs.defs.declared.event.Event.{Event}
-use Rattle.inv_contents.specs.defs.declared.event.Root.{Root}
+use Rattle.inv_ends.specs.model.Posts.{counted, reserves_span, upper, with_row, with_span, withdrawn}
+use Rattle.inv_ends.specs.model.Protect.{failed_once, protect_end, protected}
+use Rattle.inv_ends.specs.model.Rest.{is_told, lost_by, rounds_most}
+use Rattle.inv_ends.specs.model.Rounds.{key_of}
+use Rattle.inv_ends.specs.model.SlowPath.{answer_in, lost_turn, own_request}
+use Rattle.inv_ends.specs.model.Steps.{resumed, run_turn}
+use Rattle.inv_ends.specs.model.World.{World, finds, offered}
+use Rattle.inv_ends.specs.model.WriteRow.{after_write, last_written}
+use Rattle.inv_ends.specs.model.declared.post.Post.{Post}
+use Rattle.inv_ends.specs.model.defs.declared.call.Answer.{Answer}
+use Rattle.inv_ends.specs.model.defs.declared.event.Event.{Event}
+use Rattle.inv_ends.specs.model.defs.declared.event.Root.{Root}
 use Rattle.inv_ends.specs.shapes.Seats.{PhaseFits, Run, base_fits, protect_fits, task_root}
 use Rattle.inv_ends.specs.shapes.Frame.{Passed}
 use Rattle.inv_ends.specs.Tracked.{carries_at, carries_in, root_base}
@@ -58,10 +58,10 @@ use Rattle.inv_ends.proofs.Rest.Seats.{counts_task, follows_alone, once_told, on
 use Rattle.inv_ends.specs.Losses.{fills_fit, hold_fit, is_queue, opens_fit, tells_fit, why_fit}
 use Rattle.inv_all.proofs.Rounds.Paced.{TurnPaced, advanced_paced, clearing_paced, closed_paced, filled_by_paced, fills_something, finishing_paced, followed_paced, link_since, opened_null_paced, opened_row_paced, opening_paced, released_paced, retired_paced, tidied_paced, written_paced}
 use Rattle.inv_all.specs.Tallies.{Since, Tally, at_paced, changes_so_far, fills_paced, hazard_paced, open_paced, root_test, task_most, head_since, lag_since, later_paced, next_paced, passes_so_far, since_test, task_good, task_paced, why_good, why_paced}
-use Rattle.inv_contents.specs.words.Packed.{read_request}
-use Rattle.inv_contents.specs.words.declared.config.Config.{Config}
+use Rattle.inv_ends.specs.model.words.Packed.{read_request}
+use Rattle.inv_ends.specs.model.words.declared.config.Config.{Config}
 use Rattle.std.specs.Prelude.{List, Option, Some, None, not, if◌then◌else◌, nat_le, ◌==◌, ◌||◌, ◌%◌}
-use Rattle.inv_contents.proofs.model.Facts.{rest_of, both, if_by, no_truth, number_is, or_left_true}
+use Rattle.inv_ends.proofs.model.Facts.{rest_of, both, if_by, no_truth, number_is, or_left_true}
 
 -- with which link a protection ends
 abbrev pub EndCarries : (clock upto : ℕ) → ProtectAt → Outcome → Type 0

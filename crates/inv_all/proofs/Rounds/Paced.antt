@@ -1,59 +1,59 @@
 -- What comes after a machine or a step of a call's own has lost no more rounds than has changed.
 use Rattle.std.proofs.Common.{ℕ, ◌∙◌, ◌≡◌, ◌≤◌, ◌+◌, ◌-◌, Bool, true, false, [], ◌∷◌, arith, refl, sym, subst}
-use Rattle.inv_contents.specs.model.Change as alters
-use Rattle.inv_contents.specs.model.Enqueue as enqueues
-use Rattle.inv_contents.specs.model.Dequeue as dequeues
-use Rattle.inv_contents.specs.model.Get as gets
-use Rattle.inv_contents.specs.model.Keep as keeps
-use Rattle.inv_contents.specs.model.Steps as steps
-use Rattle.inv_contents.specs.words.Schemes.{has_one_interval, publishes_rows}
-use Rattle.inv_contents.specs.words.Schemes.{moves as moves_clock}
-use Rattle.inv_contents.specs.words.declared.config.Config.{Config}
-use Rattle.inv_contents.specs.words.declared.config.SchemeKind.TheVariants.{He, Hp, Ibr, Wfe}
-use Rattle.inv_contents.specs.defs.declared.event.Guard.{Guard}
-use Rattle.inv_contents.specs.model.Scan as scan
-use Rattle.inv_contents.specs.defs.declared.event.Event.TheVariants as events
-use Rattle.inv_contents.specs.defs.declared.event.Root.TheVariants as roots
-use Rattle.inv_contents.specs.defs.declared.call.Answer.TheVariants as answers
-use Rattle.inv_contents.specs.defs.declared.call.ClockMove.TheVariants as moves
-use Rattle.inv_contents.specs.model.declared.ends.FollowEnd.TheVariants as follow_ends
-use Rattle.inv_contents.specs.model.declared.ends.AllocateEnd.TheVariants as allocate_ends
-use Rattle.inv_contents.specs.model.Calls.{AfterScan, CallOutcome, CallTurn, ChangeAt, ChangeKept, DequeueAt, EnqueueAt, EnqueueKept, GetAt, Next, ScanAt, Task, Work, KeepAt, LetGo}
-use Rattle.inv_contents.specs.model.Calls.AfterScan.{Answered, Counted, Repeated}
-use Rattle.inv_contents.specs.model.Calls.CallOutcome.{Answers, GoesOn}
-use Rattle.inv_contents.specs.model.Calls.ChangeAt.{ExchangeRoot, LoadCount, LoadKey, LoadValue, LoadVersion}
-use Rattle.inv_contents.specs.model.Calls.DequeueAt.{ExchangeHead, LoadTail, SwingTail, TakeNumber, TakeValue}
-use Rattle.inv_contents.specs.model.Calls.EnqueueAt.{ExchangeNext, ExchangeTail, LoadNext, LoadNumber, PassTail}
-use Rattle.inv_contents.specs.model.Calls.GetAt.{FindCount, FindKey, FindValue, FindVersion}
-use Rattle.inv_contents.specs.model.Calls.KeepAt.{HideSpan, LoadHeld, Looks, Loosens, MarkLeft, MarkTaken, Misses, StoreHeld, TakeList}
-use Rattle.inv_contents.specs.model.Calls.LetGo.{Dropped, Parting, Rehold, Released}
-use Rattle.inv_contents.specs.model.Calls.Next.{Again, Answering, MakeRoom, Retiring}
-use Rattle.inv_contents.specs.model.Calls.ScanAt.{GiveBack, ReadGuard}
-use Rattle.inv_contents.specs.model.Calls.Task.{Changes, Dequeues, Enqueues, Gets, Holds}
-use Rattle.inv_contents.specs.model.Calls.Work.{Changing, Dequeuing, Enqueuing, Getting, Keeping}
-use Rattle.inv_contents.specs.model.Desks.{Desk, with_life}
-use Rattle.inv_contents.specs.model.Guards.{guard_at, guards, eras_in, linked_row, published}
-use Rattle.inv_contents.specs.model.Locals.{rounds_told}
-use Rattle.inv_contents.specs.model.Phases.{Ending, Base}
-use Rattle.inv_contents.specs.model.Phases.Ending.{Allocated, Clocked, Done, Followed, Protected, Retired}
-use Rattle.inv_contents.specs.model.Posts.{stands, cleared, publishes_index, withdrawn, standing_from}
-use Rattle.inv_contents.specs.model.Rounds.{begin_base, begin_span, bucket_of, clear_base, clear_post, clear_told, clearing, clearing_by, clearing_next, clearing_next_by, closed, finish_base, finish_span, finishing, finishing_by, given_up, index_of, key_of, opening, root_of, round, round_by, scheme_of, taken_of, kept_row, let_index, protect_at, tidy_by}
-use Rattle.inv_contents.specs.model.declared.ends.AllocateEnd.{AllocateEnd}
-use Rattle.inv_contents.specs.model.declared.ends.FollowEnd.{FollowEnd}
-use Rattle.inv_contents.specs.model.declared.post.Post.{Post}
-use Rattle.inv_contents.specs.defs.Entry.{entry}
-use Rattle.inv_contents.specs.defs.declared.call.Answer.{Answer}
-use Rattle.inv_contents.specs.defs.declared.call.ClockMove.{ClockMove}
-use Rattle.inv_contents.specs.defs.declared.event.Event.{Event}
-use Rattle.inv_contents.specs.defs.declared.lifetime.Interval.{Interval}
+use Rattle.inv_ends.specs.model.Change as alters
+use Rattle.inv_ends.specs.model.Enqueue as enqueues
+use Rattle.inv_ends.specs.model.Dequeue as dequeues
+use Rattle.inv_ends.specs.model.Get as gets
+use Rattle.inv_ends.specs.model.Keep as keeps
+use Rattle.inv_ends.specs.model.Steps as steps
+use Rattle.inv_ends.specs.model.words.Schemes.{has_one_interval, publishes_rows}
+use Rattle.inv_ends.specs.model.words.Schemes.{moves as moves_clock}
+use Rattle.inv_ends.specs.model.words.declared.config.Config.{Config}
+use Rattle.inv_ends.specs.model.words.declared.config.SchemeKind.TheVariants.{He, Hp, Ibr, Wfe}
+use Rattle.inv_ends.specs.model.defs.declared.event.Guard.{Guard}
+use Rattle.inv_ends.specs.model.Scan as scan
+use Rattle.inv_ends.specs.model.defs.declared.event.Event.TheVariants as events
+use Rattle.inv_ends.specs.model.defs.declared.event.Root.TheVariants as roots
+use Rattle.inv_ends.specs.model.defs.declared.call.Answer.TheVariants as answers
+use Rattle.inv_ends.specs.model.defs.declared.call.ClockMove.TheVariants as moves
+use Rattle.inv_ends.specs.model.declared.ends.FollowEnd.TheVariants as follow_ends
+use Rattle.inv_ends.specs.model.declared.ends.AllocateEnd.TheVariants as allocate_ends
+use Rattle.inv_ends.specs.model.Calls.{AfterScan, CallOutcome, CallTurn, ChangeAt, ChangeKept, DequeueAt, EnqueueAt, EnqueueKept, GetAt, Next, ScanAt, Task, Work, KeepAt, LetGo}
+use Rattle.inv_ends.specs.model.Calls.AfterScan.{Answered, Counted, Repeated}
+use Rattle.inv_ends.specs.model.Calls.CallOutcome.{Answers, GoesOn}
+use Rattle.inv_ends.specs.model.Calls.ChangeAt.{ExchangeRoot, LoadCount, LoadKey, LoadValue, LoadVersion}
+use Rattle.inv_ends.specs.model.Calls.DequeueAt.{ExchangeHead, LoadTail, SwingTail, TakeNumber, TakeValue}
+use Rattle.inv_ends.specs.model.Calls.EnqueueAt.{ExchangeNext, ExchangeTail, LoadNext, LoadNumber, PassTail}
+use Rattle.inv_ends.specs.model.Calls.GetAt.{FindCount, FindKey, FindValue, FindVersion}
+use Rattle.inv_ends.specs.model.Calls.KeepAt.{HideSpan, LoadHeld, Looks, Loosens, MarkLeft, MarkTaken, Misses, StoreHeld, TakeList}
+use Rattle.inv_ends.specs.model.Calls.LetGo.{Dropped, Parting, Rehold, Released}
+use Rattle.inv_ends.specs.model.Calls.Next.{Again, Answering, MakeRoom, Retiring}
+use Rattle.inv_ends.specs.model.Calls.ScanAt.{GiveBack, ReadGuard}
+use Rattle.inv_ends.specs.model.Calls.Task.{Changes, Dequeues, Enqueues, Gets, Holds}
+use Rattle.inv_ends.specs.model.Calls.Work.{Changing, Dequeuing, Enqueuing, Getting, Keeping}
+use Rattle.inv_ends.specs.model.Desks.{Desk, with_life}
+use Rattle.inv_ends.specs.model.Guards.{guard_at, guards, eras_in, linked_row, published}
+use Rattle.inv_ends.specs.model.Locals.{rounds_told}
+use Rattle.inv_ends.specs.model.Phases.{Ending, Base}
+use Rattle.inv_ends.specs.model.Phases.Ending.{Allocated, Clocked, Done, Followed, Protected, Retired}
+use Rattle.inv_ends.specs.model.Posts.{stands, cleared, publishes_index, withdrawn, standing_from}
+use Rattle.inv_ends.specs.model.Rounds.{begin_base, begin_span, bucket_of, clear_base, clear_post, clear_told, clearing, clearing_by, clearing_next, clearing_next_by, closed, finish_base, finish_span, finishing, finishing_by, given_up, index_of, key_of, opening, root_of, round, round_by, scheme_of, taken_of, kept_row, let_index, protect_at, tidy_by}
+use Rattle.inv_ends.specs.model.declared.ends.AllocateEnd.{AllocateEnd}
+use Rattle.inv_ends.specs.model.declared.ends.FollowEnd.{FollowEnd}
+use Rattle.inv_ends.specs.model.declared.post.Post.{Post}
+use Rattle.inv_ends.specs.model.defs.Entry.{entry}
+use Rattle.inv_ends.specs.model.defs.declared.call.Answer.{Answer}
+use Rattle.inv_ends.specs.model.defs.declared.call.ClockMove.{ClockMove}
+use Rattle.inv_ends.specs.model.defs.declared.event.Event.{Event}
+use Rattle.inv_ends.specs.model.defs.declared.lifetime.Interval.{Interval}
 use Rattle.inv_ends.proofs.Rest.Closings.{cleared_rounds, cleared_told, opened_untold}
 use Rattle.inv_ends.proofs.Rest.Works.{link_told}
 use Rattle.inv_ends.specs.Losses.{is_queue, work_fit}
 use Rattle.inv_all.specs.Tallies.{Since, Tally, at_paced, changes_so_far, dequeue_paced, enqueue_paced, fills_paced, head_since, lag_since, later_paced, next_paced, next_since, once, passes_so_far, phase_paced, root_since, tail_since, task_paced, work_paced}
-use Rattle.inv_contents.specs.words.declared.config.SchemeKind.{SchemeKind}
+use Rattle.inv_ends.specs.model.words.declared.config.SchemeKind.{SchemeKind}
 use Rattle.std.specs.Prelude.{List, ◌++◌, length, Option, Some, None, nat_lt, nat_le, ◌==◌, ◌%◌, drop}
-use Rattle.inv_contents.proofs.model.Facts.{or_left_true, one_before, if_by}
-use Rattle.inv_contents.proofs.model.Schemes.{each_begin, each_clear, each_finish}
+use Rattle.inv_ends.proofs.model.Facts.{or_left_true, one_before, if_by}
+use Rattle.inv_ends.proofs.model.Schemes.{each_begin, each_clear, each_finish}
 
 abbrev pub outcome_paced : Tally → ℕ → CallOutcome → Type 0
 outcome_paced u rounds (GoesOn phase) = phase_paced u rounds phase

@@ -1,25 +1,25 @@
 -- A link is tracked only for a seat that protects one, and none where rows are published.
 use Rattle.std.proofs.Common.{ℕ, ◌∙◌, ◌≡◌, Bool, true, false, refl, sym, subst}
-use Rattle.inv_contents.specs.words.Place.Place.{Clock}
-use Rattle.inv_contents.specs.model.Phases.Base.{Move, Allocate, Begin, Clear, Finish, GiveUp, Protect, Release, Reload, Retire, Write}
+use Rattle.inv_ends.specs.model.words.Place.Place.{Clock}
+use Rattle.inv_ends.specs.model.Phases.Base.{Move, Allocate, Begin, Clear, Finish, GiveUp, Protect, Release, Reload, Retire, Write}
 use Rattle.inv_ends.specs.requests.Views.{View as Asking, Role, Deal}
 use Rattle.inv_ends.specs.requests.Views.Deal.{Quiet, Open, Answered, Passed, Taken}
 use Rattle.inv_ends.specs.requests.Views.Role.{Away, Publishes, Attempts, Copies, Asks, Asked, Turns, Looks, Answers, Waits, Takes, Took, Leaves, Meets, Shows, Loads, Helps, Reads, Hands, Hides, Late, Moves}
 use Rattle.inv_ends.specs.requests.Standing.{Requests, role_of, move_role}
 use Rattle.inv_ends.specs.requests.Deals.{fits, is_quiet}
-use Rattle.inv_contents.specs.model.Calls.{Phase}
-use Rattle.inv_contents.specs.model.Calls.Phase.{Idle, Runs, Scans, Works}
-use Rattle.inv_contents.specs.model.Links.{link_number}
-use Rattle.inv_contents.specs.model.Phases.{MoveAt}
-use Rattle.inv_contents.specs.model.Phases.MoveAt.{AnswerAsked, CheckEra, ExchangeClock, HandOver, HideEra, HideLate, LoadAsked, LoadEra, LoadRequest, LoadReserved, ShowEra}
-use Rattle.inv_contents.specs.model.Posts.{upper}
-use Rattle.inv_contents.specs.model.World.{World}
+use Rattle.inv_ends.specs.model.Calls.{Phase}
+use Rattle.inv_ends.specs.model.Calls.Phase.{Idle, Runs, Scans, Works}
+use Rattle.inv_ends.specs.model.Links.{link_number}
+use Rattle.inv_ends.specs.model.Phases.{MoveAt}
+use Rattle.inv_ends.specs.model.Phases.MoveAt.{AnswerAsked, CheckEra, ExchangeClock, HandOver, HideEra, HideLate, LoadAsked, LoadEra, LoadRequest, LoadReserved, ShowEra}
+use Rattle.inv_ends.specs.model.Posts.{upper}
+use Rattle.inv_ends.specs.model.World.{World}
 use Rattle.inv_ends.specs.Tracked.{Tracked, carries_in, has_link, helps_at, helps_in, opened_by}
 use Rattle.inv_ends.specs.Tracked.Tracked.{Carried, Given, Helped}
 use Rattle.inv_ends.specs.requests.Roles.{shows}
 use Rattle.inv_ends.proofs.requests.Turns.{each_work_role}
-use Rattle.inv_contents.specs.words.declared.layout.Layout.{Layout}
-use Rattle.inv_contents.specs.model.Phases.ProtectAt.{ByHazard}
+use Rattle.inv_ends.specs.model.words.declared.layout.Layout.{Layout}
+use Rattle.inv_ends.specs.model.Phases.ProtectAt.{ByHazard}
 use Rattle.inv_ends.proofs.Rest.Told.{by_rows}
 use Rattle.std.specs.Prelude.{◌==◌, ◌&&◌, not}
 

@@ -1,65 +1,65 @@
 -- What each step makes of the roots, the links and the counts.
 use Rattle.std.proofs.Common.{append_assoc, length-append, ℕ, ◌∙◌, ◌≡◌, ◌≤◌, ◌+◌, ◌-◌, Bool, true, false, [], ◌∷◌, arith, refl, ap, subst}
 use Rattle.std.proofs.lemmas.Bool.Decides.{nat_tests}
-use Rattle.inv_contents.specs.words.Place.{Place}
-use Rattle.inv_contents.specs.words.Place.Place.{Clock, Bucket, Head, Tail, Row}
-use Rattle.inv_contents.specs.model.Memory.{Load, written, found, place_in, upd}
-use Rattle.inv_contents.specs.model.Phases.Base.{Move as Moves, Allocate, Begin, Clear, Finish, GiveUp, Protect, Release, Reload, Retire, Write}
-use Rattle.inv_contents.specs.model.Change as alters
-use Rattle.inv_contents.specs.model.Enqueue as enqueues
-use Rattle.inv_contents.specs.model.Dequeue as dequeues
-use Rattle.inv_contents.specs.model.Get as gets
-use Rattle.inv_contents.specs.model.Keep as keeps
-use Rattle.inv_contents.specs.model.Machine as machine
-use Rattle.inv_contents.specs.model.Steps as steps
-use Rattle.inv_contents.specs.model.Scan as scan
-use Rattle.inv_contents.specs.defs.declared.event.Event.TheVariants as events
-use Rattle.inv_contents.specs.defs.declared.event.Root.TheVariants as roots
-use Rattle.inv_contents.specs.defs.declared.call.Answer.TheVariants as answers
-use Rattle.inv_contents.specs.defs.declared.call.ClockMove.TheVariants as moves
-use Rattle.inv_contents.specs.model.Book.{Book, booked_all}
-use Rattle.inv_contents.specs.model.Calls.{CallTurn, ChangeAt, ChangeKept, EnqueueAt, EnqueueKept, Phase, Why, DequeueAt, GetAt, ScanAt, KeepAt}
-use Rattle.inv_contents.specs.model.Calls.ChangeAt.{ExchangeRoot, LoadCount, LoadKey, LoadValue, LoadVersion}
-use Rattle.inv_contents.specs.model.Calls.EnqueueAt.{ExchangeNext, ExchangeTail, LoadNext, LoadNumber, PassTail}
-use Rattle.inv_contents.specs.model.Calls.Next.{Retiring}
-use Rattle.inv_contents.specs.model.Calls.Phase.{Idle, Runs, Scans, Works}
-use Rattle.inv_contents.specs.model.Calls.Task.{Changes}
-use Rattle.inv_contents.specs.model.Calls.Work.{Changing, Enqueuing, Dequeuing, Getting, Keeping}
-use Rattle.inv_contents.specs.model.Dequeue.{taken}
-use Rattle.inv_contents.specs.model.Desks.{Desk}
-use Rattle.inv_contents.specs.model.Locals.{told_by, told_end}
-use Rattle.inv_contents.specs.model.Phases.{Base, MoveAt, ProtectAt}
-use Rattle.inv_contents.specs.model.Phases.AllocateAt.{ClaimSlot, LoadBirth, StoreLife}
-use Rattle.inv_contents.specs.model.Phases.BeginAt.{LoadLower, PublishSpan}
-use Rattle.inv_contents.specs.model.Phases.MoveAt.{AnswerAsked, CheckEra, ExchangeClock, HandOver, HideEra, HideLate, LoadAsked, LoadEra, LoadRequest, LoadReserved, ShowEra}
-use Rattle.inv_contents.specs.model.Phases.ProtectAt.{AnswerOwn, ByHazard, CheckClock, CheckOwnClock, CheckUpper, LoadAnswer, LoadClock, LoadLink, LoadOwnClock, LoadOwnLink, LoadWithin, PublishEra, PublishHelper, PublishRequest, RaiseUpper, TakeAnswer, WithdrawHelper, WithdrawRequest}
-use Rattle.inv_contents.specs.model.Phases.HazardAt.{CheckLink, FirstLink, PublishLink}
-use Rattle.inv_contents.specs.model.Phases.RetireAt.{LoadLife, LoadRetire, StoreRetired}
-use Rattle.inv_contents.specs.model.Posts.{counted}
-use Rattle.inv_contents.specs.model.WriteRow.{row_word}
-use Rattle.inv_contents.specs.model.declared.post.Post.{Post}
-use Rattle.inv_contents.specs.defs.declared.event.Event.{Event}
-use Rattle.inv_contents.specs.defs.declared.event.Root.{Root}
-use Rattle.inv_contents.specs.defs.declared.fold.Change.{Change}
+use Rattle.inv_ends.specs.model.words.Place.{Place}
+use Rattle.inv_ends.specs.model.words.Place.Place.{Clock, Bucket, Head, Tail, Row}
+use Rattle.inv_ends.specs.model.Memory.{Load, written, found, place_in, upd}
+use Rattle.inv_ends.specs.model.Phases.Base.{Move as Moves, Allocate, Begin, Clear, Finish, GiveUp, Protect, Release, Reload, Retire, Write}
+use Rattle.inv_ends.specs.model.Change as alters
+use Rattle.inv_ends.specs.model.Enqueue as enqueues
+use Rattle.inv_ends.specs.model.Dequeue as dequeues
+use Rattle.inv_ends.specs.model.Get as gets
+use Rattle.inv_ends.specs.model.Keep as keeps
+use Rattle.inv_ends.specs.model.Machine as machine
+use Rattle.inv_ends.specs.model.Steps as steps
+use Rattle.inv_ends.specs.model.Scan as scan
+use Rattle.inv_ends.specs.model.defs.declared.event.Event.TheVariants as events
+use Rattle.inv_ends.specs.model.defs.declared.event.Root.TheVariants as roots
+use Rattle.inv_ends.specs.model.defs.declared.call.Answer.TheVariants as answers
+use Rattle.inv_ends.specs.model.defs.declared.call.ClockMove.TheVariants as moves
+use Rattle.inv_ends.specs.model.Book.{Book, booked_all}
+use Rattle.inv_ends.specs.model.Calls.{CallTurn, ChangeAt, ChangeKept, EnqueueAt, EnqueueKept, Phase, Why, DequeueAt, GetAt, ScanAt, KeepAt}
+use Rattle.inv_ends.specs.model.Calls.ChangeAt.{ExchangeRoot, LoadCount, LoadKey, LoadValue, LoadVersion}
+use Rattle.inv_ends.specs.model.Calls.EnqueueAt.{ExchangeNext, ExchangeTail, LoadNext, LoadNumber, PassTail}
+use Rattle.inv_ends.specs.model.Calls.Next.{Retiring}
+use Rattle.inv_ends.specs.model.Calls.Phase.{Idle, Runs, Scans, Works}
+use Rattle.inv_ends.specs.model.Calls.Task.{Changes}
+use Rattle.inv_ends.specs.model.Calls.Work.{Changing, Enqueuing, Dequeuing, Getting, Keeping}
+use Rattle.inv_ends.specs.model.Dequeue.{taken}
+use Rattle.inv_ends.specs.model.Desks.{Desk}
+use Rattle.inv_ends.specs.model.Locals.{told_by, told_end}
+use Rattle.inv_ends.specs.model.Phases.{Base, MoveAt, ProtectAt}
+use Rattle.inv_ends.specs.model.Phases.AllocateAt.{ClaimSlot, LoadBirth, StoreLife}
+use Rattle.inv_ends.specs.model.Phases.BeginAt.{LoadLower, PublishSpan}
+use Rattle.inv_ends.specs.model.Phases.MoveAt.{AnswerAsked, CheckEra, ExchangeClock, HandOver, HideEra, HideLate, LoadAsked, LoadEra, LoadRequest, LoadReserved, ShowEra}
+use Rattle.inv_ends.specs.model.Phases.ProtectAt.{AnswerOwn, ByHazard, CheckClock, CheckOwnClock, CheckUpper, LoadAnswer, LoadClock, LoadLink, LoadOwnClock, LoadOwnLink, LoadWithin, PublishEra, PublishHelper, PublishRequest, RaiseUpper, TakeAnswer, WithdrawHelper, WithdrawRequest}
+use Rattle.inv_ends.specs.model.Phases.HazardAt.{CheckLink, FirstLink, PublishLink}
+use Rattle.inv_ends.specs.model.Phases.RetireAt.{LoadLife, LoadRetire, StoreRetired}
+use Rattle.inv_ends.specs.model.Posts.{counted}
+use Rattle.inv_ends.specs.model.WriteRow.{row_word}
+use Rattle.inv_ends.specs.model.declared.post.Post.{Post}
+use Rattle.inv_ends.specs.model.defs.declared.event.Event.{Event}
+use Rattle.inv_ends.specs.model.defs.declared.event.Root.{Root}
+use Rattle.inv_ends.specs.model.defs.declared.fold.Change.{Change}
 use Rattle.inv_ends.specs.requests.Roles.{shows}
-use Rattle.inv_contents.specs.rows.Rows.{View}
+use Rattle.inv_ends.specs.rows.Rows.{View}
 use Rattle.inv_all.proofs.Rounds.Counts.{book_grows, calm_grows, tally_of, touches}
 use Rattle.inv_all.proofs.Rounds.Exchanges.{exchange_grows, join_grows, swing_grows, write_grows, pop_grows}
 use Rattle.inv_all.proofs.Rounds.Grows.{Grows}
-use Rattle.inv_contents.specs.rows.Queue.{Line, follows_in, line_move, moved_line, enqueue_line, head_of, scan_line}
-use Rattle.inv_contents.specs.rows.Queue.LineMove.{Joins, Keeps}
-use Rattle.inv_contents.specs.words.declared.config.Config.{Config}
+use Rattle.inv_ends.specs.rows.Queue.{Line, follows_in, line_move, moved_line, enqueue_line, head_of, scan_line}
+use Rattle.inv_ends.specs.rows.Queue.LineMove.{Joins, Keeps}
+use Rattle.inv_ends.specs.model.words.declared.config.Config.{Config}
 use Rattle.std.specs.Prelude.{List, ◌++◌, length, None, if◌then◌else◌, ◌==◌}
-use Rattle.inv_contents.proofs.Contents.Rounds.{Adds, clearing_adds, clearing_next_adds}
-use Rattle.inv_contents.proofs.Contents.Shelves.{exchanged_book, linked_booked}
-use Rattle.inv_contents.proofs.Contents.Told.{booked_append}
-use Rattle.inv_contents.specs.model.Calls.DequeueAt.{ExchangeHead, LoadTail, SwingTail, TakeNumber, TakeValue}
-use Rattle.inv_contents.specs.model.Calls.GetAt.{FindCount, FindKey, FindValue, FindVersion}
-use Rattle.inv_contents.specs.model.Calls.KeepAt.{HideSpan, LoadHeld, Looks, Loosens, MarkLeft, MarkTaken, Misses, StoreHeld, TakeList}
-use Rattle.inv_contents.specs.model.Calls.ScanAt.{GiveBack, ReadGuard}
-use Rattle.inv_contents.proofs.rows.Went.{LineIn, WalksIn}
-use Rattle.inv_contents.specs.rows.Chain.{queue_of}
-use Rattle.inv_contents.proofs.model.Facts.{same_both}
+use Rattle.inv_all.proofs.Contents.Contents.Rounds.{Adds, clearing_adds, clearing_next_adds}
+use Rattle.inv_all.proofs.Contents.Contents.Shelves.{exchanged_book, linked_booked}
+use Rattle.inv_all.proofs.Contents.Contents.Told.{booked_append}
+use Rattle.inv_ends.specs.model.Calls.DequeueAt.{ExchangeHead, LoadTail, SwingTail, TakeNumber, TakeValue}
+use Rattle.inv_ends.specs.model.Calls.GetAt.{FindCount, FindKey, FindValue, FindVersion}
+use Rattle.inv_ends.specs.model.Calls.KeepAt.{HideSpan, LoadHeld, Looks, Loosens, MarkLeft, MarkTaken, Misses, StoreHeld, TakeList}
+use Rattle.inv_ends.specs.model.Calls.ScanAt.{GiveBack, ReadGuard}
+use Rattle.inv_ends.proofs.rows.Went.{LineIn, WalksIn}
+use Rattle.inv_ends.specs.rows.Chain.{queue_of}
+use Rattle.inv_ends.proofs.model.Facts.{same_both}
 
 -- the machines that write no such word
 

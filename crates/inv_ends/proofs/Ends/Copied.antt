@@ -1,34 +1,34 @@
 -- A step tells that a row is copied where it copies it, and the row stands at both indexes from then on.
-use Rattle.inv_covers.specs.model.Phases.HazardAt.{FirstLink, PublishLink, CheckLink}
+use Rattle.inv_rows.specs.model.Phases.HazardAt.{FirstLink, PublishLink, CheckLink}
 use Rattle.std.proofs.Common.{ℕ, ◌+◌, ◌≤◌, Bool, true, false, ◌≡◌, ◌∙◌, sym, refl, ap, subst, arith}
 use Rattle.std.specs.List.{list_any}
 use Rattle.std.specs.Prelude.{Option, Some, None, drop, length, if◌then◌else◌, ◌==◌, ◌&&◌, ◌||◌}
-use Rattle.inv_covers.specs.defs.declared.event.Event.{Event}
-use Rattle.inv_covers.specs.defs.declared.event.Event.TheVariants as events
-use Rattle.inv_covers.specs.defs.declared.event.Root.{Root}
-use Rattle.inv_covers.specs.defs.declared.event.Root.TheVariants as roots
-use Rattle.inv_covers.specs.model.Keep as keeps
-use Rattle.inv_covers.specs.model.Calls.{KeepAt, Loosens, LoadHeld, StoreHeld, Looks, Misses, HideSpan, MarkLeft, TakeList, MarkTaken, Keeping, Phase, Idle, Runs, Scans, Works}
-use Rattle.inv_covers.specs.model.Desks.{Desk}
-use Rattle.inv_covers.specs.model.Locals.{Local, turn}
-use Rattle.inv_covers.specs.model.Memory.{bump}
-use Rattle.inv_covers.specs.model.Phases.{ProtectAt, Base}
-use Rattle.inv_covers.specs.model.Phases.ProtectAt.{CheckClock, CheckUpper, TakeAnswer, ByHazard}
-use Rattle.inv_covers.specs.model.Phases.Base.{Clear, Protect, Release, Reload}
-use Rattle.inv_covers.specs.model.Posts.{counted, stands, upper, with_row}
-use Rattle.inv_covers.specs.model.Protect.{told_held}
-use Rattle.inv_covers.specs.model.Rounds.{let_index, scheme_of}
-use Rattle.inv_covers.specs.model.Steps as steps
-use Rattle.inv_covers.specs.model.World.{finds, offered}
-use Rattle.inv_covers.specs.model.declared.post.Post.{Post}
-use Rattle.inv_covers.specs.shapes.Slots.{CopyIn, KeepIn, PhaseIn}
-use Rattle.inv_covers.specs.words.Schemes.{has_one_interval}
-use Rattle.inv_covers.specs.words.declared.config.Config.{Config}
-use Rattle.inv_covers.specs.words.declared.layout.Layout.{Layout}
-use Rattle.inv_covers.proofs.Held.{stepped_post}
-use Rattle.inv_covers.proofs.model.Facts.{and_false, first_of, no_truth_2, number_is, rest_of}
-use Rattle.inv_covers.proofs.model.Ranges.{bounds_of}
-use Rattle.inv_covers.proofs.model.Standing.{stands-with_row_same, stands-with_row_other}
+use Rattle.inv_rows.specs.defs.declared.event.Event.{Event}
+use Rattle.inv_rows.specs.defs.declared.event.Event.TheVariants as events
+use Rattle.inv_rows.specs.defs.declared.event.Root.{Root}
+use Rattle.inv_rows.specs.defs.declared.event.Root.TheVariants as roots
+use Rattle.inv_rows.specs.model.Keep as keeps
+use Rattle.inv_rows.specs.model.Calls.{KeepAt, Loosens, LoadHeld, StoreHeld, Looks, Misses, HideSpan, MarkLeft, TakeList, MarkTaken, Keeping, Phase, Idle, Runs, Scans, Works}
+use Rattle.inv_rows.specs.model.Desks.{Desk}
+use Rattle.inv_rows.specs.model.Locals.{Local, turn}
+use Rattle.inv_rows.specs.model.Memory.{bump}
+use Rattle.inv_rows.specs.model.Phases.{ProtectAt, Base}
+use Rattle.inv_rows.specs.model.Phases.ProtectAt.{CheckClock, CheckUpper, TakeAnswer, ByHazard}
+use Rattle.inv_rows.specs.model.Phases.Base.{Clear, Protect, Release, Reload}
+use Rattle.inv_rows.specs.model.Posts.{counted, stands, upper, with_row}
+use Rattle.inv_rows.specs.model.Protect.{told_held}
+use Rattle.inv_rows.specs.model.Rounds.{let_index, scheme_of}
+use Rattle.inv_rows.specs.model.Steps as steps
+use Rattle.inv_rows.specs.model.World.{finds, offered}
+use Rattle.inv_rows.specs.model.declared.post.Post.{Post}
+use Rattle.inv_rows.specs.Shapes.Slots.{CopyIn, KeepIn, PhaseIn}
+use Rattle.inv_rows.specs.words.Schemes.{has_one_interval}
+use Rattle.inv_rows.specs.words.declared.config.Config.{Config}
+use Rattle.inv_rows.specs.words.declared.layout.Layout.{Layout}
+use Rattle.inv_rows.proofs.Covering.Held.{stepped_post}
+use Rattle.inv_rows.proofs.model.Facts.{and_false, first_of, no_truth_2, number_is, rest_of}
+use Rattle.inv_rows.proofs.model.Ranges.{bounds_of}
+use Rattle.inv_rows.proofs.model.Standing.{stands-with_row_same, stands-with_row_other}
 use Rattle.model_history.proofs.Passes.{copied_post, keep_post}
 use Rattle.inv_ends.proofs.Ends.Nulls.{none_of}
 use Rattle.inv_ends.proofs.Ends.Tests.{Calm, at_shows, base_shows, copied_shows, keep_shows, none_cleared, none_left, phase_shows, step_any}

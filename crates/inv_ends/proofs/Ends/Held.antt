@@ -1,47 +1,47 @@
 -- A row that is told to stand stands after the step, and one that is told to stand no more stood before it.
-use Rattle.inv_covers.specs.model.Guards.{guard_at}
+use Rattle.inv_rows.specs.model.Guards.{guard_at}
 use Rattle.std.proofs.Common.{ℕ, ◌+◌, ◌-◌, ◌<◌, Bool, true, false, ◌≡◌, ◌∙◌, sym, refl, ap, subst, arith, ◌⊎◌, inl, inr}
 use Rattle.std.proofs.lemmas.Bool.Decides.{nat_tests}
 use Rattle.std.proofs.lemmas.List.Folds.{list_any-append}
 use Rattle.std.specs.List.{list_any}
-use Rattle.inv_covers.specs.model.Phases.Ending.{Protected, Followed}
-use Rattle.inv_covers.specs.model.Keep as keeps
-use Rattle.inv_covers.specs.model.Steps as steps
-use Rattle.inv_covers.specs.model.Dequeue as dequeues
-use Rattle.inv_covers.specs.model.Calls as calls
-use Rattle.inv_covers.specs.defs.declared.event.Event.TheVariants as events
-use Rattle.inv_covers.specs.defs.declared.event.Root.TheVariants as roots
-use Rattle.inv_covers.specs.model.declared.ends.ProtectEnd.TheVariants as protect_ends
-use Rattle.inv_covers.specs.model.declared.ends.FollowEnd.TheVariants as follow_ends
-use Rattle.inv_covers.specs.model.Calls.{CallOutcome, CallTurn, KeepAt, Phase, Task, Why, Work, goes_on}
-use Rattle.inv_covers.specs.model.Calls.CallOutcome.{GoesOn}
-use Rattle.inv_covers.specs.model.Calls.KeepAt.{HideSpan, LoadHeld, Loosens, Looks, MarkLeft, MarkTaken, Misses, StoreHeld, TakeList}
-use Rattle.inv_covers.specs.model.Calls.Phase.{Idle, Runs, Scans, Works}
-use Rattle.inv_covers.specs.model.Calls.ScanAt.{GiveBack, ReadGuard}
-use Rattle.inv_covers.specs.model.Calls.Task.{Changes, Dequeues, Enqueues, Gets, Holds}
-use Rattle.inv_covers.specs.model.Calls.Why.{Advances, Clears, ClearsNext, Fills, Finishes, FollowsHead, GivesUp, Opens, Releases, Retires, Tidies}
-use Rattle.inv_covers.specs.model.Calls.Work.{Changing, Dequeuing, Enqueuing, Getting, Keeping}
-use Rattle.inv_covers.specs.model.Desks.{Desk}
-use Rattle.inv_covers.specs.model.Locals.{told_by}
-use Rattle.inv_covers.specs.model.Machine.{after}
-use Rattle.inv_covers.specs.model.Memory.{bump}
-use Rattle.inv_covers.specs.model.Phases.{Aim, Base, Turn, ends, goes}
-use Rattle.inv_covers.specs.model.Phases.Aim.{Alone, Follows}
-use Rattle.inv_covers.specs.model.Phases.Base.{Allocate, Begin, Clear, Finish, GiveUp, Move, Protect, Release, Reload, Retire, Write}
-use Rattle.inv_covers.specs.model.Phases.ProtectAt.{AnswerOwn, ByHazard, CheckClock, CheckOwnClock, CheckUpper, LoadAnswer, LoadClock, LoadLink, LoadOwnClock, LoadOwnLink, LoadWithin, PublishEra, PublishHelper, PublishRequest, RaiseUpper, TakeAnswer, WithdrawHelper, WithdrawRequest}
-use Rattle.inv_covers.specs.model.Phases.HazardAt.{FirstLink, PublishLink, CheckLink}
-use Rattle.inv_covers.specs.model.Posts.{cleared, counted, reserves_index, stands, tag_of, upper, with_row, with_tag}
-use Rattle.inv_covers.specs.model.Protect.{concluded, held_post, protected, told_held}
-use Rattle.inv_covers.specs.model.SlowPath.{after_take_answer}
-use Rattle.inv_covers.specs.model.Rounds.{let_index, scheme_of}
-use Rattle.inv_covers.specs.model.World.{finds, offered}
-use Rattle.inv_covers.specs.model.declared.post.Post.{Post}
-use Rattle.inv_covers.proofs.Held.{stepped_post}
-use Rattle.inv_covers.proofs.Stands.{withdrawn_shrinks}
-use Rattle.inv_covers.proofs.Stood.{concluded_post}
-use Rattle.inv_covers.specs.Held.{leads}
-use Rattle.inv_covers.specs.defs.declared.event.Event.{Event}
-use Rattle.inv_covers.specs.defs.declared.event.Root.{Root}
+use Rattle.inv_rows.specs.model.Phases.Ending.{Protected, Followed}
+use Rattle.inv_rows.specs.model.Keep as keeps
+use Rattle.inv_rows.specs.model.Steps as steps
+use Rattle.inv_rows.specs.model.Dequeue as dequeues
+use Rattle.inv_rows.specs.model.Calls as calls
+use Rattle.inv_rows.specs.defs.declared.event.Event.TheVariants as events
+use Rattle.inv_rows.specs.defs.declared.event.Root.TheVariants as roots
+use Rattle.inv_rows.specs.model.declared.ends.ProtectEnd.TheVariants as protect_ends
+use Rattle.inv_rows.specs.model.declared.ends.FollowEnd.TheVariants as follow_ends
+use Rattle.inv_rows.specs.model.Calls.{CallOutcome, CallTurn, KeepAt, Phase, Task, Why, Work, goes_on}
+use Rattle.inv_rows.specs.model.Calls.CallOutcome.{GoesOn}
+use Rattle.inv_rows.specs.model.Calls.KeepAt.{HideSpan, LoadHeld, Loosens, Looks, MarkLeft, MarkTaken, Misses, StoreHeld, TakeList}
+use Rattle.inv_rows.specs.model.Calls.Phase.{Idle, Runs, Scans, Works}
+use Rattle.inv_rows.specs.model.Calls.ScanAt.{GiveBack, ReadGuard}
+use Rattle.inv_rows.specs.model.Calls.Task.{Changes, Dequeues, Enqueues, Gets, Holds}
+use Rattle.inv_rows.specs.model.Calls.Why.{Advances, Clears, ClearsNext, Fills, Finishes, FollowsHead, GivesUp, Opens, Releases, Retires, Tidies}
+use Rattle.inv_rows.specs.model.Calls.Work.{Changing, Dequeuing, Enqueuing, Getting, Keeping}
+use Rattle.inv_rows.specs.model.Desks.{Desk}
+use Rattle.inv_rows.specs.model.Locals.{told_by}
+use Rattle.inv_rows.specs.model.Machine.{after}
+use Rattle.inv_rows.specs.model.Memory.{bump}
+use Rattle.inv_rows.specs.model.Phases.{Aim, Base, Turn, ends, goes}
+use Rattle.inv_rows.specs.model.Phases.Aim.{Alone, Follows}
+use Rattle.inv_rows.specs.model.Phases.Base.{Allocate, Begin, Clear, Finish, GiveUp, Move, Protect, Release, Reload, Retire, Write}
+use Rattle.inv_rows.specs.model.Phases.ProtectAt.{AnswerOwn, ByHazard, CheckClock, CheckOwnClock, CheckUpper, LoadAnswer, LoadClock, LoadLink, LoadOwnClock, LoadOwnLink, LoadWithin, PublishEra, PublishHelper, PublishRequest, RaiseUpper, TakeAnswer, WithdrawHelper, WithdrawRequest}
+use Rattle.inv_rows.specs.model.Phases.HazardAt.{FirstLink, PublishLink, CheckLink}
+use Rattle.inv_rows.specs.model.Posts.{cleared, counted, reserves_index, stands, tag_of, upper, with_row, with_tag}
+use Rattle.inv_rows.specs.model.Protect.{concluded, held_post, protected, told_held}
+use Rattle.inv_rows.specs.model.SlowPath.{after_take_answer}
+use Rattle.inv_rows.specs.model.Rounds.{let_index, scheme_of}
+use Rattle.inv_rows.specs.model.World.{finds, offered}
+use Rattle.inv_rows.specs.model.declared.post.Post.{Post}
+use Rattle.inv_rows.proofs.Covering.Held.{stepped_post}
+use Rattle.inv_rows.proofs.Covering.Stands.{withdrawn_shrinks}
+use Rattle.inv_rows.proofs.Covering.Stood.{concluded_post}
+use Rattle.inv_rows.specs.Covering.Held.{leads}
+use Rattle.inv_rows.specs.defs.declared.event.Event.{Event}
+use Rattle.inv_rows.specs.defs.declared.event.Root.{Root}
 use Rattle.inv_ends.proofs.Ends.Left.{left_stood}
 use Rattle.inv_ends.proofs.Ends.Nulls.{none_of}
 use Rattle.inv_ends.proofs.Told.Rows.{concluded_told, own_told, phase_adds, resumed_adds}
@@ -50,13 +50,13 @@ use Rattle.inv_ends.proofs.Ends.Tests.{any_more, base_any, copied_shows, keep_an
 use Rattle.inv_ends.proofs.Told.Turns.{Adds, Just, adds_wide, at_index, cleared_stood, keep_just, out_adds, resume_adds, work_adds}
 use Rattle.inv_ends.specs.Standing.{ClearStood, HeldCovered, HeldStands, holds_base, holds_in, is_end}
 use Rattle.inv_ends.specs.Stands.{is_clear}
-use Rattle.inv_covers.specs.shapes.Seats.{PhaseFits, protects, reloads, suits, kind_of}
-use Rattle.inv_covers.specs.words.Schemes.{has_one_interval, publishes_rows}
-use Rattle.inv_covers.specs.words.declared.layout.Layout.{Layout}
+use Rattle.inv_rows.specs.Shapes.Seats.{PhaseFits, protects, reloads, suits, kind_of}
+use Rattle.inv_rows.specs.words.Schemes.{has_one_interval, publishes_rows}
+use Rattle.inv_rows.specs.words.declared.layout.Layout.{Layout}
 use Rattle.model_history.proofs.Passes.{keep_post, keep_told}
 use Rattle.std.specs.Prelude.{List, [], ◌∷◌, ◌++◌, length, Option, Some, None, if◌then◌else◌, ◌==◌, ◌&&◌, ◌||◌}
-use Rattle.inv_covers.proofs.model.Standing.{stands-with_row_same}
-use Rattle.inv_covers.proofs.model.Facts.{either_true, no_truth_2, or_false, rest_of}
+use Rattle.inv_rows.proofs.model.Standing.{stands-with_row_same}
+use Rattle.inv_rows.proofs.model.Facts.{either_true, no_truth_2, or_false, rest_of}
 
 -- a turn that keeps the post, and clears nothing
 pub record Keeps (last : Post) (told : List Event) (t : CallTurn) : Type 0 where

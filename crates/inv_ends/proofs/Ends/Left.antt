@@ -5,11 +5,11 @@ use Rattle.std.proofs.lemmas.List.{get_or-drop}
 use Rattle.std.proofs.lemmas.List.Folds.{list_any-append}
 use Rattle.std.specs.List.{list_any}
 use Rattle.std.specs.Prelude.{List, [], ◌∷◌, ◌++◌, drop, Option, Some, None, if◌then◌else◌, ◌==◌, nat_lt}
-use Rattle.inv_covers.specs.Rests.{Vacant, spare}
-use Rattle.inv_covers.specs.model.Posts.{cleared, cleared_from, reserves_span, stands, withdrawn_all}
-use Rattle.inv_covers.specs.model.declared.post.Post.{Post}
-use Rattle.inv_covers.proofs.Stands.{bare_stands}
-use Rattle.inv_covers.proofs.model.Facts.{either_true, no_truth_2}
+use Rattle.inv_rows.specs.Covering.Rests.{Vacant, spare}
+use Rattle.inv_rows.specs.model.Posts.{cleared, cleared_from, reserves_span, stands, withdrawn_all}
+use Rattle.inv_rows.specs.model.declared.post.Post.{Post}
+use Rattle.inv_rows.proofs.Covering.Stands.{bare_stands}
+use Rattle.inv_rows.proofs.model.Facts.{either_true, no_truth_2}
 use Rattle.inv_ends.proofs.Told.Turns.{cleared_stood, stood_append}
 use Rattle.inv_ends.specs.Stands.{is_clear, stood}
 

@@ -4,42 +4,42 @@ use Rattle.std.proofs.lemmas.Bool.Decides.{nat_tests}
 use Rattle.std.proofs.lemmas.List.Elements.{filter-append}
 use Rattle.std.specs.List.{filter, list_all, list_any}
 use Rattle.std.specs.Prelude.{List, [], ◌∷◌, ◌++◌, length, if◌then◌else◌, ◌==◌, ◌||◌}
-use Rattle.inv_covers.specs.defs.declared.call.Answer.TheVariants as the_answers
-use Rattle.inv_covers.specs.defs.declared.event.Event.{Event}
-use Rattle.inv_covers.specs.defs.declared.event.Event.TheVariants as events
-use Rattle.inv_covers.specs.defs.declared.event.Root.{Root}
-use Rattle.inv_covers.specs.defs.declared.event.Root.TheVariants as roots
-use Rattle.inv_covers.specs.model.Allocate.{is_claimed}
-use Rattle.inv_covers.specs.model.Calls.{ChangeAt, ChangeKept, DequeueAt, EnqueueAt, Phase, ScanAt, Work}
-use Rattle.inv_covers.specs.model.Calls.ChangeAt.{ExchangeRoot, LoadCount, LoadKey, LoadValue, LoadVersion}
-use Rattle.inv_covers.specs.model.Calls.DequeueAt.{ExchangeHead, LoadTail, SwingTail, TakeNumber, TakeValue}
-use Rattle.inv_covers.specs.model.Calls.EnqueueAt.{ExchangeNext, ExchangeTail, LoadNext, LoadNumber, PassTail}
-use Rattle.inv_covers.specs.model.Calls.KeepAt.{HideSpan, LoadHeld, Loosens, Looks, MarkLeft, MarkTaken, Misses, StoreHeld, TakeList}
-use Rattle.inv_covers.specs.model.Calls.Phase.{Idle, Runs, Scans, Works}
-use Rattle.inv_covers.specs.model.Calls.ScanAt.{GiveBack, ReadGuard}
-use Rattle.inv_covers.specs.model.Calls.Work.{Changing, Dequeuing, Enqueuing, Getting, Keeping}
-use Rattle.inv_covers.specs.model.Change.{changed_bucket}
-use Rattle.inv_covers.specs.model.Desks.{Desk}
-use Rattle.inv_covers.specs.model.Keep as keeps
-use Rattle.inv_covers.specs.model.Locals.{Local, settled, told_by}
-use Rattle.inv_covers.specs.model.Memory.{bump}
-use Rattle.inv_covers.specs.model.Phases.{AllocateAt, Base, ProtectAt, RetireAt}
-use Rattle.inv_covers.specs.model.Phases.AllocateAt.{ClaimSlot, LoadBirth, StoreLife}
-use Rattle.inv_covers.specs.model.Phases.Base.{Allocate, Begin, Clear, Finish, GiveUp, Move, Protect, Release, Reload, Retire, Write}
-use Rattle.inv_covers.specs.model.Phases.ProtectAt.{CheckClock, CheckUpper, TakeAnswer, ByHazard}
-use Rattle.inv_covers.specs.model.Phases.HazardAt.{FirstLink, PublishLink, CheckLink}
-use Rattle.inv_covers.specs.model.Phases.RetireAt.{LoadLife, LoadRetire, StoreRetired}
-use Rattle.inv_covers.specs.model.Posts.{counted, stands, upper}
-use Rattle.inv_covers.specs.model.Protect.{told_held}
-use Rattle.inv_covers.specs.model.Steps as steps
-use Rattle.inv_covers.specs.model.World.{World, finds, gift_at, list_in, offered}
-use Rattle.inv_covers.specs.model.declared.post.Post.{Post}
-use Rattle.inv_covers.specs.rows.Hands.{allocate_row, base_row, change_row, dequeue_row, enqueue_row, keep_row, linked_row, retire_row, row_move, scan_row, work_row}
-use Rattle.inv_covers.specs.rows.Rows.{RowMove}
-use Rattle.inv_covers.specs.rows.Rows.RowMove.{Adopts, Appends, Claims, Links, Pops, Replaces, Stays}
-use Rattle.inv_covers.specs.words.Place.Place.{PlaceOf}
-use Rattle.inv_covers.proofs.model.Facts.{and_false, no_truth_2, number_is}
-use Rattle.inv_covers.proofs.shapes.Frame.{finds_at, seat_steps}
+use Rattle.inv_rows.specs.defs.declared.call.Answer.TheVariants as the_answers
+use Rattle.inv_rows.specs.defs.declared.event.Event.{Event}
+use Rattle.inv_rows.specs.defs.declared.event.Event.TheVariants as events
+use Rattle.inv_rows.specs.defs.declared.event.Root.{Root}
+use Rattle.inv_rows.specs.defs.declared.event.Root.TheVariants as roots
+use Rattle.inv_rows.specs.model.Allocate.{is_claimed}
+use Rattle.inv_rows.specs.model.Calls.{ChangeAt, ChangeKept, DequeueAt, EnqueueAt, Phase, ScanAt, Work}
+use Rattle.inv_rows.specs.model.Calls.ChangeAt.{ExchangeRoot, LoadCount, LoadKey, LoadValue, LoadVersion}
+use Rattle.inv_rows.specs.model.Calls.DequeueAt.{ExchangeHead, LoadTail, SwingTail, TakeNumber, TakeValue}
+use Rattle.inv_rows.specs.model.Calls.EnqueueAt.{ExchangeNext, ExchangeTail, LoadNext, LoadNumber, PassTail}
+use Rattle.inv_rows.specs.model.Calls.KeepAt.{HideSpan, LoadHeld, Loosens, Looks, MarkLeft, MarkTaken, Misses, StoreHeld, TakeList}
+use Rattle.inv_rows.specs.model.Calls.Phase.{Idle, Runs, Scans, Works}
+use Rattle.inv_rows.specs.model.Calls.ScanAt.{GiveBack, ReadGuard}
+use Rattle.inv_rows.specs.model.Calls.Work.{Changing, Dequeuing, Enqueuing, Getting, Keeping}
+use Rattle.inv_rows.specs.model.Change.{changed_bucket}
+use Rattle.inv_rows.specs.model.Desks.{Desk}
+use Rattle.inv_rows.specs.model.Keep as keeps
+use Rattle.inv_rows.specs.model.Locals.{Local, settled, told_by}
+use Rattle.inv_rows.specs.model.Memory.{bump}
+use Rattle.inv_rows.specs.model.Phases.{AllocateAt, Base, ProtectAt, RetireAt}
+use Rattle.inv_rows.specs.model.Phases.AllocateAt.{ClaimSlot, LoadBirth, StoreLife}
+use Rattle.inv_rows.specs.model.Phases.Base.{Allocate, Begin, Clear, Finish, GiveUp, Move, Protect, Release, Reload, Retire, Write}
+use Rattle.inv_rows.specs.model.Phases.ProtectAt.{CheckClock, CheckUpper, TakeAnswer, ByHazard}
+use Rattle.inv_rows.specs.model.Phases.HazardAt.{FirstLink, PublishLink, CheckLink}
+use Rattle.inv_rows.specs.model.Phases.RetireAt.{LoadLife, LoadRetire, StoreRetired}
+use Rattle.inv_rows.specs.model.Posts.{counted, stands, upper}
+use Rattle.inv_rows.specs.model.Protect.{told_held}
+use Rattle.inv_rows.specs.model.Steps as steps
+use Rattle.inv_rows.specs.model.World.{World, finds, gift_at, list_in, offered}
+use Rattle.inv_rows.specs.model.declared.post.Post.{Post}
+use Rattle.inv_rows.specs.Hands.{allocate_row, base_row, change_row, dequeue_row, enqueue_row, keep_row, linked_row, retire_row, row_move, scan_row, work_row}
+use Rattle.inv_rows.specs.Rows.{RowMove}
+use Rattle.inv_rows.specs.Rows.RowMove.{Adopts, Appends, Claims, Links, Pops, Replaces, Stays}
+use Rattle.inv_rows.specs.words.Place.Place.{PlaceOf}
+use Rattle.inv_rows.proofs.model.Facts.{and_false, no_truth_2, number_is}
+use Rattle.inv_rows.proofs.Shapes.Frame.{finds_at, seat_steps}
 use Rattle.inv_ends.proofs.Ends.Tests.{Calm, at_shows, base_shows, none_cleared, none_worked, own_any, phase_shows}
 use Rattle.inv_ends.proofs.Told.Rows.{hands_lists, own_post, own_told, phase_still}
 use Rattle.inv_ends.proofs.Told.Turns.{AddsPlain, is_sequel}

@@ -1,27 +1,27 @@
 -- A step tells Null where the link by which it decides is null.
 use Rattle.std.proofs.Common.{ℕ, ◌+◌, Bool, true, false, ◌≡◌, ◌∙◌, refl, ap}
 use Rattle.std.specs.List.{list_any}
-use Rattle.inv_covers.specs.defs.declared.event.Event.TheVariants as events
-use Rattle.inv_covers.specs.defs.declared.event.Root.TheVariants as roots
-use Rattle.inv_covers.specs.model.Calls.{Phase}
-use Rattle.inv_covers.specs.model.Calls.Phase.{Idle, Runs, Scans, Works}
-use Rattle.inv_covers.specs.model.Memory.{bump}
-use Rattle.inv_covers.specs.model.Phases.{Base}
-use Rattle.inv_covers.specs.model.Phases.Base.{Begin, Clear, Finish, Protect, Release, Reload}
-use Rattle.inv_covers.specs.model.Phases.ProtectAt.{AnswerOwn, CheckClock, CheckOwnClock, CheckUpper, LoadAnswer, LoadClock, LoadLink, LoadOwnClock, LoadOwnLink, LoadWithin, PublishEra, PublishHelper, PublishRequest, RaiseUpper, TakeAnswer, WithdrawHelper, WithdrawRequest, ByHazard}
-use Rattle.inv_covers.specs.model.Phases.HazardAt.{FirstLink, PublishLink, CheckLink}
-use Rattle.inv_covers.specs.model.Posts.{cleared, counted, stands, upper}
-use Rattle.inv_covers.specs.model.Protect.{told_held}
-use Rattle.inv_covers.specs.model.World.{finds}
-use Rattle.inv_covers.specs.model.declared.post.Post.{Post}
-use Rattle.inv_covers.specs.defs.declared.event.Event.{Event}
-use Rattle.inv_covers.specs.defs.declared.event.Root.{Root}
+use Rattle.inv_rows.specs.defs.declared.event.Event.TheVariants as events
+use Rattle.inv_rows.specs.defs.declared.event.Root.TheVariants as roots
+use Rattle.inv_rows.specs.model.Calls.{Phase}
+use Rattle.inv_rows.specs.model.Calls.Phase.{Idle, Runs, Scans, Works}
+use Rattle.inv_rows.specs.model.Memory.{bump}
+use Rattle.inv_rows.specs.model.Phases.{Base}
+use Rattle.inv_rows.specs.model.Phases.Base.{Begin, Clear, Finish, Protect, Release, Reload}
+use Rattle.inv_rows.specs.model.Phases.ProtectAt.{AnswerOwn, CheckClock, CheckOwnClock, CheckUpper, LoadAnswer, LoadClock, LoadLink, LoadOwnClock, LoadOwnLink, LoadWithin, PublishEra, PublishHelper, PublishRequest, RaiseUpper, TakeAnswer, WithdrawHelper, WithdrawRequest, ByHazard}
+use Rattle.inv_rows.specs.model.Phases.HazardAt.{FirstLink, PublishLink, CheckLink}
+use Rattle.inv_rows.specs.model.Posts.{cleared, counted, stands, upper}
+use Rattle.inv_rows.specs.model.Protect.{told_held}
+use Rattle.inv_rows.specs.model.World.{finds}
+use Rattle.inv_rows.specs.model.declared.post.Post.{Post}
+use Rattle.inv_rows.specs.defs.declared.event.Event.{Event}
+use Rattle.inv_rows.specs.defs.declared.event.Root.{Root}
 use Rattle.inv_ends.proofs.Ends.Tests.{Calm, base_shows, none_worked, phase_shows, step_any}
 use Rattle.inv_ends.proofs.Told.Turns.{is_later}
 use Rattle.inv_ends.specs.Nulls.{NullTold, null_base, null_in}
-use Rattle.inv_covers.specs.defs.Events.{is_null}
+use Rattle.inv_rows.specs.defs.Events.{is_null}
 use Rattle.std.specs.Prelude.{Option, Some, None, ◌==◌, ◌&&◌, ◌||◌}
-use Rattle.inv_covers.proofs.model.Facts.{and_false, no_truth_2}
+use Rattle.inv_rows.proofs.model.Facts.{and_false, no_truth_2}
 
 null_calm : (j : ℕ) → Calm (is_null j)
 null_calm j = record { reserve = λ g s. refl; hazard = λ g s. refl; saw = λ g s. refl; read = λ g s. refl; era = λ e. refl; give = λ s b. refl; unused = λ s. refl; retire = λ s b r. refl; back = λ s. refl }

@@ -1,68 +1,68 @@
 -- What stands at the indexes of a seat is what its steps tell.
-use Rattle.inv_covers.specs.model.Scan.{reads_guard}
-use Rattle.inv_covers.specs.defs.declared.event.Guard.{Guard}
+use Rattle.inv_rows.specs.model.Scan.{reads_guard}
+use Rattle.inv_rows.specs.defs.declared.event.Guard.{Guard}
 use Rattle.std.proofs.Common.{ℕ, ◌+◌, ◌-◌, ◌≤◌, ◌<◌, Bool, true, false, ◌≡◌, ◌≢◌, ◌∙◌, sym, refl, ap, subst, arith}
 use Rattle.std.proofs.lemmas.Bool.Decides.{nat_tests}
 use Rattle.std.specs.List.{list_any}
 use Rattle.std.specs.Prelude.{slice_index_or, List, [], ◌∷◌, ◌++◌, length, Option, Some, None, if◌then◌else◌, ◌==◌, ◌&&◌, ◌||◌}
-use Rattle.inv_covers.specs.model.Phases.Ending.{Clocked}
-use Rattle.inv_covers.specs.defs.declared.event.Event.TheVariants as events
-use Rattle.inv_covers.specs.defs.declared.event.Root.TheVariants as roots
-use Rattle.inv_covers.specs.defs.declared.call.ClockMove.TheVariants as moves
-use Rattle.inv_covers.specs.model.Allocate.{after_claim_slot, is_claimed, walk_past, walking}
-use Rattle.inv_covers.specs.defs.declared.event.Guard.TheVariants as guards
-use Rattle.inv_covers.specs.model.Calls.{CallTurn, KeepAt, Phase, Why, Work}
-use Rattle.inv_covers.specs.model.Calls.KeepAt.{HideSpan, LoadHeld, Loosens, Looks, MarkLeft, MarkTaken, Misses, StoreHeld, TakeList}
-use Rattle.inv_covers.specs.model.Calls.Work.{Changing, Dequeuing, Enqueuing, Getting, Keeping}
-use Rattle.inv_covers.specs.model.Calls.Phase.{Idle, Runs, Scans, Works}
-use Rattle.inv_covers.specs.model.Calls.ScanAt.{GiveBack, ReadGuard}
-use Rattle.inv_covers.specs.model.Desks.{Desk}
-use Rattle.inv_covers.specs.model.Guards.{one_era, linked_row, guard_at}
-use Rattle.inv_covers.specs.model.Locals.{Local, turn}
-use Rattle.inv_covers.specs.model.Machine.{after, move_turn}
-use Rattle.inv_covers.specs.model.Memory.{bump}
-use Rattle.inv_covers.specs.model.MoveClock.{after_hand_over}
-use Rattle.inv_covers.specs.model.Phases.{Aim, Base, Ending, MoveAt, ProtectAt, Turn, Walk, ends, goes}
-use Rattle.inv_covers.specs.model.Phases.AllocateAt.{ClaimSlot, LoadBirth, StoreLife}
-use Rattle.inv_covers.specs.model.Phases.Base.{Allocate, Begin, Clear, Finish, GiveUp, Move, Protect, Release, Reload, Retire, Write}
-use Rattle.inv_covers.specs.model.Phases.BeginAt.{LoadLower, PublishSpan}
-use Rattle.inv_covers.specs.model.Phases.MoveAt.{AnswerAsked, CheckEra, ExchangeClock, HandOver, HideEra, HideLate, LoadAsked, LoadEra, LoadRequest, LoadReserved, ShowEra}
-use Rattle.inv_covers.specs.model.Phases.ProtectAt.{AnswerOwn, CheckClock, CheckOwnClock, CheckUpper, LoadAnswer, LoadClock, LoadLink, LoadOwnClock, LoadOwnLink, LoadWithin, PublishEra, PublishHelper, PublishRequest, RaiseUpper, TakeAnswer, WithdrawHelper, WithdrawRequest, ByHazard}
-use Rattle.inv_covers.specs.model.Phases.HazardAt.{FirstLink, PublishLink, CheckLink}
-use Rattle.inv_covers.specs.model.Phases.RetireAt.{LoadLife, LoadRetire, StoreRetired}
-use Rattle.inv_covers.specs.model.Posts.{cleared, counted, reserves_helper, stands, tag_of, upper, with_row, with_tag, withdrawn, publishes_index}
-use Rattle.inv_covers.specs.model.Protect.{held_post, protected, told_held}
-use Rattle.inv_covers.specs.model.Rounds.{let_index, scheme_of}
-use Rattle.inv_covers.specs.model.SlowPath.{asking, own_request}
-use Rattle.inv_covers.specs.model.World.{finds, offered, step}
-use Rattle.inv_covers.specs.model.WriteRow.{last_written}
-use Rattle.inv_covers.specs.model.declared.post.Post.{Post}
-use Rattle.inv_covers.proofs.Held.{stepped_post}
-use Rattle.inv_covers.proofs.Stood.{concluded_post}
-use Rattle.inv_covers.specs.Held.{leads}
-use Rattle.inv_covers.specs.Rests.{Vacant, vacant, vacant_keep, vacant_work}
-use Rattle.inv_covers.specs.defs.declared.event.Event.{Event}
-use Rattle.inv_covers.specs.defs.declared.event.Root.{Root}
+use Rattle.inv_rows.specs.model.Phases.Ending.{Clocked}
+use Rattle.inv_rows.specs.defs.declared.event.Event.TheVariants as events
+use Rattle.inv_rows.specs.defs.declared.event.Root.TheVariants as roots
+use Rattle.inv_rows.specs.defs.declared.call.ClockMove.TheVariants as moves
+use Rattle.inv_rows.specs.model.Allocate.{after_claim_slot, is_claimed, walk_past, walking}
+use Rattle.inv_rows.specs.defs.declared.event.Guard.TheVariants as guards
+use Rattle.inv_rows.specs.model.Calls.{CallTurn, KeepAt, Phase, Why, Work}
+use Rattle.inv_rows.specs.model.Calls.KeepAt.{HideSpan, LoadHeld, Loosens, Looks, MarkLeft, MarkTaken, Misses, StoreHeld, TakeList}
+use Rattle.inv_rows.specs.model.Calls.Work.{Changing, Dequeuing, Enqueuing, Getting, Keeping}
+use Rattle.inv_rows.specs.model.Calls.Phase.{Idle, Runs, Scans, Works}
+use Rattle.inv_rows.specs.model.Calls.ScanAt.{GiveBack, ReadGuard}
+use Rattle.inv_rows.specs.model.Desks.{Desk}
+use Rattle.inv_rows.specs.model.Guards.{one_era, linked_row, guard_at}
+use Rattle.inv_rows.specs.model.Locals.{Local, turn}
+use Rattle.inv_rows.specs.model.Machine.{after, move_turn}
+use Rattle.inv_rows.specs.model.Memory.{bump}
+use Rattle.inv_rows.specs.model.MoveClock.{after_hand_over}
+use Rattle.inv_rows.specs.model.Phases.{Aim, Base, Ending, MoveAt, ProtectAt, Turn, Walk, ends, goes}
+use Rattle.inv_rows.specs.model.Phases.AllocateAt.{ClaimSlot, LoadBirth, StoreLife}
+use Rattle.inv_rows.specs.model.Phases.Base.{Allocate, Begin, Clear, Finish, GiveUp, Move, Protect, Release, Reload, Retire, Write}
+use Rattle.inv_rows.specs.model.Phases.BeginAt.{LoadLower, PublishSpan}
+use Rattle.inv_rows.specs.model.Phases.MoveAt.{AnswerAsked, CheckEra, ExchangeClock, HandOver, HideEra, HideLate, LoadAsked, LoadEra, LoadRequest, LoadReserved, ShowEra}
+use Rattle.inv_rows.specs.model.Phases.ProtectAt.{AnswerOwn, CheckClock, CheckOwnClock, CheckUpper, LoadAnswer, LoadClock, LoadLink, LoadOwnClock, LoadOwnLink, LoadWithin, PublishEra, PublishHelper, PublishRequest, RaiseUpper, TakeAnswer, WithdrawHelper, WithdrawRequest, ByHazard}
+use Rattle.inv_rows.specs.model.Phases.HazardAt.{FirstLink, PublishLink, CheckLink}
+use Rattle.inv_rows.specs.model.Phases.RetireAt.{LoadLife, LoadRetire, StoreRetired}
+use Rattle.inv_rows.specs.model.Posts.{cleared, counted, reserves_helper, stands, tag_of, upper, with_row, with_tag, withdrawn, publishes_index}
+use Rattle.inv_rows.specs.model.Protect.{held_post, protected, told_held}
+use Rattle.inv_rows.specs.model.Rounds.{let_index, scheme_of}
+use Rattle.inv_rows.specs.model.SlowPath.{asking, own_request}
+use Rattle.inv_rows.specs.model.World.{finds, offered, step}
+use Rattle.inv_rows.specs.model.WriteRow.{last_written}
+use Rattle.inv_rows.specs.model.declared.post.Post.{Post}
+use Rattle.inv_rows.proofs.Covering.Held.{stepped_post}
+use Rattle.inv_rows.proofs.Covering.Stood.{concluded_post}
+use Rattle.inv_rows.specs.Covering.Held.{leads}
+use Rattle.inv_rows.specs.Covering.Rests.{Vacant, vacant, vacant_keep, vacant_work}
+use Rattle.inv_rows.specs.defs.declared.event.Event.{Event}
+use Rattle.inv_rows.specs.defs.declared.event.Root.{Root}
 use Rattle.inv_ends.proofs.Ends.Left.{cleared_away, hidden_stood}
 use Rattle.inv_ends.proofs.Ends.Nulls.{none_of, under_test}
 use Rattle.inv_ends.proofs.Told.Rows.{concluded_told, own_post, own_told, step_adds}
 use Rattle.inv_ends.proofs.Ends.Tests.{Calm, base_any, base_shows, none_worked, phase_shows, step_any}
 use Rattle.inv_ends.proofs.Told.Turns.{Adds, is_later, stood_append, withdrawn_stood}
 use Rattle.inv_ends.specs.Standing.{HeldTold, StandingTold, holds_base, holds_in, is_end}
-use Rattle.inv_covers.specs.defs.Events.{is_held}
+use Rattle.inv_rows.specs.defs.Events.{is_held}
 use Rattle.inv_ends.specs.Stands.{is_clear, stood, stood_by}
-use Rattle.inv_covers.specs.shapes.Seats.{PhaseFits, Run, index_by, kind_of, protects}
-use Rattle.inv_covers.specs.shapes.Slots.{KeepIn, PhaseIn, WorkIn}
-use Rattle.inv_covers.specs.words.Schemes.{has_one_interval, publishes_rows}
-use Rattle.inv_covers.specs.words.declared.config.Config.{Config}
-use Rattle.inv_covers.specs.words.Packed.{read_reservation}
-use Rattle.inv_covers.specs.words.declared.layout.Layout.{Layout}
-use Rattle.inv_covers.proofs.shapes.Written.{index_few, reloads_protect}
+use Rattle.inv_rows.specs.Shapes.Seats.{PhaseFits, Run, index_by, kind_of, protects}
+use Rattle.inv_rows.specs.Shapes.Slots.{KeepIn, PhaseIn, WorkIn}
+use Rattle.inv_rows.specs.words.Schemes.{has_one_interval, publishes_rows}
+use Rattle.inv_rows.specs.words.declared.config.Config.{Config}
+use Rattle.inv_rows.specs.words.Packed.{read_reservation}
+use Rattle.inv_rows.specs.words.declared.layout.Layout.{Layout}
+use Rattle.inv_rows.proofs.Shapes.Written.{index_few, reloads_protect}
 use Rattle.model_history.proofs.Passes.{copied_post, copied_told, keep_post, keep_told, work_post, work_told}
-use Rattle.inv_covers.proofs.model.Standing.{stands-with_row_same, stands-with_row_other}
-use Rattle.inv_covers.proofs.model.Ranges.{bounds_of}
-use Rattle.inv_covers.proofs.shapes.Kept.{run_counted, work_counted}
-use Rattle.inv_covers.proofs.model.Facts.{or_false, no_truth_2, and_false, number_is}
+use Rattle.inv_rows.proofs.model.Standing.{stands-with_row_same, stands-with_row_other}
+use Rattle.inv_rows.proofs.model.Ranges.{bounds_of}
+use Rattle.inv_rows.proofs.Shapes.Kept.{run_counted, work_counted}
+use Rattle.inv_rows.proofs.model.Facts.{or_false, no_truth_2, and_false, number_is}
 
 -- Held is told where a row comes to stand
 held_calm : (j s : ℕ) → Calm (is_held j s)

@@ -4,45 +4,45 @@ use Rattle.std.proofs.Common.{ℕ, ◌+◌, Bool, true, false, ◌≡◌, ◌∙
 use Rattle.std.proofs.lemmas.Bool.Decides.{nat_tests}
 use Rattle.std.proofs.lemmas.List.Folds.{list_any-append}
 use Rattle.std.specs.List.{list_any, list_all}
-use Rattle.inv_covers.specs.defs.declared.event.Event.TheVariants as events
-use Rattle.inv_covers.specs.defs.declared.call.ClockMove.TheVariants as moves
-use Rattle.inv_covers.specs.model.Allocate.{after_claim_slot, is_claimed, walk_past, walking}
-use Rattle.inv_covers.specs.model.Calls.{KeepAt, Phase, Work}
-use Rattle.inv_covers.specs.model.Calls.KeepAt.{HideSpan, LoadHeld, Loosens, Looks, MarkLeft, MarkTaken, Misses, StoreHeld, TakeList}
-use Rattle.inv_covers.specs.model.Calls.Work.{Changing, Dequeuing, Enqueuing, Getting, Keeping}
-use Rattle.inv_covers.specs.model.Calls.Phase.{Idle, Runs, Scans, Works}
-use Rattle.inv_covers.specs.model.Calls.ScanAt.{GiveBack, ReadGuard}
-use Rattle.inv_covers.specs.model.Locals.{turn}
-use Rattle.inv_covers.specs.model.Machine.{after, allocate_turn, begin_turn, move_turn, protect_turn, retire_turn}
-use Rattle.inv_covers.specs.model.Memory.{bump}
-use Rattle.inv_covers.specs.model.MoveClock.{after_hand_over}
-use Rattle.inv_covers.specs.model.Phases.{Aim, AllocateAt, Base, BeginAt, Ending, HazardAt, MoveAt, ProtectAt, RetireAt, Walk, ends, goes}
-use Rattle.inv_covers.specs.model.Phases.AllocateAt.{ClaimSlot, LoadBirth, StoreLife}
-use Rattle.inv_covers.specs.model.Phases.Base.{Allocate, Begin, Clear, Finish, GiveUp, Move, Protect, Release, Reload, Retire, Write}
-use Rattle.inv_covers.specs.model.Phases.BeginAt.{LoadLower, PublishSpan}
-use Rattle.inv_covers.specs.model.Phases.Ending.{Clocked}
-use Rattle.inv_covers.specs.model.Phases.MoveAt.{AnswerAsked, CheckEra, ExchangeClock, HandOver, HideEra, HideLate, LoadAsked, LoadEra, LoadRequest, LoadReserved, ShowEra}
-use Rattle.inv_covers.specs.model.Phases.ProtectAt.{AnswerOwn, ByHazard, CheckClock, CheckOwnClock, CheckUpper, LoadAnswer, LoadClock, LoadLink, LoadOwnClock, LoadOwnLink, LoadWithin, PublishEra, PublishHelper, PublishRequest, RaiseUpper, TakeAnswer, WithdrawHelper, WithdrawRequest}
-use Rattle.inv_covers.specs.model.Phases.HazardAt.{FirstLink, PublishLink, CheckLink}
-use Rattle.inv_covers.specs.model.Phases.RetireAt.{LoadLife, LoadRetire, StoreRetired}
-use Rattle.inv_covers.specs.model.Posts.{cleared, cleared_from, counted, publishes_index, reserves_helper, reserves_span, stands, upper}
-use Rattle.inv_covers.specs.model.Protect.{held_post, protected, told_held}
-use Rattle.inv_covers.specs.model.Rounds.{let_index, scheme_of}
-use Rattle.inv_covers.specs.model.Guards.{guard_at}
-use Rattle.inv_covers.specs.model.Scan.{reads_guard}
-use Rattle.inv_covers.specs.model.SlowPath.{asking, own_request}
-use Rattle.inv_covers.specs.model.World.{World, finds, offered, told_in}
-use Rattle.inv_covers.specs.model.WriteRow.{last_written}
-use Rattle.inv_covers.specs.model.declared.post.Post.{Post}
-use Rattle.inv_covers.specs.defs.declared.event.Event.{Event}
-use Rattle.inv_covers.specs.defs.declared.event.Guard.{Guard}
-use Rattle.inv_covers.specs.defs.declared.event.Root.{Root}
-use Rattle.inv_covers.specs.defs.declared.lifetime.Interval.{Interval}
+use Rattle.inv_rows.specs.defs.declared.event.Event.TheVariants as events
+use Rattle.inv_rows.specs.defs.declared.call.ClockMove.TheVariants as moves
+use Rattle.inv_rows.specs.model.Allocate.{after_claim_slot, is_claimed, walk_past, walking}
+use Rattle.inv_rows.specs.model.Calls.{KeepAt, Phase, Work}
+use Rattle.inv_rows.specs.model.Calls.KeepAt.{HideSpan, LoadHeld, Loosens, Looks, MarkLeft, MarkTaken, Misses, StoreHeld, TakeList}
+use Rattle.inv_rows.specs.model.Calls.Work.{Changing, Dequeuing, Enqueuing, Getting, Keeping}
+use Rattle.inv_rows.specs.model.Calls.Phase.{Idle, Runs, Scans, Works}
+use Rattle.inv_rows.specs.model.Calls.ScanAt.{GiveBack, ReadGuard}
+use Rattle.inv_rows.specs.model.Locals.{turn}
+use Rattle.inv_rows.specs.model.Machine.{after, allocate_turn, begin_turn, move_turn, protect_turn, retire_turn}
+use Rattle.inv_rows.specs.model.Memory.{bump}
+use Rattle.inv_rows.specs.model.MoveClock.{after_hand_over}
+use Rattle.inv_rows.specs.model.Phases.{Aim, AllocateAt, Base, BeginAt, Ending, HazardAt, MoveAt, ProtectAt, RetireAt, Walk, ends, goes}
+use Rattle.inv_rows.specs.model.Phases.AllocateAt.{ClaimSlot, LoadBirth, StoreLife}
+use Rattle.inv_rows.specs.model.Phases.Base.{Allocate, Begin, Clear, Finish, GiveUp, Move, Protect, Release, Reload, Retire, Write}
+use Rattle.inv_rows.specs.model.Phases.BeginAt.{LoadLower, PublishSpan}
+use Rattle.inv_rows.specs.model.Phases.Ending.{Clocked}
+use Rattle.inv_rows.specs.model.Phases.MoveAt.{AnswerAsked, CheckEra, ExchangeClock, HandOver, HideEra, HideLate, LoadAsked, LoadEra, LoadRequest, LoadReserved, ShowEra}
+use Rattle.inv_rows.specs.model.Phases.ProtectAt.{AnswerOwn, ByHazard, CheckClock, CheckOwnClock, CheckUpper, LoadAnswer, LoadClock, LoadLink, LoadOwnClock, LoadOwnLink, LoadWithin, PublishEra, PublishHelper, PublishRequest, RaiseUpper, TakeAnswer, WithdrawHelper, WithdrawRequest}
+use Rattle.inv_rows.specs.model.Phases.HazardAt.{FirstLink, PublishLink, CheckLink}
+use Rattle.inv_rows.specs.model.Phases.RetireAt.{LoadLife, LoadRetire, StoreRetired}
+use Rattle.inv_rows.specs.model.Posts.{cleared, cleared_from, counted, publishes_index, reserves_helper, reserves_span, stands, upper}
+use Rattle.inv_rows.specs.model.Protect.{held_post, protected, told_held}
+use Rattle.inv_rows.specs.model.Rounds.{let_index, scheme_of}
+use Rattle.inv_rows.specs.model.Guards.{guard_at}
+use Rattle.inv_rows.specs.model.Scan.{reads_guard}
+use Rattle.inv_rows.specs.model.SlowPath.{asking, own_request}
+use Rattle.inv_rows.specs.model.World.{World, finds, offered, told_in}
+use Rattle.inv_rows.specs.model.WriteRow.{last_written}
+use Rattle.inv_rows.specs.model.declared.post.Post.{Post}
+use Rattle.inv_rows.specs.defs.declared.event.Event.{Event}
+use Rattle.inv_rows.specs.defs.declared.event.Guard.{Guard}
+use Rattle.inv_rows.specs.defs.declared.event.Root.{Root}
+use Rattle.inv_rows.specs.defs.declared.lifetime.Interval.{Interval}
 use Rattle.inv_ends.proofs.Told.Rows.{concluded_told, own_post, own_told, step_adds}
 use Rattle.inv_ends.proofs.Told.Turns.{Adds, is_later}
-use Rattle.inv_covers.proofs.model.Facts.{and_false, or_false}
-use Rattle.inv_covers.specs.words.Packed.{read_reservation}
-use Rattle.inv_covers.specs.words.Schemes.{has_one_interval, publishes_rows}
+use Rattle.inv_rows.proofs.model.Facts.{and_false, or_false}
+use Rattle.inv_rows.specs.words.Packed.{read_reservation}
+use Rattle.inv_rows.specs.words.Schemes.{has_one_interval, publishes_rows}
 use Rattle.model_history.proofs.Passes.{copied_told, keep_told, work_told}
 use Rattle.std.specs.Prelude.{List, [], ◌∷◌, ◌++◌, drop, Option, Some, None, if◌then◌else◌, ◌==◌, ◌&&◌, ◌||◌}
 

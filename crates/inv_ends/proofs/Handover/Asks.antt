@@ -1,32 +1,32 @@
 -- Who asks: the seat of a request that is not taken stands in the slow path at the request's index, where nothing stands.
 use Rattle.std.proofs.Common.{ℕ, ◌≡◌, ◌∙◌, Bool, true, false, None, refl, ap, sym, subst, arith, not}
 use Rattle.std.proofs.lemmas.Bool.Decides.{nat_tests}
-use Rattle.inv_covers.specs.words.Place.Place.{Clock}
-use Rattle.inv_covers.specs.words.declared.layout.Layout.{Layout}
-use Rattle.inv_covers.specs.defs.declared.event.Root.{Root}
-use Rattle.inv_covers.specs.model.declared.post.Post.{Post}
-use Rattle.inv_covers.specs.model.Links.{link_number}
-use Rattle.inv_covers.specs.model.Posts.{stands}
-use Rattle.inv_covers.specs.model.Phases.{Aim, ProtectAt, MoveAt, Base}
-use Rattle.inv_covers.specs.model.Phases.ProtectAt.{LoadClock, PublishEra, LoadLink, CheckClock, PublishRequest, LoadOwnClock, PublishHelper, LoadOwnLink, CheckOwnClock, AnswerOwn, LoadAnswer, TakeAnswer, WithdrawRequest, WithdrawHelper, LoadWithin, CheckUpper, RaiseUpper, ByHazard}
-use Rattle.inv_covers.specs.model.Phases.MoveAt.{LoadEra, LoadRequest, ShowEra, LoadAsked, CheckEra, AnswerAsked, LoadReserved, HandOver, HideEra, HideLate, ExchangeClock}
-use Rattle.inv_covers.specs.model.Phases.Base.{Begin, Protect, Reload, Clear, Finish, Release, Allocate, Write, GiveUp, Retire, Move}
-use Rattle.inv_covers.specs.model.Rounds.{index_of}
-use Rattle.inv_covers.specs.model.Calls.{Task, Why, Opens, FollowsHead, Fills, ClearsNext, Clears, Finishes, GivesUp, Retires, Tidies, Advances, Releases, Phase, Idle, Runs, Scans, Works}
-use Rattle.inv_covers.specs.model.World.{World}
-use Rattle.inv_covers.specs.shapes.Seats.{Run, PhaseFits, Seats}
-use Rattle.inv_covers.specs.Requests.Deals.{is_quiet, is_open, asked_at, answered_with, taken_with, fits}
-use Rattle.inv_covers.specs.Requests.Standing.{protect_role, move_role, role_of, Requests}
-use Rattle.inv_covers.specs.Requests.Views.{Deal, Role, View as Asked}
-use Rattle.inv_covers.specs.Requests.Views.Deal.{Quiet, Open, Answered, Passed, Taken}
-use Rattle.inv_covers.specs.rows.Rows.{Status, View}
-use Rattle.inv_covers.specs.Held.{tries_protect, tries_base}
-use Rattle.inv_covers.specs.Rests.{has_taken, vacant_opening, vacant_why, vacant, Vacant, Rests}
-use Rattle.inv_covers.proofs.Held.{same_run}
-use Rattle.inv_covers.proofs.Resting.{bare_own}
-use Rattle.inv_covers.proofs.model.Facts.{first_of, no_truth}
-pub use Rattle.inv_covers.proofs.Requests.Known.{fits_at}
-use Rattle.inv_covers.proofs.Requests.Turns.{each_work_role}
+use Rattle.inv_rows.specs.words.Place.Place.{Clock}
+use Rattle.inv_rows.specs.words.declared.layout.Layout.{Layout}
+use Rattle.inv_rows.specs.defs.declared.event.Root.{Root}
+use Rattle.inv_rows.specs.model.declared.post.Post.{Post}
+use Rattle.inv_rows.specs.model.Links.{link_number}
+use Rattle.inv_rows.specs.model.Posts.{stands}
+use Rattle.inv_rows.specs.model.Phases.{Aim, ProtectAt, MoveAt, Base}
+use Rattle.inv_rows.specs.model.Phases.ProtectAt.{LoadClock, PublishEra, LoadLink, CheckClock, PublishRequest, LoadOwnClock, PublishHelper, LoadOwnLink, CheckOwnClock, AnswerOwn, LoadAnswer, TakeAnswer, WithdrawRequest, WithdrawHelper, LoadWithin, CheckUpper, RaiseUpper, ByHazard}
+use Rattle.inv_rows.specs.model.Phases.MoveAt.{LoadEra, LoadRequest, ShowEra, LoadAsked, CheckEra, AnswerAsked, LoadReserved, HandOver, HideEra, HideLate, ExchangeClock}
+use Rattle.inv_rows.specs.model.Phases.Base.{Begin, Protect, Reload, Clear, Finish, Release, Allocate, Write, GiveUp, Retire, Move}
+use Rattle.inv_rows.specs.model.Rounds.{index_of}
+use Rattle.inv_rows.specs.model.Calls.{Task, Why, Opens, FollowsHead, Fills, ClearsNext, Clears, Finishes, GivesUp, Retires, Tidies, Advances, Releases, Phase, Idle, Runs, Scans, Works}
+use Rattle.inv_rows.specs.model.World.{World}
+use Rattle.inv_rows.specs.Shapes.Seats.{Run, PhaseFits, Seats}
+use Rattle.inv_rows.specs.Covering.Requests.Deals.{is_quiet, is_open, asked_at, answered_with, taken_with, fits}
+use Rattle.inv_rows.specs.Covering.Requests.Standing.{protect_role, move_role, role_of, Requests}
+use Rattle.inv_rows.specs.Covering.Requests.Views.{Deal, Role, View as Asked}
+use Rattle.inv_rows.specs.Covering.Requests.Views.Deal.{Quiet, Open, Answered, Passed, Taken}
+use Rattle.inv_rows.specs.Rows.{Status, View}
+use Rattle.inv_rows.specs.Covering.Held.{tries_protect, tries_base}
+use Rattle.inv_rows.specs.Covering.Rests.{has_taken, vacant_opening, vacant_why, vacant, Vacant, Rests}
+use Rattle.inv_rows.proofs.Covering.Held.{same_run}
+use Rattle.inv_rows.proofs.Covering.Resting.{bare_own}
+use Rattle.inv_rows.proofs.model.Facts.{first_of, no_truth}
+pub use Rattle.inv_rows.proofs.Covering.Requests.Known.{fits_at}
+use Rattle.inv_rows.proofs.Covering.Requests.Turns.{each_work_role}
 
 -- the own request is published and not taken yet
 abbrev pub in_slow : ProtectAt → Bool

@@ -2,36 +2,36 @@
 -- once they stand, and a request that has no answer yet is the one that it was.
 use Rattle.std.proofs.Common.{ℕ, ◌≡◌, ◌∙◌, true, false, Some, refl, ap, sym, subst, ◌&&◌}
 use Rattle.std.specs.Prelude.{◌==◌, nat_lt}
-use Rattle.inv_covers.specs.words.Place.{has}
-use Rattle.inv_covers.specs.words.declared.layout.Layout.{Layout}
-use Rattle.inv_covers.specs.defs.declared.event.Root.{Root}
-use Rattle.inv_covers.specs.model.declared.post.Post.{Post}
-use Rattle.inv_covers.specs.model.Links.{link_place, root_at}
-use Rattle.inv_covers.specs.model.Posts.{stands}
-use Rattle.inv_covers.specs.model.Phases.{Aim, ProtectAt, Base}
-use Rattle.inv_covers.specs.model.Phases.Base.{Protect, Reload}
-use Rattle.inv_covers.specs.model.Calls.{Task, Gets, Changes, Holds as ToHold, Enqueues, Dequeues, Why, Opens, FollowsHead, Fills, ClearsNext, Clears, Finishes, GivesUp, Retires, Tidies, Advances, Releases, Phase, Runs}
-use Rattle.inv_covers.specs.model.World.{World, finds}
-use Rattle.inv_covers.proofs.model.Roots.{root_at_link}
-use Rattle.inv_covers.specs.shapes.Seats.{task_root, Run}
-use Rattle.inv_covers.specs.Requests.Context.{phase_there, guards_there}
-use Rattle.inv_covers.specs.Requests.Deals.{asked_at}
-use Rattle.inv_covers.specs.Requests.Parents.{phase_stands, why_stands}
-use Rattle.inv_covers.specs.Requests.Views.{View as Asked}
-use Rattle.inv_covers.proofs.Requests.Falling.{needs_of}
-use Rattle.inv_covers.proofs.Requests.Kept.{at_of}
-use Rattle.inv_covers.specs.rows.Rows.{View}
-use Rattle.inv_covers.specs.rows.Hands.{row_move}
-use Rattle.inv_covers.specs.rows.Agree.{rows_after}
-use Rattle.inv_covers.specs.rows.Queue.{in_queue}
-use Rattle.inv_covers.specs.Covers.{CoversNeeds}
-use Rattle.inv_covers.specs.Held.{under, follows_root, follows_row, Held}
+use Rattle.inv_rows.specs.words.Place.{has}
+use Rattle.inv_rows.specs.words.declared.layout.Layout.{Layout}
+use Rattle.inv_rows.specs.defs.declared.event.Root.{Root}
+use Rattle.inv_rows.specs.model.declared.post.Post.{Post}
+use Rattle.inv_rows.specs.model.Links.{link_place, root_at}
+use Rattle.inv_rows.specs.model.Posts.{stands}
+use Rattle.inv_rows.specs.model.Phases.{Aim, ProtectAt, Base}
+use Rattle.inv_rows.specs.model.Phases.Base.{Protect, Reload}
+use Rattle.inv_rows.specs.model.Calls.{Task, Gets, Changes, Holds as ToHold, Enqueues, Dequeues, Why, Opens, FollowsHead, Fills, ClearsNext, Clears, Finishes, GivesUp, Retires, Tidies, Advances, Releases, Phase, Runs}
+use Rattle.inv_rows.specs.model.World.{World, finds}
+use Rattle.inv_rows.proofs.model.Roots.{root_at_link}
+use Rattle.inv_rows.specs.Shapes.Seats.{task_root, Run}
+use Rattle.inv_rows.specs.Covering.Requests.Context.{phase_there, guards_there}
+use Rattle.inv_rows.specs.Covering.Requests.Deals.{asked_at}
+use Rattle.inv_rows.specs.Covering.Requests.Parents.{phase_stands, why_stands}
+use Rattle.inv_rows.specs.Covering.Requests.Views.{View as Asked}
+use Rattle.inv_rows.proofs.Covering.Requests.Falling.{needs_of}
+use Rattle.inv_rows.proofs.Covering.Requests.Kept.{at_of}
+use Rattle.inv_rows.specs.Rows.{View}
+use Rattle.inv_rows.specs.Hands.{row_move}
+use Rattle.inv_rows.specs.Agree.{rows_after}
+use Rattle.inv_rows.specs.Queue.{in_queue}
+use Rattle.inv_rows.specs.Covering.Covers.{CoversNeeds}
+use Rattle.inv_rows.specs.Covering.Held.{under, follows_root, follows_row, Held}
 use Rattle.inv_ends.specs.Handover.{HandoverNeeds, FollowedRowsStand}
-use Rattle.inv_covers.proofs.Kept.{before_at}
-use Rattle.inv_covers.proofs.Tried.{under_back, queued_back}
+use Rattle.inv_rows.proofs.Covering.Kept.{before_at}
+use Rattle.inv_rows.proofs.Covering.Tried.{under_back, queued_back}
 use Rattle.inv_ends.proofs.Handover.Asks.{Asker, asker, run_of}
-use Rattle.inv_covers.proofs.Parents.{same_row}
-use Rattle.inv_covers.proofs.model.Facts.{rest_of, no_truth}
+use Rattle.inv_rows.proofs.Covering.Parents.{same_row}
+use Rattle.inv_rows.proofs.model.Facts.{rest_of, no_truth}
 
 -- the row whose next link is followed stands at index 0
 task_follows : (buckets : ℕ) (task : Task) (row : ℕ) → follows_root (task_root buckets task) row ≡ false

@@ -1,22 +1,22 @@
 -- What helper words hold at the start, and where a call begins.
 use Rattle.std.proofs.Common.{ℕ, ◌≡◌, Bool, true, false}
 use Rattle.std.specs.Prelude.{◌==◌, if◌then◌else◌}
-use Rattle.inv_covers.specs.words.Place.Place.{Clock}
-use Rattle.inv_covers.specs.defs.declared.call.Call.{Call}
-use Rattle.inv_covers.specs.defs.declared.event.Guard.TheVariants.{Helper, Index}
-use Rattle.inv_covers.specs.model.Phases.{Base}
-use Rattle.inv_covers.specs.model.Calls.{Why, Runs}
-use Rattle.inv_covers.specs.model.Locals.{begun, begun_post}
-use Rattle.inv_covers.specs.model.World.{World}
-use Rattle.inv_covers.specs.Requests.Views.{Deal}
-use Rattle.inv_covers.specs.rows.Rows.{View}
-use Rattle.inv_covers.specs.Held.{Holds}
+use Rattle.inv_rows.specs.words.Place.Place.{Clock}
+use Rattle.inv_rows.specs.defs.declared.call.Call.{Call}
+use Rattle.inv_rows.specs.defs.declared.event.Guard.TheVariants.{Helper, Index}
+use Rattle.inv_rows.specs.model.Phases.{Base}
+use Rattle.inv_rows.specs.model.Calls.{Why, Runs}
+use Rattle.inv_rows.specs.model.Locals.{begun, begun_post}
+use Rattle.inv_rows.specs.model.World.{World}
+use Rattle.inv_rows.specs.Covering.Requests.Views.{Deal}
+use Rattle.inv_rows.specs.Rows.{View}
+use Rattle.inv_rows.specs.Covering.Held.{Holds}
 use Rattle.inv_ends.specs.Helped.{helper_holds, Helped}
-use Rattle.inv_covers.specs.model.Steps.{first_phase}
-use Rattle.inv_covers.proofs.Begun.{first_begins, holds_begin}
+use Rattle.inv_rows.specs.model.Steps.{first_phase}
+use Rattle.inv_rows.proofs.Covering.Begun.{first_begins, holds_begin}
 use Rattle.inv_ends.specs.Handover.{HandoverStart, HandoverBegin}
 use Rattle.inv_ends.proofs.Handover.Loads.{starts_unheld}
-use Rattle.inv_covers.proofs.model.Facts.{no_truth}
+use Rattle.inv_rows.proofs.model.Facts.{no_truth}
 
 pub handover_start : HandoverStart
 handover_start layout v = record {

@@ -1,38 +1,38 @@
 -- How a seat's deal comes to be what it is after a step, and what each of these steps finds.
-use Rattle.inv_covers.proofs.shapes.Tries.{helps_plain}
+use Rattle.inv_rows.proofs.Shapes.Tries.{helps_plain}
 use Rattle.std.proofs.Common.{ℕ, ◌≡◌, ◌≤◌, ◌<◌, ◌+◌, ◌^◌, ◌∙◌, Bool, true, false, refl, ap, sym, arith, ◌&&◌}
 use Rattle.std.proofs.lemmas.Bool.Decides.{nat_tests}
 use Rattle.std.specs.Prelude.{◌==◌, ◌||◌, if◌then◌else◌, nat_lt}
-use Rattle.inv_covers.specs.words.Place.{has, Place as places}
-use Rattle.inv_covers.specs.words.Packed.{halves, pending_word}
-use Rattle.inv_covers.specs.words.declared.layout.Layout.{Layout}
-use Rattle.inv_covers.proofs.words.Parts.{halves_one, pending_one, pending_some, pending≢answered}
-use Rattle.inv_covers.proofs.words.Numbers.{number_below, words_few}
-use Rattle.inv_covers.specs.defs.declared.event.Root.{Root}
-use Rattle.inv_covers.specs.model.Links.{link_place, link_number}
-use Rattle.inv_covers.specs.model.Memory.{upd}
-use Rattle.inv_covers.specs.model.Posts.{tag_of}
-use Rattle.inv_covers.specs.model.Phases.{Aim, ProtectAt, MoveAt}
-use Rattle.inv_covers.specs.model.Phases.ProtectAt.{LoadClock, PublishEra, LoadLink, CheckClock, PublishRequest, LoadOwnClock, PublishHelper, LoadOwnLink, CheckOwnClock, AnswerOwn, LoadAnswer, TakeAnswer, WithdrawRequest, WithdrawHelper, LoadWithin, CheckUpper, RaiseUpper, ByHazard}
-use Rattle.inv_covers.specs.model.Phases.MoveAt.{LoadEra, LoadRequest, ShowEra, LoadAsked, CheckEra, AnswerAsked, LoadReserved, HandOver, HideEra, HideLate, ExchangeClock}
-use Rattle.inv_covers.specs.model.Phases.Base.{Protect, Move}
-use Rattle.inv_covers.specs.model.SlowPath.{asking, own_request}
-use Rattle.inv_covers.specs.model.Calls.{Why, Phase, Idle, Runs, Scans, Works}
-use Rattle.inv_covers.specs.model.World.{World}
-use Rattle.inv_covers.proofs.model.Ranges.{bounds_of}
-use Rattle.inv_covers.specs.Requests.Deals.{asked_at, gave_by, ahead}
-use Rattle.inv_covers.specs.Requests.NextDeals.{protect_deals, move_deals, phase_deals, next_deals}
-use Rattle.inv_covers.specs.Requests.Standing.{request_of}
-use Rattle.inv_covers.specs.Requests.Views.{Deal, View as Asked}
-use Rattle.inv_covers.specs.Requests.Views.Deal.{Quiet, Open, Answered, Passed, Taken}
-use Rattle.inv_covers.specs.rows.Rows.{View}
+use Rattle.inv_rows.specs.words.Place.{has, Place as places}
+use Rattle.inv_rows.specs.words.Packed.{halves, pending_word}
+use Rattle.inv_rows.specs.words.declared.layout.Layout.{Layout}
+use Rattle.inv_rows.proofs.words.Parts.{halves_one, pending_one, pending_some, pending≢answered}
+use Rattle.inv_rows.proofs.words.Numbers.{number_below, words_few}
+use Rattle.inv_rows.specs.defs.declared.event.Root.{Root}
+use Rattle.inv_rows.specs.model.Links.{link_place, link_number}
+use Rattle.inv_rows.specs.model.Memory.{upd}
+use Rattle.inv_rows.specs.model.Posts.{tag_of}
+use Rattle.inv_rows.specs.model.Phases.{Aim, ProtectAt, MoveAt}
+use Rattle.inv_rows.specs.model.Phases.ProtectAt.{LoadClock, PublishEra, LoadLink, CheckClock, PublishRequest, LoadOwnClock, PublishHelper, LoadOwnLink, CheckOwnClock, AnswerOwn, LoadAnswer, TakeAnswer, WithdrawRequest, WithdrawHelper, LoadWithin, CheckUpper, RaiseUpper, ByHazard}
+use Rattle.inv_rows.specs.model.Phases.MoveAt.{LoadEra, LoadRequest, ShowEra, LoadAsked, CheckEra, AnswerAsked, LoadReserved, HandOver, HideEra, HideLate, ExchangeClock}
+use Rattle.inv_rows.specs.model.Phases.Base.{Protect, Move}
+use Rattle.inv_rows.specs.model.SlowPath.{asking, own_request}
+use Rattle.inv_rows.specs.model.Calls.{Why, Phase, Idle, Runs, Scans, Works}
+use Rattle.inv_rows.specs.model.World.{World}
+use Rattle.inv_rows.proofs.model.Ranges.{bounds_of}
+use Rattle.inv_rows.specs.Covering.Requests.Deals.{asked_at, gave_by, ahead}
+use Rattle.inv_rows.specs.Covering.Requests.NextDeals.{protect_deals, move_deals, phase_deals, next_deals}
+use Rattle.inv_rows.specs.Covering.Requests.Standing.{request_of}
+use Rattle.inv_rows.specs.Covering.Requests.Views.{Deal, View as Asked}
+use Rattle.inv_rows.specs.Covering.Requests.Views.Deal.{Quiet, Open, Answered, Passed, Taken}
+use Rattle.inv_rows.specs.Rows.{View}
 use Rattle.inv_ends.specs.Handover.{HandoverNeeds}
 use Rattle.inv_ends.proofs.Handover.Asks.{asker, run_of}
 use Rattle.inv_ends.proofs.Handover.Back.{inside_of}
 use Rattle.inv_ends.proofs.Handover.Words.{Handed}
-use Rattle.inv_covers.proofs.Requests.Known.{stands_as}
-use Rattle.inv_covers.proofs.model.Facts.{rest_of}
-use Rattle.inv_covers.proofs.Requests.Handing.{gave_is}
+use Rattle.inv_rows.proofs.Covering.Requests.Known.{stands_as}
+use Rattle.inv_rows.proofs.model.Facts.{rest_of}
+use Rattle.inv_rows.proofs.Covering.Requests.Handing.{gave_is}
 
 -- a deal stays, or is published, answered, handed over, taken or withdrawn
 pub data DealStep (w : World) (i k : ℕ) (deal : ℕ → Deal) : Type 0 where

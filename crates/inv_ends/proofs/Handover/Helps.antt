@@ -1,49 +1,49 @@
 -- What helper words hold after a step, and an index word from the hand-over on.
-use Rattle.inv_covers.proofs.words.Schemes.{helps_not_rows}
+use Rattle.inv_rows.proofs.words.Schemes.{helps_not_rows}
 use Rattle.std.proofs.Common.{ℕ, ◌≡◌, ◌∙◌, Bool, true, false, List, refl, ap, sym, subst, arith, ◌⊎◌, inl, inr, ◌&&◌}
 use Rattle.std.proofs.lemmas.Bool.Decides.{nat_tests}
 use Rattle.std.specs.Prelude.{◌==◌, nat_lt}
-use Rattle.inv_covers.specs.words.Place.{has}
-use Rattle.inv_covers.specs.words.Place.Place.{Clock}
-use Rattle.inv_covers.specs.words.declared.layout.Layout.{Layout}
-use Rattle.inv_covers.specs.defs.declared.event.Event.{Event}
-use Rattle.inv_covers.specs.defs.declared.event.Guard.TheVariants.{Helper, Index}
-use Rattle.inv_covers.specs.defs.declared.event.Root.{Root}
-use Rattle.inv_covers.specs.model.declared.post.Post.{Post}
-use Rattle.inv_covers.specs.model.Desks.{Desk}
-use Rattle.inv_covers.specs.model.Guards.{from_to, one_era}
-use Rattle.inv_covers.specs.model.Links.{link_place, link_number, root_at}
-use Rattle.inv_covers.specs.model.Memory.{Move as Act, upd, written, bump}
-use Rattle.inv_covers.specs.model.Posts.{counted, tag_of}
-use Rattle.inv_covers.specs.model.Phases.{Aim, ProtectAt, MoveAt, Base, Outcome, Goes, Ends, Turn}
-use Rattle.inv_covers.specs.model.Phases.ProtectAt.{PublishEra, PublishHelper, LoadOwnLink, CheckOwnClock, AnswerOwn, TakeAnswer, WithdrawHelper, ByHazard}
-use Rattle.inv_covers.specs.model.Phases.HazardAt.{PublishLink}
-use Rattle.inv_covers.specs.model.Phases.MoveAt.{ShowEra, LoadAsked, CheckEra, AnswerAsked, HideEra, HideLate}
-use Rattle.inv_covers.specs.model.Phases.Base.{Protect, Move}
-use Rattle.inv_covers.specs.model.Machine.{after}
-use Rattle.inv_covers.specs.model.Scan.{scan_turn}
-use Rattle.inv_covers.specs.model.Steps.{phase_turn, resumed}
-use Rattle.inv_covers.specs.model.Calls.{Why, Phase, Idle, Runs, Scans, Works}
-use Rattle.inv_covers.specs.model.World.{World, step, finds, offered}
-use Rattle.inv_covers.proofs.model.Roots.{root_at_link}
-use Rattle.inv_covers.specs.shapes.Frame.{phase_left}
-use Rattle.inv_covers.specs.words.Schemes.{helps}
-use Rattle.inv_covers.specs.Requests.Deals.{asked_at, stays}
-use Rattle.inv_covers.specs.Requests.NextDeals.{next_deals}
-use Rattle.inv_covers.specs.Requests.Standing.{protect_role, move_role, base_role, role_of}
-use Rattle.inv_covers.specs.Requests.Views.{Deal, View as Asked}
-use Rattle.inv_covers.specs.Requests.Views.Deal.{Quiet, Open, Answered, Passed, Taken}
-use Rattle.inv_covers.specs.rows.Rows.{Status, View, made}
-use Rattle.inv_covers.specs.rows.Hands.{row_move}
-use Rattle.inv_covers.specs.rows.Agree.{rows_after}
-use Rattle.inv_covers.specs.Covers.{eras_shown}
-use Rattle.inv_covers.specs.Held.{leads, under, Holds, Held}
+use Rattle.inv_rows.specs.words.Place.{has}
+use Rattle.inv_rows.specs.words.Place.Place.{Clock}
+use Rattle.inv_rows.specs.words.declared.layout.Layout.{Layout}
+use Rattle.inv_rows.specs.defs.declared.event.Event.{Event}
+use Rattle.inv_rows.specs.defs.declared.event.Guard.TheVariants.{Helper, Index}
+use Rattle.inv_rows.specs.defs.declared.event.Root.{Root}
+use Rattle.inv_rows.specs.model.declared.post.Post.{Post}
+use Rattle.inv_rows.specs.model.Desks.{Desk}
+use Rattle.inv_rows.specs.model.Guards.{from_to, one_era}
+use Rattle.inv_rows.specs.model.Links.{link_place, link_number, root_at}
+use Rattle.inv_rows.specs.model.Memory.{Move as Act, upd, written, bump}
+use Rattle.inv_rows.specs.model.Posts.{counted, tag_of}
+use Rattle.inv_rows.specs.model.Phases.{Aim, ProtectAt, MoveAt, Base, Outcome, Goes, Ends, Turn}
+use Rattle.inv_rows.specs.model.Phases.ProtectAt.{PublishEra, PublishHelper, LoadOwnLink, CheckOwnClock, AnswerOwn, TakeAnswer, WithdrawHelper, ByHazard}
+use Rattle.inv_rows.specs.model.Phases.HazardAt.{PublishLink}
+use Rattle.inv_rows.specs.model.Phases.MoveAt.{ShowEra, LoadAsked, CheckEra, AnswerAsked, HideEra, HideLate}
+use Rattle.inv_rows.specs.model.Phases.Base.{Protect, Move}
+use Rattle.inv_rows.specs.model.Machine.{after}
+use Rattle.inv_rows.specs.model.Scan.{scan_turn}
+use Rattle.inv_rows.specs.model.Steps.{phase_turn, resumed}
+use Rattle.inv_rows.specs.model.Calls.{Why, Phase, Idle, Runs, Scans, Works}
+use Rattle.inv_rows.specs.model.World.{World, step, finds, offered}
+use Rattle.inv_rows.proofs.model.Roots.{root_at_link}
+use Rattle.inv_rows.specs.Shapes.Frame.{phase_left}
+use Rattle.inv_rows.specs.words.Schemes.{helps}
+use Rattle.inv_rows.specs.Covering.Requests.Deals.{asked_at, stays}
+use Rattle.inv_rows.specs.Covering.Requests.NextDeals.{next_deals}
+use Rattle.inv_rows.specs.Covering.Requests.Standing.{protect_role, move_role, base_role, role_of}
+use Rattle.inv_rows.specs.Covering.Requests.Views.{Deal, View as Asked}
+use Rattle.inv_rows.specs.Covering.Requests.Views.Deal.{Quiet, Open, Answered, Passed, Taken}
+use Rattle.inv_rows.specs.Rows.{Status, View, made}
+use Rattle.inv_rows.specs.Hands.{row_move}
+use Rattle.inv_rows.specs.Agree.{rows_after}
+use Rattle.inv_rows.specs.Covering.Covers.{eras_shown}
+use Rattle.inv_rows.specs.Covering.Held.{leads, under, Holds, Held}
 use Rattle.inv_ends.specs.Helped.{open_by, helper_holds, answered_from, passed_to, Helped}
 use Rattle.inv_ends.specs.Handover.{HandoverNeeds}
-use Rattle.inv_covers.proofs.Held.{stepped_phase, move_is, finds_at, protect_stays, protect_rows, loads_cover, same_run, eras_reaches}
-use Rattle.inv_covers.proofs.Guards.{helpers_fit}
-use Rattle.inv_covers.proofs.Fresh.{works_start, resume_fresh}
-use Rattle.inv_covers.proofs.Scans.{scan_starts}
+use Rattle.inv_rows.proofs.Covering.Held.{stepped_phase, move_is, finds_at, protect_stays, protect_rows, loads_cover, same_run, eras_reaches}
+use Rattle.inv_rows.proofs.Covering.Guards.{helpers_fit}
+use Rattle.inv_rows.proofs.Covering.Fresh.{works_start, resume_fresh}
+use Rattle.inv_rows.proofs.Covering.Scans.{scan_starts}
 use Rattle.inv_ends.proofs.Handover.Asks.{in_slow, asker}
 use Rattle.inv_ends.proofs.Handover.Back.{inside_of, asked_under, own_under}
 use Rattle.inv_ends.proofs.Handover.Deals.{DealStep, deals_at, deal_step, handed_deal, helped_deal, SameDeal, NewAsk, OwnAnswer, AnswerTaken, AskLeft, HelpedAnswer, HandedOver}
@@ -52,8 +52,8 @@ use Rattle.inv_ends.proofs.Handover.Shown.{helper_shows, one_from, holds_stay, n
 use Rattle.inv_ends.proofs.Handover.Own.{own_stores}
 use Rattle.inv_ends.proofs.Handover.Loads.{out_holds, turn_from_link, move_from_link, starts_unheld, protect_loads, move_loads, may_load, other_unheld}
 use Rattle.inv_ends.proofs.Handover.Others.{other_index, other_helper, move_root, all_true}
-use Rattle.inv_covers.proofs.Requests.Known.{stands_as}
-use Rattle.inv_covers.proofs.model.Facts.{first_of, rest_of, both, no_truth}
+use Rattle.inv_rows.proofs.Covering.Requests.Known.{stands_as}
+use Rattle.inv_rows.proofs.model.Facts.{first_of, rest_of, both, no_truth}
 
 -- a helper word that its own seat leaves
 still_helper : (w : World) (i : ℕ) (v : View) (z : Asked) (why : Why) (base : Base) (s : ℕ) → helps w.layout.config.scheme ≡ true → HandoverNeeds w i v z → (w.seat i).phase ≡ Runs why base → stores_helper base ≡ false → Holds w v (Helper i) s → Holds (step w i) (rows_after w i v) (Helper i) s

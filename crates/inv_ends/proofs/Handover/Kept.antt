@@ -2,25 +2,25 @@
 use Rattle.std.proofs.Common.{ℕ, ◌≡◌, Bool, true, false, Some, refl, sym, subst, arith}
 use Rattle.std.proofs.lemmas.Bool.Decides.{nat_tests}
 use Rattle.std.specs.Prelude.{◌==◌}
-use Rattle.inv_covers.specs.words.Place.Place.{Clock}
-use Rattle.inv_covers.specs.defs.declared.event.Guard.{Guard}
-use Rattle.inv_covers.specs.defs.declared.event.Guard.TheVariants.{Helper, Index}
-use Rattle.inv_covers.specs.model.Posts.{stands}
-use Rattle.inv_covers.specs.model.Phases.{Base}
-use Rattle.inv_covers.specs.model.Calls.{Why, Runs}
-use Rattle.inv_covers.specs.model.World.{World, step, finds}
-use Rattle.inv_covers.specs.words.Schemes.{helps}
-use Rattle.inv_covers.specs.Requests.NextDeals.{next_deals}
-use Rattle.inv_covers.specs.Requests.Views.{View as Asked}
-use Rattle.inv_covers.specs.rows.Rows.{View}
-use Rattle.inv_covers.specs.rows.Hands.{row_move}
-use Rattle.inv_covers.specs.rows.Agree.{rows_after}
-use Rattle.inv_covers.specs.Covers.{CoversNeeds, Scanning, takes_or_frees}
-use Rattle.inv_covers.specs.model.Guards.{own_guard}
-use Rattle.inv_covers.specs.Held.{tries_base, index_base, Holds, Held}
+use Rattle.inv_rows.specs.words.Place.Place.{Clock}
+use Rattle.inv_rows.specs.defs.declared.event.Guard.{Guard}
+use Rattle.inv_rows.specs.defs.declared.event.Guard.TheVariants.{Helper, Index}
+use Rattle.inv_rows.specs.model.Posts.{stands}
+use Rattle.inv_rows.specs.model.Phases.{Base}
+use Rattle.inv_rows.specs.model.Calls.{Why, Runs}
+use Rattle.inv_rows.specs.model.World.{World, step, finds}
+use Rattle.inv_rows.specs.words.Schemes.{helps}
+use Rattle.inv_rows.specs.Covering.Requests.NextDeals.{next_deals}
+use Rattle.inv_rows.specs.Covering.Requests.Views.{View as Asked}
+use Rattle.inv_rows.specs.Rows.{View}
+use Rattle.inv_rows.specs.Hands.{row_move}
+use Rattle.inv_rows.specs.Agree.{rows_after}
+use Rattle.inv_rows.specs.Covering.Covers.{CoversNeeds, Scanning, takes_or_frees}
+use Rattle.inv_rows.specs.model.Guards.{own_guard}
+use Rattle.inv_rows.specs.Covering.Held.{tries_base, index_base, Holds, Held}
 use Rattle.inv_ends.specs.Helped.{helper_holds, Helped}
 use Rattle.inv_ends.specs.Handover.{HandoverNeeds, HandoverKept, AnsweredRowsStay}
-use Rattle.inv_covers.proofs.Kept.{not_reused}
+use Rattle.inv_rows.proofs.Covering.Kept.{not_reused}
 use Rattle.inv_ends.proofs.Handover.Others.{other_stands, other_tries_hold, other_loaded}
 use Rattle.inv_ends.proofs.Handover.Helps.{own_loaded, answers_hold, passed_hold}
 use Rattle.inv_ends.proofs.Handover.Shown.{helped_guard}

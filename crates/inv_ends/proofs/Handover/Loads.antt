@@ -2,42 +2,42 @@
 use Rattle.std.proofs.Common.{ℕ, ◌≡◌, ◌+◌, ◌∙◌, Bool, true, false, List, [], ◌∷◌, Option, Some, None, refl, sym, subst, arith, ◌&&◌}
 use Rattle.std.proofs.lemmas.Bool.Decides.{nat_tests}
 use Rattle.std.specs.Prelude.{◌==◌, if◌then◌else◌, nat_le, nat_lt, ◌||◌}
-use Rattle.inv_covers.specs.words.Packed.{read_request, read_reservation, reservation_word}
-use Rattle.inv_covers.specs.words.declared.packed.Request.{Request}
-use Rattle.inv_covers.specs.words.declared.config.Config.{Config}
-use Rattle.inv_covers.specs.words.declared.layout.Layout.{Layout}
-use Rattle.inv_covers.specs.defs.declared.event.Event.{Event}
-use Rattle.inv_covers.specs.defs.declared.event.Root.{Root}
-use Rattle.inv_covers.specs.model.declared.post.Post.{Post}
-use Rattle.inv_covers.specs.model.Links.{link_number, root_at}
-use Rattle.inv_covers.specs.model.Memory.{found}
-use Rattle.inv_covers.specs.model.Phases.{Aim, Alone, Follows, Walk, Tries, Endless, Failed, BeginAt, ProtectAt, AllocateAt, RetireAt, MoveAt, Base, Outcome, Goes, Ends, Turn, goes, ends}
-use Rattle.inv_covers.specs.model.Phases.BeginAt.{LoadLower, PublishSpan}
-use Rattle.inv_covers.specs.model.Phases.ProtectAt.{LoadClock, PublishEra, LoadLink, CheckClock, PublishRequest, LoadOwnClock, PublishHelper, LoadOwnLink, CheckOwnClock, AnswerOwn, LoadAnswer, TakeAnswer, WithdrawRequest, WithdrawHelper, LoadWithin, CheckUpper, RaiseUpper, ByHazard}
-use Rattle.inv_covers.specs.model.Phases.HazardAt.{FirstLink, PublishLink, CheckLink}
-use Rattle.inv_covers.specs.model.Phases.AllocateAt.{LoadBirth, ClaimSlot, StoreLife}
-use Rattle.inv_covers.specs.model.Phases.RetireAt.{LoadLife, LoadRetire, StoreRetired}
-use Rattle.inv_covers.specs.model.Phases.MoveAt.{LoadEra, LoadRequest, ShowEra, LoadAsked, CheckEra, AnswerAsked, LoadReserved, HandOver, HideEra, HideLate, ExchangeClock}
-use Rattle.inv_covers.specs.model.Phases.Base.{Begin, Protect, Reload, Clear, Finish, Release, Allocate, Write, GiveUp, Retire, Move}
-use Rattle.inv_covers.specs.model.Protect.{held_post, told_held, failed_once, trying, concluded, protected}
-use Rattle.inv_covers.specs.model.SlowPath.{asking, own_request, answer_in, lost_turn}
-use Rattle.inv_covers.specs.model.Machine.{begin_turn, protect_turn, allocate_turn, retire_turn, move_turn, after}
-use Rattle.inv_covers.specs.model.Calls.{Why, Phase, Runs}
-use Rattle.inv_covers.specs.Requests.Roles.{shows}
-use Rattle.inv_covers.specs.Requests.Views.{Deal}
-use Rattle.inv_covers.specs.rows.Rows.{Status}
-use Rattle.inv_covers.specs.Held.{leads, under}
-use Rattle.inv_covers.specs.Tries.{starts_protect, starts_move, starts_base, is_start}
+use Rattle.inv_rows.specs.words.Packed.{read_request, read_reservation, reservation_word}
+use Rattle.inv_rows.specs.words.declared.packed.Request.{Request}
+use Rattle.inv_rows.specs.words.declared.config.Config.{Config}
+use Rattle.inv_rows.specs.words.declared.layout.Layout.{Layout}
+use Rattle.inv_rows.specs.defs.declared.event.Event.{Event}
+use Rattle.inv_rows.specs.defs.declared.event.Root.{Root}
+use Rattle.inv_rows.specs.model.declared.post.Post.{Post}
+use Rattle.inv_rows.specs.model.Links.{link_number, root_at}
+use Rattle.inv_rows.specs.model.Memory.{found}
+use Rattle.inv_rows.specs.model.Phases.{Aim, Alone, Follows, Walk, Tries, Endless, Failed, BeginAt, ProtectAt, AllocateAt, RetireAt, MoveAt, Base, Outcome, Goes, Ends, Turn, goes, ends}
+use Rattle.inv_rows.specs.model.Phases.BeginAt.{LoadLower, PublishSpan}
+use Rattle.inv_rows.specs.model.Phases.ProtectAt.{LoadClock, PublishEra, LoadLink, CheckClock, PublishRequest, LoadOwnClock, PublishHelper, LoadOwnLink, CheckOwnClock, AnswerOwn, LoadAnswer, TakeAnswer, WithdrawRequest, WithdrawHelper, LoadWithin, CheckUpper, RaiseUpper, ByHazard}
+use Rattle.inv_rows.specs.model.Phases.HazardAt.{FirstLink, PublishLink, CheckLink}
+use Rattle.inv_rows.specs.model.Phases.AllocateAt.{LoadBirth, ClaimSlot, StoreLife}
+use Rattle.inv_rows.specs.model.Phases.RetireAt.{LoadLife, LoadRetire, StoreRetired}
+use Rattle.inv_rows.specs.model.Phases.MoveAt.{LoadEra, LoadRequest, ShowEra, LoadAsked, CheckEra, AnswerAsked, LoadReserved, HandOver, HideEra, HideLate, ExchangeClock}
+use Rattle.inv_rows.specs.model.Phases.Base.{Begin, Protect, Reload, Clear, Finish, Release, Allocate, Write, GiveUp, Retire, Move}
+use Rattle.inv_rows.specs.model.Protect.{held_post, told_held, failed_once, trying, concluded, protected}
+use Rattle.inv_rows.specs.model.SlowPath.{asking, own_request, answer_in, lost_turn}
+use Rattle.inv_rows.specs.model.Machine.{begin_turn, protect_turn, allocate_turn, retire_turn, move_turn, after}
+use Rattle.inv_rows.specs.model.Calls.{Why, Phase, Runs}
+use Rattle.inv_rows.specs.Covering.Requests.Roles.{shows}
+use Rattle.inv_rows.specs.Covering.Requests.Views.{Deal}
+use Rattle.inv_rows.specs.Rows.{Status}
+use Rattle.inv_rows.specs.Covering.Held.{leads, under}
+use Rattle.inv_rows.specs.Covering.Tries.{starts_protect, starts_move, starts_base, is_start}
 use Rattle.inv_ends.specs.Helped.{open_by, turn_holds, move_holds, helper_holds}
-use Rattle.inv_covers.specs.words.declared.packed.Request.TheVariants as requests
-use Rattle.inv_covers.specs.defs.declared.call.ClockMove.TheVariants as moves
-use Rattle.inv_covers.specs.defs.declared.event.Event.TheVariants as events
-use Rattle.inv_covers.specs.model.Posts.{reserves_helper, upper}
-use Rattle.inv_covers.specs.model.MoveClock.{all_met, next_request, helping, met, moving, after_hand_over}
-use Rattle.inv_covers.specs.model.Allocate.{walking, walk_past, is_claimed}
-use Rattle.inv_covers.specs.model.WriteRow.{last_written}
-use Rattle.inv_covers.specs.model.Phases.Ending.{Clocked}
-use Rattle.inv_covers.proofs.model.Facts.{rest_of, no_truth}
+use Rattle.inv_rows.specs.words.declared.packed.Request.TheVariants as requests
+use Rattle.inv_rows.specs.defs.declared.call.ClockMove.TheVariants as moves
+use Rattle.inv_rows.specs.defs.declared.event.Event.TheVariants as events
+use Rattle.inv_rows.specs.model.Posts.{reserves_helper, upper}
+use Rattle.inv_rows.specs.model.MoveClock.{all_met, next_request, helping, met, moving, after_hand_over}
+use Rattle.inv_rows.specs.model.Allocate.{walking, walk_past, is_claimed}
+use Rattle.inv_rows.specs.model.WriteRow.{last_written}
+use Rattle.inv_rows.specs.model.Phases.Ending.{Clocked}
+use Rattle.inv_rows.proofs.model.Facts.{rest_of, no_truth}
 
 -- what an outcome leaves held
 abbrev pub out_holds : Layout → ℕ → (ℕ → Status) → (ℕ → Deal) → Outcome → ℕ → Bool

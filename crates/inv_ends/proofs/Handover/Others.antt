@@ -2,45 +2,45 @@
 use Rattle.std.proofs.Common.{ℕ, ◌≡◌, ◌≤◌, ◌<◌, ◌∙◌, Bool, true, false, Some, refl, ap, sym, subst, arith, ◌&&◌}
 use Rattle.std.proofs.lemmas.Bool.Decides.{nat_tests}
 use Rattle.std.specs.Prelude.{◌==◌, ◌||◌, nat_lt}
-use Rattle.inv_covers.specs.words.Place.{has}
-use Rattle.inv_covers.specs.words.Place.Place.{Clock}
-use Rattle.inv_covers.specs.defs.declared.event.Guard.TheVariants.{Helper, Index}
-use Rattle.inv_covers.specs.defs.declared.event.Root.{Root}
-use Rattle.inv_covers.specs.model.declared.post.Post.{Post}
-use Rattle.inv_covers.specs.model.Links.{link_place, link_number, root_at}
-use Rattle.inv_covers.specs.model.Posts.{stands, tag_of, upper}
-use Rattle.inv_covers.specs.model.Phases.{Aim, ProtectAt, MoveAt, Base}
-use Rattle.inv_covers.specs.model.Phases.ProtectAt.{CheckClock, PublishRequest, CheckOwnClock, AnswerOwn}
-use Rattle.inv_covers.specs.model.Phases.MoveAt.{CheckEra, AnswerAsked}
-use Rattle.inv_covers.specs.model.Phases.Base.{Protect, Move}
-use Rattle.inv_covers.specs.model.Calls.{Why, Phase, Idle, Runs, Scans, Works}
-use Rattle.inv_covers.specs.model.Locals.{Local}
-use Rattle.inv_covers.specs.model.World.{World, step}
-use Rattle.inv_covers.proofs.model.Roots.{root_at_link}
-use Rattle.inv_covers.specs.shapes.Eras.{Eras, protect_eras, PhaseEras}
-use Rattle.inv_covers.specs.words.Schemes.{helps}
-use Rattle.inv_covers.proofs.shapes.Frame.{seat_stays}
-use Rattle.inv_covers.proofs.shapes.Decode.{clock_next}
-use Rattle.inv_covers.specs.Requests.Deals.{is_quiet, asked_at, asked_by}
-use Rattle.inv_covers.specs.Requests.NextDeals.{next_deals}
-use Rattle.inv_covers.specs.Requests.Standing.{asked_there, is_there, Requests}
-use Rattle.inv_covers.specs.Requests.Views.{Deal, View as Asked}
-use Rattle.inv_covers.specs.Requests.Views.Deal.{Quiet, Open, Answered, Passed, Taken}
-use Rattle.inv_covers.specs.rows.Rows.{View}
-use Rattle.inv_covers.specs.rows.Agree.{rows_after}
-use Rattle.inv_covers.specs.Held.{leads, under, tries_base, index_base, Holds, Held, era_protect, era_base}
+use Rattle.inv_rows.specs.words.Place.{has}
+use Rattle.inv_rows.specs.words.Place.Place.{Clock}
+use Rattle.inv_rows.specs.defs.declared.event.Guard.TheVariants.{Helper, Index}
+use Rattle.inv_rows.specs.defs.declared.event.Root.{Root}
+use Rattle.inv_rows.specs.model.declared.post.Post.{Post}
+use Rattle.inv_rows.specs.model.Links.{link_place, link_number, root_at}
+use Rattle.inv_rows.specs.model.Posts.{stands, tag_of, upper}
+use Rattle.inv_rows.specs.model.Phases.{Aim, ProtectAt, MoveAt, Base}
+use Rattle.inv_rows.specs.model.Phases.ProtectAt.{CheckClock, PublishRequest, CheckOwnClock, AnswerOwn}
+use Rattle.inv_rows.specs.model.Phases.MoveAt.{CheckEra, AnswerAsked}
+use Rattle.inv_rows.specs.model.Phases.Base.{Protect, Move}
+use Rattle.inv_rows.specs.model.Calls.{Why, Phase, Idle, Runs, Scans, Works}
+use Rattle.inv_rows.specs.model.Locals.{Local}
+use Rattle.inv_rows.specs.model.World.{World, step}
+use Rattle.inv_rows.proofs.model.Roots.{root_at_link}
+use Rattle.inv_rows.specs.Shapes.Eras.{Eras, protect_eras, PhaseEras}
+use Rattle.inv_rows.specs.words.Schemes.{helps}
+use Rattle.inv_rows.proofs.Shapes.Frame.{seat_stays}
+use Rattle.inv_rows.proofs.Shapes.Decode.{clock_next}
+use Rattle.inv_rows.specs.Covering.Requests.Deals.{is_quiet, asked_at, asked_by}
+use Rattle.inv_rows.specs.Covering.Requests.NextDeals.{next_deals}
+use Rattle.inv_rows.specs.Covering.Requests.Standing.{asked_there, is_there, Requests}
+use Rattle.inv_rows.specs.Covering.Requests.Views.{Deal, View as Asked}
+use Rattle.inv_rows.specs.Covering.Requests.Views.Deal.{Quiet, Open, Answered, Passed, Taken}
+use Rattle.inv_rows.specs.Rows.{View}
+use Rattle.inv_rows.specs.Agree.{rows_after}
+use Rattle.inv_rows.specs.Covering.Held.{leads, under, tries_base, index_base, Holds, Held, era_protect, era_base}
 use Rattle.inv_ends.specs.Helped.{open_by, turn_holds, move_holds, helper_holds, Helped}
 use Rattle.inv_ends.specs.Handover.{HandoverNeeds}
-use Rattle.inv_covers.proofs.Tried.{tries_back}
+use Rattle.inv_rows.proofs.Covering.Tried.{tries_back}
 use Rattle.inv_ends.proofs.Handover.Asks.{fits_at}
 use Rattle.inv_ends.proofs.Handover.Back.{followed_rows_stand, stood_back, asked_under, own_under}
 use Rattle.inv_ends.proofs.Handover.Deals.{DealStep, deal_step, SameDeal, NewAsk, OwnAnswer, AnswerTaken, AskLeft, HelpedAnswer, HandedOver}
 use Rattle.inv_ends.proofs.Handover.Words.{own_index, own_helper, helper_stays}
 use Rattle.inv_ends.proofs.Handover.Shown.{holds_stay}
 use Rattle.inv_ends.proofs.Handover.Own.{stood_stays, tried_stays}
-use Rattle.inv_covers.proofs.Requests.Known.{stands_as}
-use Rattle.inv_covers.proofs.model.Facts.{by_cases, first_of, rest_of, both, no_truth}
-use Rattle.inv_covers.proofs.shapes.Steps.{upper_in}
+use Rattle.inv_rows.proofs.Covering.Requests.Known.{stands_as}
+use Rattle.inv_rows.proofs.model.Facts.{by_cases, first_of, rest_of, both, no_truth}
+use Rattle.inv_rows.proofs.Shapes.Steps.{upper_in}
 
 pub other_index : (i k j : ℕ) (phase : Phase) → (k == i) ≡ false → own_index i phase k j ≡ false
 other_index i k j Idle o = refl

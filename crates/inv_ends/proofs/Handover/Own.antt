@@ -1,66 +1,66 @@
 -- What the index words of the seat that steps hold after its step.
-use Rattle.inv_covers.specs.defs.Shown as values
-use Rattle.inv_covers.specs.Requests.Standing.{copy_role}
+use Rattle.inv_rows.specs.defs.Shown as values
+use Rattle.inv_rows.specs.Covering.Requests.Standing.{copy_role}
 use Rattle.std.proofs.Common.{ℕ, ◌≡◌, ◌<◌, ◌+◌, ◌∙◌, Bool, true, false, length, Option, Some, None, refl, ap, sym, subst, arith, ◌⊎◌, inl, inr, ◌&&◌}
 use Rattle.std.proofs.lemmas.Bool.Decides.{nat_tests}
 use Rattle.std.specs.Prelude.{◌==◌}
-use Rattle.inv_covers.specs.words.Place.{Place}
-use Rattle.inv_covers.specs.words.Place.Place.{Clock, Head}
-use Rattle.inv_covers.specs.words.declared.layout.Layout.{Layout}
-use Rattle.inv_covers.specs.defs.declared.event.Guard.{Guard}
-use Rattle.inv_covers.specs.defs.declared.event.Guard.TheVariants.{Index}
-use Rattle.inv_covers.specs.defs.declared.event.Root.{Root}
-use Rattle.inv_covers.specs.defs.declared.event.Root.TheVariants as roots
-use Rattle.inv_covers.specs.model.declared.post.Post.{Post}
-use Rattle.inv_covers.specs.model.Guards.{from_to, one_era, own_guard}
-use Rattle.inv_covers.specs.model.Links.{link_place, link_number, parent_of}
-use Rattle.inv_covers.specs.model.Memory.{place_in, found, bump}
-use Rattle.inv_covers.specs.model.Posts.{stands, counted, tag_of}
-use Rattle.inv_covers.specs.model.Phases.{Aim, Follows, ProtectAt, Base}
-use Rattle.inv_covers.specs.model.Phases.ProtectAt.{PublishEra, LoadLink, TakeAnswer, ByHazard}
-use Rattle.inv_covers.specs.model.Phases.HazardAt.{PublishLink}
-use Rattle.inv_covers.specs.model.Phases.MoveAt.{HandOver}
-use Rattle.inv_covers.specs.model.Phases.Base.{Begin, Protect, Reload, Clear, Finish, Release, Allocate, Write, GiveUp, Retire, Move}
-use Rattle.inv_covers.specs.model.Machine.{protect_move, after}
-use Rattle.inv_covers.specs.model.Scan.{scan_turn}
-use Rattle.inv_covers.specs.model.Steps.{phase_turn}
-use Rattle.inv_covers.specs.model.Calls.{Why, Opens, FollowsHead, Fills, ClearsNext, Clears, Finishes, GivesUp, Retires, Tidies, Advances, Releases, Loosens, LoadHeld, StoreHeld, Looks, Misses, HideSpan, MarkLeft, TakeList, MarkTaken, Work, Getting, Changing, Enqueuing, Dequeuing, Keeping, Phase, Idle, Runs, Scans, Works}
-use Rattle.inv_covers.specs.model.World.{World, step, finds, offered}
-use Rattle.inv_covers.proofs.model.Ranges.{bounds_of}
-use Rattle.inv_covers.specs.shapes.Frame.{phase_left}
-use Rattle.inv_covers.specs.words.Schemes.{helps, publishes_rows}
-use Rattle.inv_covers.specs.shapes.Seats.{Run}
-use Rattle.inv_covers.specs.Requests.Views.{View as Asked, Role as role}
-use Rattle.inv_covers.specs.rows.Rows.{Status, View}
-use Rattle.inv_covers.specs.rows.Agree.{rows_after}
-use Rattle.inv_covers.specs.rows.Queue.{in_queue}
-use Rattle.inv_covers.specs.Covers.{eras_shown, shown, number_shown}
-use Rattle.inv_covers.specs.Held.{under, tries_protect, tries_base, index_base, Holds, Held, rests_protect}
-use Rattle.inv_covers.specs.Rests.{vacant_why, vacant, Vacant}
+use Rattle.inv_rows.specs.words.Place.{Place}
+use Rattle.inv_rows.specs.words.Place.Place.{Clock, Head}
+use Rattle.inv_rows.specs.words.declared.layout.Layout.{Layout}
+use Rattle.inv_rows.specs.defs.declared.event.Guard.{Guard}
+use Rattle.inv_rows.specs.defs.declared.event.Guard.TheVariants.{Index}
+use Rattle.inv_rows.specs.defs.declared.event.Root.{Root}
+use Rattle.inv_rows.specs.defs.declared.event.Root.TheVariants as roots
+use Rattle.inv_rows.specs.model.declared.post.Post.{Post}
+use Rattle.inv_rows.specs.model.Guards.{from_to, one_era, own_guard}
+use Rattle.inv_rows.specs.model.Links.{link_place, link_number, parent_of}
+use Rattle.inv_rows.specs.model.Memory.{place_in, found, bump}
+use Rattle.inv_rows.specs.model.Posts.{stands, counted, tag_of}
+use Rattle.inv_rows.specs.model.Phases.{Aim, Follows, ProtectAt, Base}
+use Rattle.inv_rows.specs.model.Phases.ProtectAt.{PublishEra, LoadLink, TakeAnswer, ByHazard}
+use Rattle.inv_rows.specs.model.Phases.HazardAt.{PublishLink}
+use Rattle.inv_rows.specs.model.Phases.MoveAt.{HandOver}
+use Rattle.inv_rows.specs.model.Phases.Base.{Begin, Protect, Reload, Clear, Finish, Release, Allocate, Write, GiveUp, Retire, Move}
+use Rattle.inv_rows.specs.model.Machine.{protect_move, after}
+use Rattle.inv_rows.specs.model.Scan.{scan_turn}
+use Rattle.inv_rows.specs.model.Steps.{phase_turn}
+use Rattle.inv_rows.specs.model.Calls.{Why, Opens, FollowsHead, Fills, ClearsNext, Clears, Finishes, GivesUp, Retires, Tidies, Advances, Releases, Loosens, LoadHeld, StoreHeld, Looks, Misses, HideSpan, MarkLeft, TakeList, MarkTaken, Work, Getting, Changing, Enqueuing, Dequeuing, Keeping, Phase, Idle, Runs, Scans, Works}
+use Rattle.inv_rows.specs.model.World.{World, step, finds, offered}
+use Rattle.inv_rows.proofs.model.Ranges.{bounds_of}
+use Rattle.inv_rows.specs.Shapes.Frame.{phase_left}
+use Rattle.inv_rows.specs.words.Schemes.{helps, publishes_rows}
+use Rattle.inv_rows.specs.Shapes.Seats.{Run}
+use Rattle.inv_rows.specs.Covering.Requests.Views.{View as Asked, Role as role}
+use Rattle.inv_rows.specs.Rows.{Status, View}
+use Rattle.inv_rows.specs.Agree.{rows_after}
+use Rattle.inv_rows.specs.Queue.{in_queue}
+use Rattle.inv_rows.specs.Covering.Covers.{eras_shown, shown, number_shown}
+use Rattle.inv_rows.specs.Covering.Held.{under, tries_protect, tries_base, index_base, Holds, Held, rests_protect}
+use Rattle.inv_rows.specs.Covering.Rests.{vacant_why, vacant, Vacant}
 use Rattle.inv_ends.specs.Helped.{Helped}
 use Rattle.inv_ends.specs.Handover.{HandoverNeeds}
-use Rattle.inv_covers.proofs.Held.{stepped_post, stepped_phase, KeepFrom, WorkFrom, PhaseHas, From, turn_from, head_queued, finds_at, Comes, turn_out, other_comes, protect_stays, protect_rows, tries_counted, loads_cover, out_start, eras_reaches}
-use Rattle.inv_covers.proofs.Tried.{is_protect}
-use Rattle.inv_covers.specs.model.WriteRow.{last_written}
-use Rattle.inv_covers.proofs.Stood.{reload_stood, begin_stood, allocate_stood, write_stood, retire_stood, move_stood}
-use Rattle.inv_covers.proofs.Stands.{withdrawn_shrinks, withdrawn_apart}
-use Rattle.inv_covers.proofs.Resting.{base_rests}
-use Rattle.inv_covers.proofs.Copying.{copy_covers}
-use Rattle.inv_covers.proofs.Fresh.{works_start}
-use Rattle.inv_covers.proofs.Words.{work_stores, eras_are_shown}
-use Rattle.inv_covers.specs.shapes.Seats.{PhaseFits}
-use Rattle.inv_covers.specs.shapes.Slots.{PhaseIn}
-use Rattle.inv_covers.specs.words.Schemes.{has_one_interval}
-use Rattle.inv_covers.proofs.words.Schemes.{helps_not_interval, helps_not_rows}
-use Rattle.inv_covers.proofs.Scans.{scan_starts}
+use Rattle.inv_rows.proofs.Covering.Held.{stepped_post, stepped_phase, KeepFrom, WorkFrom, PhaseHas, From, turn_from, head_queued, finds_at, Comes, turn_out, other_comes, protect_stays, protect_rows, tries_counted, loads_cover, out_start, eras_reaches}
+use Rattle.inv_rows.proofs.Covering.Tried.{is_protect}
+use Rattle.inv_rows.specs.model.WriteRow.{last_written}
+use Rattle.inv_rows.proofs.Covering.Stood.{reload_stood, begin_stood, allocate_stood, write_stood, retire_stood, move_stood}
+use Rattle.inv_rows.proofs.Covering.Stands.{withdrawn_shrinks, withdrawn_apart}
+use Rattle.inv_rows.proofs.Covering.Resting.{base_rests}
+use Rattle.inv_rows.proofs.Covering.Copying.{copy_covers}
+use Rattle.inv_rows.proofs.Covering.Fresh.{works_start}
+use Rattle.inv_rows.proofs.Covering.Words.{work_stores, eras_are_shown}
+use Rattle.inv_rows.specs.Shapes.Seats.{PhaseFits}
+use Rattle.inv_rows.specs.Shapes.Slots.{PhaseIn}
+use Rattle.inv_rows.specs.words.Schemes.{has_one_interval}
+use Rattle.inv_rows.proofs.words.Schemes.{helps_not_interval, helps_not_rows}
+use Rattle.inv_rows.proofs.Covering.Scans.{scan_starts}
 use Rattle.inv_ends.proofs.Handover.Tries.{try_loads, takes_row, Rose, protect_rose, protect_next}
 use Rattle.inv_ends.proofs.Handover.Asks.{Asker, asker, run_of, asker_rests, asker_untried}
 use Rattle.inv_ends.proofs.Handover.Back.{inside_of}
 use Rattle.inv_ends.proofs.Handover.Deals.{handed_deal}
 use Rattle.inv_ends.proofs.Handover.Words.{stores_protect, own_index, Handed, index_stays}
 use Rattle.inv_ends.proofs.Handover.Shown.{index_shows, one_from, helped_guard, index_fits, holds_stay, no_store, taken_holds}
-use Rattle.inv_covers.proofs.Requests.Known.{stands_as}
-use Rattle.inv_covers.proofs.model.Facts.{no_truth}
+use Rattle.inv_rows.proofs.Covering.Requests.Known.{stands_as}
+use Rattle.inv_rows.proofs.model.Facts.{no_truth}
 
 no_row : (x : Option ℕ) (s : ℕ) → x ≡ None → x ≡ Some s → false ≡ true
 no_row x s a b = absurd (cc)

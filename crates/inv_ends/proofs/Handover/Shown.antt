@@ -2,54 +2,54 @@
 use Rattle.std.proofs.Common.{ℕ, ◌≡◌, ◌≤◌, ◌<◌, ◌+◌, ◌^◌, ◌∙◌, Bool, true, false, refl, ap, sym, subst, arith, ◌&&◌}
 use Rattle.std.proofs.lemmas.Bool.Decides.{nat_tests}
 use Rattle.std.specs.Prelude.{◌==◌, if◌then◌else◌, nat_le, nat_lt}
-use Rattle.inv_covers.specs.words.Place.{has, Place as places}
-use Rattle.inv_covers.specs.words.Packed.{halves, read_reservation}
-use Rattle.inv_covers.specs.words.declared.packed.Reservation.{Reservation}
-use Rattle.inv_covers.specs.words.declared.config.Config.{Config}
-use Rattle.inv_covers.specs.words.declared.config.SchemeKind.{SchemeKind}
-use Rattle.inv_covers.proofs.words.Parts.{read_reservation-halves}
-use Rattle.inv_covers.specs.defs.declared.event.Guard.{Guard}
-use Rattle.inv_covers.specs.defs.declared.event.Guard.TheVariants.{Helper, Index}
-use Rattle.inv_covers.specs.defs.declared.event.Root.{Root}
-use Rattle.inv_covers.specs.defs.Shown as values
-use Rattle.inv_covers.specs.model.Guards.{from_to, one_era, own_guard}
-use Rattle.inv_covers.specs.model.Links.{link_place, link_number, root_at}
-use Rattle.inv_covers.specs.model.Memory.{Move as Act, place_in, change}
-use Rattle.inv_covers.specs.model.Posts.{tag_of}
-use Rattle.inv_covers.specs.model.Phases.{Aim}
-use Rattle.inv_covers.specs.model.Phases.ProtectAt.{TakeAnswer}
-use Rattle.inv_covers.specs.model.Phases.MoveAt.{HandOver}
-use Rattle.inv_covers.specs.model.Phases.Base.{Protect, Move}
-use Rattle.inv_covers.specs.model.Steps.{phase_move}
-use Rattle.inv_covers.specs.model.Calls.{Why, Phase, Runs}
-use Rattle.inv_covers.specs.model.World.{World, step}
-use Rattle.inv_covers.proofs.model.Ranges.{bounds_of}
-use Rattle.inv_covers.proofs.model.Roots.{root_at_link}
-use Rattle.inv_covers.specs.words.Schemes.{helps, publishes_rows}
-use Rattle.inv_covers.proofs.shapes.Frame.{word_steps}
-use Rattle.inv_covers.specs.Requests.Deals.{answered_with, stays}
-use Rattle.inv_covers.specs.Requests.Roles.{is_away}
-use Rattle.inv_covers.specs.Requests.Standing.{Requests}
-use Rattle.inv_covers.specs.Requests.Views.{Deal, Role, View as Asked, Role as role}
-use Rattle.inv_covers.specs.Requests.Views.Deal.{Quiet, Open, Answered, Passed, Taken}
-use Rattle.inv_covers.specs.rows.Rows.{View}
-use Rattle.inv_covers.specs.rows.Agree.{rows_after}
-use Rattle.inv_covers.specs.Covers.{eras_shown, shown, CoversNeeds, GuardFits, Scanning}
-use Rattle.inv_covers.specs.Held.{leads, under, Holds}
-use Rattle.inv_covers.proofs.Words.{eras_are_shown, widens_same}
+use Rattle.inv_rows.specs.words.Place.{has, Place as places}
+use Rattle.inv_rows.specs.words.Packed.{halves, read_reservation}
+use Rattle.inv_rows.specs.words.declared.packed.Reservation.{Reservation}
+use Rattle.inv_rows.specs.words.declared.config.Config.{Config}
+use Rattle.inv_rows.specs.words.declared.config.SchemeKind.{SchemeKind}
+use Rattle.inv_rows.proofs.words.Parts.{read_reservation-halves}
+use Rattle.inv_rows.specs.defs.declared.event.Guard.{Guard}
+use Rattle.inv_rows.specs.defs.declared.event.Guard.TheVariants.{Helper, Index}
+use Rattle.inv_rows.specs.defs.declared.event.Root.{Root}
+use Rattle.inv_rows.specs.defs.Shown as values
+use Rattle.inv_rows.specs.model.Guards.{from_to, one_era, own_guard}
+use Rattle.inv_rows.specs.model.Links.{link_place, link_number, root_at}
+use Rattle.inv_rows.specs.model.Memory.{Move as Act, place_in, change}
+use Rattle.inv_rows.specs.model.Posts.{tag_of}
+use Rattle.inv_rows.specs.model.Phases.{Aim}
+use Rattle.inv_rows.specs.model.Phases.ProtectAt.{TakeAnswer}
+use Rattle.inv_rows.specs.model.Phases.MoveAt.{HandOver}
+use Rattle.inv_rows.specs.model.Phases.Base.{Protect, Move}
+use Rattle.inv_rows.specs.model.Steps.{phase_move}
+use Rattle.inv_rows.specs.model.Calls.{Why, Phase, Runs}
+use Rattle.inv_rows.specs.model.World.{World, step}
+use Rattle.inv_rows.proofs.model.Ranges.{bounds_of}
+use Rattle.inv_rows.proofs.model.Roots.{root_at_link}
+use Rattle.inv_rows.specs.words.Schemes.{helps, publishes_rows}
+use Rattle.inv_rows.proofs.Shapes.Frame.{word_steps}
+use Rattle.inv_rows.specs.Covering.Requests.Deals.{answered_with, stays}
+use Rattle.inv_rows.specs.Covering.Requests.Roles.{is_away}
+use Rattle.inv_rows.specs.Covering.Requests.Standing.{Requests}
+use Rattle.inv_rows.specs.Covering.Requests.Views.{Deal, Role, View as Asked, Role as role}
+use Rattle.inv_rows.specs.Covering.Requests.Views.Deal.{Quiet, Open, Answered, Passed, Taken}
+use Rattle.inv_rows.specs.Rows.{View}
+use Rattle.inv_rows.specs.Agree.{rows_after}
+use Rattle.inv_rows.specs.Covering.Covers.{eras_shown, shown, CoversNeeds, GuardFits, Scanning}
+use Rattle.inv_rows.specs.Covering.Held.{leads, under, Holds}
+use Rattle.inv_rows.proofs.Covering.Words.{eras_are_shown, widens_same}
 use Rattle.inv_ends.specs.Helped.{answered_from, passed_to, Helped}
 use Rattle.inv_ends.specs.Handover.{HandoverNeeds}
-use Rattle.inv_covers.proofs.Held.{move_is}
-use Rattle.inv_covers.proofs.Kept.{covers_kept}
-use Rattle.inv_covers.proofs.Guards.{guards_fit, helpers_first, handed_kept}
+use Rattle.inv_rows.proofs.Covering.Held.{move_is}
+use Rattle.inv_rows.proofs.Covering.Kept.{covers_kept}
+use Rattle.inv_rows.proofs.Covering.Guards.{guards_fit, helpers_first, handed_kept}
 use Rattle.inv_ends.proofs.Handover.Asks.{fits_at}
 use Rattle.inv_ends.proofs.Handover.Back.{inside_of}
 use Rattle.inv_ends.proofs.Handover.Deals.{mark_few, handed_deal}
 use Rattle.inv_ends.proofs.Handover.Words.{Handed, helper_stays}
-use Rattle.inv_covers.proofs.Requests.Known.{stands_as}
-use Rattle.inv_covers.proofs.model.Facts.{rest_of}
-use Rattle.inv_covers.proofs.model.Schemes.{index_guard}
-use Rattle.inv_covers.proofs.words.Schemes.{helps_not_interval, helps_not_rows}
+use Rattle.inv_rows.proofs.Covering.Requests.Known.{stands_as}
+use Rattle.inv_rows.proofs.model.Facts.{rest_of}
+use Rattle.inv_rows.proofs.model.Schemes.{index_guard}
+use Rattle.inv_rows.proofs.words.Schemes.{helps_not_interval, helps_not_rows}
 
 pub helper_shows : (w : World) (z : Asked) (k : ℕ) → Requests w z → eras_shown w (Helper k) ≡ one_era (z.helper k)
 helper_shows w z k q =

@@ -2,33 +2,33 @@
 use Rattle.std.proofs.Common.{ℕ, ◌≡◌, ◌<◌, ◌+◌, ◌∙◌, Bool, true, false, List, [], length, Option, Some, None, refl, sym, arith, ◌⊎◌, inl, inr, ◌&&◌}
 use Rattle.std.proofs.lemmas.Bool.Decides.{nat_tests}
 use Rattle.std.specs.Prelude.{◌==◌, if◌then◌else◌}
-use Rattle.inv_covers.specs.words.Place.{Place, Place as places}
-use Rattle.inv_covers.specs.words.Place.Place.{Clock}
-use Rattle.inv_covers.specs.words.Packed.{read_request}
-use Rattle.inv_covers.specs.words.declared.packed.Request.{Request}
-use Rattle.inv_covers.specs.words.declared.config.SchemeKind.{SchemeKind}
-use Rattle.inv_covers.specs.defs.declared.event.Event.{Event}
-use Rattle.inv_covers.specs.defs.declared.event.Root.{Root}
-use Rattle.inv_covers.specs.defs.declared.event.Root.TheVariants as roots
-use Rattle.inv_covers.specs.model.declared.post.Post.{Post}
-use Rattle.inv_covers.specs.model.Links.{link_place, parent_of}
-use Rattle.inv_covers.specs.model.Memory.{place_in, found}
-use Rattle.inv_covers.specs.model.Posts.{stands, tag_of, with_tag, reserves_helper}
-use Rattle.inv_covers.specs.model.Phases.{Aim, Follows, Tries, ProtectAt, Base, Outcome, goes}
-use Rattle.inv_covers.specs.model.Phases.ProtectAt.{LoadClock, PublishEra, LoadLink, CheckClock, PublishRequest, LoadOwnClock, PublishHelper, LoadOwnLink, CheckOwnClock, AnswerOwn, LoadAnswer, TakeAnswer, WithdrawRequest, WithdrawHelper, LoadWithin, CheckUpper, RaiseUpper, ByHazard}
-use Rattle.inv_covers.specs.model.Phases.Base.{Protect}
-use Rattle.inv_covers.specs.model.Protect.{concluded}
-use Rattle.inv_covers.specs.model.SlowPath.{own_request, answer_in, lost_turn}
-use Rattle.inv_covers.specs.model.Machine.{protect_move, protect_turn}
-use Rattle.inv_covers.proofs.model.Facts.{both, no_truth}
-use Rattle.inv_covers.proofs.words.Schemes.{no_help_in_interval, helps_not_rows}
-use Rattle.inv_covers.specs.words.Schemes.{helps}
-use Rattle.inv_covers.specs.shapes.Seats.{protect_fits}
-use Rattle.inv_covers.specs.rows.Rows.{Status}
-use Rattle.inv_covers.specs.Held.{leads, under, tries_protect, tries_base}
-use Rattle.inv_covers.proofs.Tried.{trying_none, check_tries, concluded_tries, out_tries, out_index}
-use Rattle.inv_covers.specs.words.declared.packed.Request.TheVariants as requests
-use Rattle.inv_covers.proofs.Stood.{Rises, held_rises, check_stood, own_stood, answer_stood, concluded_stood}
+use Rattle.inv_rows.specs.words.Place.{Place, Place as places}
+use Rattle.inv_rows.specs.words.Place.Place.{Clock}
+use Rattle.inv_rows.specs.words.Packed.{read_request}
+use Rattle.inv_rows.specs.words.declared.packed.Request.{Request}
+use Rattle.inv_rows.specs.words.declared.config.SchemeKind.{SchemeKind}
+use Rattle.inv_rows.specs.defs.declared.event.Event.{Event}
+use Rattle.inv_rows.specs.defs.declared.event.Root.{Root}
+use Rattle.inv_rows.specs.defs.declared.event.Root.TheVariants as roots
+use Rattle.inv_rows.specs.model.declared.post.Post.{Post}
+use Rattle.inv_rows.specs.model.Links.{link_place, parent_of}
+use Rattle.inv_rows.specs.model.Memory.{place_in, found}
+use Rattle.inv_rows.specs.model.Posts.{stands, tag_of, with_tag, reserves_helper}
+use Rattle.inv_rows.specs.model.Phases.{Aim, Follows, Tries, ProtectAt, Base, Outcome, goes}
+use Rattle.inv_rows.specs.model.Phases.ProtectAt.{LoadClock, PublishEra, LoadLink, CheckClock, PublishRequest, LoadOwnClock, PublishHelper, LoadOwnLink, CheckOwnClock, AnswerOwn, LoadAnswer, TakeAnswer, WithdrawRequest, WithdrawHelper, LoadWithin, CheckUpper, RaiseUpper, ByHazard}
+use Rattle.inv_rows.specs.model.Phases.Base.{Protect}
+use Rattle.inv_rows.specs.model.Protect.{concluded}
+use Rattle.inv_rows.specs.model.SlowPath.{own_request, answer_in, lost_turn}
+use Rattle.inv_rows.specs.model.Machine.{protect_move, protect_turn}
+use Rattle.inv_rows.proofs.model.Facts.{both, no_truth}
+use Rattle.inv_rows.proofs.words.Schemes.{no_help_in_interval, helps_not_rows}
+use Rattle.inv_rows.specs.words.Schemes.{helps}
+use Rattle.inv_rows.specs.Shapes.Seats.{protect_fits}
+use Rattle.inv_rows.specs.Rows.{Status}
+use Rattle.inv_rows.specs.Covering.Held.{leads, under, tries_protect, tries_base}
+use Rattle.inv_rows.proofs.Covering.Tried.{trying_none, check_tries, concluded_tries, out_tries, out_index}
+use Rattle.inv_rows.specs.words.declared.packed.Request.TheVariants as requests
+use Rattle.inv_rows.proofs.Covering.Stood.{Rises, held_rises, check_stood, own_stood, answer_stood, concluded_stood}
 
 -- the link that a try loads, and the answer that is taken
 abbrev pub try_loads : ℕ → (ℕ → Status) → (Place → ℕ) → Root → ProtectAt → ℕ → Bool

@@ -2,36 +2,36 @@
 use Rattle.std.proofs.Common.{ℕ, ◌≡◌, ◌+◌, ◌∙◌, Bool, true, false, refl, ap, arith, ◌⊎◌, inl, inr, ◌&&◌}
 use Rattle.std.proofs.lemmas.Bool.Decides.{nat_tests}
 use Rattle.std.specs.Prelude.{◌==◌, if◌then◌else◌}
-use Rattle.inv_covers.specs.words.Place.{same, Place as places}
-use Rattle.inv_covers.specs.words.Packed.{halves}
-use Rattle.inv_covers.specs.defs.declared.event.Guard.{Guard}
-use Rattle.inv_covers.specs.defs.declared.event.Guard.TheVariants.{Helper, Index}
-use Rattle.inv_covers.specs.defs.declared.event.Root.{Root}
-use Rattle.inv_covers.specs.model.declared.post.Post.{Post}
-use Rattle.inv_covers.specs.model.Guards.{guard_place, eras_in}
-use Rattle.inv_covers.specs.model.Memory.{Move as Act, written}
-use Rattle.inv_covers.specs.model.Phases.{ProtectAt, MoveAt, Base}
-use Rattle.inv_covers.specs.model.Phases.BeginAt.{LoadLower, PublishSpan}
-use Rattle.inv_covers.specs.model.Phases.ProtectAt.{PublishEra, PublishHelper, TakeAnswer, WithdrawHelper, ByHazard}
-use Rattle.inv_covers.specs.model.Phases.HazardAt.{FirstLink, PublishLink, CheckLink}
-use Rattle.inv_covers.specs.model.Phases.AllocateAt.{LoadBirth}
-use Rattle.inv_covers.specs.model.Phases.RetireAt.{LoadLife}
-use Rattle.inv_covers.specs.model.Phases.MoveAt.{LoadEra, LoadRequest, ShowEra, LoadAsked, CheckEra, AnswerAsked, LoadReserved, HandOver, HideEra, HideLate, ExchangeClock}
-use Rattle.inv_covers.specs.model.Phases.Base.{Begin, Protect, Reload, Clear, Finish, Release, Allocate, Write, GiveUp, Retire, Move}
-use Rattle.inv_covers.specs.model.Machine.{protect_move, move_move, base_move}
-use Rattle.inv_covers.specs.model.Scan.{scan_move}
-use Rattle.inv_covers.specs.model.Get.{get_move}
-use Rattle.inv_covers.specs.model.Change.{change_move}
-use Rattle.inv_covers.specs.model.Enqueue.{enqueue_move}
-use Rattle.inv_covers.specs.model.Dequeue.{dequeue_move}
-use Rattle.inv_covers.specs.model.Keep.{keep_move}
-use Rattle.inv_covers.specs.model.Steps.{work_move}
-use Rattle.inv_covers.specs.model.Calls.{ChangeKept, EnqueueKept, ScanAt, ReadGuard, GiveBack, GetAt, FindVersion, ChangeAt, LoadVersion, EnqueueAt, LoadNumber, DequeueAt, LoadTail, KeepAt, Loosens, LoadHeld, StoreHeld, Looks, Misses, HideSpan, MarkLeft, TakeList, MarkTaken, Work, Getting, Changing, Enqueuing, Dequeuing, Keeping, Why, Phase, Idle, Runs, Scans, Works}
-use Rattle.inv_covers.specs.model.World.{World, step}
-use Rattle.inv_covers.specs.Requests.Roles.{shows}
-use Rattle.inv_covers.specs.Covers.{eras_shown}
-use Rattle.inv_covers.proofs.Words.{keeps, eras_kept, allocate_index, retire_index, work_stores, work_index, scan_index}
-use Rattle.inv_covers.proofs.Held.{move_is, keeps_at}
+use Rattle.inv_rows.specs.words.Place.{same, Place as places}
+use Rattle.inv_rows.specs.words.Packed.{halves}
+use Rattle.inv_rows.specs.defs.declared.event.Guard.{Guard}
+use Rattle.inv_rows.specs.defs.declared.event.Guard.TheVariants.{Helper, Index}
+use Rattle.inv_rows.specs.defs.declared.event.Root.{Root}
+use Rattle.inv_rows.specs.model.declared.post.Post.{Post}
+use Rattle.inv_rows.specs.model.Guards.{guard_place, eras_in}
+use Rattle.inv_rows.specs.model.Memory.{Move as Act, written}
+use Rattle.inv_rows.specs.model.Phases.{ProtectAt, MoveAt, Base}
+use Rattle.inv_rows.specs.model.Phases.BeginAt.{LoadLower, PublishSpan}
+use Rattle.inv_rows.specs.model.Phases.ProtectAt.{PublishEra, PublishHelper, TakeAnswer, WithdrawHelper, ByHazard}
+use Rattle.inv_rows.specs.model.Phases.HazardAt.{FirstLink, PublishLink, CheckLink}
+use Rattle.inv_rows.specs.model.Phases.AllocateAt.{LoadBirth}
+use Rattle.inv_rows.specs.model.Phases.RetireAt.{LoadLife}
+use Rattle.inv_rows.specs.model.Phases.MoveAt.{LoadEra, LoadRequest, ShowEra, LoadAsked, CheckEra, AnswerAsked, LoadReserved, HandOver, HideEra, HideLate, ExchangeClock}
+use Rattle.inv_rows.specs.model.Phases.Base.{Begin, Protect, Reload, Clear, Finish, Release, Allocate, Write, GiveUp, Retire, Move}
+use Rattle.inv_rows.specs.model.Machine.{protect_move, move_move, base_move}
+use Rattle.inv_rows.specs.model.Scan.{scan_move}
+use Rattle.inv_rows.specs.model.Get.{get_move}
+use Rattle.inv_rows.specs.model.Change.{change_move}
+use Rattle.inv_rows.specs.model.Enqueue.{enqueue_move}
+use Rattle.inv_rows.specs.model.Dequeue.{dequeue_move}
+use Rattle.inv_rows.specs.model.Keep.{keep_move}
+use Rattle.inv_rows.specs.model.Steps.{work_move}
+use Rattle.inv_rows.specs.model.Calls.{ChangeKept, EnqueueKept, ScanAt, ReadGuard, GiveBack, GetAt, FindVersion, ChangeAt, LoadVersion, EnqueueAt, LoadNumber, DequeueAt, LoadTail, KeepAt, Loosens, LoadHeld, StoreHeld, Looks, Misses, HideSpan, MarkLeft, TakeList, MarkTaken, Work, Getting, Changing, Enqueuing, Dequeuing, Keeping, Why, Phase, Idle, Runs, Scans, Works}
+use Rattle.inv_rows.specs.model.World.{World, step}
+use Rattle.inv_rows.specs.Covering.Requests.Roles.{shows}
+use Rattle.inv_rows.specs.Covering.Covers.{eras_shown}
+use Rattle.inv_rows.proofs.Covering.Words.{keeps, eras_kept, allocate_index, retire_index, work_stores, work_index, scan_index}
+use Rattle.inv_rows.proofs.Covering.Held.{move_is, keeps_at}
 
 -- the own step stores the index word of this index, or the own helper word
 abbrev pub stores_protect : ℕ → ProtectAt → ℕ → Bool

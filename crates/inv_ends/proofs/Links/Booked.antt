@@ -2,20 +2,20 @@
 use Rattle.std.proofs.Common.{ℕ, ◌≡◌, Bool, true, false, List, [], ◌∷◌, arith, refl, sym, ap, subst, ◌∙◌}
 use Rattle.std.proofs.lemmas.Bool.Decides.{nat_tests}
 use Rattle.std.specs.Prelude.{◌==◌, ◌-◌, if◌then◌else◌}
-use Rattle.inv_covers.specs.defs.declared.event.Event.{Event}
-use Rattle.inv_covers.specs.defs.declared.event.Event.TheVariants as events
-use Rattle.inv_covers.specs.defs.declared.event.Root.TheVariants as roots
-use Rattle.inv_covers.specs.model.declared.post.Post.{Post}
-use Rattle.inv_covers.specs.model.Book.{Book, RowBook, booked, booked_all}
-use Rattle.inv_covers.specs.model.Calls.{Phase, CallTurn, CallOutcome, GoesOn, Answers}
-use Rattle.inv_covers.specs.model.Locals.{turn, told_end, told_by}
-use Rattle.inv_covers.specs.model.Posts.{counted}
-use Rattle.inv_covers.specs.model.World.{World, step, finds, offered}
-use Rattle.inv_covers.proofs.model.Facts.{same_number, first_of, rest_of}
-use Rattle.inv_covers.specs.Covers.{takes_or_frees}
-use Rattle.inv_covers.specs.rows.Hands.{row_move, linked_row}
-use Rattle.inv_covers.specs.rows.Rows.{RowMove}
-use Rattle.inv_covers.specs.rows.Rows.RowMove.{Stays, Appends}
+use Rattle.inv_rows.specs.defs.declared.event.Event.{Event}
+use Rattle.inv_rows.specs.defs.declared.event.Event.TheVariants as events
+use Rattle.inv_rows.specs.defs.declared.event.Root.TheVariants as roots
+use Rattle.inv_rows.specs.model.declared.post.Post.{Post}
+use Rattle.inv_rows.specs.model.Book.{Book, RowBook, booked, booked_all}
+use Rattle.inv_rows.specs.model.Calls.{Phase, CallTurn, CallOutcome, GoesOn, Answers}
+use Rattle.inv_rows.specs.model.Locals.{turn, told_end, told_by}
+use Rattle.inv_rows.specs.model.Posts.{counted}
+use Rattle.inv_rows.specs.model.World.{World, step, finds, offered}
+use Rattle.inv_rows.proofs.model.Facts.{same_number, first_of, rest_of}
+use Rattle.inv_rows.specs.Covering.Covers.{takes_or_frees}
+use Rattle.inv_rows.specs.Hands.{row_move, linked_row}
+use Rattle.inv_rows.specs.Rows.{RowMove}
+use Rattle.inv_rows.specs.Rows.RowMove.{Stays, Appends}
 use Rattle.inv_ends.proofs.Links.Told.{links_one, links_in, append_in, phase_in, LinksOf}
 
 row_same : (a : Book) (slot : ℕ) (row : RowBook) (s : ℕ) (same : Bool) → (s == slot) ≡ same → row.root ≡ (a.row slot).root → (if same then row else a.row s).root ≡ (a.row s).root

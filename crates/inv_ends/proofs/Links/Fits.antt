@@ -2,37 +2,37 @@
 use Rattle.std.proofs.Common.{ℕ, ◌≡◌, ◌<◌, ◌+◌, ◌-◌, Bool, true, false, arith, refl, sym, ap, subst, ◌∙◌}
 use Rattle.std.proofs.lemmas.Bool.Decides.{nat_tests}
 use Rattle.std.specs.Prelude.{◌==◌, ◌&&◌, ◌||◌, not}
-use Rattle.inv_covers.specs.words.Place.{Place}
-use Rattle.inv_covers.specs.words.Place.Place.{Bucket, Head, Tail, Row}
-use Rattle.inv_covers.specs.words.declared.layout.Layout.{Layout}
-use Rattle.inv_covers.specs.defs.declared.event.Root.{Root}
-use Rattle.inv_covers.specs.defs.declared.event.Root.TheVariants as roots
-use Rattle.inv_covers.specs.model.declared.post.Post.{Post}
-use Rattle.inv_covers.specs.model.Book.{Book}
-use Rattle.inv_covers.specs.model.Links.{link_place}
-use Rattle.inv_covers.specs.model.Phases.{Base}
-use Rattle.inv_covers.specs.model.Phases.Base.{Begin, Protect, Reload}
-use Rattle.inv_covers.specs.model.Calls.{Task, Gets, Changes, Holds, Enqueues, Dequeues, Why, Opens, FollowsHead, AfterScan, GiveBack, Phase, Idle, Runs, Scans, Works}
-use Rattle.inv_covers.specs.model.World.{World, step, finds}
-use Rattle.inv_covers.proofs.model.Facts.{same_number, first_of, rest_of, one_less_one_more, number_is, same_test}
-use Rattle.inv_covers.specs.shapes.Seats.{Reloads, PhaseFits, task_root, root_by, kind_of, suits}
-use Rattle.inv_covers.specs.Covers.{takes_or_frees}
-use Rattle.inv_covers.specs.Held.{under}
-use Rattle.inv_covers.specs.Requests.Views.{View as Asking}
-use Rattle.inv_covers.specs.rows.Rows.{View}
-use Rattle.inv_covers.specs.rows.Rows.Status.{Linked}
-use Rattle.inv_covers.specs.rows.Agree.{rows_after}
-use Rattle.inv_covers.specs.rows.Chain.{Both, queue_of, line_after}
-use Rattle.inv_covers.specs.rows.Facts.{RowStays}
-use Rattle.inv_covers.specs.rows.Hands.{row_move}
-use Rattle.inv_covers.specs.rows.Queue.{Line, stands_on}
-use Rattle.inv_covers.proofs.rows.Facts.{lined_stays, queue_ends}
+use Rattle.inv_rows.specs.words.Place.{Place}
+use Rattle.inv_rows.specs.words.Place.Place.{Bucket, Head, Tail, Row}
+use Rattle.inv_rows.specs.words.declared.layout.Layout.{Layout}
+use Rattle.inv_rows.specs.defs.declared.event.Root.{Root}
+use Rattle.inv_rows.specs.defs.declared.event.Root.TheVariants as roots
+use Rattle.inv_rows.specs.model.declared.post.Post.{Post}
+use Rattle.inv_rows.specs.model.Book.{Book}
+use Rattle.inv_rows.specs.model.Links.{link_place}
+use Rattle.inv_rows.specs.model.Phases.{Base}
+use Rattle.inv_rows.specs.model.Phases.Base.{Begin, Protect, Reload}
+use Rattle.inv_rows.specs.model.Calls.{Task, Gets, Changes, Holds, Enqueues, Dequeues, Why, Opens, FollowsHead, AfterScan, GiveBack, Phase, Idle, Runs, Scans, Works}
+use Rattle.inv_rows.specs.model.World.{World, step, finds}
+use Rattle.inv_rows.proofs.model.Facts.{same_number, first_of, rest_of, one_less_one_more, number_is, same_test}
+use Rattle.inv_rows.specs.Shapes.Seats.{Reloads, PhaseFits, task_root, root_by, kind_of, suits}
+use Rattle.inv_rows.specs.Covering.Covers.{takes_or_frees}
+use Rattle.inv_rows.specs.Covering.Held.{under}
+use Rattle.inv_rows.specs.Covering.Requests.Views.{View as Asking}
+use Rattle.inv_rows.specs.Rows.{View}
+use Rattle.inv_rows.specs.Rows.Status.{Linked}
+use Rattle.inv_rows.specs.Agree.{rows_after}
+use Rattle.inv_rows.specs.Chain.{Both, queue_of, line_after}
+use Rattle.inv_rows.specs.Facts.{RowStays}
+use Rattle.inv_rows.specs.Hands.{row_move}
+use Rattle.inv_rows.specs.Queue.{Line, stands_on}
+use Rattle.inv_rows.proofs.Facts.{lined_stays, queue_ends}
 use Rattle.inv_ends.specs.Tracked.{root_base, root_for, root_in, Tracked}
 use Rattle.inv_ends.specs.Origins.{Stays}
 use Rattle.inv_ends.specs.Links.{is_bucket, links_to, LinksNeeds}
 use Rattle.inv_ends.proofs.Links.Booked.{root_stays}
 use Rattle.inv_ends.proofs.Links.Still.{Still, still}
-use Rattle.inv_covers.proofs.rows.Lists.{apart_by}
+use Rattle.inv_rows.proofs.Lists.{apart_by}
 
 or_else : (x : ℕ) (b : Bool) (null : Bool) → (x == 0) ≡ null → ((x == 0) ≡ false → b ≡ true) → (null || b) ≡ true
 or_else x b true e g = refl

@@ -2,39 +2,39 @@
 use Rattle.std.proofs.Common.{ℕ, ◌≡◌, ◌<◌, ◌+◌, ◌-◌, ◌%◌, ◌∙◌, Bool, true, Some, arith, refl, sym, ap, subst}
 use Rattle.std.proofs.lemmas.Bool.Decides.{nat_tests}
 use Rattle.std.specs.Prelude.{◌==◌, ◌&&◌, ◌||◌, not}
-use Rattle.inv_covers.specs.words.Place.Place.{Clock, Row}
-use Rattle.inv_covers.specs.words.Packed.{read_request}
-use Rattle.inv_covers.specs.words.declared.packed.Request.TheVariants as requests
-use Rattle.inv_covers.specs.defs.declared.event.Root.{Root}
-use Rattle.inv_covers.specs.defs.declared.event.Root.TheVariants as roots
-use Rattle.inv_covers.specs.model.declared.ends.ProtectEnd.TheVariants as protect_ends
-use Rattle.inv_covers.specs.model.Book.{Book}
-use Rattle.inv_covers.specs.model.Machine.{after}
-use Rattle.inv_covers.specs.model.Posts.{counted, upper}
-use Rattle.inv_covers.specs.model.Phases.{Aim, HazardAt, ProtectAt, Base, Ends, Protected}
-use Rattle.inv_covers.specs.model.Phases.ProtectAt.{CheckClock, CheckUpper, TakeAnswer, ByHazard}
-use Rattle.inv_covers.specs.model.Phases.HazardAt.{CheckLink}
-use Rattle.inv_covers.specs.model.Phases.Base.{Protect}
-use Rattle.inv_covers.specs.model.Calls.{Gets, Changes, Holds, Why, Opens, FollowsHead, Phase, Runs}
-use Rattle.inv_covers.specs.model.World.{World, finds}
-use Rattle.inv_covers.specs.model.declared.post.Post.{Post}
-use Rattle.inv_covers.proofs.model.Facts.{both, first_of, rest_of, one_more_less}
-use Rattle.inv_covers.specs.shapes.Seats.{root_by}
-use Rattle.inv_covers.specs.Requests.Parents.{rises_at}
-use Rattle.inv_covers.specs.Requests.Views.{View as Asking}
-use Rattle.inv_covers.specs.rows.Rows.{View}
-use Rattle.inv_covers.specs.rows.Chain.{queue_of, Both}
-use Rattle.inv_covers.specs.rows.Follow.{at_asks}
-use Rattle.inv_covers.specs.rows.Queue.{Line}
-use Rattle.inv_covers.specs.rows.Tries.{is_tail, is_head, FromHead}
+use Rattle.inv_rows.specs.words.Place.Place.{Clock, Row}
+use Rattle.inv_rows.specs.words.Packed.{read_request}
+use Rattle.inv_rows.specs.words.declared.packed.Request.TheVariants as requests
+use Rattle.inv_rows.specs.defs.declared.event.Root.{Root}
+use Rattle.inv_rows.specs.defs.declared.event.Root.TheVariants as roots
+use Rattle.inv_rows.specs.model.declared.ends.ProtectEnd.TheVariants as protect_ends
+use Rattle.inv_rows.specs.model.Book.{Book}
+use Rattle.inv_rows.specs.model.Machine.{after}
+use Rattle.inv_rows.specs.model.Posts.{counted, upper}
+use Rattle.inv_rows.specs.model.Phases.{Aim, HazardAt, ProtectAt, Base, Ends, Protected}
+use Rattle.inv_rows.specs.model.Phases.ProtectAt.{CheckClock, CheckUpper, TakeAnswer, ByHazard}
+use Rattle.inv_rows.specs.model.Phases.HazardAt.{CheckLink}
+use Rattle.inv_rows.specs.model.Phases.Base.{Protect}
+use Rattle.inv_rows.specs.model.Calls.{Gets, Changes, Holds, Why, Opens, FollowsHead, Phase, Runs}
+use Rattle.inv_rows.specs.model.World.{World, finds}
+use Rattle.inv_rows.specs.model.declared.post.Post.{Post}
+use Rattle.inv_rows.proofs.model.Facts.{both, first_of, rest_of, one_more_less}
+use Rattle.inv_rows.specs.Shapes.Seats.{root_by}
+use Rattle.inv_rows.specs.Covering.Requests.Parents.{rises_at}
+use Rattle.inv_rows.specs.Covering.Requests.Views.{View as Asking}
+use Rattle.inv_rows.specs.Rows.{View}
+use Rattle.inv_rows.specs.Chain.{queue_of, Both}
+use Rattle.inv_rows.specs.Follow.{at_asks}
+use Rattle.inv_rows.specs.Queue.{Line}
+use Rattle.inv_rows.specs.Tries.{is_tail, is_head, FromHead}
 use Rattle.inv_ends.proofs.Origins.Came.{aimed_at}
 use Rattle.inv_ends.proofs.Origins.Ends.{by_try, end_good, end_root, answer_tracked, found_clock}
 use Rattle.inv_ends.specs.Origins.{OriginsNeeds}
 use Rattle.inv_ends.specs.Tracked.{Carried, carries_at, carries_in, root_for, root_in}
 use Rattle.inv_ends.specs.Links.{is_bucket, links_to, Links, LinksGive}
-use Rattle.inv_covers.specs.model.Links.{link_place}
-use Rattle.inv_covers.proofs.Held.{finds_at}
-use Rattle.inv_covers.specs.rows.Rows.Status.{Linked}
+use Rattle.inv_rows.specs.model.Links.{link_place}
+use Rattle.inv_rows.proofs.Covering.Held.{finds_at}
+use Rattle.inv_rows.specs.Rows.Status.{Linked}
 use Rattle.inv_ends.proofs.Links.Fits.{fresh_link}
 
 -- a link that is not null

@@ -1,8 +1,8 @@
 -- All links that are tracked may be taken: from the start on, and over every step and every call that begins.
 use Rattle.inv_ends.specs.Links.{links_to, LinksKept, LinksBegin, LinksStart}
-use Rattle.inv_covers.specs.model.World.{start, step}
-use Rattle.inv_covers.specs.rows.Agree.{rows_after, first_rows}
-use Rattle.inv_covers.specs.rows.Chain.{line_after, first_line}
+use Rattle.inv_rows.specs.model.World.{start, step}
+use Rattle.inv_rows.specs.Agree.{rows_after, first_rows}
+use Rattle.inv_rows.specs.Chain.{line_after, first_line}
 use Rattle.inv_ends.proofs.Origins.Kept.{origins_kept, origins_begin, origins_start}
 use Rattle.inv_ends.proofs.Links.Fits.{links_stay}
 

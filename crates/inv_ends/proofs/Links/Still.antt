@@ -1,22 +1,22 @@
 -- A step that loads a link and tells nothing changes no word, no row, nothing of the queue, and nothing in the book.
 use Rattle.std.proofs.Common.{ℕ, ◌≡◌, true, [], refl, ap}
-use Rattle.inv_covers.specs.words.Place.{Place}
-use Rattle.inv_covers.specs.defs.declared.event.Root.{Root}
-use Rattle.inv_covers.specs.model.Book.{booked_all}
-use Rattle.inv_covers.specs.model.Calls.{Why, Phase, Idle, Runs, Scans, Works}
-use Rattle.inv_covers.specs.model.Memory.{written}
-use Rattle.inv_covers.specs.model.Phases.{Aim, ProtectAt, MoveAt, Base}
-use Rattle.inv_covers.specs.model.Phases.ProtectAt.{LoadClock, PublishEra, LoadLink, CheckClock, PublishRequest, LoadOwnClock, PublishHelper, LoadOwnLink, CheckOwnClock, AnswerOwn, LoadAnswer, TakeAnswer, WithdrawRequest, WithdrawHelper, LoadWithin, CheckUpper, RaiseUpper, ByHazard}
-use Rattle.inv_covers.specs.model.Phases.HazardAt.{FirstLink, PublishLink, CheckLink}
-use Rattle.inv_covers.specs.model.Phases.MoveAt.{LoadEra, LoadRequest, ShowEra, LoadAsked}
-use Rattle.inv_covers.specs.model.Phases.Base.{Begin, Protect, Reload, Clear, Finish, Release, Allocate, Write, GiveUp, Retire, Move}
-use Rattle.inv_covers.specs.model.Steps.{phase_move}
-use Rattle.inv_covers.specs.model.World.{World, step, finds, told_in}
-use Rattle.inv_covers.specs.rows.Agree.{rows_after}
-use Rattle.inv_covers.specs.rows.Chain.{line_after}
-use Rattle.inv_covers.specs.rows.Hands.{row_move}
-use Rattle.inv_covers.specs.rows.Queue.{Line, line_move, moved_line}
-use Rattle.inv_covers.specs.rows.Rows.{View, made}
+use Rattle.inv_rows.specs.words.Place.{Place}
+use Rattle.inv_rows.specs.defs.declared.event.Root.{Root}
+use Rattle.inv_rows.specs.model.Book.{booked_all}
+use Rattle.inv_rows.specs.model.Calls.{Why, Phase, Idle, Runs, Scans, Works}
+use Rattle.inv_rows.specs.model.Memory.{written}
+use Rattle.inv_rows.specs.model.Phases.{Aim, ProtectAt, MoveAt, Base}
+use Rattle.inv_rows.specs.model.Phases.ProtectAt.{LoadClock, PublishEra, LoadLink, CheckClock, PublishRequest, LoadOwnClock, PublishHelper, LoadOwnLink, CheckOwnClock, AnswerOwn, LoadAnswer, TakeAnswer, WithdrawRequest, WithdrawHelper, LoadWithin, CheckUpper, RaiseUpper, ByHazard}
+use Rattle.inv_rows.specs.model.Phases.HazardAt.{FirstLink, PublishLink, CheckLink}
+use Rattle.inv_rows.specs.model.Phases.MoveAt.{LoadEra, LoadRequest, ShowEra, LoadAsked}
+use Rattle.inv_rows.specs.model.Phases.Base.{Begin, Protect, Reload, Clear, Finish, Release, Allocate, Write, GiveUp, Retire, Move}
+use Rattle.inv_rows.specs.model.Steps.{phase_move}
+use Rattle.inv_rows.specs.model.World.{World, step, finds, told_in}
+use Rattle.inv_rows.specs.Agree.{rows_after}
+use Rattle.inv_rows.specs.Chain.{line_after}
+use Rattle.inv_rows.specs.Hands.{row_move}
+use Rattle.inv_rows.specs.Queue.{Line, line_move, moved_line}
+use Rattle.inv_rows.specs.Rows.{View, made}
 use Rattle.inv_ends.specs.Origins.{loads_at, loads_asked, loads_base, loads_link}
 
 pub record Still (w : World) (i : ℕ) (v : View) (l : Line) : Type 0 where

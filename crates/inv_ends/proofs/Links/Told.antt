@@ -2,54 +2,54 @@
 -- and no other step of any row.
 use Rattle.std.proofs.Common.{ℕ, ◌+◌, ◌≡◌, Bool, true, false, List, [], ◌∷◌, ◌++◌, length, Option, Some, None, arith, refl, ap, drop}
 use Rattle.std.specs.Prelude.{◌==◌, ◌%◌, ◌-◌, ◌&&◌, ◌||◌, nat_lt, if◌then◌else◌}
-use Rattle.inv_covers.specs.words.Packed.{reservation_word}
-use Rattle.inv_covers.specs.words.Schemes.{has_one_interval, publishes_rows}
-use Rattle.inv_covers.specs.words.declared.config.SchemeKind.{SchemeKind}
-use Rattle.inv_covers.specs.defs.declared.call.Answer.{Answer}
-use Rattle.inv_covers.specs.defs.declared.call.Answer.TheVariants as the_answers
-use Rattle.inv_covers.specs.defs.declared.call.ClockMove.TheVariants as moves
-use Rattle.inv_covers.specs.defs.declared.event.Event.{Event}
-use Rattle.inv_covers.specs.defs.declared.event.Event.TheVariants as events
-use Rattle.inv_covers.specs.defs.declared.event.Root.{Root}
-use Rattle.inv_covers.specs.defs.declared.event.Root.TheVariants as roots
-use Rattle.inv_covers.specs.defs.declared.fold.Change.{Change}
-use Rattle.inv_covers.specs.defs.declared.fold.Change.TheVariants as changes
-use Rattle.inv_covers.specs.model.declared.ends.AllocateEnd.{AllocateEnd}
-use Rattle.inv_covers.specs.model.declared.ends.AllocateEnd.TheVariants as allocate_ends
-use Rattle.inv_covers.specs.model.declared.ends.FollowEnd.{FollowEnd}
-use Rattle.inv_covers.specs.model.declared.ends.FollowEnd.TheVariants as follow_ends
-use Rattle.inv_covers.specs.model.declared.ends.ProtectEnd.TheVariants as protect_ends
-use Rattle.inv_covers.specs.model.declared.post.Post.{Post}
-use Rattle.inv_covers.specs.model.Allocate as allocates
-use Rattle.inv_covers.specs.model.Change as alters
-use Rattle.inv_covers.specs.model.Dequeue as dequeues
-use Rattle.inv_covers.specs.model.Desks.{Desk, with_life}
-use Rattle.inv_covers.specs.model.Enqueue as enqueues
-use Rattle.inv_covers.specs.model.Get as gets
-use Rattle.inv_covers.specs.model.Guards.{guard_at, guards, published}
-use Rattle.inv_covers.specs.model.Keep as keeps
-use Rattle.inv_covers.specs.model.Machine as machine
-use Rattle.inv_covers.specs.model.Memory.{bump}
-use Rattle.inv_covers.specs.model.MoveClock as movers
-use Rattle.inv_covers.specs.model.Protect as protects
-use Rattle.inv_covers.specs.model.Scan as scan
-use Rattle.inv_covers.specs.model.Steps as steps
-use Rattle.inv_covers.specs.model.Posts.{stands, withdrawn, cleared, reserves_index, reserves_helper, reserves_span, cleared_from, publishes_index}
-use Rattle.inv_covers.specs.model.Phases.{Aim, Alone, Follows, BeginAt, ProtectAt, AllocateAt, RetireAt, MoveAt, Base, Walk, Turn, Outcome, Goes, Ends, Ending}
-use Rattle.inv_covers.specs.model.Phases.BeginAt.{LoadLower, PublishSpan}
-use Rattle.inv_covers.specs.model.Phases.ProtectAt.{LoadClock, PublishEra, LoadLink, CheckClock, PublishRequest, LoadOwnClock, PublishHelper, LoadOwnLink, CheckOwnClock, AnswerOwn, LoadAnswer, TakeAnswer, WithdrawRequest, WithdrawHelper, LoadWithin, CheckUpper, RaiseUpper, ByHazard}
-use Rattle.inv_covers.specs.model.Phases.HazardAt.{FirstLink, PublishLink, CheckLink}
-use Rattle.inv_covers.specs.model.Phases.AllocateAt.{LoadBirth, ClaimSlot, StoreLife}
-use Rattle.inv_covers.specs.model.Phases.RetireAt.{LoadLife, LoadRetire, StoreRetired}
-use Rattle.inv_covers.specs.model.Phases.MoveAt.{LoadEra, LoadRequest, ShowEra, LoadAsked, CheckEra, AnswerAsked, LoadReserved, HandOver, HideEra, HideLate, ExchangeClock}
-use Rattle.inv_covers.specs.model.Phases.Base.{Begin, Protect, Reload, Clear, Finish, Release, Allocate, Write, GiveUp, Retire, Move}
-use Rattle.inv_covers.specs.model.Phases.Ending.{Done, Protected, Followed, Allocated, Retired, Clocked}
-use Rattle.inv_covers.specs.model.Rounds.{bucket_of, scheme_of, index_of, taken_of, clear_base, clear_post, clear_told, finish_base, finish_span, kept_row, let_index, given_up, closed, finishing_by, finishing, clearing_by, clearing, clearing_next_by, clearing_next}
-use Rattle.inv_covers.specs.model.Calls.{Task, Gets, Changes, Holds, Enqueues, Dequeues, Next, Again, MakeRoom, Answering, Retiring, AfterScan, Answered, Repeated, Counted, ScanAt, ReadGuard, GiveBack, Why, Phase, Idle, Runs, Scans, Works, Work, Getting, Changing, Enqueuing, Dequeuing, Keeping, KeepAt, Loosens, LoadHeld, StoreHeld, Looks, Misses, HideSpan, MarkLeft, TakeList, MarkTaken, LetGo, Released, Rehold, Dropped, Parting, ChangeKept, EnqueueKept, GetAt, FindVersion, FindCount, FindKey, FindValue, ChangeAt, LoadVersion, LoadCount, LoadKey, LoadValue, ExchangeRoot, EnqueueAt, LoadNumber, LoadNext, PassTail, ExchangeNext, ExchangeTail, DequeueAt, LoadTail, SwingTail, TakeNumber, TakeValue, ExchangeHead, Opens, FollowsHead, Fills, ClearsNext, Clears, Finishes, GivesUp, Retires, Tidies, Advances, Releases}
-use Rattle.inv_covers.proofs.model.Facts.{first_of, rest_of, both}
-use Rattle.inv_covers.proofs.model.Schemes.{each_clear, each_clear_told, each_finish}
-use Rattle.inv_covers.specs.rows.Tries.{is_end}
-use Rattle.inv_covers.specs.defs.declared.event.Guard.{Guard}
+use Rattle.inv_rows.specs.words.Packed.{reservation_word}
+use Rattle.inv_rows.specs.words.Schemes.{has_one_interval, publishes_rows}
+use Rattle.inv_rows.specs.words.declared.config.SchemeKind.{SchemeKind}
+use Rattle.inv_rows.specs.defs.declared.call.Answer.{Answer}
+use Rattle.inv_rows.specs.defs.declared.call.Answer.TheVariants as the_answers
+use Rattle.inv_rows.specs.defs.declared.call.ClockMove.TheVariants as moves
+use Rattle.inv_rows.specs.defs.declared.event.Event.{Event}
+use Rattle.inv_rows.specs.defs.declared.event.Event.TheVariants as events
+use Rattle.inv_rows.specs.defs.declared.event.Root.{Root}
+use Rattle.inv_rows.specs.defs.declared.event.Root.TheVariants as roots
+use Rattle.inv_rows.specs.defs.declared.fold.Change.{Change}
+use Rattle.inv_rows.specs.defs.declared.fold.Change.TheVariants as changes
+use Rattle.inv_rows.specs.model.declared.ends.AllocateEnd.{AllocateEnd}
+use Rattle.inv_rows.specs.model.declared.ends.AllocateEnd.TheVariants as allocate_ends
+use Rattle.inv_rows.specs.model.declared.ends.FollowEnd.{FollowEnd}
+use Rattle.inv_rows.specs.model.declared.ends.FollowEnd.TheVariants as follow_ends
+use Rattle.inv_rows.specs.model.declared.ends.ProtectEnd.TheVariants as protect_ends
+use Rattle.inv_rows.specs.model.declared.post.Post.{Post}
+use Rattle.inv_rows.specs.model.Allocate as allocates
+use Rattle.inv_rows.specs.model.Change as alters
+use Rattle.inv_rows.specs.model.Dequeue as dequeues
+use Rattle.inv_rows.specs.model.Desks.{Desk, with_life}
+use Rattle.inv_rows.specs.model.Enqueue as enqueues
+use Rattle.inv_rows.specs.model.Get as gets
+use Rattle.inv_rows.specs.model.Guards.{guard_at, guards, published}
+use Rattle.inv_rows.specs.model.Keep as keeps
+use Rattle.inv_rows.specs.model.Machine as machine
+use Rattle.inv_rows.specs.model.Memory.{bump}
+use Rattle.inv_rows.specs.model.MoveClock as movers
+use Rattle.inv_rows.specs.model.Protect as protects
+use Rattle.inv_rows.specs.model.Scan as scan
+use Rattle.inv_rows.specs.model.Steps as steps
+use Rattle.inv_rows.specs.model.Posts.{stands, withdrawn, cleared, reserves_index, reserves_helper, reserves_span, cleared_from, publishes_index}
+use Rattle.inv_rows.specs.model.Phases.{Aim, Alone, Follows, BeginAt, ProtectAt, AllocateAt, RetireAt, MoveAt, Base, Walk, Turn, Outcome, Goes, Ends, Ending}
+use Rattle.inv_rows.specs.model.Phases.BeginAt.{LoadLower, PublishSpan}
+use Rattle.inv_rows.specs.model.Phases.ProtectAt.{LoadClock, PublishEra, LoadLink, CheckClock, PublishRequest, LoadOwnClock, PublishHelper, LoadOwnLink, CheckOwnClock, AnswerOwn, LoadAnswer, TakeAnswer, WithdrawRequest, WithdrawHelper, LoadWithin, CheckUpper, RaiseUpper, ByHazard}
+use Rattle.inv_rows.specs.model.Phases.HazardAt.{FirstLink, PublishLink, CheckLink}
+use Rattle.inv_rows.specs.model.Phases.AllocateAt.{LoadBirth, ClaimSlot, StoreLife}
+use Rattle.inv_rows.specs.model.Phases.RetireAt.{LoadLife, LoadRetire, StoreRetired}
+use Rattle.inv_rows.specs.model.Phases.MoveAt.{LoadEra, LoadRequest, ShowEra, LoadAsked, CheckEra, AnswerAsked, LoadReserved, HandOver, HideEra, HideLate, ExchangeClock}
+use Rattle.inv_rows.specs.model.Phases.Base.{Begin, Protect, Reload, Clear, Finish, Release, Allocate, Write, GiveUp, Retire, Move}
+use Rattle.inv_rows.specs.model.Phases.Ending.{Done, Protected, Followed, Allocated, Retired, Clocked}
+use Rattle.inv_rows.specs.model.Rounds.{bucket_of, scheme_of, index_of, taken_of, clear_base, clear_post, clear_told, finish_base, finish_span, kept_row, let_index, given_up, closed, finishing_by, finishing, clearing_by, clearing, clearing_next_by, clearing_next}
+use Rattle.inv_rows.specs.model.Calls.{Task, Gets, Changes, Holds, Enqueues, Dequeues, Next, Again, MakeRoom, Answering, Retiring, AfterScan, Answered, Repeated, Counted, ScanAt, ReadGuard, GiveBack, Why, Phase, Idle, Runs, Scans, Works, Work, Getting, Changing, Enqueuing, Dequeuing, Keeping, KeepAt, Loosens, LoadHeld, StoreHeld, Looks, Misses, HideSpan, MarkLeft, TakeList, MarkTaken, LetGo, Released, Rehold, Dropped, Parting, ChangeKept, EnqueueKept, GetAt, FindVersion, FindCount, FindKey, FindValue, ChangeAt, LoadVersion, LoadCount, LoadKey, LoadValue, ExchangeRoot, EnqueueAt, LoadNumber, LoadNext, PassTail, ExchangeNext, ExchangeTail, DequeueAt, LoadTail, SwingTail, TakeNumber, TakeValue, ExchangeHead, Opens, FollowsHead, Fills, ClearsNext, Clears, Finishes, GivesUp, Retires, Tidies, Advances, Releases}
+use Rattle.inv_rows.proofs.model.Facts.{first_of, rest_of, both}
+use Rattle.inv_rows.proofs.model.Schemes.{each_clear, each_clear_told, each_finish}
+use Rattle.inv_rows.specs.Tries.{is_end}
+use Rattle.inv_rows.specs.defs.declared.event.Guard.{Guard}
 
 -- the ends of the queue move to rows that were linked before
 -- the events link no rows but those of f

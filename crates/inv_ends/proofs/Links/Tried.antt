@@ -2,29 +2,29 @@
 use Rattle.std.proofs.Common.{ℕ, ◌≡◌, ◌+◌, Bool, true, false, arith, refl}
 use Rattle.std.proofs.lemmas.Bool.Decides.{nat_tests}
 use Rattle.std.specs.Prelude.{◌==◌, ◌&&◌}
-use Rattle.inv_covers.specs.words.Place.Place.{Clock}
-use Rattle.inv_covers.specs.words.declared.layout.Layout.{Layout}
-use Rattle.inv_covers.specs.defs.declared.event.Root.{Root}
-use Rattle.inv_covers.specs.model.declared.post.Post.{Post}
-use Rattle.inv_covers.specs.model.Posts.{upper}
-use Rattle.inv_covers.specs.model.Phases.{Aim, ProtectAt, MoveAt, Base}
-use Rattle.inv_covers.specs.model.Phases.ProtectAt.{LoadClock, PublishEra, LoadLink, CheckClock, PublishRequest, LoadOwnClock, PublishHelper, LoadOwnLink, CheckOwnClock, AnswerOwn, LoadAnswer, TakeAnswer, WithdrawRequest, WithdrawHelper, LoadWithin, CheckUpper, RaiseUpper, ByHazard}
-use Rattle.inv_covers.specs.model.Phases.MoveAt.{LoadEra, LoadRequest, ShowEra, LoadAsked, CheckEra, AnswerAsked, LoadReserved, HandOver, HideEra, HideLate, ExchangeClock}
-use Rattle.inv_covers.specs.model.Phases.Base.{Begin, Protect, Reload, Clear, Finish, Release, Allocate, Write, GiveUp, Retire, Move}
-use Rattle.inv_covers.specs.model.Calls.{Why, Phase, Idle, Runs, Scans, Works}
-use Rattle.inv_covers.specs.model.World.{World}
-use Rattle.inv_covers.specs.shapes.Seats.{Seats, PhaseFits, protect_fits, base_fits}
-use Rattle.inv_covers.specs.words.Schemes.{helps}
-use Rattle.inv_covers.specs.Held.{under, tries_protect, tries_base, index_base}
-use Rattle.inv_covers.specs.model.Guards.{own_guard}
-use Rattle.inv_covers.specs.Requests.Deals.{is_quiet, fits}
-use Rattle.inv_covers.specs.Requests.Standing.{role_of, Requests}
-use Rattle.inv_covers.specs.Requests.Views.{Deal, View as Asking}
-use Rattle.inv_covers.specs.rows.Rows.{Status, View}
+use Rattle.inv_rows.specs.words.Place.Place.{Clock}
+use Rattle.inv_rows.specs.words.declared.layout.Layout.{Layout}
+use Rattle.inv_rows.specs.defs.declared.event.Root.{Root}
+use Rattle.inv_rows.specs.model.declared.post.Post.{Post}
+use Rattle.inv_rows.specs.model.Posts.{upper}
+use Rattle.inv_rows.specs.model.Phases.{Aim, ProtectAt, MoveAt, Base}
+use Rattle.inv_rows.specs.model.Phases.ProtectAt.{LoadClock, PublishEra, LoadLink, CheckClock, PublishRequest, LoadOwnClock, PublishHelper, LoadOwnLink, CheckOwnClock, AnswerOwn, LoadAnswer, TakeAnswer, WithdrawRequest, WithdrawHelper, LoadWithin, CheckUpper, RaiseUpper, ByHazard}
+use Rattle.inv_rows.specs.model.Phases.MoveAt.{LoadEra, LoadRequest, ShowEra, LoadAsked, CheckEra, AnswerAsked, LoadReserved, HandOver, HideEra, HideLate, ExchangeClock}
+use Rattle.inv_rows.specs.model.Phases.Base.{Begin, Protect, Reload, Clear, Finish, Release, Allocate, Write, GiveUp, Retire, Move}
+use Rattle.inv_rows.specs.model.Calls.{Why, Phase, Idle, Runs, Scans, Works}
+use Rattle.inv_rows.specs.model.World.{World}
+use Rattle.inv_rows.specs.Shapes.Seats.{Seats, PhaseFits, protect_fits, base_fits}
+use Rattle.inv_rows.specs.words.Schemes.{helps}
+use Rattle.inv_rows.specs.Covering.Held.{under, tries_protect, tries_base, index_base}
+use Rattle.inv_rows.specs.model.Guards.{own_guard}
+use Rattle.inv_rows.specs.Covering.Requests.Deals.{is_quiet, fits}
+use Rattle.inv_rows.specs.Covering.Requests.Standing.{role_of, Requests}
+use Rattle.inv_rows.specs.Covering.Requests.Views.{Deal, View as Asking}
+use Rattle.inv_rows.specs.Rows.{Status, View}
 use Rattle.inv_ends.proofs.Origins.Came.{link_busy, helps_busy}
 use Rattle.inv_ends.proofs.Origins.Opened.{fit_of, quiet_busy, work_quiet}
 use Rattle.inv_ends.specs.Tracked.{carries_at, carries_base, carries_in, root_base, root_for, root_in, Tracked, Carried, Given, Helped}
-use Rattle.inv_covers.proofs.Kept.{not_reused}
+use Rattle.inv_rows.proofs.Covering.Kept.{not_reused}
 use Rattle.inv_ends.specs.Links.{Tried, TrackedTried, HeldLinksStay}
 
 -- no request under such schemes

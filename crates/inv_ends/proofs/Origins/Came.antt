@@ -2,31 +2,31 @@
 use Rattle.std.proofs.Common.{ℕ, ◌≡◌, Bool, true, false, List, [], arith, refl, sym, ap, subst, ◌∙◌}
 use Rattle.std.proofs.lemmas.Bool.Decides.{nat_tests}
 use Rattle.std.specs.Prelude.{◌==◌}
-use Rattle.inv_covers.specs.words.Place.Place.{Clock}
-use Rattle.inv_covers.specs.words.declared.layout.Layout.{Layout}
-use Rattle.inv_covers.specs.defs.declared.event.Event.{Event}
-use Rattle.inv_covers.specs.defs.declared.event.Root.{Root}
-use Rattle.inv_covers.specs.defs.declared.event.Root.TheVariants as roots
-use Rattle.inv_covers.specs.model.declared.post.Post.{Post}
-use Rattle.inv_covers.specs.model.Desks.{Desk}
-use Rattle.inv_covers.specs.model.Links.{link_place, parent_of}
-use Rattle.inv_covers.specs.model.Machine.{protect_move, protect_turn, after}
-use Rattle.inv_covers.specs.model.Memory.{found, place_in, bump}
-use Rattle.inv_covers.specs.model.Posts.{counted, upper}
-use Rattle.inv_covers.specs.model.Phases.{Aim, Follows, ProtectAt, MoveAt, Base, Turn, Outcome, Goes, Ends}
-use Rattle.inv_covers.specs.model.Phases.MoveAt.{LoadEra, LoadRequest, ShowEra, LoadAsked, CheckEra, AnswerAsked}
-use Rattle.inv_covers.specs.model.Phases.Base.{Begin, Protect, Reload, Clear, Finish, Release, Allocate, Write, GiveUp, Retire, Move}
-use Rattle.inv_covers.specs.model.Calls.{Why, Opens, FollowsHead, Fills, ClearsNext, Clears, Finishes, GivesUp, Retires, Tidies, Advances, Releases, Phase, Idle, Runs, Scans, Works}
-use Rattle.inv_covers.specs.model.Locals.{Local, told_by}
-use Rattle.inv_covers.specs.model.Steps.{resumed, phase_turn}
-use Rattle.inv_covers.specs.model.World.{World, step, finds, offered, told_in}
-use Rattle.inv_covers.specs.shapes.Frame.{phase_left}
-use Rattle.inv_covers.specs.shapes.Seats.{Seats, Aimed, PhaseFits}
-use Rattle.inv_covers.proofs.shapes.Frame.{seat_stays}
-use Rattle.inv_covers.specs.Requests.Deals.{is_quiet}
-use Rattle.inv_covers.specs.Requests.NextDeals.{next_deals}
-use Rattle.inv_covers.specs.Requests.Views.{View, Deal}
-use Rattle.inv_covers.specs.Requests.Views.Deal.{Quiet, Open, Answered, Passed, Taken}
+use Rattle.inv_rows.specs.words.Place.Place.{Clock}
+use Rattle.inv_rows.specs.words.declared.layout.Layout.{Layout}
+use Rattle.inv_rows.specs.defs.declared.event.Event.{Event}
+use Rattle.inv_rows.specs.defs.declared.event.Root.{Root}
+use Rattle.inv_rows.specs.defs.declared.event.Root.TheVariants as roots
+use Rattle.inv_rows.specs.model.declared.post.Post.{Post}
+use Rattle.inv_rows.specs.model.Desks.{Desk}
+use Rattle.inv_rows.specs.model.Links.{link_place, parent_of}
+use Rattle.inv_rows.specs.model.Machine.{protect_move, protect_turn, after}
+use Rattle.inv_rows.specs.model.Memory.{found, place_in, bump}
+use Rattle.inv_rows.specs.model.Posts.{counted, upper}
+use Rattle.inv_rows.specs.model.Phases.{Aim, Follows, ProtectAt, MoveAt, Base, Turn, Outcome, Goes, Ends}
+use Rattle.inv_rows.specs.model.Phases.MoveAt.{LoadEra, LoadRequest, ShowEra, LoadAsked, CheckEra, AnswerAsked}
+use Rattle.inv_rows.specs.model.Phases.Base.{Begin, Protect, Reload, Clear, Finish, Release, Allocate, Write, GiveUp, Retire, Move}
+use Rattle.inv_rows.specs.model.Calls.{Why, Opens, FollowsHead, Fills, ClearsNext, Clears, Finishes, GivesUp, Retires, Tidies, Advances, Releases, Phase, Idle, Runs, Scans, Works}
+use Rattle.inv_rows.specs.model.Locals.{Local, told_by}
+use Rattle.inv_rows.specs.model.Steps.{resumed, phase_turn}
+use Rattle.inv_rows.specs.model.World.{World, step, finds, offered, told_in}
+use Rattle.inv_rows.specs.Shapes.Frame.{phase_left}
+use Rattle.inv_rows.specs.Shapes.Seats.{Seats, Aimed, PhaseFits}
+use Rattle.inv_rows.proofs.Shapes.Frame.{seat_stays}
+use Rattle.inv_rows.specs.Covering.Requests.Deals.{is_quiet}
+use Rattle.inv_rows.specs.Covering.Requests.NextDeals.{next_deals}
+use Rattle.inv_rows.specs.Covering.Requests.Views.{View, Deal}
+use Rattle.inv_rows.specs.Covering.Requests.Views.Deal.{Quiet, Open, Answered, Passed, Taken}
 use Rattle.inv_ends.specs.Tracked.{carries_in, has_link, helps_at, helps_base, helps_in, root_for, root_in, Tracked, Carried, Given, Helped}
 use Rattle.inv_ends.specs.Origins.{loads_at, loads_link, OriginsNeeds, Came, Before, Now, TrackedCame}
 use Rattle.inv_ends.proofs.Origins.Backs.{carries_back, helps_back}
@@ -36,9 +36,9 @@ use Rattle.inv_ends.proofs.Origins.Movers.{out_helps, move_came, no_way}
 use Rattle.inv_ends.proofs.Origins.Opened.{turn_of, stepped_by, busy_root}
 use Rattle.inv_ends.proofs.Origins.Own.{HearsAt, out_carries, out_root, Source, Had, Loads, Hears, protect_next, loads_none}
 use Rattle.inv_ends.proofs.Origins.Plain.{out_plain, is_plain, plain_after, out_moves, moves_on, out_protects, protects_on, start_carries, start_carries_base, start_helps, start_helps_base, works_carry, works_help, move_carries, protect_helps}
-use Rattle.inv_covers.proofs.Fresh.{works_start, resume_fresh}
-use Rattle.inv_covers.proofs.Held.{stepped_phase, finds_at, protect_stays}
-use Rattle.inv_covers.proofs.Scans.{scan_starts}
+use Rattle.inv_rows.proofs.Covering.Fresh.{works_start, resume_fresh}
+use Rattle.inv_rows.proofs.Covering.Held.{stepped_phase, finds_at, protect_stays}
+use Rattle.inv_rows.proofs.Covering.Scans.{scan_starts}
 
 -- a protection that is followed is of a next link
 why_follows : (buckets : ℕ) (why : Why) (aim : Aim) (index : ℕ) (root : Root) → Aimed buckets why aim index root → aim ≡ Follows → root ≡ roots.Next (parent_of root)

@@ -2,37 +2,37 @@
 use Rattle.std.proofs.Common.{ℕ, ◌≡◌, ◌⊎◌, inl, inr, Bool, true, false, arith, refl, sym, ap, subst, ◌∙◌}
 use Rattle.std.proofs.lemmas.Bool.Decides.{nat_tests}
 use Rattle.std.specs.Prelude.{◌==◌, ◌&&◌, ◌||◌, nat_lt, if◌then◌else◌}
-use Rattle.inv_covers.specs.words.Place.{Place}
-use Rattle.inv_covers.specs.words.Place.Place.{Clock, Index, Request}
-use Rattle.inv_covers.specs.words.Packed.{halves}
-use Rattle.inv_covers.specs.words.declared.layout.Layout.{Layout}
-use Rattle.inv_covers.proofs.words.Parts.{halves_one}
-use Rattle.inv_covers.specs.defs.declared.event.Root.{Root}
-use Rattle.inv_covers.specs.model.Links.{link_number}
-use Rattle.inv_covers.specs.model.Locals.{Local}
-use Rattle.inv_covers.specs.model.Memory.{upd}
-use Rattle.inv_covers.specs.model.Posts.{upper, tag_of}
-use Rattle.inv_covers.specs.model.SlowPath.{asking, own_request}
-use Rattle.inv_covers.specs.model.Phases.{Aim, ProtectAt, MoveAt, Base}
-use Rattle.inv_covers.specs.model.Phases.ProtectAt.{LoadClock, PublishEra, LoadLink, CheckClock, PublishRequest, LoadOwnClock, PublishHelper, LoadOwnLink, CheckOwnClock, AnswerOwn, LoadAnswer, TakeAnswer, WithdrawRequest, WithdrawHelper, LoadWithin, CheckUpper, RaiseUpper, ByHazard}
-use Rattle.inv_covers.specs.model.Phases.MoveAt.{LoadEra, LoadRequest, ShowEra, LoadAsked, CheckEra, AnswerAsked, LoadReserved, HandOver, HideEra, HideLate, ExchangeClock}
-use Rattle.inv_covers.specs.model.Phases.Base.{Begin, Protect, Reload, Clear, Finish, Release, Allocate, Write, GiveUp, Retire, Move}
-use Rattle.inv_covers.specs.model.Calls.{Why, Phase, Idle, Runs, Scans, Works}
-use Rattle.inv_covers.specs.model.World.{World}
-use Rattle.inv_covers.specs.Requests.Context.{At}
-use Rattle.inv_covers.specs.Requests.Deals.{gave_by}
-use Rattle.inv_covers.specs.Requests.NextDeals.{protect_deals, move_deals, base_deals, phase_deals, next_deals}
-use Rattle.inv_covers.specs.Requests.Views.{View, Deal}
-use Rattle.inv_covers.specs.Requests.Views.Deal.{Quiet, Open, Answered, Passed, Taken}
-use Rattle.inv_covers.proofs.Requests.Going.{stands_in}
-use Rattle.inv_covers.proofs.Requests.Kept.{at_of}
+use Rattle.inv_rows.specs.words.Place.{Place}
+use Rattle.inv_rows.specs.words.Place.Place.{Clock, Index, Request}
+use Rattle.inv_rows.specs.words.Packed.{halves}
+use Rattle.inv_rows.specs.words.declared.layout.Layout.{Layout}
+use Rattle.inv_rows.proofs.words.Parts.{halves_one}
+use Rattle.inv_rows.specs.defs.declared.event.Root.{Root}
+use Rattle.inv_rows.specs.model.Links.{link_number}
+use Rattle.inv_rows.specs.model.Locals.{Local}
+use Rattle.inv_rows.specs.model.Memory.{upd}
+use Rattle.inv_rows.specs.model.Posts.{upper, tag_of}
+use Rattle.inv_rows.specs.model.SlowPath.{asking, own_request}
+use Rattle.inv_rows.specs.model.Phases.{Aim, ProtectAt, MoveAt, Base}
+use Rattle.inv_rows.specs.model.Phases.ProtectAt.{LoadClock, PublishEra, LoadLink, CheckClock, PublishRequest, LoadOwnClock, PublishHelper, LoadOwnLink, CheckOwnClock, AnswerOwn, LoadAnswer, TakeAnswer, WithdrawRequest, WithdrawHelper, LoadWithin, CheckUpper, RaiseUpper, ByHazard}
+use Rattle.inv_rows.specs.model.Phases.MoveAt.{LoadEra, LoadRequest, ShowEra, LoadAsked, CheckEra, AnswerAsked, LoadReserved, HandOver, HideEra, HideLate, ExchangeClock}
+use Rattle.inv_rows.specs.model.Phases.Base.{Begin, Protect, Reload, Clear, Finish, Release, Allocate, Write, GiveUp, Retire, Move}
+use Rattle.inv_rows.specs.model.Calls.{Why, Phase, Idle, Runs, Scans, Works}
+use Rattle.inv_rows.specs.model.World.{World}
+use Rattle.inv_rows.specs.Covering.Requests.Context.{At}
+use Rattle.inv_rows.specs.Covering.Requests.Deals.{gave_by}
+use Rattle.inv_rows.specs.Covering.Requests.NextDeals.{protect_deals, move_deals, base_deals, phase_deals, next_deals}
+use Rattle.inv_rows.specs.Covering.Requests.Views.{View, Deal}
+use Rattle.inv_rows.specs.Covering.Requests.Views.Deal.{Quiet, Open, Answered, Passed, Taken}
+use Rattle.inv_rows.proofs.Covering.Requests.Going.{stands_in}
+use Rattle.inv_rows.proofs.Covering.Requests.Kept.{at_of}
 use Rattle.inv_ends.specs.Tracked.{carries_in, carries_at, has_link, helps_at, helps_in, Tracked, Carried, Given, Helped}
 use Rattle.inv_ends.specs.Origins.{OriginsNeeds}
-use Rattle.inv_covers.proofs.Requests.Handing.{mark_few, open_exact, asked_bits, gave_is}
-use Rattle.inv_covers.proofs.model.Facts.{number_is}
-use Rattle.inv_covers.specs.words.Schemes.{publishes_rows}
-use Rattle.inv_covers.specs.shapes.Seats.{Seats, PhaseFits}
-use Rattle.inv_covers.proofs.shapes.Tries.{helps_plain}
+use Rattle.inv_rows.proofs.Covering.Requests.Handing.{mark_few, open_exact, asked_bits, gave_is}
+use Rattle.inv_rows.proofs.model.Facts.{number_is}
+use Rattle.inv_rows.specs.words.Schemes.{publishes_rows}
+use Rattle.inv_rows.specs.Shapes.Seats.{Seats, PhaseFits}
+use Rattle.inv_rows.proofs.Shapes.Tries.{helps_plain}
 
 -- a mover answers a request that is open
 pub answered_is : (mem : Place → ℕ) (seat : ℕ → Local) (i : ℕ) (v : View) (why : Why) (e k t j : ℕ) (root : Root) (link : ℕ) → At mem seat i v → (seat i).phase ≡ Runs why (Move (AnswerAsked e k t j root link))

@@ -2,34 +2,34 @@
 use Rattle.std.proofs.Common.{ℕ, ◌≡◌, ◌+◌, ◌-◌, Bool, true, false, List, arith, refl, sym, subst, ◌∙◌, ap}
 use Rattle.std.proofs.lemmas.Bool.Decides.{nat_tests}
 use Rattle.std.specs.Prelude.{◌==◌, ◌&&◌, ◌||◌, if◌then◌else◌, is_none, [], Option, Some}
-use Rattle.inv_covers.specs.words.Place.Place.{Clock}
-use Rattle.inv_covers.specs.defs.declared.event.Event.{Event}
-use Rattle.inv_covers.specs.defs.declared.event.Root.{Root}
-use Rattle.inv_covers.specs.model.declared.ends.FollowEnd.TheVariants as follow_ends
-use Rattle.inv_covers.specs.model.declared.ends.ProtectEnd.TheVariants as protect_ends
-use Rattle.inv_covers.specs.model.declared.post.Post.{Post}
-use Rattle.inv_covers.specs.model.Machine.{protect_turn, after}
-use Rattle.inv_covers.specs.model.Memory.{bump}
-use Rattle.inv_covers.specs.model.Posts.{counted, upper, reserves_helper}
-use Rattle.inv_covers.specs.model.Protect.{held_post, told_held, concluded, protected, failed_once}
-use Rattle.inv_covers.specs.model.SlowPath.{own_request}
-use Rattle.inv_covers.specs.model.Phases.{Aim, Alone, Follows, HazardAt, ProtectAt, Base, Outcome, Ends, Ending, goes, ends}
-use Rattle.inv_covers.specs.model.Phases.Ending.{Followed, Protected}
-use Rattle.inv_covers.specs.model.Phases.ProtectAt.{PublishEra, CheckClock, CheckOwnClock, AnswerOwn, WithdrawHelper, CheckUpper, RaiseUpper, ByHazard}
-use Rattle.inv_covers.specs.model.Phases.HazardAt.{FirstLink, PublishLink, CheckLink}
-use Rattle.inv_covers.specs.model.Phases.Base.{Protect, Move}
-use Rattle.inv_covers.specs.model.Calls.{Why, Phase, Runs}
-use Rattle.inv_covers.specs.model.World.{World, finds}
-use Rattle.inv_covers.specs.Requests.Views.{View}
+use Rattle.inv_rows.specs.words.Place.Place.{Clock}
+use Rattle.inv_rows.specs.defs.declared.event.Event.{Event}
+use Rattle.inv_rows.specs.defs.declared.event.Root.{Root}
+use Rattle.inv_rows.specs.model.declared.ends.FollowEnd.TheVariants as follow_ends
+use Rattle.inv_rows.specs.model.declared.ends.ProtectEnd.TheVariants as protect_ends
+use Rattle.inv_rows.specs.model.declared.post.Post.{Post}
+use Rattle.inv_rows.specs.model.Machine.{protect_turn, after}
+use Rattle.inv_rows.specs.model.Memory.{bump}
+use Rattle.inv_rows.specs.model.Posts.{counted, upper, reserves_helper}
+use Rattle.inv_rows.specs.model.Protect.{held_post, told_held, concluded, protected, failed_once}
+use Rattle.inv_rows.specs.model.SlowPath.{own_request}
+use Rattle.inv_rows.specs.model.Phases.{Aim, Alone, Follows, HazardAt, ProtectAt, Base, Outcome, Ends, Ending, goes, ends}
+use Rattle.inv_rows.specs.model.Phases.Ending.{Followed, Protected}
+use Rattle.inv_rows.specs.model.Phases.ProtectAt.{PublishEra, CheckClock, CheckOwnClock, AnswerOwn, WithdrawHelper, CheckUpper, RaiseUpper, ByHazard}
+use Rattle.inv_rows.specs.model.Phases.HazardAt.{FirstLink, PublishLink, CheckLink}
+use Rattle.inv_rows.specs.model.Phases.Base.{Protect, Move}
+use Rattle.inv_rows.specs.model.Calls.{Why, Phase, Runs}
+use Rattle.inv_rows.specs.model.World.{World, finds}
+use Rattle.inv_rows.specs.Covering.Requests.Views.{View}
 use Rattle.inv_ends.specs.Tracked.{carries_at, carries_in, root_for, root_in, Tracked, Carried, Given}
 use Rattle.inv_ends.specs.Origins.{link_of, ends_at, ends_base, EndsWith, Ended, HadBefore, LoadedNow, Origins, EndComes, EndGood, EndRoot, AnswerTracked}
-use Rattle.inv_covers.specs.shapes.Seats.{Seats, root_by}
+use Rattle.inv_rows.specs.Shapes.Seats.{Seats, root_by}
 use Rattle.inv_ends.proofs.Origins.Came.{aimed_at}
 use Rattle.inv_ends.proofs.Origins.Heard.{answer_heard}
 use Rattle.inv_ends.proofs.Origins.Plain.{out_plain, plain_after, out_moves, moves_on}
-use Rattle.inv_covers.proofs.Held.{finds_at}
-use Rattle.inv_covers.proofs.model.Facts.{both, first_of, rest_of}
-use Rattle.inv_covers.specs.model.Links.{link_place}
+use Rattle.inv_rows.proofs.Covering.Held.{finds_at}
+use Rattle.inv_rows.proofs.model.Facts.{both, first_of, rest_of}
+use Rattle.inv_rows.specs.model.Links.{link_place}
 
 -- the link with which a protection ends
 alone_link : (link era : ℕ) (ending : Ending) (x : ℕ) (null : Bool) → (link == 0) ≡ null → ◌≡◌ {A = Outcome} (Ends (Protected (if null then protect_ends.Null else protect_ends.Held (link - 1) era))) (Ends ending) → link_of ending ≡ Some x → (link == x) ≡ true

@@ -3,43 +3,43 @@
 use Rattle.std.proofs.Common.{ℕ, ◌≡◌, ◌<◌, ◌+◌, ◌^◌, Bool, true, false, arith, refl, sym, ap, subst, ◌∙◌}
 use Rattle.std.proofs.lemmas.Bool.Decides.{nat_tests}
 use Rattle.std.specs.Prelude.{◌==◌, ◌&&◌, not, nat_lt, Some}
-use Rattle.inv_covers.specs.words.Place.{Place, has, is_valid}
-use Rattle.inv_covers.specs.words.Packed.{read_request}
-use Rattle.inv_covers.specs.words.declared.layout.Layout.{Layout}
-use Rattle.inv_covers.specs.words.declared.packed.Request.TheVariants as requests
-use Rattle.inv_covers.proofs.words.Parts.{read_request-pending, read_request-answered}
-use Rattle.inv_covers.specs.defs.declared.event.Root.{Root}
-use Rattle.inv_covers.proofs.model.Ranges.{bounds_of}
-use Rattle.inv_covers.proofs.model.Roots.{root_at_link}
-use Rattle.inv_covers.specs.model.Links.{link_place, link_number, root_at}
-use Rattle.inv_covers.specs.model.Memory.{found}
-use Rattle.inv_covers.specs.model.Posts.{counted, tag_of}
-use Rattle.inv_covers.specs.model.SlowPath.{asking, own_request, answer_in}
-use Rattle.inv_covers.specs.model.Phases.{Aim, ProtectAt, MoveAt, Base}
-use Rattle.inv_covers.specs.model.Phases.ProtectAt.{LoadClock, PublishEra, LoadLink, CheckClock, PublishRequest, LoadOwnClock, PublishHelper, LoadOwnLink, CheckOwnClock, AnswerOwn, LoadAnswer, TakeAnswer, WithdrawRequest, WithdrawHelper, LoadWithin, CheckUpper, RaiseUpper, ByHazard}
-use Rattle.inv_covers.specs.model.Phases.MoveAt.{LoadEra, LoadRequest, ShowEra, LoadAsked, CheckEra, AnswerAsked, LoadReserved, HandOver, HideEra, HideLate, ExchangeClock}
-use Rattle.inv_covers.specs.model.Phases.Base.{Begin, Protect, Reload, Clear, Finish, Release, Allocate, Write, GiveUp, Retire, Move}
-use Rattle.inv_covers.specs.model.Calls.{Why, Phase, Idle, Runs, Scans, Works}
-use Rattle.inv_covers.specs.model.Locals.{Local}
-use Rattle.inv_covers.specs.model.World.{World, finds}
-use Rattle.inv_covers.specs.shapes.Seats.{Seats}
-use Rattle.inv_covers.specs.Requests.Context.{At, phase_there}
-use Rattle.inv_covers.specs.Requests.Deals.{is_open, is_quiet, asked_at, answered_with, fits}
-use Rattle.inv_covers.specs.Requests.Standing.{role_of, request_of, Requests}
-use Rattle.inv_covers.specs.Requests.Views.{View, Deal, Role as roles}
-use Rattle.inv_covers.specs.Requests.Views.Deal.{Quiet, Open, Answered, Passed, Taken}
-use Rattle.inv_covers.proofs.Requests.Answering.{heard, word_by_open}
-use Rattle.inv_covers.proofs.Requests.Going.{link_few}
-use Rattle.inv_covers.proofs.Requests.Helping.{asker_of}
-use Rattle.inv_covers.proofs.Requests.Kept.{at_of}
-use Rattle.inv_covers.specs.rows.Follow.{at_asks}
+use Rattle.inv_rows.specs.words.Place.{Place, has, is_valid}
+use Rattle.inv_rows.specs.words.Packed.{read_request}
+use Rattle.inv_rows.specs.words.declared.layout.Layout.{Layout}
+use Rattle.inv_rows.specs.words.declared.packed.Request.TheVariants as requests
+use Rattle.inv_rows.proofs.words.Parts.{read_request-pending, read_request-answered}
+use Rattle.inv_rows.specs.defs.declared.event.Root.{Root}
+use Rattle.inv_rows.proofs.model.Ranges.{bounds_of}
+use Rattle.inv_rows.proofs.model.Roots.{root_at_link}
+use Rattle.inv_rows.specs.model.Links.{link_place, link_number, root_at}
+use Rattle.inv_rows.specs.model.Memory.{found}
+use Rattle.inv_rows.specs.model.Posts.{counted, tag_of}
+use Rattle.inv_rows.specs.model.SlowPath.{asking, own_request, answer_in}
+use Rattle.inv_rows.specs.model.Phases.{Aim, ProtectAt, MoveAt, Base}
+use Rattle.inv_rows.specs.model.Phases.ProtectAt.{LoadClock, PublishEra, LoadLink, CheckClock, PublishRequest, LoadOwnClock, PublishHelper, LoadOwnLink, CheckOwnClock, AnswerOwn, LoadAnswer, TakeAnswer, WithdrawRequest, WithdrawHelper, LoadWithin, CheckUpper, RaiseUpper, ByHazard}
+use Rattle.inv_rows.specs.model.Phases.MoveAt.{LoadEra, LoadRequest, ShowEra, LoadAsked, CheckEra, AnswerAsked, LoadReserved, HandOver, HideEra, HideLate, ExchangeClock}
+use Rattle.inv_rows.specs.model.Phases.Base.{Begin, Protect, Reload, Clear, Finish, Release, Allocate, Write, GiveUp, Retire, Move}
+use Rattle.inv_rows.specs.model.Calls.{Why, Phase, Idle, Runs, Scans, Works}
+use Rattle.inv_rows.specs.model.Locals.{Local}
+use Rattle.inv_rows.specs.model.World.{World, finds}
+use Rattle.inv_rows.specs.Shapes.Seats.{Seats}
+use Rattle.inv_rows.specs.Covering.Requests.Context.{At, phase_there}
+use Rattle.inv_rows.specs.Covering.Requests.Deals.{is_open, is_quiet, asked_at, answered_with, fits}
+use Rattle.inv_rows.specs.Covering.Requests.Standing.{role_of, request_of, Requests}
+use Rattle.inv_rows.specs.Covering.Requests.Views.{View, Deal, Role as roles}
+use Rattle.inv_rows.specs.Covering.Requests.Views.Deal.{Quiet, Open, Answered, Passed, Taken}
+use Rattle.inv_rows.proofs.Covering.Requests.Answering.{heard, word_by_open}
+use Rattle.inv_rows.proofs.Covering.Requests.Going.{link_few}
+use Rattle.inv_rows.proofs.Covering.Requests.Helping.{asker_of}
+use Rattle.inv_rows.proofs.Covering.Requests.Kept.{at_of}
+use Rattle.inv_rows.specs.Follow.{at_asks}
 use Rattle.inv_ends.specs.Tracked.{has_link, root_base, root_for}
 use Rattle.inv_ends.specs.Origins.{OriginsNeeds}
 use Rattle.inv_ends.proofs.Origins.Opened.{work_quiet}
 use Rattle.inv_ends.proofs.Origins.Own.{HeardIn, HearsAt}
-use Rattle.inv_covers.proofs.Held.{finds_at}
-use Rattle.inv_covers.proofs.Requests.Known.{stands_as, own_word}
-use Rattle.inv_covers.proofs.model.Facts.{not_right, first_of, same_test}
+use Rattle.inv_rows.proofs.Covering.Held.{finds_at}
+use Rattle.inv_rows.proofs.Covering.Requests.Known.{stands_as, own_word}
+use Rattle.inv_rows.proofs.model.Facts.{not_right, first_of, same_test}
 
 answer_link : (index word link era : ℕ) (d : Deal) → answered_with index word link era d ≡ true → has_link d link ≡ true
 answer_link index word link era Quiet h = cc

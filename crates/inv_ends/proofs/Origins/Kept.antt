@@ -2,28 +2,28 @@
 use Rattle.std.proofs.Common.{ℕ, ◌≡◌, Bool, true, false, arith, refl, sym, ap, subst}
 use Rattle.std.proofs.lemmas.Bool.Decides.{nat_tests}
 use Rattle.std.specs.Prelude.{◌==◌}
-use Rattle.inv_covers.specs.words.Place.Place.{Clock}
-use Rattle.inv_covers.specs.words.declared.layout.Layout.{Layout}
-use Rattle.inv_covers.specs.defs.declared.call.Call.{Call}
-use Rattle.inv_covers.specs.defs.declared.event.Root.{Root}
-use Rattle.inv_covers.specs.model.Calls.{Idle}
-use Rattle.inv_covers.specs.model.Locals.{Local, begun_post}
-use Rattle.inv_covers.specs.model.Posts.{upper}
-use Rattle.inv_covers.specs.model.World.{World, start, begin, step, is_busy}
-use Rattle.inv_covers.specs.Tries.{is_start}
-use Rattle.inv_covers.proofs.shapes.Frame.{begin_stays, begin_begins}
-use Rattle.inv_covers.proofs.Requests.Kept.{idle_of}
-use Rattle.inv_covers.specs.Requests.Deals.{is_quiet}
-use Rattle.inv_covers.specs.Requests.Standing.{Requests}
-use Rattle.inv_covers.specs.Requests.Views.{View, Deal}
-use Rattle.inv_covers.specs.Requests.Views.Deal.{Quiet}
+use Rattle.inv_rows.specs.words.Place.Place.{Clock}
+use Rattle.inv_rows.specs.words.declared.layout.Layout.{Layout}
+use Rattle.inv_rows.specs.defs.declared.call.Call.{Call}
+use Rattle.inv_rows.specs.defs.declared.event.Root.{Root}
+use Rattle.inv_rows.specs.model.Calls.{Idle}
+use Rattle.inv_rows.specs.model.Locals.{Local, begun_post}
+use Rattle.inv_rows.specs.model.Posts.{upper}
+use Rattle.inv_rows.specs.model.World.{World, start, begin, step, is_busy}
+use Rattle.inv_rows.specs.Covering.Tries.{is_start}
+use Rattle.inv_rows.proofs.Shapes.Frame.{begin_stays, begin_begins}
+use Rattle.inv_rows.proofs.Covering.Requests.Kept.{idle_of}
+use Rattle.inv_rows.specs.Covering.Requests.Deals.{is_quiet}
+use Rattle.inv_rows.specs.Covering.Requests.Standing.{Requests}
+use Rattle.inv_rows.specs.Covering.Requests.Views.{View, Deal}
+use Rattle.inv_rows.specs.Covering.Requests.Views.Deal.{Quiet}
 use Rattle.inv_ends.specs.Tracked.{carries_in, has_link, helps_in, root_for, root_in, Tracked, Carried, Given, Helped}
 use Rattle.inv_ends.specs.Origins.{Came, Before, Now, Origins, Stays, OriginsKept, OriginsBegin, OriginsStart}
 use Rattle.inv_ends.proofs.Origins.Came.{link_busy, helps_busy, tracked_came}
 use Rattle.inv_ends.proofs.Origins.Movers.{no_way}
 use Rattle.inv_ends.proofs.Origins.Opened.{fit_of}
 use Rattle.inv_ends.proofs.Origins.Plain.{start_carries, start_helps}
-use Rattle.inv_covers.proofs.Begun.{first_begins}
+use Rattle.inv_rows.proofs.Covering.Begun.{first_begins}
 
 came_good : (good after : ℕ → Root → ℕ → Bool) (w : World) (i : ℕ) (z : View) (k x : ℕ) → Stays good after w i z → Origins good w z → Came w i z k x → after k (root_in (step w i) k) x ≡ true
 came_good good after w i z k x s o (Before e t) = rw e (s.stays k x t (o.tracked k x t))

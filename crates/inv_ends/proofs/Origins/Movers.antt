@@ -3,38 +3,38 @@
 use Rattle.std.proofs.Common.{ℕ, ◌≡◌, ◌+◌, Bool, true, false, Option, Some, None, arith, refl, sym, ap, subst, ◌∙◌}
 use Rattle.std.proofs.lemmas.Bool.Decides.{nat_tests}
 use Rattle.std.specs.Prelude.{◌==◌, if◌then◌else◌, nat_lt, []}
-use Rattle.inv_covers.specs.words.Packed.{read_reservation, reservation_word, read_request}
-use Rattle.inv_covers.specs.words.Place.{has}
-use Rattle.inv_covers.specs.words.Place.Place.{Clock}
-use Rattle.inv_covers.specs.words.declared.layout.Layout.{Layout}
-use Rattle.inv_covers.specs.words.declared.packed.Request.{Request}
-use Rattle.inv_covers.specs.words.declared.packed.Request.TheVariants as requests
-use Rattle.inv_covers.specs.defs.declared.event.Root.{Root}
-use Rattle.inv_covers.specs.model.declared.post.Post.{Post}
-use Rattle.inv_covers.specs.model.Links.{link_place, link_number, root_at}
-use Rattle.inv_covers.specs.model.Machine.{move_turn}
-use Rattle.inv_covers.specs.model.MoveClock.{next_request, all_met, helping, met, moving, after_hand_over}
-use Rattle.inv_covers.specs.model.Posts.{counted}
-use Rattle.inv_covers.specs.model.SlowPath.{asking}
-use Rattle.inv_covers.specs.model.Phases.{MoveAt, Turn, Outcome, Goes, Ends, goes}
-use Rattle.inv_covers.specs.model.Phases.MoveAt.{LoadEra, LoadRequest, ShowEra, LoadAsked, CheckEra, AnswerAsked, LoadReserved, HandOver, HideEra, HideLate, ExchangeClock}
-use Rattle.inv_covers.specs.model.Phases.Base.{Move}
-use Rattle.inv_covers.specs.model.Calls.{Why, Phase, Runs}
-use Rattle.inv_covers.specs.model.World.{World, step, finds, offered}
-use Rattle.inv_covers.specs.Requests.Context.{phase_there}
-use Rattle.inv_covers.specs.Requests.NextDeals.{phase_deals, next_deals}
-use Rattle.inv_covers.specs.Requests.Standing.{is_there}
-use Rattle.inv_covers.specs.Requests.Views.{View, Deal}
-use Rattle.inv_covers.specs.Requests.Views.Deal.{Quiet, Open, Answered, Passed, Taken}
-use Rattle.inv_covers.proofs.Requests.Kept.{at_of}
+use Rattle.inv_rows.specs.words.Packed.{read_reservation, reservation_word, read_request}
+use Rattle.inv_rows.specs.words.Place.{has}
+use Rattle.inv_rows.specs.words.Place.Place.{Clock}
+use Rattle.inv_rows.specs.words.declared.layout.Layout.{Layout}
+use Rattle.inv_rows.specs.words.declared.packed.Request.{Request}
+use Rattle.inv_rows.specs.words.declared.packed.Request.TheVariants as requests
+use Rattle.inv_rows.specs.defs.declared.event.Root.{Root}
+use Rattle.inv_rows.specs.model.declared.post.Post.{Post}
+use Rattle.inv_rows.specs.model.Links.{link_place, link_number, root_at}
+use Rattle.inv_rows.specs.model.Machine.{move_turn}
+use Rattle.inv_rows.specs.model.MoveClock.{next_request, all_met, helping, met, moving, after_hand_over}
+use Rattle.inv_rows.specs.model.Posts.{counted}
+use Rattle.inv_rows.specs.model.SlowPath.{asking}
+use Rattle.inv_rows.specs.model.Phases.{MoveAt, Turn, Outcome, Goes, Ends, goes}
+use Rattle.inv_rows.specs.model.Phases.MoveAt.{LoadEra, LoadRequest, ShowEra, LoadAsked, CheckEra, AnswerAsked, LoadReserved, HandOver, HideEra, HideLate, ExchangeClock}
+use Rattle.inv_rows.specs.model.Phases.Base.{Move}
+use Rattle.inv_rows.specs.model.Calls.{Why, Phase, Runs}
+use Rattle.inv_rows.specs.model.World.{World, step, finds, offered}
+use Rattle.inv_rows.specs.Covering.Requests.Context.{phase_there}
+use Rattle.inv_rows.specs.Covering.Requests.NextDeals.{phase_deals, next_deals}
+use Rattle.inv_rows.specs.Covering.Requests.Standing.{is_there}
+use Rattle.inv_rows.specs.Covering.Requests.Views.{View, Deal}
+use Rattle.inv_rows.specs.Covering.Requests.Views.Deal.{Quiet, Open, Answered, Passed, Taken}
+use Rattle.inv_rows.proofs.Covering.Requests.Kept.{at_of}
 use Rattle.inv_ends.specs.Tracked.{opened_by, helps_at, helps_base, helps_in, root_in, Helped}
 use Rattle.inv_ends.specs.Origins.{loads_link, OriginsNeeds, Came, Before, Now}
 use Rattle.inv_ends.proofs.Origins.Backs.{checks_parts, helps_parts, checks_again}
 use Rattle.inv_ends.proofs.Origins.Heard.{asks_for, root_one}
 use Rattle.inv_ends.proofs.Origins.Opened.{fit_of}
-use Rattle.inv_covers.proofs.Held.{finds_at}
-use Rattle.inv_covers.specs.model.Locals.{told_by}
-use Rattle.inv_covers.specs.model.Steps.{phase_turn}
+use Rattle.inv_rows.proofs.Covering.Held.{finds_at}
+use Rattle.inv_rows.specs.model.Locals.{told_by}
+use Rattle.inv_rows.specs.model.Steps.{phase_turn}
 
 -- what an outcome has for a request
 abbrev pub out_helps : Layout → ℕ → ℕ → Outcome → Deal → ℕ → Bool

@@ -3,38 +3,38 @@
 use Rattle.std.proofs.Common.{ℕ, ◌≡◌, ◌⊎◌, inl, inr, Bool, true, false, List, arith, refl, sym, ap, subst, ◌∙◌}
 use Rattle.std.proofs.lemmas.Bool.Decides.{nat_tests}
 use Rattle.std.specs.Prelude.{◌==◌, ◌&&◌, ◌||◌, nat_lt, if◌then◌else◌}
-use Rattle.inv_covers.specs.words.Place.Place.{Index, Request}
-use Rattle.inv_covers.specs.words.Packed.{halves}
-use Rattle.inv_covers.specs.defs.declared.event.Event.{Event}
-use Rattle.inv_covers.specs.defs.declared.event.Root.{Root}
-use Rattle.inv_covers.specs.model.declared.post.Post.{Post}
-use Rattle.inv_covers.specs.model.Desks.{Desk}
-use Rattle.inv_covers.specs.model.Links.{link_number}
-use Rattle.inv_covers.specs.model.Machine.{protect_turn, after}
-use Rattle.inv_covers.specs.model.Memory.{upd, bump}
-use Rattle.inv_covers.specs.model.Posts.{counted, tag_of}
-use Rattle.inv_covers.specs.model.SlowPath.{asking, own_request}
-use Rattle.inv_covers.specs.model.Phases.{Aim, ProtectAt, MoveAt, Base, Turn, Outcome, Goes, Ends}
-use Rattle.inv_covers.specs.model.Phases.ProtectAt.{LoadClock, PublishEra, LoadLink, CheckClock, PublishRequest, LoadOwnClock, PublishHelper, LoadOwnLink, CheckOwnClock, AnswerOwn, LoadAnswer, TakeAnswer, WithdrawRequest, WithdrawHelper, LoadWithin, CheckUpper, RaiseUpper, ByHazard}
-use Rattle.inv_covers.specs.model.Phases.MoveAt.{LoadEra, LoadRequest, ShowEra, LoadAsked, CheckEra, AnswerAsked, LoadReserved, HandOver, HideEra, HideLate, ExchangeClock}
-use Rattle.inv_covers.specs.model.Phases.Base.{Begin, Protect, Reload, Clear, Finish, Release, Allocate, Write, GiveUp, Retire, Move}
-use Rattle.inv_covers.specs.model.Calls.{Why, Work, Phase, Idle, Runs, Scans, Works, CallTurn}
-use Rattle.inv_covers.specs.model.Steps.{resumed, phase_turn}
-use Rattle.inv_covers.specs.model.World.{World, step, finds, offered}
-use Rattle.inv_covers.specs.shapes.Frame.{phase_left}
-use Rattle.inv_covers.specs.Requests.Deals.{is_quiet, asked_by, fits}
-use Rattle.inv_covers.specs.Requests.NextDeals.{protect_deals, move_deals, base_deals, phase_deals, next_deals}
-use Rattle.inv_covers.specs.Requests.Standing.{work_role}
-use Rattle.inv_covers.specs.Requests.Views.{View, Deal, Role}
-use Rattle.inv_covers.specs.Requests.Views.Deal.{Quiet, Open, Answered, Passed, Taken}
-use Rattle.inv_covers.proofs.Requests.Kept.{at_of}
-use Rattle.inv_covers.proofs.Requests.Turns.{each_work_role}
+use Rattle.inv_rows.specs.words.Place.Place.{Index, Request}
+use Rattle.inv_rows.specs.words.Packed.{halves}
+use Rattle.inv_rows.specs.defs.declared.event.Event.{Event}
+use Rattle.inv_rows.specs.defs.declared.event.Root.{Root}
+use Rattle.inv_rows.specs.model.declared.post.Post.{Post}
+use Rattle.inv_rows.specs.model.Desks.{Desk}
+use Rattle.inv_rows.specs.model.Links.{link_number}
+use Rattle.inv_rows.specs.model.Machine.{protect_turn, after}
+use Rattle.inv_rows.specs.model.Memory.{upd, bump}
+use Rattle.inv_rows.specs.model.Posts.{counted, tag_of}
+use Rattle.inv_rows.specs.model.SlowPath.{asking, own_request}
+use Rattle.inv_rows.specs.model.Phases.{Aim, ProtectAt, MoveAt, Base, Turn, Outcome, Goes, Ends}
+use Rattle.inv_rows.specs.model.Phases.ProtectAt.{LoadClock, PublishEra, LoadLink, CheckClock, PublishRequest, LoadOwnClock, PublishHelper, LoadOwnLink, CheckOwnClock, AnswerOwn, LoadAnswer, TakeAnswer, WithdrawRequest, WithdrawHelper, LoadWithin, CheckUpper, RaiseUpper, ByHazard}
+use Rattle.inv_rows.specs.model.Phases.MoveAt.{LoadEra, LoadRequest, ShowEra, LoadAsked, CheckEra, AnswerAsked, LoadReserved, HandOver, HideEra, HideLate, ExchangeClock}
+use Rattle.inv_rows.specs.model.Phases.Base.{Begin, Protect, Reload, Clear, Finish, Release, Allocate, Write, GiveUp, Retire, Move}
+use Rattle.inv_rows.specs.model.Calls.{Why, Work, Phase, Idle, Runs, Scans, Works, CallTurn}
+use Rattle.inv_rows.specs.model.Steps.{resumed, phase_turn}
+use Rattle.inv_rows.specs.model.World.{World, step, finds, offered}
+use Rattle.inv_rows.specs.Shapes.Frame.{phase_left}
+use Rattle.inv_rows.specs.Covering.Requests.Deals.{is_quiet, asked_by, fits}
+use Rattle.inv_rows.specs.Covering.Requests.NextDeals.{protect_deals, move_deals, base_deals, phase_deals, next_deals}
+use Rattle.inv_rows.specs.Covering.Requests.Standing.{work_role}
+use Rattle.inv_rows.specs.Covering.Requests.Views.{View, Deal, Role}
+use Rattle.inv_rows.specs.Covering.Requests.Views.Deal.{Quiet, Open, Answered, Passed, Taken}
+use Rattle.inv_rows.proofs.Covering.Requests.Kept.{at_of}
+use Rattle.inv_rows.proofs.Covering.Requests.Turns.{each_work_role}
 use Rattle.inv_ends.specs.Tracked.{opened_by, root_base, root_for, root_in}
 use Rattle.inv_ends.specs.Origins.{OriginsNeeds}
 use Rattle.inv_ends.proofs.Origins.Deals.{answered_is, passed_is, hands_plain, other_deal}
-use Rattle.inv_covers.proofs.Held.{stepped_phase}
-use Rattle.inv_covers.specs.words.declared.layout.Layout.{Layout}
-pub use Rattle.inv_covers.proofs.Requests.Known.{fits_at as fit_of}
+use Rattle.inv_rows.proofs.Covering.Held.{stepped_phase}
+use Rattle.inv_rows.specs.words.declared.layout.Layout.{Layout}
+pub use Rattle.inv_rows.proofs.Covering.Requests.Known.{fits_at as fit_of}
 
 quiet_asked : (t j u : ℕ) (d : Deal) → is_quiet d ≡ true → asked_by t j u d ≡ false
 quiet_asked t j u Quiet h = refl

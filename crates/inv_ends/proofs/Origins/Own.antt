@@ -3,28 +3,28 @@
 use Rattle.std.proofs.Common.{ℕ, ◌≡◌, ◌+◌, ◌-◌, Bool, true, false, List, arith, refl, sym, subst}
 use Rattle.std.proofs.lemmas.Bool.Decides.{nat_tests}
 use Rattle.std.specs.Prelude.{◌==◌, ◌&&◌, ◌||◌, if◌then◌else◌, nat_le, []}
-use Rattle.inv_covers.specs.words.Packed.{read_request}
-use Rattle.inv_covers.specs.words.Place.{Place}
-use Rattle.inv_covers.specs.words.Place.Place.{Clock, Request}
-use Rattle.inv_covers.specs.words.declared.config.Config.{Config}
-use Rattle.inv_covers.specs.defs.declared.event.Event.{Event}
-use Rattle.inv_covers.specs.defs.declared.event.Root.{Root}
-use Rattle.inv_covers.specs.defs.declared.event.Root.TheVariants as roots
-use Rattle.inv_covers.specs.model.declared.post.Post.{Post}
-use Rattle.inv_covers.specs.model.Links.{link_place, parent_of}
-use Rattle.inv_covers.specs.model.Machine.{protect_move, protect_turn}
-use Rattle.inv_covers.specs.model.Memory.{found, place_in}
-use Rattle.inv_covers.specs.model.Phases.{Aim, Alone, Follows, Tries, Endless, Failed, ProtectAt, Outcome, Goes, Ends, goes}
-use Rattle.inv_covers.specs.model.Phases.ProtectAt.{LoadClock, PublishEra, LoadLink, CheckClock, PublishRequest, LoadOwnClock, PublishHelper, LoadOwnLink, CheckOwnClock, AnswerOwn, LoadAnswer, TakeAnswer, WithdrawRequest, WithdrawHelper, LoadWithin, CheckUpper, RaiseUpper, ByHazard}
-use Rattle.inv_covers.specs.model.Phases.HazardAt.{FirstLink, PublishLink, CheckLink}
-use Rattle.inv_covers.specs.model.Phases.Base.{Protect}
-use Rattle.inv_covers.specs.model.Posts.{upper, reserves_helper}
-use Rattle.inv_covers.specs.model.Protect.{held_post, told_held, failed_once, trying, concluded, protected}
-use Rattle.inv_covers.specs.model.SlowPath.{own_request, answer_in, lost_turn}
-use Rattle.inv_covers.specs.Requests.Views.{Deal}
+use Rattle.inv_rows.specs.words.Packed.{read_request}
+use Rattle.inv_rows.specs.words.Place.{Place}
+use Rattle.inv_rows.specs.words.Place.Place.{Clock, Request}
+use Rattle.inv_rows.specs.words.declared.config.Config.{Config}
+use Rattle.inv_rows.specs.defs.declared.event.Event.{Event}
+use Rattle.inv_rows.specs.defs.declared.event.Root.{Root}
+use Rattle.inv_rows.specs.defs.declared.event.Root.TheVariants as roots
+use Rattle.inv_rows.specs.model.declared.post.Post.{Post}
+use Rattle.inv_rows.specs.model.Links.{link_place, parent_of}
+use Rattle.inv_rows.specs.model.Machine.{protect_move, protect_turn}
+use Rattle.inv_rows.specs.model.Memory.{found, place_in}
+use Rattle.inv_rows.specs.model.Phases.{Aim, Alone, Follows, Tries, Endless, Failed, ProtectAt, Outcome, Goes, Ends, goes}
+use Rattle.inv_rows.specs.model.Phases.ProtectAt.{LoadClock, PublishEra, LoadLink, CheckClock, PublishRequest, LoadOwnClock, PublishHelper, LoadOwnLink, CheckOwnClock, AnswerOwn, LoadAnswer, TakeAnswer, WithdrawRequest, WithdrawHelper, LoadWithin, CheckUpper, RaiseUpper, ByHazard}
+use Rattle.inv_rows.specs.model.Phases.HazardAt.{FirstLink, PublishLink, CheckLink}
+use Rattle.inv_rows.specs.model.Phases.Base.{Protect}
+use Rattle.inv_rows.specs.model.Posts.{upper, reserves_helper}
+use Rattle.inv_rows.specs.model.Protect.{held_post, told_held, failed_once, trying, concluded, protected}
+use Rattle.inv_rows.specs.model.SlowPath.{own_request, answer_in, lost_turn}
+use Rattle.inv_rows.specs.Covering.Requests.Views.{Deal}
 use Rattle.inv_ends.specs.Tracked.{carries_at, carries_base, has_link, root_base}
 use Rattle.inv_ends.specs.Origins.{loads_at}
-use Rattle.inv_covers.proofs.model.Facts.{both}
+use Rattle.inv_rows.proofs.model.Facts.{both}
 
 -- what an outcome carries, and for which root
 abbrev pub out_carries : ℕ → ℕ → Outcome → ℕ → Bool

@@ -2,15 +2,15 @@
 use Rattle.std.proofs.Common.{ℕ, ◌≤◌, ◌+◌, ◌*◌, ◌-◌, Bool, true, false, arith, mul-le-mul_right}
 use Rattle.std.proofs.lemmas.Bool.Decides.{nat_tests}
 use Rattle.std.specs.Prelude.{Option, Some, None}
-use Rattle.inv_covers.specs.words.declared.config.Config.{Config}
-use Rattle.inv_covers.specs.model.Rest.{rounds_most, rounds_left, round_worth, walks_by, ending_most, has_walked, open_left, task_left, walks_left}
-use Rattle.inv_covers.specs.model.Calls.{Task, Phase}
-use Rattle.inv_covers.specs.model.Calls.Task.{Changes, Dequeues, Enqueues, Gets, Holds}
-use Rattle.inv_covers.specs.model.Rounds.{taken_of}
-use Rattle.inv_covers.specs.model.Calls.Phase.{Idle, Runs, Scans, Works}
-use Rattle.inv_covers.specs.model.Desks.{Desk}
-use Rattle.inv_covers.specs.shapes.Slots.{BaseIn, PhaseIn, WhyIn, WorkIn}
-use Rattle.inv_covers.specs.words.declared.layout.Layout.{Layout}
+use Rattle.inv_rows.specs.words.declared.config.Config.{Config}
+use Rattle.inv_rows.specs.model.Rest.{rounds_most, rounds_left, round_worth, walks_by, ending_most, has_walked, open_left, task_left, walks_left}
+use Rattle.inv_rows.specs.model.Calls.{Task, Phase}
+use Rattle.inv_rows.specs.model.Calls.Task.{Changes, Dequeues, Enqueues, Gets, Holds}
+use Rattle.inv_rows.specs.model.Rounds.{taken_of}
+use Rattle.inv_rows.specs.model.Calls.Phase.{Idle, Runs, Scans, Works}
+use Rattle.inv_rows.specs.model.Desks.{Desk}
+use Rattle.inv_rows.specs.Shapes.Slots.{BaseIn, PhaseIn, WhyIn, WorkIn}
+use Rattle.inv_rows.specs.words.declared.layout.Layout.{Layout}
 
 times_drop : (a r w : ℕ) → r ≤ a → (a + 1 - (r + 1)) * w + w ≤ (a + 1 - r) * w
 times_drop a r w h = grind (arith, nat_tests)

@@ -1,24 +1,24 @@
 -- The same of the machines by which a round ends, and of those that come once in a call.
 use Rattle.std.proofs.Common.{ℕ, ◌∙◌, ◌≡◌, ◌≤◌, ◌+◌, true, [], ◌∷◌, arith, refl, sym, subst, ◌<◌, Bool}
-use Rattle.inv_covers.specs.words.Place.{is_valid}
-use Rattle.inv_covers.specs.words.Place.Place.{Clock}
-use Rattle.inv_covers.specs.model.Phases.Base.{Move, Allocate, Begin, Clear, Finish, GiveUp, Protect, Release, Reload, Retire, Write}
-use Rattle.inv_covers.specs.defs.declared.event.Event.TheVariants as events
-use Rattle.inv_covers.specs.model.Calls.{AfterScan, LetGo, Next, Task, Why}
-use Rattle.inv_covers.specs.model.Calls.Next.{Again, Answering, MakeRoom, Retiring}
-use Rattle.inv_covers.specs.model.Calls.Task.{Dequeues}
-use Rattle.inv_covers.specs.model.Calls.Why.{Advances, Clears, ClearsNext, Fills, Finishes, FollowsHead, GivesUp, Opens, Releases, Retires, Tidies}
-use Rattle.inv_covers.specs.model.Machine.{after}
-use Rattle.inv_covers.specs.model.Phases.{Base, Ending, MoveAt, RetireAt, Turn, ends}
-use Rattle.inv_covers.specs.model.Phases.Ending.{Done}
-use Rattle.inv_covers.specs.model.Posts.{counted, reserves_span, with_span, withdrawn}
-use Rattle.inv_covers.specs.model.Rest.{base_left, base_seen, closing_left, eras_left, span_seen, why_left}
-use Rattle.inv_covers.specs.model.Rounds.{clearing, finishing, let_index}
-use Rattle.inv_covers.specs.model.Steps.{resume, run_turn}
-use Rattle.inv_covers.specs.model.World.{World, finds, offered, step}
-use Rattle.inv_covers.specs.model.declared.post.Post.{Post}
-use Rattle.inv_covers.specs.defs.declared.call.Answer.{Answer}
-use Rattle.inv_covers.specs.defs.declared.event.Event.{Event}
+use Rattle.inv_rows.specs.words.Place.{is_valid}
+use Rattle.inv_rows.specs.words.Place.Place.{Clock}
+use Rattle.inv_rows.specs.model.Phases.Base.{Move, Allocate, Begin, Clear, Finish, GiveUp, Protect, Release, Reload, Retire, Write}
+use Rattle.inv_rows.specs.defs.declared.event.Event.TheVariants as events
+use Rattle.inv_rows.specs.model.Calls.{AfterScan, LetGo, Next, Task, Why}
+use Rattle.inv_rows.specs.model.Calls.Next.{Again, Answering, MakeRoom, Retiring}
+use Rattle.inv_rows.specs.model.Calls.Task.{Dequeues}
+use Rattle.inv_rows.specs.model.Calls.Why.{Advances, Clears, ClearsNext, Fills, Finishes, FollowsHead, GivesUp, Opens, Releases, Retires, Tidies}
+use Rattle.inv_rows.specs.model.Machine.{after}
+use Rattle.inv_rows.specs.model.Phases.{Base, Ending, MoveAt, RetireAt, Turn, ends}
+use Rattle.inv_rows.specs.model.Phases.Ending.{Done}
+use Rattle.inv_rows.specs.model.Posts.{counted, reserves_span, with_span, withdrawn}
+use Rattle.inv_rows.specs.model.Rest.{base_left, base_seen, closing_left, eras_left, span_seen, why_left}
+use Rattle.inv_rows.specs.model.Rounds.{clearing, finishing, let_index}
+use Rattle.inv_rows.specs.model.Steps.{resume, run_turn}
+use Rattle.inv_rows.specs.model.World.{World, finds, offered, step}
+use Rattle.inv_rows.specs.model.declared.post.Post.{Post}
+use Rattle.inv_rows.specs.defs.declared.call.Answer.{Answer}
+use Rattle.inv_rows.specs.defs.declared.event.Event.{Event}
 use Rattle.inv_ends.proofs.Rest.Closings.{clearing_left, closed_left, finishing_left, spare, turn_left}
 use Rattle.inv_ends.proofs.Rest.Falling.{Seat, seat_after}
 use Rattle.inv_ends.proofs.Rest.Machines.{Settles, start_of}
@@ -28,11 +28,11 @@ use Rattle.inv_ends.proofs.Rest.Seats.{Knows, Lowers, fills_lowers, follows_lowe
 use Rattle.inv_ends.proofs.Rest.Told.{base_steady}
 use Rattle.inv_ends.proofs.Rest.Ways.{released_left}
 use Rattle.inv_ends.specs.Losses.{finish_fit, rounds_in}
-use Rattle.inv_covers.specs.words.declared.config.Config.{Config}
+use Rattle.inv_rows.specs.words.declared.config.Config.{Config}
 use Rattle.std.specs.Prelude.{List, length, None}
-use Rattle.inv_covers.specs.shapes.Slots.{WhyIn}
+use Rattle.inv_rows.specs.Shapes.Slots.{WhyIn}
 use Rattle.inv_ends.proofs.Rest.Small.{few_of}
-use Rattle.inv_covers.specs.words.Schemes.{publishes_rows}
+use Rattle.inv_rows.specs.words.Schemes.{publishes_rows}
 
 pub clear_rounds : (w : World) (i : ℕ) (rows : Bool) (index : ℕ) → rounds_in w.layout.config (w.seat i).rounds (after (Clear rows index) (counted (w.seat i).post) (finds w i)).told ≡ (w.seat i).rounds
 clear_rounds w i rows index = base_steady (publishes_rows w.layout.config.scheme) (w.seat i).rounds (Clear rows index) (counted (w.seat i).post) (finds w i) refl

@@ -1,29 +1,29 @@
 -- How a round begins and ends: the steps that are left where its next machine, or what comes after it, is reached.
 use Rattle.std.proofs.Common.{ℕ, ◌∙◌, ◌≡◌, ◌≤◌, ◌+◌, true, false, [], ◌∷◌, arith, refl, subst, ap, Bool}
-use Rattle.inv_covers.specs.model.Calls.{CallOutcome, CallTurn, Next, Task, AfterScan}
-use Rattle.inv_covers.specs.model.Calls.CallOutcome.{Answers, GoesOn}
-use Rattle.inv_covers.specs.model.Calls.Next.{Again, Answering, MakeRoom, Retiring}
-use Rattle.inv_covers.specs.model.Calls.Task.{Dequeues}
-use Rattle.inv_covers.specs.model.Desks.{Desk}
-use Rattle.inv_covers.specs.model.Locals.{rounds_told, found_by}
-use Rattle.inv_covers.specs.model.Posts.{cleared, stands, cleared_from, reserves_span}
-use Rattle.inv_covers.specs.model.Rest.{base_left, closing_left, is_told, move_most, open_left, phase_left, protect_most, task_left, scan_most, later_left}
-use Rattle.inv_covers.specs.model.Rounds.{begin_base, begin_span, clear_base, clear_post, clear_told, clearing, clearing_by, clearing_next, clearing_next_by, closed, finish_base, finish_span, finishing, finishing_by, given_up, index_of, kept_row, move_base, opening, protect_base, root_of, round, round_by, scheme_of, taken_of, tidy_by}
-use Rattle.inv_covers.specs.model.declared.post.Post.{Post}
-use Rattle.inv_covers.specs.defs.declared.call.Answer.{Answer}
-use Rattle.inv_covers.specs.defs.declared.event.Event.{Event}
-use Rattle.inv_covers.specs.defs.declared.event.Root.{Root}
-use Rattle.inv_covers.specs.defs.declared.lifetime.Interval.{Interval}
-use Rattle.inv_covers.specs.defs.declared.lifetime.Lifetime.{Lifetime}
-use Rattle.inv_covers.specs.words.declared.config.Config.{Config}
-use Rattle.inv_covers.specs.words.declared.config.SchemeKind.{SchemeKind}
-use Rattle.inv_covers.specs.words.declared.config.SchemeKind.TheVariants.{He, Ibr, Wfe, Hp}
+use Rattle.inv_rows.specs.model.Calls.{CallOutcome, CallTurn, Next, Task, AfterScan}
+use Rattle.inv_rows.specs.model.Calls.CallOutcome.{Answers, GoesOn}
+use Rattle.inv_rows.specs.model.Calls.Next.{Again, Answering, MakeRoom, Retiring}
+use Rattle.inv_rows.specs.model.Calls.Task.{Dequeues}
+use Rattle.inv_rows.specs.model.Desks.{Desk}
+use Rattle.inv_rows.specs.model.Locals.{rounds_told, found_by}
+use Rattle.inv_rows.specs.model.Posts.{cleared, stands, cleared_from, reserves_span}
+use Rattle.inv_rows.specs.model.Rest.{base_left, closing_left, is_told, move_most, open_left, phase_left, protect_most, task_left, scan_most, later_left}
+use Rattle.inv_rows.specs.model.Rounds.{begin_base, begin_span, clear_base, clear_post, clear_told, clearing, clearing_by, clearing_next, clearing_next_by, closed, finish_base, finish_span, finishing, finishing_by, given_up, index_of, kept_row, move_base, opening, protect_base, root_of, round, round_by, scheme_of, taken_of, tidy_by}
+use Rattle.inv_rows.specs.model.declared.post.Post.{Post}
+use Rattle.inv_rows.specs.defs.declared.call.Answer.{Answer}
+use Rattle.inv_rows.specs.defs.declared.event.Event.{Event}
+use Rattle.inv_rows.specs.defs.declared.event.Root.{Root}
+use Rattle.inv_rows.specs.defs.declared.lifetime.Interval.{Interval}
+use Rattle.inv_rows.specs.defs.declared.lifetime.Lifetime.{Lifetime}
+use Rattle.inv_rows.specs.words.declared.config.Config.{Config}
+use Rattle.inv_rows.specs.words.declared.config.SchemeKind.{SchemeKind}
+use Rattle.inv_rows.specs.words.declared.config.SchemeKind.TheVariants.{He, Ibr, Wfe, Hp}
 use Rattle.std.specs.Prelude.{List, ◌++◌, length, Option, Some, None, drop}
-use Rattle.inv_covers.proofs.model.Schemes.{each_begin, each_clear, each_clear_told, each_finish}
-use Rattle.inv_covers.specs.model.Phases.{Base}
+use Rattle.inv_rows.proofs.model.Schemes.{each_begin, each_clear, each_clear_told, each_finish}
+use Rattle.inv_rows.specs.model.Phases.{Base}
 use Rattle.inv_ends.specs.Losses.{rounds_in}
-use Rattle.inv_covers.specs.words.Schemes.{publishes_rows, moves}
-use Rattle.inv_covers.specs.model.Calls.AfterScan.{Repeated}
+use Rattle.inv_rows.specs.words.Schemes.{publishes_rows, moves}
+use Rattle.inv_rows.specs.model.Calls.AfterScan.{Repeated}
 
 -- what a turn leaves
 abbrev pub outcome_left : Config → ℕ → List Lifetime → CallOutcome → ℕ

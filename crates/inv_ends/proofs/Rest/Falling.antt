@@ -1,49 +1,49 @@
 -- What a seat's machine needs for its step, from the parts of the invariant.
 use Rattle.std.proofs.Common.{ℕ, ◌∙◌, ◌≡◌, ◌≤◌, ◌<◌, true, false, arith, refl, ap, subst}
 use Rattle.std.proofs.lemmas.Bool.Decides.{nat_tests}
-use Rattle.inv_covers.specs.shapes.Frame.{phase_left as stands_at, Passed}
-use Rattle.inv_covers.specs.words.Place.{is_valid}
-use Rattle.inv_covers.specs.words.Place.Place.{Clock}
-use Rattle.inv_covers.specs.model.Calls.{Why}
-use Rattle.inv_covers.specs.model.Calls.Why.{FollowsHead}
-use Rattle.inv_covers.specs.model.Calls.Phase.{Runs}
-use Rattle.inv_covers.specs.model.Desks.{Desk}
-use Rattle.inv_covers.specs.model.Machine.{after}
-use Rattle.inv_covers.specs.model.Phases.{Aim, Base, Outcome, ProtectAt, Tries, Turn}
-use Rattle.inv_covers.specs.model.Phases.Base.{Protect}
-use Rattle.inv_covers.specs.model.Phases.Outcome.{Ends, Goes}
-use Rattle.inv_covers.specs.model.Phases.ProtectAt.{AnswerOwn, ByHazard, CheckClock, CheckOwnClock, CheckUpper, LoadAnswer, LoadClock, LoadLink, LoadOwnClock, LoadOwnLink, LoadWithin, PublishEra, PublishHelper, PublishRequest, RaiseUpper, TakeAnswer, WithdrawHelper, WithdrawRequest}
-use Rattle.inv_covers.specs.model.Phases.Tries.{Endless, Failed}
-use Rattle.inv_covers.specs.model.Posts.{counted}
-use Rattle.inv_covers.specs.model.Rest.{span_seen}
-use Rattle.inv_covers.specs.model.Steps.{resumed, run_turn}
-use Rattle.inv_covers.specs.model.World.{World, finds, offered, step}
-use Rattle.inv_covers.specs.model.declared.post.Post.{Post}
-use Rattle.inv_covers.specs.defs.declared.event.Event.{Event}
-use Rattle.inv_covers.specs.defs.declared.event.Root.{Root}
-use Rattle.inv_covers.specs.defs.declared.lifetime.Interval.{Interval}
-use Rattle.inv_covers.proofs.shapes.Inside.{shape_moves}
-use Rattle.inv_covers.proofs.shapes.Works.{resume_left}
-use Rattle.inv_covers.specs.shapes.Eras.{SpanIn, base_eras, protect_eras}
-use Rattle.inv_covers.specs.words.Schemes.{has_one_interval, counts_tries, publishes_rows}
-use Rattle.inv_covers.proofs.words.Schemes.{eras_not_interval, eras_not_rows, helps_not_interval, helps_not_rows, interval_not_rows, rows_not_interval}
-pub use Rattle.inv_covers.proofs.words.Schemes.{helps_not_interval as wfe_plain}
-use Rattle.inv_covers.proofs.shapes.Tries.{tries_eras, try_eras}
-use Rattle.inv_covers.specs.shapes.Seats.{PhaseFits, PostFits, Run, protect_fits, tries_fit, try_fits}
-use Rattle.inv_covers.specs.Requests.Paces.{MovesOn}
+use Rattle.inv_rows.specs.Shapes.Frame.{phase_left as stands_at, Passed}
+use Rattle.inv_rows.specs.words.Place.{is_valid}
+use Rattle.inv_rows.specs.words.Place.Place.{Clock}
+use Rattle.inv_rows.specs.model.Calls.{Why}
+use Rattle.inv_rows.specs.model.Calls.Why.{FollowsHead}
+use Rattle.inv_rows.specs.model.Calls.Phase.{Runs}
+use Rattle.inv_rows.specs.model.Desks.{Desk}
+use Rattle.inv_rows.specs.model.Machine.{after}
+use Rattle.inv_rows.specs.model.Phases.{Aim, Base, Outcome, ProtectAt, Tries, Turn}
+use Rattle.inv_rows.specs.model.Phases.Base.{Protect}
+use Rattle.inv_rows.specs.model.Phases.Outcome.{Ends, Goes}
+use Rattle.inv_rows.specs.model.Phases.ProtectAt.{AnswerOwn, ByHazard, CheckClock, CheckOwnClock, CheckUpper, LoadAnswer, LoadClock, LoadLink, LoadOwnClock, LoadOwnLink, LoadWithin, PublishEra, PublishHelper, PublishRequest, RaiseUpper, TakeAnswer, WithdrawHelper, WithdrawRequest}
+use Rattle.inv_rows.specs.model.Phases.Tries.{Endless, Failed}
+use Rattle.inv_rows.specs.model.Posts.{counted}
+use Rattle.inv_rows.specs.model.Rest.{span_seen}
+use Rattle.inv_rows.specs.model.Steps.{resumed, run_turn}
+use Rattle.inv_rows.specs.model.World.{World, finds, offered, step}
+use Rattle.inv_rows.specs.model.declared.post.Post.{Post}
+use Rattle.inv_rows.specs.defs.declared.event.Event.{Event}
+use Rattle.inv_rows.specs.defs.declared.event.Root.{Root}
+use Rattle.inv_rows.specs.defs.declared.lifetime.Interval.{Interval}
+use Rattle.inv_rows.proofs.Shapes.Inside.{shape_moves}
+use Rattle.inv_rows.proofs.Shapes.Works.{resume_left}
+use Rattle.inv_rows.specs.Shapes.Eras.{SpanIn, base_eras, protect_eras}
+use Rattle.inv_rows.specs.words.Schemes.{has_one_interval, counts_tries, publishes_rows}
+use Rattle.inv_rows.proofs.words.Schemes.{eras_not_interval, eras_not_rows, helps_not_interval, helps_not_rows, interval_not_rows, rows_not_interval}
+pub use Rattle.inv_rows.proofs.words.Schemes.{helps_not_interval as wfe_plain}
+use Rattle.inv_rows.proofs.Shapes.Tries.{tries_eras, try_eras}
+use Rattle.inv_rows.specs.Shapes.Seats.{PhaseFits, PostFits, Run, protect_fits, tries_fit, try_fits}
+use Rattle.inv_rows.specs.Covering.Requests.Paces.{MovesOn}
 use Rattle.inv_ends.proofs.Rest.Amounts.{PhaseKnown}
 use Rattle.inv_ends.proofs.Rest.Machines.{Protects, Settles, TryLeft, at_agrees, at_ends, at_clock, at_era, at_span, at_try}
 use Rattle.inv_ends.proofs.Rest.Told.{at_linked, by_rows}
 use Rattle.inv_ends.proofs.Rest.Runs.{After, EndLeft}
 use Rattle.inv_ends.proofs.Rest.Seen.{seen_grows}
 use Rattle.inv_ends.specs.Losses.{why_fit}
-use Rattle.inv_covers.specs.words.declared.config.Config.{Config}
-use Rattle.inv_covers.specs.words.declared.config.SchemeKind.{SchemeKind}
-use Rattle.inv_covers.specs.words.declared.layout.Layout.{Layout}
+use Rattle.inv_rows.specs.words.declared.config.Config.{Config}
+use Rattle.inv_rows.specs.words.declared.config.SchemeKind.{SchemeKind}
+use Rattle.inv_rows.specs.words.declared.layout.Layout.{Layout}
 use Rattle.std.specs.Prelude.{List, Option, Some, None, is_some, nat_lt}
-use Rattle.inv_covers.proofs.Held.{finds_at}
-use Rattle.inv_covers.proofs.model.Facts.{rest_of}
-use Rattle.inv_covers.specs.shapes.Slots.{WhyIn}
+use Rattle.inv_rows.proofs.Covering.Held.{finds_at}
+use Rattle.inv_rows.proofs.model.Facts.{rest_of}
+use Rattle.inv_rows.specs.Shapes.Slots.{WhyIn}
 
 -- the scheme of tries
 

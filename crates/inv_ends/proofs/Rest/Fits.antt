@@ -1,45 +1,45 @@
 -- What comes after a machine or a step of a call's own has lost no more rounds than its task may.
 use Rattle.std.proofs.Common.{ℕ, ◌≡◌, ◌≤◌, ◌+◌, Bool, true, false, [], ◌∷◌, arith, refl, sym, subst}
-use Rattle.inv_covers.specs.model.Change as alters
-use Rattle.inv_covers.specs.model.Enqueue as enqueues
-use Rattle.inv_covers.specs.model.Dequeue as dequeues
-use Rattle.inv_covers.specs.model.Keep as keeps
-use Rattle.inv_covers.specs.model.Steps as steps
-use Rattle.inv_covers.specs.model.Scan as scan
-use Rattle.inv_covers.specs.defs.declared.event.Event.TheVariants as events
-use Rattle.inv_covers.specs.defs.declared.call.Answer.TheVariants as answers
-use Rattle.inv_covers.specs.model.declared.ends.FollowEnd.TheVariants as follow_ends
-use Rattle.inv_covers.specs.model.declared.ends.AllocateEnd.TheVariants as allocate_ends
-use Rattle.inv_covers.specs.model.Calls.{AfterScan, CallOutcome, CallTurn, ChangeKept, LetGo, Next, ScanAt, Task}
-use Rattle.inv_covers.specs.model.Calls.AfterScan.{Answered, Counted, Repeated}
-use Rattle.inv_covers.specs.model.Calls.CallOutcome.{Answers, GoesOn}
-use Rattle.inv_covers.specs.model.Calls.LetGo.{Dropped, Parting, Rehold, Released}
-use Rattle.inv_covers.specs.model.Calls.Next.{Again, Answering, MakeRoom, Retiring}
-use Rattle.inv_covers.specs.model.Calls.ScanAt.{GiveBack, ReadGuard}
-use Rattle.inv_covers.specs.model.Calls.Task.{Changes, Dequeues, Enqueues, Gets, Holds}
-use Rattle.inv_covers.specs.model.Desks.{Desk, with_life}
-use Rattle.inv_covers.specs.model.Guards.{guard_at, guards, eras_in, published, linked_row}
-use Rattle.inv_covers.specs.model.Phases.{Ending, Base}
-use Rattle.inv_covers.specs.model.Phases.Ending.{Allocated, Clocked, Done, Followed, Protected, Retired}
-use Rattle.inv_covers.specs.model.Rest.{has_walked, rounds_most}
-use Rattle.inv_covers.specs.model.Rounds.{begin_base, begin_span, bucket_of, clear_base, clear_post, clear_told, clearing, clearing_by, clearing_next, clearing_next_by, closed, finish_base, finish_span, finishing, finishing_by, given_up, index_of, kept_row, opening, root_of, round, round_by, scheme_of, taken_of, tidy_by}
-use Rattle.inv_covers.specs.model.declared.ends.AllocateEnd.{AllocateEnd}
-use Rattle.inv_covers.specs.model.declared.ends.FollowEnd.{FollowEnd}
-use Rattle.inv_covers.specs.model.declared.post.Post.{Post}
-use Rattle.inv_covers.specs.defs.Entry.{entry}
-use Rattle.inv_covers.specs.defs.declared.call.Answer.{Answer}
-use Rattle.inv_covers.specs.defs.declared.call.ClockMove.{ClockMove}
-use Rattle.inv_covers.specs.defs.declared.event.Event.{Event}
-use Rattle.inv_covers.specs.defs.declared.lifetime.Interval.{Interval}
+use Rattle.inv_rows.specs.model.Change as alters
+use Rattle.inv_rows.specs.model.Enqueue as enqueues
+use Rattle.inv_rows.specs.model.Dequeue as dequeues
+use Rattle.inv_rows.specs.model.Keep as keeps
+use Rattle.inv_rows.specs.model.Steps as steps
+use Rattle.inv_rows.specs.model.Scan as scan
+use Rattle.inv_rows.specs.defs.declared.event.Event.TheVariants as events
+use Rattle.inv_rows.specs.defs.declared.call.Answer.TheVariants as answers
+use Rattle.inv_rows.specs.model.declared.ends.FollowEnd.TheVariants as follow_ends
+use Rattle.inv_rows.specs.model.declared.ends.AllocateEnd.TheVariants as allocate_ends
+use Rattle.inv_rows.specs.model.Calls.{AfterScan, CallOutcome, CallTurn, ChangeKept, LetGo, Next, ScanAt, Task}
+use Rattle.inv_rows.specs.model.Calls.AfterScan.{Answered, Counted, Repeated}
+use Rattle.inv_rows.specs.model.Calls.CallOutcome.{Answers, GoesOn}
+use Rattle.inv_rows.specs.model.Calls.LetGo.{Dropped, Parting, Rehold, Released}
+use Rattle.inv_rows.specs.model.Calls.Next.{Again, Answering, MakeRoom, Retiring}
+use Rattle.inv_rows.specs.model.Calls.ScanAt.{GiveBack, ReadGuard}
+use Rattle.inv_rows.specs.model.Calls.Task.{Changes, Dequeues, Enqueues, Gets, Holds}
+use Rattle.inv_rows.specs.model.Desks.{Desk, with_life}
+use Rattle.inv_rows.specs.model.Guards.{guard_at, guards, eras_in, published, linked_row}
+use Rattle.inv_rows.specs.model.Phases.{Ending, Base}
+use Rattle.inv_rows.specs.model.Phases.Ending.{Allocated, Clocked, Done, Followed, Protected, Retired}
+use Rattle.inv_rows.specs.model.Rest.{has_walked, rounds_most}
+use Rattle.inv_rows.specs.model.Rounds.{begin_base, begin_span, bucket_of, clear_base, clear_post, clear_told, clearing, clearing_by, clearing_next, clearing_next_by, closed, finish_base, finish_span, finishing, finishing_by, given_up, index_of, kept_row, opening, root_of, round, round_by, scheme_of, taken_of, tidy_by}
+use Rattle.inv_rows.specs.model.declared.ends.AllocateEnd.{AllocateEnd}
+use Rattle.inv_rows.specs.model.declared.ends.FollowEnd.{FollowEnd}
+use Rattle.inv_rows.specs.model.declared.post.Post.{Post}
+use Rattle.inv_rows.specs.defs.Entry.{entry}
+use Rattle.inv_rows.specs.defs.declared.call.Answer.{Answer}
+use Rattle.inv_rows.specs.defs.declared.call.ClockMove.{ClockMove}
+use Rattle.inv_rows.specs.defs.declared.event.Event.{Event}
+use Rattle.inv_rows.specs.defs.declared.lifetime.Interval.{Interval}
 use Rattle.inv_ends.proofs.Rest.Closings.{cleared_told, opened_untold, spare}
 use Rattle.inv_ends.specs.Losses.{InRound, fills_fit, finish_fit, is_queue, later_fit, lost_fit, next_fit, opens_fit, phase_fit, hold_fit, rounds_in}
-use Rattle.inv_covers.specs.words.declared.config.Config.{Config}
-use Rattle.inv_covers.specs.words.declared.config.SchemeKind.{SchemeKind}
+use Rattle.inv_rows.specs.words.declared.config.Config.{Config}
+use Rattle.inv_rows.specs.words.declared.config.SchemeKind.{SchemeKind}
 use Rattle.std.specs.Prelude.{List, ◌++◌, Option, Some, None, nat_lt, ◌==◌, ◌%◌, drop}
-use Rattle.inv_covers.proofs.model.Schemes.{each_begin, each_clear, each_finish}
-use Rattle.inv_covers.specs.model.Posts.{standing_from}
-use Rattle.inv_covers.specs.words.Schemes.{publishes_rows, moves}
-use Rattle.inv_covers.specs.defs.declared.event.Guard.{Guard}
+use Rattle.inv_rows.proofs.model.Schemes.{each_begin, each_clear, each_finish}
+use Rattle.inv_rows.specs.model.Posts.{standing_from}
+use Rattle.inv_rows.specs.words.Schemes.{publishes_rows, moves}
+use Rattle.inv_rows.specs.defs.declared.event.Guard.{Guard}
 
 abbrev pub outcome_fit : Config → ℕ → CallOutcome → Type 0
 outcome_fit c rounds (GoesOn phase) = phase_fit c rounds phase

@@ -1,36 +1,36 @@
 -- The steps that a call has left fall at its own steps, and rise at no other.
 use Rattle.std.proofs.Common.{ℕ, ◌≡◌, ◌≤◌, ◌+◌, true, [], arith, refl, sym, ap, subst}
-use Rattle.inv_covers.specs.shapes.Frame.{phase_left as stands_at, Left, bared}
-use Rattle.inv_covers.specs.model.Steps as steps
-use Rattle.inv_covers.specs.model.Scan as scan
-use Rattle.inv_covers.specs.words.Place.{is_valid}
-use Rattle.inv_covers.specs.words.Place.Place.{Clock}
-use Rattle.inv_covers.proofs.shapes.Works.{work_left as work_grows, scan_left}
-use Rattle.inv_covers.specs.model.Calls.{CallOutcome, CallTurn, Phase, Why, Work}
-use Rattle.inv_covers.specs.model.Calls.CallOutcome.{Answers, GoesOn}
-use Rattle.inv_covers.specs.model.Calls.Phase.{Idle, Runs, Scans, Works}
-use Rattle.inv_covers.specs.model.Desks.{Desk}
-use Rattle.inv_covers.specs.model.Locals.{Local, busy_in, settled, turn}
-use Rattle.inv_covers.specs.model.Calls.Why.{FollowsHead}
-use Rattle.inv_covers.specs.model.Phases.{Base}
-use Rattle.inv_covers.specs.model.Phases.Base.{Protect}
-use Rattle.inv_covers.specs.model.Phases.HazardAt.{CheckLink, FirstLink, PublishLink}
-use Rattle.inv_covers.specs.model.Phases.ProtectAt.{ByHazard}
-use Rattle.inv_covers.specs.model.Rounds.{scheme_of}
-use Rattle.inv_covers.specs.words.Schemes.{publishes_rows}
-use Rattle.inv_covers.specs.model.Posts.{counted}
-use Rattle.inv_covers.specs.model.Rest.{eras_left, phase_left, phase_seen, rest, rest_of, span_seen, work_left}
-use Rattle.inv_covers.specs.model.World.{World, finds, offered, step}
-use Rattle.inv_covers.specs.model.declared.post.Post.{Post}
-use Rattle.inv_covers.specs.defs.declared.event.Event.{Event}
-use Rattle.inv_covers.specs.defs.declared.lifetime.Interval.{Interval}
-use Rattle.inv_covers.proofs.shapes.Decode.{clock_next}
-use Rattle.inv_covers.proofs.shapes.Frame.{seat_steps}
-use Rattle.inv_covers.proofs.shapes.Kept.{counted_fits, run_counted, work_counted, bared_fits, seats_step}
-use Rattle.inv_covers.specs.shapes.Eras.{PhaseEras, SpanIn}
-use Rattle.inv_covers.specs.shapes.Seats.{PhaseFits, Seats, scan_fits}
-use Rattle.inv_covers.specs.shapes.Slots.{BaseIn, PhaseIn, WorkIn, phase_finds, scan_lists}
-use Rattle.inv_covers.proofs.Requests.Falling.{moves_on}
+use Rattle.inv_rows.specs.Shapes.Frame.{phase_left as stands_at, Left, bared}
+use Rattle.inv_rows.specs.model.Steps as steps
+use Rattle.inv_rows.specs.model.Scan as scan
+use Rattle.inv_rows.specs.words.Place.{is_valid}
+use Rattle.inv_rows.specs.words.Place.Place.{Clock}
+use Rattle.inv_rows.proofs.Shapes.Works.{work_left as work_grows, scan_left}
+use Rattle.inv_rows.specs.model.Calls.{CallOutcome, CallTurn, Phase, Why, Work}
+use Rattle.inv_rows.specs.model.Calls.CallOutcome.{Answers, GoesOn}
+use Rattle.inv_rows.specs.model.Calls.Phase.{Idle, Runs, Scans, Works}
+use Rattle.inv_rows.specs.model.Desks.{Desk}
+use Rattle.inv_rows.specs.model.Locals.{Local, busy_in, settled, turn}
+use Rattle.inv_rows.specs.model.Calls.Why.{FollowsHead}
+use Rattle.inv_rows.specs.model.Phases.{Base}
+use Rattle.inv_rows.specs.model.Phases.Base.{Protect}
+use Rattle.inv_rows.specs.model.Phases.HazardAt.{CheckLink, FirstLink, PublishLink}
+use Rattle.inv_rows.specs.model.Phases.ProtectAt.{ByHazard}
+use Rattle.inv_rows.specs.model.Rounds.{scheme_of}
+use Rattle.inv_rows.specs.words.Schemes.{publishes_rows}
+use Rattle.inv_rows.specs.model.Posts.{counted}
+use Rattle.inv_rows.specs.model.Rest.{eras_left, phase_left, phase_seen, rest, rest_of, span_seen, work_left}
+use Rattle.inv_rows.specs.model.World.{World, finds, offered, step}
+use Rattle.inv_rows.specs.model.declared.post.Post.{Post}
+use Rattle.inv_rows.specs.defs.declared.event.Event.{Event}
+use Rattle.inv_rows.specs.defs.declared.lifetime.Interval.{Interval}
+use Rattle.inv_rows.proofs.Shapes.Decode.{clock_next}
+use Rattle.inv_rows.proofs.Shapes.Frame.{seat_steps}
+use Rattle.inv_rows.proofs.Shapes.Kept.{counted_fits, run_counted, work_counted, bared_fits, seats_step}
+use Rattle.inv_rows.specs.Shapes.Eras.{PhaseEras, SpanIn}
+use Rattle.inv_rows.specs.Shapes.Seats.{PhaseFits, Seats, scan_fits}
+use Rattle.inv_rows.specs.Shapes.Slots.{BaseIn, PhaseIn, WorkIn, phase_finds, scan_lists}
+use Rattle.inv_rows.proofs.Covering.Requests.Falling.{moves_on}
 use Rattle.inv_ends.proofs.Rest.Amounts.{PhaseKnown, known_of}
 use Rattle.inv_ends.proofs.Rest.Closes.{run_lowers}
 use Rattle.inv_ends.proofs.Rest.Closings.{rounds_join, turn_left}
@@ -42,12 +42,12 @@ use Rattle.inv_ends.proofs.Rest.Seen.{PostIs, ShowsSame, seen_grows, stores_same
 use Rattle.inv_ends.proofs.Rest.Works.{work_falls}
 use Rattle.inv_ends.specs.Falls.{RestFalls, RestNeeds}
 use Rattle.inv_ends.specs.Losses.{later_fit, phase_fit, work_fit}
-use Rattle.inv_covers.specs.words.declared.config.Config.{Config}
-use Rattle.inv_covers.specs.words.declared.layout.Layout.{Layout}
+use Rattle.inv_rows.specs.words.declared.config.Config.{Config}
+use Rattle.inv_rows.specs.words.declared.layout.Layout.{Layout}
 use Rattle.std.specs.Prelude.{List, length, Option}
-use Rattle.inv_covers.proofs.Held.{stepped_phase, stepped_post}
-use Rattle.inv_covers.specs.model.Calls.Work.{Keeping}
-use Rattle.inv_covers.specs.model.Calls.KeepAt.{HideSpan}
+use Rattle.inv_rows.proofs.Covering.Held.{stepped_phase, stepped_post}
+use Rattle.inv_rows.specs.model.Calls.Work.{Keeping}
+use Rattle.inv_rows.specs.model.Calls.KeepAt.{HideSpan}
 use Rattle.inv_ends.proofs.Rest.Small.{few_of}
 
 -- what a turn leaves, as the seat stands after it

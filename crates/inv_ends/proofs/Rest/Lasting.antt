@@ -1,55 +1,55 @@
 -- No call loses more rounds than its task may: from the start on, where a call begins, and over each step.
-use Rattle.inv_covers.specs.model.Keep as keeps
+use Rattle.inv_rows.specs.model.Keep as keeps
 use Rattle.std.proofs.Common.{ℕ, ◌∙◌, ◌≡◌, ◌+◌, ◌-◌, true, false, [], ◌∷◌, arith, refl, sym, ap, subst}
-use Rattle.inv_covers.specs.model.Steps as steps
-use Rattle.inv_covers.specs.model.Machine as machine
-use Rattle.inv_covers.specs.words.Place.{is_valid}
-use Rattle.inv_covers.specs.model.Phases.Base.{Move, Allocate, Begin, Clear, Finish, GiveUp, Protect, Release, Reload, Retire, Write}
-use Rattle.inv_covers.proofs.shapes.Works.{scan_left as scan_grows, work_left as work_grows, resume_left}
-use Rattle.inv_covers.specs.defs.declared.event.Event.TheVariants as events
-use Rattle.inv_covers.specs.defs.declared.fold.Change.TheVariants as changes
-use Rattle.inv_covers.specs.defs.declared.call.Call.TheVariants as names
-use Rattle.inv_covers.specs.model.declared.ends.FollowEnd.TheVariants as follow_ends
-use Rattle.inv_covers.specs.model.Allocate.{is_claimed, next_slot, walk_past, walking}
-use Rattle.inv_covers.specs.model.Calls.{CallOutcome, CallTurn, LetGo, Phase, Why, Work}
-use Rattle.inv_covers.specs.model.Calls.CallOutcome.{Answers, GoesOn}
-use Rattle.inv_covers.specs.model.Calls.ChangeAt.{ExchangeRoot, LoadCount, LoadKey, LoadValue, LoadVersion}
-use Rattle.inv_covers.specs.model.Calls.DequeueAt.{ExchangeHead, LoadTail, SwingTail, TakeNumber, TakeValue}
-use Rattle.inv_covers.specs.model.Calls.EnqueueAt.{ExchangeNext, ExchangeTail, LoadNext, LoadNumber, PassTail}
-use Rattle.inv_covers.specs.model.Calls.LetGo.{Dropped, Rehold, Released}
-use Rattle.inv_covers.specs.model.Calls.Phase.{Idle, Runs, Scans, Works}
-use Rattle.inv_covers.specs.model.Calls.Task.{Dequeues, Enqueues, Gets, Holds}
-use Rattle.inv_covers.specs.model.Calls.Work.{Changing, Dequeuing, Enqueuing, Getting, Keeping}
-use Rattle.inv_covers.specs.model.Desks.{Desk}
-use Rattle.inv_covers.specs.model.Links.{parent_of}
-use Rattle.inv_covers.specs.model.Locals.{Local, begun_post, settled, turn}
-use Rattle.inv_covers.specs.model.Machine.{protect_turn}
-use Rattle.inv_covers.specs.model.Memory.{bump}
-use Rattle.inv_covers.specs.model.Phases.{Aim, Base, Outcome, ProtectAt, Turn, Walk, ends, goes}
-use Rattle.inv_covers.specs.model.Phases.Aim.{Alone, Follows}
-use Rattle.inv_covers.specs.model.Phases.AllocateAt.{ClaimSlot, LoadBirth, StoreLife}
-use Rattle.inv_covers.specs.model.Phases.Ending.{Done, Followed}
-use Rattle.inv_covers.specs.model.Phases.Outcome.{Ends, Goes}
-use Rattle.inv_covers.specs.model.Phases.ProtectAt.{AnswerOwn, ByHazard, CheckClock, CheckOwnClock, CheckUpper, LoadAnswer, LoadClock, LoadLink, LoadOwnClock, LoadOwnLink, LoadWithin, PublishEra, PublishHelper, PublishRequest, RaiseUpper, TakeAnswer, WithdrawHelper, WithdrawRequest}
-use Rattle.inv_covers.specs.model.Phases.HazardAt.{CheckLink, FirstLink, PublishLink}
-use Rattle.inv_covers.specs.model.Phases.RetireAt.{LoadLife, LoadRetire, StoreRetired}
-use Rattle.inv_covers.specs.model.Posts.{counted, reserves_helper, stands, tag_of, with_row, with_tag}
-use Rattle.inv_covers.specs.model.Protect.{concluded, failed_once, held_post, protected, told_held}
-use Rattle.inv_covers.specs.model.SlowPath.{answer_in, lost_turn, own_request}
-use Rattle.inv_covers.specs.model.Rounds.{let_index, letting, letting_by, release_base, scheme_of}
-use Rattle.inv_covers.specs.model.Steps.{resumed}
-use Rattle.inv_covers.specs.model.World.{World, begin, finds, offered, step}
-use Rattle.inv_covers.specs.model.WriteRow.{last_written}
-use Rattle.inv_covers.specs.model.declared.post.Post.{Post}
-use Rattle.inv_covers.specs.defs.declared.call.Call.{Call}
-use Rattle.inv_covers.specs.defs.declared.event.Event.{Event}
-use Rattle.inv_covers.specs.defs.declared.event.Root.{Root}
-use Rattle.inv_covers.proofs.shapes.Frame.{begin_begins, begin_stays, seat_stays, seat_steps}
-use Rattle.inv_covers.proofs.shapes.Inside.{shape_moves}
-use Rattle.inv_covers.proofs.shapes.Kept.{counted_fits, run_counted, work_counted, one_moves, bared_fits}
-use Rattle.inv_covers.specs.shapes.Frame.{Passed, WorkFits, bared}
-use Rattle.inv_covers.specs.words.Schemes.{has_one_interval, publishes_rows}
-use Rattle.inv_covers.specs.shapes.Seats.{PhaseFits, PostFits, Run, Seats, base_fits, protect_fits}
+use Rattle.inv_rows.specs.model.Steps as steps
+use Rattle.inv_rows.specs.model.Machine as machine
+use Rattle.inv_rows.specs.words.Place.{is_valid}
+use Rattle.inv_rows.specs.model.Phases.Base.{Move, Allocate, Begin, Clear, Finish, GiveUp, Protect, Release, Reload, Retire, Write}
+use Rattle.inv_rows.proofs.Shapes.Works.{scan_left as scan_grows, work_left as work_grows, resume_left}
+use Rattle.inv_rows.specs.defs.declared.event.Event.TheVariants as events
+use Rattle.inv_rows.specs.defs.declared.fold.Change.TheVariants as changes
+use Rattle.inv_rows.specs.defs.declared.call.Call.TheVariants as names
+use Rattle.inv_rows.specs.model.declared.ends.FollowEnd.TheVariants as follow_ends
+use Rattle.inv_rows.specs.model.Allocate.{is_claimed, next_slot, walk_past, walking}
+use Rattle.inv_rows.specs.model.Calls.{CallOutcome, CallTurn, LetGo, Phase, Why, Work}
+use Rattle.inv_rows.specs.model.Calls.CallOutcome.{Answers, GoesOn}
+use Rattle.inv_rows.specs.model.Calls.ChangeAt.{ExchangeRoot, LoadCount, LoadKey, LoadValue, LoadVersion}
+use Rattle.inv_rows.specs.model.Calls.DequeueAt.{ExchangeHead, LoadTail, SwingTail, TakeNumber, TakeValue}
+use Rattle.inv_rows.specs.model.Calls.EnqueueAt.{ExchangeNext, ExchangeTail, LoadNext, LoadNumber, PassTail}
+use Rattle.inv_rows.specs.model.Calls.LetGo.{Dropped, Rehold, Released}
+use Rattle.inv_rows.specs.model.Calls.Phase.{Idle, Runs, Scans, Works}
+use Rattle.inv_rows.specs.model.Calls.Task.{Dequeues, Enqueues, Gets, Holds}
+use Rattle.inv_rows.specs.model.Calls.Work.{Changing, Dequeuing, Enqueuing, Getting, Keeping}
+use Rattle.inv_rows.specs.model.Desks.{Desk}
+use Rattle.inv_rows.specs.model.Links.{parent_of}
+use Rattle.inv_rows.specs.model.Locals.{Local, begun_post, settled, turn}
+use Rattle.inv_rows.specs.model.Machine.{protect_turn}
+use Rattle.inv_rows.specs.model.Memory.{bump}
+use Rattle.inv_rows.specs.model.Phases.{Aim, Base, Outcome, ProtectAt, Turn, Walk, ends, goes}
+use Rattle.inv_rows.specs.model.Phases.Aim.{Alone, Follows}
+use Rattle.inv_rows.specs.model.Phases.AllocateAt.{ClaimSlot, LoadBirth, StoreLife}
+use Rattle.inv_rows.specs.model.Phases.Ending.{Done, Followed}
+use Rattle.inv_rows.specs.model.Phases.Outcome.{Ends, Goes}
+use Rattle.inv_rows.specs.model.Phases.ProtectAt.{AnswerOwn, ByHazard, CheckClock, CheckOwnClock, CheckUpper, LoadAnswer, LoadClock, LoadLink, LoadOwnClock, LoadOwnLink, LoadWithin, PublishEra, PublishHelper, PublishRequest, RaiseUpper, TakeAnswer, WithdrawHelper, WithdrawRequest}
+use Rattle.inv_rows.specs.model.Phases.HazardAt.{CheckLink, FirstLink, PublishLink}
+use Rattle.inv_rows.specs.model.Phases.RetireAt.{LoadLife, LoadRetire, StoreRetired}
+use Rattle.inv_rows.specs.model.Posts.{counted, reserves_helper, stands, tag_of, with_row, with_tag}
+use Rattle.inv_rows.specs.model.Protect.{concluded, failed_once, held_post, protected, told_held}
+use Rattle.inv_rows.specs.model.SlowPath.{answer_in, lost_turn, own_request}
+use Rattle.inv_rows.specs.model.Rounds.{let_index, letting, letting_by, release_base, scheme_of}
+use Rattle.inv_rows.specs.model.Steps.{resumed}
+use Rattle.inv_rows.specs.model.World.{World, begin, finds, offered, step}
+use Rattle.inv_rows.specs.model.WriteRow.{last_written}
+use Rattle.inv_rows.specs.model.declared.post.Post.{Post}
+use Rattle.inv_rows.specs.defs.declared.call.Call.{Call}
+use Rattle.inv_rows.specs.defs.declared.event.Event.{Event}
+use Rattle.inv_rows.specs.defs.declared.event.Root.{Root}
+use Rattle.inv_rows.proofs.Shapes.Frame.{begin_begins, begin_stays, seat_stays, seat_steps}
+use Rattle.inv_rows.proofs.Shapes.Inside.{shape_moves}
+use Rattle.inv_rows.proofs.Shapes.Kept.{counted_fits, run_counted, work_counted, one_moves, bared_fits}
+use Rattle.inv_rows.specs.Shapes.Frame.{Passed, WorkFits, bared}
+use Rattle.inv_rows.specs.words.Schemes.{has_one_interval, publishes_rows}
+use Rattle.inv_rows.specs.Shapes.Seats.{PhaseFits, PostFits, Run, Seats, base_fits, protect_fits}
 use Rattle.inv_ends.proofs.Rest.Closings.{rounds_join}
 use Rattle.inv_ends.proofs.Rest.Fits.{TurnFit, hold_opens, round_fit, scan_fit, parts_fit}
 use Rattle.inv_ends.proofs.Rest.Kept.{post_is, seat_of, turn_rows}
@@ -60,14 +60,14 @@ use Rattle.inv_ends.proofs.Rest.Own.{WorkFew, work_turn_fit}
 use Rattle.inv_ends.proofs.Rest.Seen.{seen_grows, stores_same, PostIs}
 use Rattle.inv_ends.specs.Falls.{LossesBegin, LossesKept, LossesStart, RestNeeds}
 use Rattle.inv_ends.specs.Losses.{LossNeeds, Losses, phase_fit}
-use Rattle.inv_covers.specs.words.Packed.{read_request}
-use Rattle.inv_covers.specs.words.declared.config.Config.{Config}
-use Rattle.inv_covers.specs.words.declared.config.SchemeKind.{SchemeKind}
-use Rattle.inv_covers.specs.words.declared.layout.Layout.{Layout}
+use Rattle.inv_rows.specs.words.Packed.{read_request}
+use Rattle.inv_rows.specs.words.declared.config.Config.{Config}
+use Rattle.inv_rows.specs.words.declared.config.SchemeKind.{SchemeKind}
+use Rattle.inv_rows.specs.words.declared.layout.Layout.{Layout}
 use Rattle.std.specs.Prelude.{List, Option, Some, None, ◌==◌, ◌||◌}
-use Rattle.inv_covers.proofs.model.Facts.{if_by, no_truth}
-use Rattle.inv_covers.specs.defs.declared.lifetime.Interval.{Interval}
-use Rattle.inv_covers.specs.model.Calls.KeepAt.{HideSpan}
+use Rattle.inv_rows.proofs.model.Facts.{if_by, no_truth}
+use Rattle.inv_rows.specs.defs.declared.lifetime.Interval.{Interval}
+use Rattle.inv_rows.specs.model.Calls.KeepAt.{HideSpan}
 
 -- a step but of 2GE keeps the seat's interval
 

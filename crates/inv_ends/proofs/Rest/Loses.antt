@@ -1,45 +1,45 @@
 -- A machine's step has lost no more rounds than its call may.
 use Rattle.std.proofs.Common.{ℕ, ◌∙◌, ◌≡◌, ◌≤◌, ◌+◌, ◌-◌, Bool, true, false, [], ◌∷◌, arith, refl, sym, subst}
-use Rattle.inv_covers.specs.model.Steps as steps
-use Rattle.inv_covers.specs.model.Phases.Base.{Move, Allocate, Begin, Clear, Finish, GiveUp, Protect, Release, Reload, Retire, Write}
-use Rattle.inv_covers.specs.model.Memory.{bump}
-use Rattle.inv_covers.specs.defs.declared.event.Event.TheVariants as events
-use Rattle.inv_covers.specs.defs.declared.call.Answer.TheVariants as answers
-use Rattle.inv_covers.specs.model.declared.ends.ProtectEnd.TheVariants as protect_ends
-use Rattle.inv_covers.specs.model.declared.ends.FollowEnd.TheVariants as follow_ends
-use Rattle.inv_covers.specs.model.declared.ends.AllocateEnd.TheVariants as allocate_ends
-use Rattle.inv_covers.specs.model.Allocate.{is_claimed, next_slot, walk_past, walking}
-use Rattle.inv_covers.specs.model.Calls.{AfterScan, LetGo, Next, Task, Why}
-use Rattle.inv_covers.specs.model.Calls.Next.{Again, Answering, MakeRoom, Retiring}
-use Rattle.inv_covers.specs.model.Calls.Task.{Changes, Dequeues, Enqueues, Gets, Holds}
-use Rattle.inv_covers.specs.model.Calls.Why.{Advances, Clears, ClearsNext, Fills, Finishes, FollowsHead, GivesUp, Opens, Releases, Retires, Tidies}
-use Rattle.inv_covers.specs.model.Desks.{Desk}
-use Rattle.inv_covers.specs.model.Follow.{after_reload}
-use Rattle.inv_covers.specs.model.Guards.{from_to}
-use Rattle.inv_covers.specs.model.Links.{parent_of}
-use Rattle.inv_covers.specs.model.Locals.{counts_at, rounds_told}
-use Rattle.inv_covers.specs.model.Machine.{after, protect_turn}
-use Rattle.inv_covers.specs.model.Phases.{AllocateAt, Base, Outcome, ProtectAt, RowOf, Turn, Walk, ends, goes}
-use Rattle.inv_covers.specs.model.Phases.Aim.{Alone, Follows}
-use Rattle.inv_covers.specs.model.Phases.AllocateAt.{ClaimSlot, LoadBirth, StoreLife}
-use Rattle.inv_covers.specs.model.Phases.BeginAt.{LoadLower, PublishSpan}
-use Rattle.inv_covers.specs.model.Phases.Ending.{Allocated, Clocked, Done, Followed, Protected, Retired}
-use Rattle.inv_covers.specs.model.Phases.Outcome.{Ends, Goes}
-use Rattle.inv_covers.specs.model.Phases.ProtectAt.{AnswerOwn, ByHazard, CheckClock, CheckOwnClock, CheckUpper, LoadAnswer, LoadClock, LoadLink, LoadOwnClock, LoadOwnLink, LoadWithin, PublishEra, PublishHelper, PublishRequest, RaiseUpper, TakeAnswer, WithdrawHelper, WithdrawRequest}
-use Rattle.inv_covers.specs.model.Phases.HazardAt.{CheckLink, FirstLink, PublishLink}
-use Rattle.inv_covers.specs.model.Calls.Phase.{Runs}
-use Rattle.inv_covers.specs.words.Schemes.{publishes_rows}
-use Rattle.inv_covers.specs.model.Posts.{counted, reserves_helper, reserves_span, upper, with_row, with_span, withdrawn}
-use Rattle.inv_covers.specs.model.Protect.{concluded, failed_once, held_post, protected, told_held, trying}
-use Rattle.inv_covers.specs.model.Rest.{has_walked, is_told, lost_by, rounds_most}
-use Rattle.inv_covers.specs.model.SlowPath.{answer_in, lost_turn, own_request}
-use Rattle.inv_covers.specs.model.Steps.{resumed, run_turn}
-use Rattle.inv_covers.specs.model.World.{World, finds, offered}
-use Rattle.inv_covers.specs.model.WriteRow.{after_write, last_written}
-use Rattle.inv_covers.specs.model.declared.post.Post.{Post}
-use Rattle.inv_covers.specs.defs.declared.call.Answer.{Answer}
-use Rattle.inv_covers.specs.defs.declared.event.Event.{Event}
-use Rattle.inv_covers.specs.defs.declared.event.Root.{Root}
+use Rattle.inv_rows.specs.model.Steps as steps
+use Rattle.inv_rows.specs.model.Phases.Base.{Move, Allocate, Begin, Clear, Finish, GiveUp, Protect, Release, Reload, Retire, Write}
+use Rattle.inv_rows.specs.model.Memory.{bump}
+use Rattle.inv_rows.specs.defs.declared.event.Event.TheVariants as events
+use Rattle.inv_rows.specs.defs.declared.call.Answer.TheVariants as answers
+use Rattle.inv_rows.specs.model.declared.ends.ProtectEnd.TheVariants as protect_ends
+use Rattle.inv_rows.specs.model.declared.ends.FollowEnd.TheVariants as follow_ends
+use Rattle.inv_rows.specs.model.declared.ends.AllocateEnd.TheVariants as allocate_ends
+use Rattle.inv_rows.specs.model.Allocate.{is_claimed, next_slot, walk_past, walking}
+use Rattle.inv_rows.specs.model.Calls.{AfterScan, LetGo, Next, Task, Why}
+use Rattle.inv_rows.specs.model.Calls.Next.{Again, Answering, MakeRoom, Retiring}
+use Rattle.inv_rows.specs.model.Calls.Task.{Changes, Dequeues, Enqueues, Gets, Holds}
+use Rattle.inv_rows.specs.model.Calls.Why.{Advances, Clears, ClearsNext, Fills, Finishes, FollowsHead, GivesUp, Opens, Releases, Retires, Tidies}
+use Rattle.inv_rows.specs.model.Desks.{Desk}
+use Rattle.inv_rows.specs.model.Follow.{after_reload}
+use Rattle.inv_rows.specs.model.Guards.{from_to}
+use Rattle.inv_rows.specs.model.Links.{parent_of}
+use Rattle.inv_rows.specs.model.Locals.{counts_at, rounds_told}
+use Rattle.inv_rows.specs.model.Machine.{after, protect_turn}
+use Rattle.inv_rows.specs.model.Phases.{AllocateAt, Base, Outcome, ProtectAt, RowOf, Turn, Walk, ends, goes}
+use Rattle.inv_rows.specs.model.Phases.Aim.{Alone, Follows}
+use Rattle.inv_rows.specs.model.Phases.AllocateAt.{ClaimSlot, LoadBirth, StoreLife}
+use Rattle.inv_rows.specs.model.Phases.BeginAt.{LoadLower, PublishSpan}
+use Rattle.inv_rows.specs.model.Phases.Ending.{Allocated, Clocked, Done, Followed, Protected, Retired}
+use Rattle.inv_rows.specs.model.Phases.Outcome.{Ends, Goes}
+use Rattle.inv_rows.specs.model.Phases.ProtectAt.{AnswerOwn, ByHazard, CheckClock, CheckOwnClock, CheckUpper, LoadAnswer, LoadClock, LoadLink, LoadOwnClock, LoadOwnLink, LoadWithin, PublishEra, PublishHelper, PublishRequest, RaiseUpper, TakeAnswer, WithdrawHelper, WithdrawRequest}
+use Rattle.inv_rows.specs.model.Phases.HazardAt.{CheckLink, FirstLink, PublishLink}
+use Rattle.inv_rows.specs.model.Calls.Phase.{Runs}
+use Rattle.inv_rows.specs.words.Schemes.{publishes_rows}
+use Rattle.inv_rows.specs.model.Posts.{counted, reserves_helper, reserves_span, upper, with_row, with_span, withdrawn}
+use Rattle.inv_rows.specs.model.Protect.{concluded, failed_once, held_post, protected, told_held, trying}
+use Rattle.inv_rows.specs.model.Rest.{has_walked, is_told, lost_by, rounds_most}
+use Rattle.inv_rows.specs.model.SlowPath.{answer_in, lost_turn, own_request}
+use Rattle.inv_rows.specs.model.Steps.{resumed, run_turn}
+use Rattle.inv_rows.specs.model.World.{World, finds, offered}
+use Rattle.inv_rows.specs.model.WriteRow.{after_write, last_written}
+use Rattle.inv_rows.specs.model.declared.post.Post.{Post}
+use Rattle.inv_rows.specs.defs.declared.call.Answer.{Answer}
+use Rattle.inv_rows.specs.defs.declared.event.Event.{Event}
+use Rattle.inv_rows.specs.defs.declared.event.Root.{Root}
 use Rattle.inv_ends.proofs.Rest.Closes.{clear_rounds}
 use Rattle.inv_ends.proofs.Rest.Falling.{Seat, fit_rows}
 use Rattle.inv_ends.proofs.Rest.Fits.{TurnFit, advanced_fit, clearing_fit, closed_fit, filled_by_fit, finishing_fit, followed_fit, opened_null_fit, opened_row_fit, opening_fit, released_fit, retired_fit, tidied_fit, written_fit}
@@ -47,11 +47,11 @@ use Rattle.inv_ends.proofs.Rest.Runs.{EndsWell, ends_well}
 use Rattle.inv_ends.proofs.Rest.Seats.{counts_task, follow_steady, follows_alone, hold_steady, lost_few, once_told, own_root, own_tells, task_counts}
 use Rattle.inv_ends.proofs.Rest.Told.{Tells, answer_untold, at_linked, base_steady, by_rows, lost_after, lost_untold, reload_steady, root_told, row_counts, trying_untold}
 use Rattle.inv_ends.specs.Losses.{InRound, LossNeeds, hold_fit, rounds_in, fills_fit, finish_fit, is_queue, later_fit, next_fit, opens_fit, tells_fit}
-use Rattle.inv_covers.specs.words.Packed.{read_request}
-use Rattle.inv_covers.specs.words.declared.config.Config.{Config}
+use Rattle.inv_rows.specs.words.Packed.{read_request}
+use Rattle.inv_rows.specs.words.declared.config.Config.{Config}
 use Rattle.std.specs.Prelude.{List, Option, Some, None, ◌==◌, ◌||◌}
-use Rattle.inv_covers.proofs.Requests.Standings.{is_root}
-use Rattle.inv_covers.proofs.model.Facts.{if_by}
+use Rattle.inv_rows.proofs.Covering.Requests.Standings.{is_root}
+use Rattle.inv_rows.proofs.model.Facts.{if_by}
 
 -- what is left of a call once a machine has made its step
 abbrev pub FitAfter : World → ℕ → Why → Base → Type 0

@@ -1,32 +1,32 @@
 -- A machine's step leaves fewer steps of it, or a greater era is seen.
 use Rattle.std.proofs.Common.{ℕ, ◌≡◌, ◌≤◌, ◌<◌, ◌+◌, ◌-◌, Bool, true, false, [], arith, refl}
 use Rattle.std.proofs.lemmas.Bool.Decides.{nat_tests}
-use Rattle.inv_covers.specs.defs.declared.event.Root.TheVariants as roots
-use Rattle.inv_covers.specs.model.declared.ends.FollowEnd.TheVariants as follow_ends
-use Rattle.inv_covers.specs.words.declared.packed.Request.TheVariants as requests
-use Rattle.inv_covers.specs.words.Packed.{read_request}
-use Rattle.inv_covers.specs.model.Links.{parent_of}
-use Rattle.inv_covers.specs.model.Machine.{hazard_turn, protect_turn}
-use Rattle.inv_covers.specs.model.Phases.{Aim, Base, HazardAt, Outcome, ProtectAt, Tries, Turn, ends, goes}
-use Rattle.inv_covers.specs.model.Phases.Aim.{Alone, Follows}
-use Rattle.inv_covers.specs.model.Phases.Base.{Protect, Reload}
-use Rattle.inv_covers.specs.model.Phases.Ending.{Followed}
-use Rattle.inv_covers.specs.model.Phases.Outcome.{Ends, Goes}
-use Rattle.inv_covers.specs.model.Phases.ProtectAt.{AnswerOwn, ByHazard, CheckClock, CheckOwnClock, CheckUpper, LoadAnswer, LoadClock, LoadLink, LoadOwnClock, LoadOwnLink, LoadWithin, PublishEra, PublishHelper, PublishRequest, RaiseUpper, TakeAnswer, WithdrawHelper, WithdrawRequest}
-use Rattle.inv_covers.specs.model.Phases.HazardAt.{CheckLink, FirstLink, PublishLink}
-use Rattle.inv_covers.specs.model.Phases.Tries.{Endless, Failed}
-use Rattle.inv_covers.specs.model.Posts.{reserves_helper, tag_of, upper, with_row, with_tag}
-use Rattle.inv_covers.specs.model.Protect.{concluded, failed_once, held_post, protected, told_held, trying}
-use Rattle.inv_covers.specs.model.Rest.{aim_left, base_left, base_seen, eras_left, protect_left, protect_seen, span_seen, tries_left}
-use Rattle.inv_covers.specs.model.SlowPath.{answer_in, lost_turn, own_request}
-use Rattle.inv_covers.specs.model.declared.post.Post.{Post}
-use Rattle.inv_covers.specs.defs.declared.event.Event.{Event}
-use Rattle.inv_covers.specs.defs.declared.event.Root.{Root}
-use Rattle.inv_covers.specs.defs.declared.lifetime.Interval.{Interval}
-use Rattle.inv_covers.specs.words.declared.config.Config.{Config}
-use Rattle.inv_covers.specs.words.declared.packed.Request.{Request}
+use Rattle.inv_rows.specs.defs.declared.event.Root.TheVariants as roots
+use Rattle.inv_rows.specs.model.declared.ends.FollowEnd.TheVariants as follow_ends
+use Rattle.inv_rows.specs.words.declared.packed.Request.TheVariants as requests
+use Rattle.inv_rows.specs.words.Packed.{read_request}
+use Rattle.inv_rows.specs.model.Links.{parent_of}
+use Rattle.inv_rows.specs.model.Machine.{hazard_turn, protect_turn}
+use Rattle.inv_rows.specs.model.Phases.{Aim, Base, HazardAt, Outcome, ProtectAt, Tries, Turn, ends, goes}
+use Rattle.inv_rows.specs.model.Phases.Aim.{Alone, Follows}
+use Rattle.inv_rows.specs.model.Phases.Base.{Protect, Reload}
+use Rattle.inv_rows.specs.model.Phases.Ending.{Followed}
+use Rattle.inv_rows.specs.model.Phases.Outcome.{Ends, Goes}
+use Rattle.inv_rows.specs.model.Phases.ProtectAt.{AnswerOwn, ByHazard, CheckClock, CheckOwnClock, CheckUpper, LoadAnswer, LoadClock, LoadLink, LoadOwnClock, LoadOwnLink, LoadWithin, PublishEra, PublishHelper, PublishRequest, RaiseUpper, TakeAnswer, WithdrawHelper, WithdrawRequest}
+use Rattle.inv_rows.specs.model.Phases.HazardAt.{CheckLink, FirstLink, PublishLink}
+use Rattle.inv_rows.specs.model.Phases.Tries.{Endless, Failed}
+use Rattle.inv_rows.specs.model.Posts.{reserves_helper, tag_of, upper, with_row, with_tag}
+use Rattle.inv_rows.specs.model.Protect.{concluded, failed_once, held_post, protected, told_held, trying}
+use Rattle.inv_rows.specs.model.Rest.{aim_left, base_left, base_seen, eras_left, protect_left, protect_seen, span_seen, tries_left}
+use Rattle.inv_rows.specs.model.SlowPath.{answer_in, lost_turn, own_request}
+use Rattle.inv_rows.specs.model.declared.post.Post.{Post}
+use Rattle.inv_rows.specs.defs.declared.event.Event.{Event}
+use Rattle.inv_rows.specs.defs.declared.event.Root.{Root}
+use Rattle.inv_rows.specs.defs.declared.lifetime.Interval.{Interval}
+use Rattle.inv_rows.specs.words.declared.config.Config.{Config}
+use Rattle.inv_rows.specs.words.declared.packed.Request.{Request}
 use Rattle.std.specs.Prelude.{List, Option, Some, None, is_some, nat_le, if◌then◌else◌, ◌==◌, ◌||◌}
-use Rattle.inv_covers.proofs.model.Facts.{if_by}
+use Rattle.inv_rows.proofs.model.Facts.{if_by}
 
 -- the steps and eras that a machine's phase leaves
 abbrev pub start_of : Config → ℕ → Option Interval → Base → ℕ

@@ -1,33 +1,33 @@
 -- The same of the other machines.
 use Rattle.std.proofs.Common.{ℕ, zero, suc, ◌≡◌, ◌≤◌, ◌<◌, ◌+◌, ◌-◌, Bool, true, false, [], ◌∷◌, arith, refl}
 use Rattle.std.proofs.lemmas.Bool.Decides.{nat_tests}
-use Rattle.inv_covers.specs.model.Memory.{bump}
-use Rattle.inv_covers.specs.model.Machine.{after, move_turn}
-use Rattle.inv_covers.specs.defs.declared.event.Event.TheVariants as events
-use Rattle.inv_covers.specs.defs.declared.call.ClockMove.TheVariants as moves
-use Rattle.inv_covers.specs.model.declared.ends.FollowEnd.TheVariants as follow_ends
-use Rattle.inv_covers.specs.model.Allocate.{is_claimed, next_slot, shown_of, shown_word, walk_at, walk_on, walk_past, walking}
-use Rattle.inv_covers.specs.model.MoveClock.{after_hand_over, moving, next_request}
-use Rattle.inv_covers.specs.model.Phases.{Base, MoveAt, Outcome, Turn, Walk, ends, goes}
-use Rattle.inv_covers.specs.model.Phases.AllocateAt.{ClaimSlot, LoadBirth, StoreLife}
-use Rattle.inv_covers.specs.model.Phases.Base.{Allocate, Begin, Clear, Finish, GiveUp, Move, Protect, Release, Reload, Retire, Write}
-use Rattle.inv_covers.specs.model.Phases.Ending.{Clocked, Done, Followed}
-use Rattle.inv_covers.specs.model.Phases.MoveAt.{AnswerAsked, CheckEra, ExchangeClock, HandOver, HideEra, HideLate, LoadAsked, LoadEra, LoadRequest, LoadReserved, ShowEra}
-use Rattle.inv_covers.specs.model.Phases.Outcome.{Ends, Goes}
-use Rattle.inv_covers.specs.model.Phases.RetireAt.{LoadLife, LoadRetire, StoreRetired}
-use Rattle.inv_covers.specs.model.Posts.{with_row}
-use Rattle.inv_covers.specs.model.Rest.{eras_left, move_left, span_seen}
-use Rattle.inv_covers.specs.model.SlowPath.{asking}
-use Rattle.inv_covers.specs.model.WriteRow.{last_written}
-use Rattle.inv_covers.specs.model.declared.post.Post.{Post}
-use Rattle.inv_covers.specs.defs.declared.event.Event.{Event}
-use Rattle.inv_covers.specs.Requests.Paces.{Falls}
-use Rattle.inv_covers.specs.Requests.Roles.{shows}
+use Rattle.inv_rows.specs.model.Memory.{bump}
+use Rattle.inv_rows.specs.model.Machine.{after, move_turn}
+use Rattle.inv_rows.specs.defs.declared.event.Event.TheVariants as events
+use Rattle.inv_rows.specs.defs.declared.call.ClockMove.TheVariants as moves
+use Rattle.inv_rows.specs.model.declared.ends.FollowEnd.TheVariants as follow_ends
+use Rattle.inv_rows.specs.model.Allocate.{is_claimed, next_slot, shown_of, shown_word, walk_at, walk_on, walk_past, walking}
+use Rattle.inv_rows.specs.model.MoveClock.{after_hand_over, moving, next_request}
+use Rattle.inv_rows.specs.model.Phases.{Base, MoveAt, Outcome, Turn, Walk, ends, goes}
+use Rattle.inv_rows.specs.model.Phases.AllocateAt.{ClaimSlot, LoadBirth, StoreLife}
+use Rattle.inv_rows.specs.model.Phases.Base.{Allocate, Begin, Clear, Finish, GiveUp, Move, Protect, Release, Reload, Retire, Write}
+use Rattle.inv_rows.specs.model.Phases.Ending.{Clocked, Done, Followed}
+use Rattle.inv_rows.specs.model.Phases.MoveAt.{AnswerAsked, CheckEra, ExchangeClock, HandOver, HideEra, HideLate, LoadAsked, LoadEra, LoadRequest, LoadReserved, ShowEra}
+use Rattle.inv_rows.specs.model.Phases.Outcome.{Ends, Goes}
+use Rattle.inv_rows.specs.model.Phases.RetireAt.{LoadLife, LoadRetire, StoreRetired}
+use Rattle.inv_rows.specs.model.Posts.{with_row}
+use Rattle.inv_rows.specs.model.Rest.{eras_left, move_left, span_seen}
+use Rattle.inv_rows.specs.model.SlowPath.{asking}
+use Rattle.inv_rows.specs.model.WriteRow.{last_written}
+use Rattle.inv_rows.specs.model.declared.post.Post.{Post}
+use Rattle.inv_rows.specs.defs.declared.event.Event.{Event}
+use Rattle.inv_rows.specs.Covering.Requests.Paces.{Falls}
+use Rattle.inv_rows.specs.Covering.Requests.Roles.{shows}
 use Rattle.inv_ends.proofs.Rest.Machines.{Settles, seen_rises, settles, start_of}
-use Rattle.inv_covers.specs.words.Packed.{read_reservation, reservation_word}
-use Rattle.inv_covers.specs.words.declared.config.Config.{Config}
+use Rattle.inv_rows.specs.words.Packed.{read_reservation, reservation_word}
+use Rattle.inv_rows.specs.words.declared.config.Config.{Config}
 use Rattle.std.specs.Prelude.{List, Option, Some, None, ◌==◌}
-use Rattle.inv_covers.proofs.model.Facts.{if_by}
+use Rattle.inv_rows.proofs.model.Facts.{if_by}
 
 -- a walk that goes on has fewer rows before it
 abbrev Shortens : ℕ → Option Walk → Type 0

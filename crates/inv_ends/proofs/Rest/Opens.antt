@@ -1,27 +1,27 @@
 -- What comes after the protection of a task's root, after a follow, and once a row is filled.
 use Rattle.std.proofs.Common.{ℕ, ◌≡◌, ◌≤◌, ◌+◌, ◌*◌, ◌-◌, Bool, true, false, [], ◌∷◌, arith, refl, subst}
 use Rattle.inv_ends.proofs.Rest.Amounts.{PhaseKnown, opens_worth, task_drops, task_falls}
-use Rattle.inv_covers.specs.shapes.Frame.{phase_left as stands_at}
-use Rattle.inv_covers.specs.model.Change.{filling_by as change_filling, with_change, at_link, deciding, deciding_by, refused}
-use Rattle.inv_covers.specs.model.Enqueue.{filling_by as item_filling}
-use Rattle.inv_covers.specs.defs.declared.event.Event.TheVariants as events
-use Rattle.inv_covers.specs.defs.declared.call.Answer.TheVariants as answers
-use Rattle.inv_covers.specs.model.Calls.{ChangeKept, EnqueueKept, Task}
-use Rattle.inv_covers.specs.model.Calls.Next.{Again, Answering}
-use Rattle.inv_covers.specs.model.Calls.Task.{Changes, Dequeues, Enqueues, Gets, Holds}
-use Rattle.inv_covers.specs.model.Calls.Why.{Fills}
-use Rattle.inv_covers.specs.model.Desks.{Desk}
-use Rattle.inv_covers.specs.model.Rest.{closing_left, ending_most, round_left, rounds_left, rounds_most, task_left, walk_most, walks_after, walks_by, why_left}
-use Rattle.inv_covers.specs.model.Rounds.{bucket_of}
-use Rattle.inv_covers.specs.model.Steps.{opened_null, opened_row}
-use Rattle.inv_covers.specs.model.declared.post.Post.{Post}
-use Rattle.inv_covers.specs.defs.declared.call.Answer.{Answer}
-use Rattle.inv_covers.specs.defs.declared.event.Event.{Event}
+use Rattle.inv_rows.specs.Shapes.Frame.{phase_left as stands_at}
+use Rattle.inv_rows.specs.model.Change.{filling_by as change_filling, with_change, at_link, deciding, deciding_by, refused}
+use Rattle.inv_rows.specs.model.Enqueue.{filling_by as item_filling}
+use Rattle.inv_rows.specs.defs.declared.event.Event.TheVariants as events
+use Rattle.inv_rows.specs.defs.declared.call.Answer.TheVariants as answers
+use Rattle.inv_rows.specs.model.Calls.{ChangeKept, EnqueueKept, Task}
+use Rattle.inv_rows.specs.model.Calls.Next.{Again, Answering}
+use Rattle.inv_rows.specs.model.Calls.Task.{Changes, Dequeues, Enqueues, Gets, Holds}
+use Rattle.inv_rows.specs.model.Calls.Why.{Fills}
+use Rattle.inv_rows.specs.model.Desks.{Desk}
+use Rattle.inv_rows.specs.model.Rest.{closing_left, ending_most, round_left, rounds_left, rounds_most, task_left, walk_most, walks_after, walks_by, why_left}
+use Rattle.inv_rows.specs.model.Rounds.{bucket_of}
+use Rattle.inv_rows.specs.model.Steps.{opened_null, opened_row}
+use Rattle.inv_rows.specs.model.declared.post.Post.{Post}
+use Rattle.inv_rows.specs.defs.declared.call.Answer.{Answer}
+use Rattle.inv_rows.specs.defs.declared.event.Event.{Event}
 use Rattle.inv_ends.proofs.Rest.Closings.{clearing_left, turn_left}
-use Rattle.inv_covers.specs.words.declared.config.Config.{Config}
-use Rattle.inv_covers.specs.words.declared.layout.Layout.{Layout}
+use Rattle.inv_rows.specs.words.declared.config.Config.{Config}
+use Rattle.inv_rows.specs.words.declared.layout.Layout.{Layout}
 use Rattle.std.specs.Prelude.{List, ◌++◌, length, Option, Some, None}
-use Rattle.inv_covers.proofs.model.Facts.{one_before}
+use Rattle.inv_rows.proofs.model.Facts.{one_before}
 use Rattle.inv_ends.specs.Losses.{rounds_in}
 
 -- a round is lost: another begins

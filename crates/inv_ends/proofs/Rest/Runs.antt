@@ -1,34 +1,34 @@
 -- A step of a machine within a call leaves fewer steps, or a greater era is seen.
 use Rattle.std.proofs.Common.{ℕ, ◌≡◌, ◌≤◌, ◌+◌, ◌-◌, Bool, true, false, [], ◌∷◌, arith, refl}
 use Rattle.inv_ends.proofs.Rest.Amounts.{PhaseKnown}
-use Rattle.inv_covers.specs.shapes.Frame.{phase_left as stands_at, Left}
-use Rattle.inv_covers.specs.model.Steps as steps
-use Rattle.inv_covers.specs.model.Machine as machine
-use Rattle.inv_covers.specs.model.Phases.Base.{Move as Moves, Protect, Allocate, Begin, Clear, Finish, GiveUp, Release, Reload, Retire, Write}
-use Rattle.inv_covers.specs.defs.declared.call.Answer.TheVariants as answers
-use Rattle.inv_covers.specs.model.declared.ends.ProtectEnd.TheVariants as protect_ends
-use Rattle.inv_covers.specs.model.Calls.{AfterScan, CallTurn, Task, Why}
-use Rattle.inv_covers.specs.model.Calls.Next.{Answering}
-use Rattle.inv_covers.specs.model.Calls.Task.{Dequeues, Holds}
-use Rattle.inv_covers.specs.model.Calls.Why.{Advances, FollowsHead, Opens, Retires, Tidies, Fills}
-use Rattle.inv_covers.specs.model.Desks.{Desk}
-use Rattle.inv_covers.specs.model.Machine.{protect_turn}
-use Rattle.inv_covers.specs.model.Phases.{Base, Outcome, ProtectAt, Turn, goes, AllocateAt, Ending, RowOf, Walk, ends}
-use Rattle.inv_covers.specs.model.Phases.Aim.{Alone}
-use Rattle.inv_covers.specs.model.Phases.Ending.{Allocated, Clocked, Done, Followed, Protected, Retired}
-use Rattle.inv_covers.specs.model.Phases.Outcome.{Ends, Goes}
-use Rattle.inv_covers.specs.model.Phases.ProtectAt.{AnswerOwn, CheckClock, CheckOwnClock, CheckUpper, LoadAnswer, LoadClock, LoadLink, LoadOwnClock, LoadOwnLink, LoadWithin, PublishEra, PublishHelper, PublishRequest, RaiseUpper, TakeAnswer, WithdrawHelper, WithdrawRequest, ByHazard}
-use Rattle.inv_covers.specs.model.Posts.{upper}
-use Rattle.inv_covers.specs.model.Protect.{failed_once, protected}
-use Rattle.inv_covers.specs.model.Rest.{eras_left, is_told, later_left, lost_by, phase_seen, room_most, round_left, rounds_most, scan_most, span_seen, task_left, ending_most, fill_left, has_walked, rounds_left, walks_after}
-use Rattle.inv_covers.specs.model.SlowPath.{answer_in, lost_turn, own_request}
-use Rattle.inv_covers.specs.model.Steps.{resumed, resume}
-use Rattle.inv_covers.specs.model.declared.ends.ProtectEnd.{ProtectEnd}
-use Rattle.inv_covers.specs.model.declared.post.Post.{Post}
-use Rattle.inv_covers.specs.defs.declared.call.Answer.{Answer}
-use Rattle.inv_covers.specs.defs.declared.event.Event.{Event}
-use Rattle.inv_covers.specs.defs.declared.event.Root.{Root}
-use Rattle.inv_covers.specs.defs.declared.lifetime.Interval.{Interval}
+use Rattle.inv_rows.specs.Shapes.Frame.{phase_left as stands_at, Left}
+use Rattle.inv_rows.specs.model.Steps as steps
+use Rattle.inv_rows.specs.model.Machine as machine
+use Rattle.inv_rows.specs.model.Phases.Base.{Move as Moves, Protect, Allocate, Begin, Clear, Finish, GiveUp, Release, Reload, Retire, Write}
+use Rattle.inv_rows.specs.defs.declared.call.Answer.TheVariants as answers
+use Rattle.inv_rows.specs.model.declared.ends.ProtectEnd.TheVariants as protect_ends
+use Rattle.inv_rows.specs.model.Calls.{AfterScan, CallTurn, Task, Why}
+use Rattle.inv_rows.specs.model.Calls.Next.{Answering}
+use Rattle.inv_rows.specs.model.Calls.Task.{Dequeues, Holds}
+use Rattle.inv_rows.specs.model.Calls.Why.{Advances, FollowsHead, Opens, Retires, Tidies, Fills}
+use Rattle.inv_rows.specs.model.Desks.{Desk}
+use Rattle.inv_rows.specs.model.Machine.{protect_turn}
+use Rattle.inv_rows.specs.model.Phases.{Base, Outcome, ProtectAt, Turn, goes, AllocateAt, Ending, RowOf, Walk, ends}
+use Rattle.inv_rows.specs.model.Phases.Aim.{Alone}
+use Rattle.inv_rows.specs.model.Phases.Ending.{Allocated, Clocked, Done, Followed, Protected, Retired}
+use Rattle.inv_rows.specs.model.Phases.Outcome.{Ends, Goes}
+use Rattle.inv_rows.specs.model.Phases.ProtectAt.{AnswerOwn, CheckClock, CheckOwnClock, CheckUpper, LoadAnswer, LoadClock, LoadLink, LoadOwnClock, LoadOwnLink, LoadWithin, PublishEra, PublishHelper, PublishRequest, RaiseUpper, TakeAnswer, WithdrawHelper, WithdrawRequest, ByHazard}
+use Rattle.inv_rows.specs.model.Posts.{upper}
+use Rattle.inv_rows.specs.model.Protect.{failed_once, protected}
+use Rattle.inv_rows.specs.model.Rest.{eras_left, is_told, later_left, lost_by, phase_seen, room_most, round_left, rounds_most, scan_most, span_seen, task_left, ending_most, fill_left, has_walked, rounds_left, walks_after}
+use Rattle.inv_rows.specs.model.SlowPath.{answer_in, lost_turn, own_request}
+use Rattle.inv_rows.specs.model.Steps.{resumed, resume}
+use Rattle.inv_rows.specs.model.declared.ends.ProtectEnd.{ProtectEnd}
+use Rattle.inv_rows.specs.model.declared.post.Post.{Post}
+use Rattle.inv_rows.specs.defs.declared.call.Answer.{Answer}
+use Rattle.inv_rows.specs.defs.declared.event.Event.{Event}
+use Rattle.inv_rows.specs.defs.declared.event.Root.{Root}
+use Rattle.inv_rows.specs.defs.declared.lifetime.Interval.{Interval}
 use Rattle.inv_ends.proofs.Rest.Closings.{clearing_left, turn_left}
 use Rattle.inv_ends.proofs.Rest.Machines.{settles}
 use Rattle.inv_ends.proofs.Rest.Opens.{opened_null_left, opened_row_left, lost_null_left}
@@ -36,15 +36,15 @@ use Rattle.inv_ends.proofs.Rest.Seen.{PostIs, ShowsSame}
 use Rattle.inv_ends.proofs.Rest.Told.{Tells}
 use Rattle.inv_ends.proofs.Rest.Ways.{advanced_left, followed_by_left, retired_by_left, tidied_left, filled_by_left, written_row_left}
 use Rattle.inv_ends.specs.Losses.{InRound, fills_fit, rounds_in}
-use Rattle.inv_covers.specs.words.Packed.{read_request}
-use Rattle.inv_covers.specs.words.declared.config.Config.{Config}
-use Rattle.inv_covers.specs.words.declared.layout.Layout.{Layout}
+use Rattle.inv_rows.specs.words.Packed.{read_request}
+use Rattle.inv_rows.specs.words.declared.config.Config.{Config}
+use Rattle.inv_rows.specs.words.declared.layout.Layout.{Layout}
 use Rattle.std.specs.Prelude.{List, length, Option, ◌==◌, Some, None, if◌then◌else◌, ◌||◌}
-use Rattle.inv_covers.specs.defs.declared.event.Event.TheVariants as events
-use Rattle.inv_covers.specs.model.Allocate.{is_claimed, next_slot, walk_past, walking}
-use Rattle.inv_covers.specs.model.Phases.AllocateAt.{ClaimSlot, LoadBirth, StoreLife}
-use Rattle.inv_covers.proofs.model.Facts.{if_by}
-use Rattle.inv_covers.specs.model.Phases.HazardAt.{CheckLink, FirstLink, PublishLink}
+use Rattle.inv_rows.specs.defs.declared.event.Event.TheVariants as events
+use Rattle.inv_rows.specs.model.Allocate.{is_claimed, next_slot, walk_past, walking}
+use Rattle.inv_rows.specs.model.Phases.AllocateAt.{ClaimSlot, LoadBirth, StoreLife}
+use Rattle.inv_rows.proofs.model.Facts.{if_by}
+use Rattle.inv_rows.specs.model.Phases.HazardAt.{CheckLink, FirstLink, PublishLink}
 
 -- steps and eras that a turn leaves
 abbrev pub turn_total : Config → (clock rounds : ℕ) → CallTurn → ℕ

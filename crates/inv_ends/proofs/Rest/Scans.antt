@@ -3,30 +3,30 @@ use Rattle.std.proofs.Common.{ℕ, ◌≡◌, ◌≤◌, ◌<◌, ◌+◌, ◌-�
 use Rattle.std.proofs.lemmas.Bool.Decides.{nat_tests}
 use Rattle.std.proofs.lemmas.List.{length-drop}
 use Rattle.std.proofs.lemmas.List.Edits.{length-remove}
-use Rattle.inv_covers.specs.defs.Shown.{Seen, keeps_any}
-use Rattle.inv_covers.specs.model.Scan as scan
-use Rattle.inv_covers.specs.defs.declared.event.Event.TheVariants as events
-use Rattle.inv_covers.specs.model.Calls.{AfterScan, ScanAt, Task}
-use Rattle.inv_covers.specs.model.Calls.AfterScan.{Answered, Counted, Repeated}
-use Rattle.inv_covers.specs.model.Calls.ScanAt.{GiveBack, ReadGuard}
-use Rattle.inv_covers.specs.model.Desks.{Desk}
-use Rattle.inv_covers.specs.model.Guards.{guard_at, guards, eras_in, published, linked_row}
-use Rattle.inv_covers.specs.model.Rest.{later_left, phase_left, round_worth, rounds_most, scan_left, task_left}
-use Rattle.inv_covers.specs.model.Rounds.{round}
-use Rattle.inv_covers.specs.model.declared.post.Post.{Post}
-use Rattle.inv_covers.specs.defs.Entry.{entry}
-use Rattle.inv_covers.specs.defs.declared.event.Event.{Event}
-use Rattle.inv_covers.specs.defs.declared.lifetime.Lifetime.{Lifetime}
-use Rattle.inv_covers.specs.shapes.Seats.{scan_fits}
-use Rattle.inv_covers.specs.shapes.Slots.{scan_lists}
+use Rattle.inv_rows.specs.defs.Shown.{Seen, keeps_any}
+use Rattle.inv_rows.specs.model.Scan as scan
+use Rattle.inv_rows.specs.defs.declared.event.Event.TheVariants as events
+use Rattle.inv_rows.specs.model.Calls.{AfterScan, ScanAt, Task}
+use Rattle.inv_rows.specs.model.Calls.AfterScan.{Answered, Counted, Repeated}
+use Rattle.inv_rows.specs.model.Calls.ScanAt.{GiveBack, ReadGuard}
+use Rattle.inv_rows.specs.model.Desks.{Desk}
+use Rattle.inv_rows.specs.model.Guards.{guard_at, guards, eras_in, published, linked_row}
+use Rattle.inv_rows.specs.model.Rest.{later_left, phase_left, round_worth, rounds_most, scan_left, task_left}
+use Rattle.inv_rows.specs.model.Rounds.{round}
+use Rattle.inv_rows.specs.model.declared.post.Post.{Post}
+use Rattle.inv_rows.specs.defs.Entry.{entry}
+use Rattle.inv_rows.specs.defs.declared.event.Event.{Event}
+use Rattle.inv_rows.specs.defs.declared.lifetime.Lifetime.{Lifetime}
+use Rattle.inv_rows.specs.Shapes.Seats.{scan_fits}
+use Rattle.inv_rows.specs.Shapes.Slots.{scan_lists}
 use Rattle.inv_ends.proofs.Rest.Amounts.{opens_worth, task_drops, task_grows}
 use Rattle.inv_ends.proofs.Rest.Closings.{round_begins, turn_left}
 use Rattle.inv_ends.specs.Losses.{LostRound, later_fit, lost_fit, rounds_in}
-use Rattle.inv_covers.specs.words.declared.config.Config.{Config}
+use Rattle.inv_rows.specs.words.declared.config.Config.{Config}
 use Rattle.std.specs.Prelude.{List, length, Option, Some, None, nat_lt, drop, remove}
-use Rattle.inv_covers.specs.model.Calls.Task.{Changes, Dequeues, Enqueues, Gets, Holds}
-use Rattle.inv_covers.specs.words.Schemes.{publishes_rows}
-use Rattle.inv_covers.specs.defs.declared.event.Guard.{Guard}
+use Rattle.inv_rows.specs.model.Calls.Task.{Changes, Dequeues, Enqueues, Gets, Holds}
+use Rattle.inv_rows.specs.words.Schemes.{publishes_rows}
+use Rattle.inv_rows.specs.defs.declared.event.Guard.{Guard}
 
 -- an entry found lies from a place on, below another
 abbrev Within : (low high : ℕ) → Option scan.Entry → Type 0

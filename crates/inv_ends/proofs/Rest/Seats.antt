@@ -1,29 +1,29 @@
 -- Each step of a seat leaves fewer steps, by what its machine is run for.
-use Rattle.inv_covers.specs.model.declared.ends.ProtectEnd.TheVariants as protect_ends
+use Rattle.inv_rows.specs.model.declared.ends.ProtectEnd.TheVariants as protect_ends
 use Rattle.std.proofs.Common.{ℕ, ◌∙◌, ◌≡◌, ◌≤◌, ◌+◌, ◌-◌, Bool, true, false, [], arith, refl, sym, ap, subst}
 use Rattle.std.proofs.lemmas.Bool.Decides.{nat_tests}
-use Rattle.inv_covers.specs.shapes.Frame.{phase_left as stands_at}
-use Rattle.inv_covers.specs.words.Place.{is_valid}
-use Rattle.inv_covers.specs.words.Place.Place.{Clock}
-use Rattle.inv_covers.specs.model.Phases.Base.{Move, Begin, Protect, Allocate, Clear, Finish, GiveUp, Release, Reload, Retire, Write}
-use Rattle.inv_covers.specs.model.Calls.{Task, Why}
-use Rattle.inv_covers.specs.model.Calls.Phase.{Runs}
-use Rattle.inv_covers.specs.model.Calls.Task.{Changes, Dequeues, Enqueues, Gets, Holds}
-use Rattle.inv_covers.specs.model.Calls.Why.{Opens, Fills, FollowsHead}
-use Rattle.inv_covers.specs.model.Guards.{from_to}
-use Rattle.inv_covers.specs.model.Machine.{after, protect_turn}
-use Rattle.inv_covers.specs.model.Memory.{bump}
-use Rattle.inv_covers.specs.model.Phases.{Base, ProtectAt, Turn, Aim, AllocateAt, RowOf, ends, goes, ByHazard, CheckLink}
-use Rattle.inv_covers.specs.model.Phases.Aim.{Alone, Follows}
-use Rattle.inv_covers.specs.model.Phases.BeginAt.{LoadLower, PublishSpan}
-use Rattle.inv_covers.specs.model.Posts.{counted, with_span}
-use Rattle.inv_covers.specs.model.Rest.{base_seen, eras_left, is_told, lost_by, rounds_most, span_seen, why_left, task_left, round_worth}
-use Rattle.inv_covers.specs.model.Rounds.{scheme_of, index_of}
-use Rattle.inv_covers.specs.model.Steps.{run_turn}
-use Rattle.inv_covers.specs.model.World.{World, finds, offered, step}
-use Rattle.inv_covers.specs.model.declared.post.Post.{Post}
-use Rattle.inv_covers.specs.defs.declared.event.Root.{Root}
-use Rattle.inv_covers.specs.shapes.Seats.{task_root}
+use Rattle.inv_rows.specs.Shapes.Frame.{phase_left as stands_at}
+use Rattle.inv_rows.specs.words.Place.{is_valid}
+use Rattle.inv_rows.specs.words.Place.Place.{Clock}
+use Rattle.inv_rows.specs.model.Phases.Base.{Move, Begin, Protect, Allocate, Clear, Finish, GiveUp, Release, Reload, Retire, Write}
+use Rattle.inv_rows.specs.model.Calls.{Task, Why}
+use Rattle.inv_rows.specs.model.Calls.Phase.{Runs}
+use Rattle.inv_rows.specs.model.Calls.Task.{Changes, Dequeues, Enqueues, Gets, Holds}
+use Rattle.inv_rows.specs.model.Calls.Why.{Opens, Fills, FollowsHead}
+use Rattle.inv_rows.specs.model.Guards.{from_to}
+use Rattle.inv_rows.specs.model.Machine.{after, protect_turn}
+use Rattle.inv_rows.specs.model.Memory.{bump}
+use Rattle.inv_rows.specs.model.Phases.{Base, ProtectAt, Turn, Aim, AllocateAt, RowOf, ends, goes, ByHazard, CheckLink}
+use Rattle.inv_rows.specs.model.Phases.Aim.{Alone, Follows}
+use Rattle.inv_rows.specs.model.Phases.BeginAt.{LoadLower, PublishSpan}
+use Rattle.inv_rows.specs.model.Posts.{counted, with_span}
+use Rattle.inv_rows.specs.model.Rest.{base_seen, eras_left, is_told, lost_by, rounds_most, span_seen, why_left, task_left, round_worth}
+use Rattle.inv_rows.specs.model.Rounds.{scheme_of, index_of}
+use Rattle.inv_rows.specs.model.Steps.{run_turn}
+use Rattle.inv_rows.specs.model.World.{World, finds, offered, step}
+use Rattle.inv_rows.specs.model.declared.post.Post.{Post}
+use Rattle.inv_rows.specs.defs.declared.event.Root.{Root}
+use Rattle.inv_rows.specs.Shapes.Seats.{task_root}
 use Rattle.inv_ends.proofs.Rest.Amounts.{PhaseKnown, task_drops}
 use Rattle.inv_ends.proofs.Rest.Closings.{opening_left}
 use Rattle.inv_ends.proofs.Rest.Falling.{Seat, seat_after, seat_protects, span_within, fit_rows, plain_agrees}
@@ -32,19 +32,19 @@ use Rattle.inv_ends.proofs.Rest.Runs.{ends_well, none_lost, opens_hold, opens_ow
 use Rattle.inv_ends.proofs.Rest.Seen.{protect_same}
 use Rattle.inv_ends.proofs.Rest.Told.{protect_steady, protect_tells, base_steady, lost_after, by_rows, Tells, null_tells}
 use Rattle.inv_ends.specs.Losses.{tells_fit, rounds_in, InRound, hold_fit}
-use Rattle.inv_covers.specs.words.declared.config.Config.{Config}
+use Rattle.inv_rows.specs.words.declared.config.Config.{Config}
 use Rattle.std.specs.Prelude.{length, ◌==◌, nat_le, if◌then◌else◌, ◌&&◌}
-use Rattle.inv_covers.specs.model.Phases.Ending.{Done, Protected}
-use Rattle.inv_covers.specs.model.WriteRow.{first_written, last_written}
+use Rattle.inv_rows.specs.model.Phases.Ending.{Done, Protected}
+use Rattle.inv_rows.specs.model.WriteRow.{first_written, last_written}
 use Rattle.inv_ends.proofs.Rest.Moves.{base_owes, base_settles}
-use Rattle.inv_covers.specs.words.declared.layout.Layout.{Layout}
-use Rattle.inv_covers.proofs.Requests.Standings.{is_root}
-use Rattle.inv_covers.proofs.Held.{finds_at}
-use Rattle.inv_covers.specs.words.Schemes.{publishes_rows}
-use Rattle.inv_covers.specs.model.Locals.{counts_at, rounds_told}
-use Rattle.inv_covers.specs.model.Phases.HazardAt.{FirstLink, PublishLink}
-use Rattle.inv_covers.specs.model.Hazards.{after_check_link}
-use Rattle.inv_covers.specs.model.Protect.{held_post, told_held}
+use Rattle.inv_rows.specs.words.declared.layout.Layout.{Layout}
+use Rattle.inv_rows.proofs.Covering.Requests.Standings.{is_root}
+use Rattle.inv_rows.proofs.Covering.Held.{finds_at}
+use Rattle.inv_rows.specs.words.Schemes.{publishes_rows}
+use Rattle.inv_rows.specs.model.Locals.{counts_at, rounds_told}
+use Rattle.inv_rows.specs.model.Phases.HazardAt.{FirstLink, PublishLink}
+use Rattle.inv_rows.specs.model.Hazards.{after_check_link}
+use Rattle.inv_rows.specs.model.Protect.{held_post, told_held}
 
 -- what a machine's step leaves is less than what was left
 abbrev pub Lowers : World → ℕ → Why → Base → Type 0

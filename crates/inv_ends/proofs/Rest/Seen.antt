@@ -1,19 +1,19 @@
 -- What comes after a machine shows no other era than the seat's interval or the clock.
 use Rattle.std.proofs.Common.{ℕ, ◌≡◌, true, refl}
-use Rattle.inv_covers.specs.shapes.Frame.{Grows, Stores}
-use Rattle.inv_covers.specs.words.Place.{is_valid}
-use Rattle.inv_covers.specs.model.Calls.{Phase, Work}
-use Rattle.inv_covers.specs.model.Calls.KeepAt.{LoadHeld}
-use Rattle.inv_covers.specs.model.Calls.Work.{Keeping}
-use Rattle.inv_covers.specs.model.Rest.{phase_seen, protect_seen}
-use Rattle.inv_covers.specs.model.Rounds.{protect_at, scheme_of}
-use Rattle.inv_covers.specs.model.declared.post.Post.{Post}
-use Rattle.inv_covers.specs.defs.declared.lifetime.Interval.{Interval}
-use Rattle.inv_covers.proofs.shapes.Shapes.{shape_grows}
-use Rattle.inv_covers.specs.shapes.Seats.{PostFits}
-use Rattle.inv_covers.specs.words.declared.config.SchemeKind.{SchemeKind}
-use Rattle.inv_covers.specs.words.declared.config.SchemeKind.TheVariants.{He, Ibr, Wfe, Hp}
-use Rattle.inv_covers.specs.words.declared.layout.Layout.{Layout}
+use Rattle.inv_rows.specs.Shapes.Frame.{Grows, Stores}
+use Rattle.inv_rows.specs.words.Place.{is_valid}
+use Rattle.inv_rows.specs.model.Calls.{Phase, Work}
+use Rattle.inv_rows.specs.model.Calls.KeepAt.{LoadHeld}
+use Rattle.inv_rows.specs.model.Calls.Work.{Keeping}
+use Rattle.inv_rows.specs.model.Rest.{phase_seen, protect_seen}
+use Rattle.inv_rows.specs.model.Rounds.{protect_at, scheme_of}
+use Rattle.inv_rows.specs.model.declared.post.Post.{Post}
+use Rattle.inv_rows.specs.defs.declared.lifetime.Interval.{Interval}
+use Rattle.inv_rows.proofs.Shapes.Shapes.{shape_grows}
+use Rattle.inv_rows.specs.Shapes.Seats.{PostFits}
+use Rattle.inv_rows.specs.words.declared.config.SchemeKind.{SchemeKind}
+use Rattle.inv_rows.specs.words.declared.config.SchemeKind.TheVariants.{He, Ibr, Wfe, Hp}
+use Rattle.inv_rows.specs.words.declared.layout.Layout.{Layout}
 use Rattle.std.specs.Prelude.{Option}
 
 -- a post of the seat with this interval

@@ -1,55 +1,55 @@
 -- No call has many steps left.
 use Rattle.std.proofs.Common.{ℕ, ◌≡◌, ◌≤◌, ◌+◌, ◌*◌, ◌-◌, Bool, true, false, arith, sym, subst}
 use Rattle.std.proofs.lemmas.Bool.Decides.{nat_tests}
-use Rattle.inv_covers.specs.words.Place.{is_valid}
-use Rattle.inv_covers.specs.words.Place.Place.{Clock}
-use Rattle.inv_covers.specs.model.Phases.Base.{Move, Allocate, Begin, Clear, Finish, GiveUp, Protect, Release, Reload, Retire, Write}
-use Rattle.inv_covers.proofs.model.Ranges.{bounds_of}
-use Rattle.inv_covers.specs.model.Calls.{AfterScan, ChangeAt, ChangeKept, DequeueAt, EnqueueAt, GetAt, KeepAt, LetGo, Next, Phase, ScanAt, Task, Why, Work}
-use Rattle.inv_covers.specs.model.Calls.AfterScan.{Answered, Counted, Repeated}
-use Rattle.inv_covers.specs.model.Calls.ChangeAt.{ExchangeRoot, LoadCount, LoadKey, LoadValue, LoadVersion}
-use Rattle.inv_covers.specs.model.Calls.DequeueAt.{ExchangeHead, LoadTail, SwingTail, TakeNumber, TakeValue}
-use Rattle.inv_covers.specs.model.Calls.EnqueueAt.{ExchangeNext, ExchangeTail, LoadNext, LoadNumber, PassTail}
-use Rattle.inv_covers.specs.model.Calls.GetAt.{FindCount, FindKey, FindValue, FindVersion}
-use Rattle.inv_covers.specs.model.Calls.KeepAt.{HideSpan, LoadHeld, Looks, Loosens, MarkLeft, MarkTaken, Misses, StoreHeld, TakeList}
-use Rattle.inv_covers.specs.model.Calls.LetGo.{Dropped, Parting, Rehold, Released}
-use Rattle.inv_covers.specs.model.Calls.Next.{Again, Answering, MakeRoom, Retiring}
-use Rattle.inv_covers.specs.model.Calls.Phase.{Idle, Runs, Scans, Works}
-use Rattle.inv_covers.specs.model.Calls.ScanAt.{GiveBack, ReadGuard}
-use Rattle.inv_covers.specs.model.Calls.Task.{Changes, Dequeues, Enqueues, Gets, Holds}
-use Rattle.inv_covers.specs.model.Calls.Why.{Advances, Clears, ClearsNext, Fills, Finishes, FollowsHead, GivesUp, Opens, Releases, Retires, Tidies}
-use Rattle.inv_covers.specs.model.Calls.Work.{Changing, Dequeuing, Enqueuing, Getting, Keeping}
-use Rattle.inv_covers.specs.model.Desks.{Desk}
-use Rattle.inv_covers.specs.model.Guards.{guards, guards_by}
-use Rattle.inv_covers.specs.model.Locals.{Local}
-use Rattle.inv_covers.specs.model.Phases.{Aim, AllocateAt, Base, BeginAt, HazardAt, MoveAt, ProtectAt, RetireAt, RowOf, Tries}
-use Rattle.inv_covers.specs.model.Phases.Aim.{Alone, Follows}
-use Rattle.inv_covers.specs.model.Phases.AllocateAt.{ClaimSlot, LoadBirth, StoreLife}
-use Rattle.inv_covers.specs.model.Phases.BeginAt.{LoadLower, PublishSpan}
-use Rattle.inv_covers.specs.model.Phases.MoveAt.{AnswerAsked, CheckEra, ExchangeClock, HandOver, HideEra, HideLate, LoadAsked, LoadEra, LoadRequest, LoadReserved, ShowEra}
-use Rattle.inv_covers.specs.model.Phases.ProtectAt.{AnswerOwn, ByHazard, CheckClock, CheckOwnClock, CheckUpper, LoadAnswer, LoadClock, LoadLink, LoadOwnClock, LoadOwnLink, LoadWithin, PublishEra, PublishHelper, PublishRequest, RaiseUpper, TakeAnswer, WithdrawHelper, WithdrawRequest}
-use Rattle.inv_covers.specs.model.Phases.HazardAt.{CheckLink, FirstLink, PublishLink}
-use Rattle.inv_covers.specs.model.Phases.RetireAt.{LoadLife, LoadRetire, StoreRetired}
-use Rattle.inv_covers.specs.model.Phases.RowOf.{MapRow, QueueRow}
-use Rattle.inv_covers.specs.model.Phases.Tries.{Endless, Failed}
-use Rattle.inv_covers.specs.model.Rest.{aim_left, gets_most, hazard_left, allocate_left, base_left, base_seen, begin_left, change_left, closing_left, dequeue_left, enqueue_left, fill_left, filling_left, get_left, has_walked, is_told, keep_left, later_left, let_left, lost_by, move_left, phase_left, phase_seen, protect_left, protect_seen, rest, rest_of, retire_left, room_most, round_left, round_worth, rounds_left, rounds_most, scan_left, span_seen, task_left, tries_left, walks_after, walks_by, why_left, work_left}
-use Rattle.inv_covers.specs.model.Rounds.{taken_of}
-use Rattle.inv_covers.specs.model.World.{step}
-use Rattle.inv_covers.specs.model.WriteRow.{last_written}
-use Rattle.inv_covers.specs.model.declared.post.Post.{Post}
-use Rattle.inv_covers.specs.defs.declared.lifetime.Lifetime.{Lifetime}
-use Rattle.inv_covers.proofs.shapes.Frame.{seat_stays}
-use Rattle.inv_covers.specs.shapes.Seats.{PhaseFits, allocate_fits, base_fits}
-use Rattle.inv_covers.specs.shapes.Slots.{BaseIn, ChangeAtIn, GetIn, KeepIn, PhaseIn, RowIn, WorkIn}
-use Rattle.inv_covers.specs.Requests.Roles.{shows}
+use Rattle.inv_rows.specs.words.Place.{is_valid}
+use Rattle.inv_rows.specs.words.Place.Place.{Clock}
+use Rattle.inv_rows.specs.model.Phases.Base.{Move, Allocate, Begin, Clear, Finish, GiveUp, Protect, Release, Reload, Retire, Write}
+use Rattle.inv_rows.proofs.model.Ranges.{bounds_of}
+use Rattle.inv_rows.specs.model.Calls.{AfterScan, ChangeAt, ChangeKept, DequeueAt, EnqueueAt, GetAt, KeepAt, LetGo, Next, Phase, ScanAt, Task, Why, Work}
+use Rattle.inv_rows.specs.model.Calls.AfterScan.{Answered, Counted, Repeated}
+use Rattle.inv_rows.specs.model.Calls.ChangeAt.{ExchangeRoot, LoadCount, LoadKey, LoadValue, LoadVersion}
+use Rattle.inv_rows.specs.model.Calls.DequeueAt.{ExchangeHead, LoadTail, SwingTail, TakeNumber, TakeValue}
+use Rattle.inv_rows.specs.model.Calls.EnqueueAt.{ExchangeNext, ExchangeTail, LoadNext, LoadNumber, PassTail}
+use Rattle.inv_rows.specs.model.Calls.GetAt.{FindCount, FindKey, FindValue, FindVersion}
+use Rattle.inv_rows.specs.model.Calls.KeepAt.{HideSpan, LoadHeld, Looks, Loosens, MarkLeft, MarkTaken, Misses, StoreHeld, TakeList}
+use Rattle.inv_rows.specs.model.Calls.LetGo.{Dropped, Parting, Rehold, Released}
+use Rattle.inv_rows.specs.model.Calls.Next.{Again, Answering, MakeRoom, Retiring}
+use Rattle.inv_rows.specs.model.Calls.Phase.{Idle, Runs, Scans, Works}
+use Rattle.inv_rows.specs.model.Calls.ScanAt.{GiveBack, ReadGuard}
+use Rattle.inv_rows.specs.model.Calls.Task.{Changes, Dequeues, Enqueues, Gets, Holds}
+use Rattle.inv_rows.specs.model.Calls.Why.{Advances, Clears, ClearsNext, Fills, Finishes, FollowsHead, GivesUp, Opens, Releases, Retires, Tidies}
+use Rattle.inv_rows.specs.model.Calls.Work.{Changing, Dequeuing, Enqueuing, Getting, Keeping}
+use Rattle.inv_rows.specs.model.Desks.{Desk}
+use Rattle.inv_rows.specs.model.Guards.{guards, guards_by}
+use Rattle.inv_rows.specs.model.Locals.{Local}
+use Rattle.inv_rows.specs.model.Phases.{Aim, AllocateAt, Base, BeginAt, HazardAt, MoveAt, ProtectAt, RetireAt, RowOf, Tries}
+use Rattle.inv_rows.specs.model.Phases.Aim.{Alone, Follows}
+use Rattle.inv_rows.specs.model.Phases.AllocateAt.{ClaimSlot, LoadBirth, StoreLife}
+use Rattle.inv_rows.specs.model.Phases.BeginAt.{LoadLower, PublishSpan}
+use Rattle.inv_rows.specs.model.Phases.MoveAt.{AnswerAsked, CheckEra, ExchangeClock, HandOver, HideEra, HideLate, LoadAsked, LoadEra, LoadRequest, LoadReserved, ShowEra}
+use Rattle.inv_rows.specs.model.Phases.ProtectAt.{AnswerOwn, ByHazard, CheckClock, CheckOwnClock, CheckUpper, LoadAnswer, LoadClock, LoadLink, LoadOwnClock, LoadOwnLink, LoadWithin, PublishEra, PublishHelper, PublishRequest, RaiseUpper, TakeAnswer, WithdrawHelper, WithdrawRequest}
+use Rattle.inv_rows.specs.model.Phases.HazardAt.{CheckLink, FirstLink, PublishLink}
+use Rattle.inv_rows.specs.model.Phases.RetireAt.{LoadLife, LoadRetire, StoreRetired}
+use Rattle.inv_rows.specs.model.Phases.RowOf.{MapRow, QueueRow}
+use Rattle.inv_rows.specs.model.Phases.Tries.{Endless, Failed}
+use Rattle.inv_rows.specs.model.Rest.{aim_left, gets_most, hazard_left, allocate_left, base_left, base_seen, begin_left, change_left, closing_left, dequeue_left, enqueue_left, fill_left, filling_left, get_left, has_walked, is_told, keep_left, later_left, let_left, lost_by, move_left, phase_left, phase_seen, protect_left, protect_seen, rest, rest_of, retire_left, room_most, round_left, round_worth, rounds_left, rounds_most, scan_left, span_seen, task_left, tries_left, walks_after, walks_by, why_left, work_left}
+use Rattle.inv_rows.specs.model.Rounds.{taken_of}
+use Rattle.inv_rows.specs.model.World.{step}
+use Rattle.inv_rows.specs.model.WriteRow.{last_written}
+use Rattle.inv_rows.specs.model.declared.post.Post.{Post}
+use Rattle.inv_rows.specs.defs.declared.lifetime.Lifetime.{Lifetime}
+use Rattle.inv_rows.proofs.Shapes.Frame.{seat_stays}
+use Rattle.inv_rows.specs.Shapes.Seats.{PhaseFits, allocate_fits, base_fits}
+use Rattle.inv_rows.specs.Shapes.Slots.{BaseIn, ChangeAtIn, GetIn, KeepIn, PhaseIn, RowIn, WorkIn}
+use Rattle.inv_rows.specs.Covering.Requests.Roles.{shows}
 use Rattle.inv_ends.proofs.Rest.Machines.{seen_rises}
 use Rattle.inv_ends.specs.Falls.{RestIsSmall, RestStays}
-use Rattle.inv_covers.specs.words.declared.config.Config.{Config}
-use Rattle.inv_covers.specs.words.declared.config.SchemeKind.{SchemeKind}
-use Rattle.inv_covers.specs.words.declared.config.SchemeKind.TheVariants.{He, Hp, Ibr, Wfe}
-use Rattle.inv_covers.specs.words.declared.layout.Layout.{Layout}
+use Rattle.inv_rows.specs.words.declared.config.Config.{Config}
+use Rattle.inv_rows.specs.words.declared.config.SchemeKind.{SchemeKind}
+use Rattle.inv_rows.specs.words.declared.config.SchemeKind.TheVariants.{He, Hp, Ibr, Wfe}
+use Rattle.inv_rows.specs.words.declared.layout.Layout.{Layout}
 use Rattle.std.specs.Prelude.{List, length, Option, Some, None}
-use Rattle.inv_covers.specs.words.Schemes.{publishes_rows}
+use Rattle.inv_rows.specs.words.Schemes.{publishes_rows}
 
 -- the numbers of a setting
 pub record Few (c : Config) : Type 0 where

@@ -2,46 +2,46 @@
 -- protection; nothing else.
 use Rattle.std.proofs.lemmas.Bool.Decides.{nat_tests}
 use Rattle.std.proofs.Common.{ℕ, ◌∙◌, ◌≡◌, ◌≤◌, ◌+◌, ◌-◌, Bool, true, false, [], ◌∷◌, arith, refl, ap}
-use Rattle.inv_covers.specs.model.Memory.{bump}
-use Rattle.inv_covers.specs.model.Machine.{after, hazard_turn, move_turn, protect_turn}
-use Rattle.inv_covers.specs.defs.declared.event.Event.TheVariants as events
-use Rattle.inv_covers.specs.defs.declared.event.Root.TheVariants as roots
-use Rattle.inv_covers.specs.defs.declared.call.ClockMove.TheVariants as moves
-use Rattle.inv_covers.specs.model.declared.ends.FollowEnd.TheVariants as follow_ends
-use Rattle.inv_covers.specs.words.declared.packed.Request.TheVariants as requests
-use Rattle.inv_covers.specs.model.Allocate.{is_claimed, next_slot, walk_past, walking}
-use Rattle.inv_covers.specs.model.Locals.{counts_at, held_told, rounds_told}
-use Rattle.inv_covers.specs.model.MoveClock.{after_hand_over, moving, next_request}
-use Rattle.inv_covers.specs.model.Guards.{linked_row}
-use Rattle.inv_covers.specs.model.Phases.HazardAt.{CheckLink, FirstLink, PublishLink}
-use Rattle.inv_covers.specs.model.Phases.{Aim, Base, HazardAt, MoveAt, Outcome, ProtectAt, Tries, Turn, Walk, ends, goes}
-use Rattle.inv_covers.specs.model.Phases.Aim.{Alone}
-use Rattle.inv_covers.specs.model.Phases.AllocateAt.{ClaimSlot, LoadBirth, StoreLife}
-use Rattle.inv_covers.specs.model.Phases.Base.{Allocate, Begin, Clear, Finish, GiveUp, Move, Protect, Release, Reload, Retire, Write}
-use Rattle.inv_covers.specs.model.Phases.BeginAt.{LoadLower, PublishSpan}
-use Rattle.inv_covers.specs.model.Phases.Ending.{Clocked, Done, Followed}
-use Rattle.inv_covers.specs.model.Phases.MoveAt.{AnswerAsked, CheckEra, ExchangeClock, HandOver, HideEra, HideLate, LoadAsked, LoadEra, LoadRequest, LoadReserved, ShowEra}
-use Rattle.inv_covers.specs.model.Phases.Outcome.{Ends, Goes}
-use Rattle.inv_covers.specs.model.Phases.ProtectAt.{AnswerOwn, ByHazard, CheckClock, CheckOwnClock, CheckUpper, LoadAnswer, LoadClock, LoadLink, LoadOwnClock, LoadOwnLink, LoadWithin, PublishEra, PublishHelper, PublishRequest, RaiseUpper, TakeAnswer, WithdrawHelper, WithdrawRequest}
-use Rattle.inv_covers.specs.model.Phases.RetireAt.{LoadLife, LoadRetire, StoreRetired}
-use Rattle.inv_covers.specs.model.Phases.Tries.{Endless, Failed}
-use Rattle.inv_covers.specs.model.Posts.{cleared, hazards_index, reserves_helper, reserves_index, reserves_span, stands, upper, with_row}
-use Rattle.inv_covers.specs.model.Protect.{failed_once, held_post, protected, told_held, trying}
-use Rattle.inv_covers.specs.model.Rest.{is_told, lost_by}
-use Rattle.inv_covers.specs.model.SlowPath.{answer_in, asking, lost_turn, own_request}
-use Rattle.inv_covers.specs.model.WriteRow.{last_written}
-use Rattle.inv_covers.specs.model.declared.post.Post.{Post}
-use Rattle.inv_covers.specs.defs.declared.event.Event.{Event}
-use Rattle.inv_covers.specs.defs.declared.event.Guard.TheVariants.{Index}
-use Rattle.inv_covers.specs.defs.declared.event.Root.{Root}
-use Rattle.inv_covers.specs.Requests.Roles.{shows}
-use Rattle.inv_covers.specs.words.Packed.{read_request, read_reservation, reservation_word}
-use Rattle.inv_covers.specs.words.declared.config.Config.{Config}
-use Rattle.inv_covers.specs.words.declared.packed.Request.{Request}
+use Rattle.inv_rows.specs.model.Memory.{bump}
+use Rattle.inv_rows.specs.model.Machine.{after, hazard_turn, move_turn, protect_turn}
+use Rattle.inv_rows.specs.defs.declared.event.Event.TheVariants as events
+use Rattle.inv_rows.specs.defs.declared.event.Root.TheVariants as roots
+use Rattle.inv_rows.specs.defs.declared.call.ClockMove.TheVariants as moves
+use Rattle.inv_rows.specs.model.declared.ends.FollowEnd.TheVariants as follow_ends
+use Rattle.inv_rows.specs.words.declared.packed.Request.TheVariants as requests
+use Rattle.inv_rows.specs.model.Allocate.{is_claimed, next_slot, walk_past, walking}
+use Rattle.inv_rows.specs.model.Locals.{counts_at, held_told, rounds_told}
+use Rattle.inv_rows.specs.model.MoveClock.{after_hand_over, moving, next_request}
+use Rattle.inv_rows.specs.model.Guards.{linked_row}
+use Rattle.inv_rows.specs.model.Phases.HazardAt.{CheckLink, FirstLink, PublishLink}
+use Rattle.inv_rows.specs.model.Phases.{Aim, Base, HazardAt, MoveAt, Outcome, ProtectAt, Tries, Turn, Walk, ends, goes}
+use Rattle.inv_rows.specs.model.Phases.Aim.{Alone}
+use Rattle.inv_rows.specs.model.Phases.AllocateAt.{ClaimSlot, LoadBirth, StoreLife}
+use Rattle.inv_rows.specs.model.Phases.Base.{Allocate, Begin, Clear, Finish, GiveUp, Move, Protect, Release, Reload, Retire, Write}
+use Rattle.inv_rows.specs.model.Phases.BeginAt.{LoadLower, PublishSpan}
+use Rattle.inv_rows.specs.model.Phases.Ending.{Clocked, Done, Followed}
+use Rattle.inv_rows.specs.model.Phases.MoveAt.{AnswerAsked, CheckEra, ExchangeClock, HandOver, HideEra, HideLate, LoadAsked, LoadEra, LoadRequest, LoadReserved, ShowEra}
+use Rattle.inv_rows.specs.model.Phases.Outcome.{Ends, Goes}
+use Rattle.inv_rows.specs.model.Phases.ProtectAt.{AnswerOwn, ByHazard, CheckClock, CheckOwnClock, CheckUpper, LoadAnswer, LoadClock, LoadLink, LoadOwnClock, LoadOwnLink, LoadWithin, PublishEra, PublishHelper, PublishRequest, RaiseUpper, TakeAnswer, WithdrawHelper, WithdrawRequest}
+use Rattle.inv_rows.specs.model.Phases.RetireAt.{LoadLife, LoadRetire, StoreRetired}
+use Rattle.inv_rows.specs.model.Phases.Tries.{Endless, Failed}
+use Rattle.inv_rows.specs.model.Posts.{cleared, hazards_index, reserves_helper, reserves_index, reserves_span, stands, upper, with_row}
+use Rattle.inv_rows.specs.model.Protect.{failed_once, held_post, protected, told_held, trying}
+use Rattle.inv_rows.specs.model.Rest.{is_told, lost_by}
+use Rattle.inv_rows.specs.model.SlowPath.{answer_in, asking, lost_turn, own_request}
+use Rattle.inv_rows.specs.model.WriteRow.{last_written}
+use Rattle.inv_rows.specs.model.declared.post.Post.{Post}
+use Rattle.inv_rows.specs.defs.declared.event.Event.{Event}
+use Rattle.inv_rows.specs.defs.declared.event.Guard.TheVariants.{Index}
+use Rattle.inv_rows.specs.defs.declared.event.Root.{Root}
+use Rattle.inv_rows.specs.Covering.Requests.Roles.{shows}
+use Rattle.inv_rows.specs.words.Packed.{read_request, read_reservation, reservation_word}
+use Rattle.inv_rows.specs.words.declared.config.Config.{Config}
+use Rattle.inv_rows.specs.words.declared.packed.Request.{Request}
 use Rattle.std.specs.Prelude.{List, ◌++◌, Option, Some, None, nat_le, not, if◌then◌else◌, ◌==◌, ◌||◌}
-use Rattle.inv_covers.proofs.Requests.Standings.{is_root}
-use Rattle.inv_covers.proofs.model.Facts.{false_of_not, if_by}
-use Rattle.inv_covers.proofs.shapes.Frame.{concluded_told}
+use Rattle.inv_rows.proofs.Covering.Requests.Standings.{is_root}
+use Rattle.inv_rows.proofs.model.Facts.{false_of_not, if_by}
+use Rattle.inv_rows.proofs.Shapes.Frame.{concluded_told}
 
 some_told : (rounds index link n : ℕ) → (index == 0) ≡ true → rounds_told false rounds (if link == 0 then events.Null index n ∷ [] else events.Held index (link - 1) n ∷ []) ≡ rounds + 1
 some_told rounds index link n z = if_by (link == 0) (events.Null index n ∷ []) (events.Held index (link - 1) n ∷ []) (λ (told : List Event). rounds_told false rounds told ≡ rounds + 1) (λ e. rw z refl) (λ e. rw z refl)

@@ -1,41 +1,41 @@
 -- What comes after the other machines, and after a call's own steps.
 use Rattle.std.proofs.Common.{ℕ, ◌∙◌, ◌≡◌, ◌≤◌, ◌<◌, ◌+◌, ◌-◌, Bool, true, false, [], ◌∷◌, arith, refl, subst}
 use Rattle.inv_ends.proofs.Rest.Amounts.{PhaseKnown}
-use Rattle.inv_covers.specs.shapes.Frame.{phase_left as stands_at}
-use Rattle.inv_covers.specs.model.Change as alters
-use Rattle.inv_covers.specs.model.Enqueue as enqueues
-use Rattle.inv_covers.specs.model.Dequeue as dequeues
-use Rattle.inv_covers.specs.model.Keep as keeps
-use Rattle.inv_covers.specs.model.Steps as steps
-use Rattle.inv_covers.specs.defs.declared.call.Answer.TheVariants as answers
-use Rattle.inv_covers.specs.model.declared.ends.FollowEnd.TheVariants as follow_ends
-use Rattle.inv_covers.specs.model.Calls.{Task, AfterScan, LetGo, Next}
-use Rattle.inv_covers.specs.model.Calls.LetGo.{Dropped, Parting, Rehold, Released}
-use Rattle.inv_covers.specs.model.Calls.Next.{Again, Answering, MakeRoom}
-use Rattle.inv_covers.specs.model.Calls.Task.{Changes, Dequeues, Enqueues, Gets, Holds}
-use Rattle.inv_covers.specs.model.Desks.{Desk, with_life}
-use Rattle.inv_covers.specs.model.Phases.{Ending}
-use Rattle.inv_covers.specs.model.Phases.Ending.{Allocated, Clocked, Done, Followed, Protected, Retired}
-use Rattle.inv_covers.specs.model.Rest.{closing_left, ending_most, room_most, rounds_left, rounds_most, task_left, walks_after, walks_by, fill_left, has_walked, later_left, let_left, open_left, phase_left, scan_most, walk_most}
-use Rattle.inv_covers.specs.model.Posts.{standing_from}
-use Rattle.inv_covers.specs.model.Rounds.{clearing, closed, let_index, round, scheme_of, taken_of}
-use Rattle.inv_covers.specs.model.declared.ends.FollowEnd.{FollowEnd}
-use Rattle.inv_covers.specs.model.declared.post.Post.{Post}
-use Rattle.inv_covers.specs.defs.declared.event.Event.{Event}
+use Rattle.inv_rows.specs.Shapes.Frame.{phase_left as stands_at}
+use Rattle.inv_rows.specs.model.Change as alters
+use Rattle.inv_rows.specs.model.Enqueue as enqueues
+use Rattle.inv_rows.specs.model.Dequeue as dequeues
+use Rattle.inv_rows.specs.model.Keep as keeps
+use Rattle.inv_rows.specs.model.Steps as steps
+use Rattle.inv_rows.specs.defs.declared.call.Answer.TheVariants as answers
+use Rattle.inv_rows.specs.model.declared.ends.FollowEnd.TheVariants as follow_ends
+use Rattle.inv_rows.specs.model.Calls.{Task, AfterScan, LetGo, Next}
+use Rattle.inv_rows.specs.model.Calls.LetGo.{Dropped, Parting, Rehold, Released}
+use Rattle.inv_rows.specs.model.Calls.Next.{Again, Answering, MakeRoom}
+use Rattle.inv_rows.specs.model.Calls.Task.{Changes, Dequeues, Enqueues, Gets, Holds}
+use Rattle.inv_rows.specs.model.Desks.{Desk, with_life}
+use Rattle.inv_rows.specs.model.Phases.{Ending}
+use Rattle.inv_rows.specs.model.Phases.Ending.{Allocated, Clocked, Done, Followed, Protected, Retired}
+use Rattle.inv_rows.specs.model.Rest.{closing_left, ending_most, room_most, rounds_left, rounds_most, task_left, walks_after, walks_by, fill_left, has_walked, later_left, let_left, open_left, phase_left, scan_most, walk_most}
+use Rattle.inv_rows.specs.model.Posts.{standing_from}
+use Rattle.inv_rows.specs.model.Rounds.{clearing, closed, let_index, round, scheme_of, taken_of}
+use Rattle.inv_rows.specs.model.declared.ends.FollowEnd.{FollowEnd}
+use Rattle.inv_rows.specs.model.declared.post.Post.{Post}
+use Rattle.inv_rows.specs.defs.declared.event.Event.{Event}
 use Rattle.inv_ends.proofs.Rest.Closings.{clearing_left, clearing_next_left, closed_left, turn_left, round_begins, tidy_begins}
 use Rattle.inv_ends.proofs.Rest.Opens.{again_left}
 use Rattle.inv_ends.specs.Losses.{InRound, fills_fit, rounds_in}
-use Rattle.inv_covers.specs.words.declared.config.Config.{Config}
-use Rattle.inv_covers.proofs.shapes.Leaving.{next_stands}
+use Rattle.inv_rows.specs.words.declared.config.Config.{Config}
+use Rattle.inv_rows.proofs.Shapes.Leaving.{next_stands}
 use Rattle.std.specs.Prelude.{List, drop, length, None, ◌==◌, ◌++◌, Option, Some, ◌%◌}
-use Rattle.inv_covers.specs.model.declared.ends.AllocateEnd.TheVariants as allocate_ends
-use Rattle.inv_covers.specs.model.Calls.AfterScan.{Answered, Counted, Repeated}
-use Rattle.inv_covers.specs.model.declared.ends.AllocateEnd.{AllocateEnd}
-use Rattle.inv_covers.specs.defs.declared.call.Answer.{Answer}
-use Rattle.inv_covers.specs.defs.declared.call.ClockMove.{ClockMove}
-use Rattle.inv_covers.specs.defs.declared.lifetime.Lifetime.{Lifetime}
-use Rattle.inv_covers.specs.words.declared.layout.Layout.{Layout}
-use Rattle.inv_covers.specs.words.Schemes.{publishes_rows, moves}
+use Rattle.inv_rows.specs.model.declared.ends.AllocateEnd.TheVariants as allocate_ends
+use Rattle.inv_rows.specs.model.Calls.AfterScan.{Answered, Counted, Repeated}
+use Rattle.inv_rows.specs.model.declared.ends.AllocateEnd.{AllocateEnd}
+use Rattle.inv_rows.specs.defs.declared.call.Answer.{Answer}
+use Rattle.inv_rows.specs.defs.declared.call.ClockMove.{ClockMove}
+use Rattle.inv_rows.specs.defs.declared.lifetime.Lifetime.{Lifetime}
+use Rattle.inv_rows.specs.words.declared.layout.Layout.{Layout}
+use Rattle.inv_rows.specs.words.Schemes.{publishes_rows, moves}
 
 lost_is : (most rounds : ℕ) → InRound most rounds → (rounds ≡ rounds - 1 + 1) × (rounds - 1 ≤ most)
 lost_is most rounds i = let a = i.told in let b = i.few in (omega (arith, a), omega (arith, a, b))

@@ -1,48 +1,48 @@
 -- A call's own step leaves fewer steps.
 use Rattle.std.proofs.Common.{ℕ, ◌∙◌, ◌≡◌, ◌≤◌, ◌<◌, ◌+◌, ◌*◌, ◌-◌, Bool, true, false, [], ◌∷◌, arith, refl, subst}
 use Rattle.inv_ends.proofs.Rest.Amounts.{PhaseKnown}
-use Rattle.inv_covers.specs.shapes.Frame.{phase_left as stands_at}
-use Rattle.inv_covers.specs.model.Change as alters
-use Rattle.inv_covers.specs.model.Enqueue as enqueues
-use Rattle.inv_covers.specs.model.Dequeue as dequeues
-use Rattle.inv_covers.specs.model.Get as gets
-use Rattle.inv_covers.specs.model.Keep as keeps
-use Rattle.inv_covers.specs.model.Steps as steps
-use Rattle.inv_covers.specs.defs.declared.event.Event.TheVariants as events
-use Rattle.inv_covers.specs.defs.declared.event.Root.TheVariants as roots
-use Rattle.inv_covers.specs.defs.declared.call.Answer.TheVariants as answers
-use Rattle.inv_covers.specs.defs.declared.call.ClockMove.TheVariants as moves
-use Rattle.inv_covers.specs.model.Calls.{ChangeAt, ChangeKept, DequeueAt, EnqueueAt, EnqueueKept, GetAt, KeepAt, Next, Task, Work}
-use Rattle.inv_covers.specs.model.Calls.ChangeAt.{ExchangeRoot, LoadCount, LoadKey, LoadValue, LoadVersion}
-use Rattle.inv_covers.specs.model.Calls.DequeueAt.{ExchangeHead, LoadTail, SwingTail, TakeNumber, TakeValue}
-use Rattle.inv_covers.specs.model.Calls.EnqueueAt.{ExchangeNext, ExchangeTail, LoadNext, LoadNumber, PassTail}
-use Rattle.inv_covers.specs.model.Calls.GetAt.{FindCount, FindKey, FindValue, FindVersion}
-use Rattle.inv_covers.specs.model.Calls.KeepAt.{HideSpan, LoadHeld, Looks, Loosens, MarkLeft, MarkTaken, Misses, StoreHeld, TakeList}
-use Rattle.inv_covers.specs.model.Calls.Next.{Again, Answering, Retiring}
-use Rattle.inv_covers.specs.model.Calls.Task.{Changes, Dequeues, Enqueues, Gets}
-use Rattle.inv_covers.specs.model.Calls.Work.{Changing, Dequeuing, Enqueuing, Getting, Keeping}
-use Rattle.inv_covers.specs.model.Dequeue.{taken}
-use Rattle.inv_covers.specs.model.Desks.{Desk}
-use Rattle.inv_covers.specs.model.Locals.{rounds_told}
-use Rattle.inv_covers.specs.model.Posts.{cleared, stands, withdrawn, publishes_index}
-use Rattle.inv_covers.specs.model.Rest.{base_left, change_left, closing_left, dequeue_left, enqueue_left, get_left, keep_left, protect_most, room_most, rounds_most, task_left, work_left}
-use Rattle.inv_covers.specs.model.Rounds.{bucket_of, let_index, scheme_of}
-use Rattle.inv_covers.specs.model.declared.post.Post.{Post}
-use Rattle.inv_covers.specs.defs.Pairs.{Pair}
-use Rattle.inv_covers.specs.defs.declared.event.Event.{Event}
-use Rattle.inv_covers.specs.defs.declared.event.Root.{Root}
-use Rattle.inv_covers.specs.shapes.Slots.{ChangeAtIn, GetIn, KeepIn, WorkIn}
+use Rattle.inv_rows.specs.Shapes.Frame.{phase_left as stands_at}
+use Rattle.inv_rows.specs.model.Change as alters
+use Rattle.inv_rows.specs.model.Enqueue as enqueues
+use Rattle.inv_rows.specs.model.Dequeue as dequeues
+use Rattle.inv_rows.specs.model.Get as gets
+use Rattle.inv_rows.specs.model.Keep as keeps
+use Rattle.inv_rows.specs.model.Steps as steps
+use Rattle.inv_rows.specs.defs.declared.event.Event.TheVariants as events
+use Rattle.inv_rows.specs.defs.declared.event.Root.TheVariants as roots
+use Rattle.inv_rows.specs.defs.declared.call.Answer.TheVariants as answers
+use Rattle.inv_rows.specs.defs.declared.call.ClockMove.TheVariants as moves
+use Rattle.inv_rows.specs.model.Calls.{ChangeAt, ChangeKept, DequeueAt, EnqueueAt, EnqueueKept, GetAt, KeepAt, Next, Task, Work}
+use Rattle.inv_rows.specs.model.Calls.ChangeAt.{ExchangeRoot, LoadCount, LoadKey, LoadValue, LoadVersion}
+use Rattle.inv_rows.specs.model.Calls.DequeueAt.{ExchangeHead, LoadTail, SwingTail, TakeNumber, TakeValue}
+use Rattle.inv_rows.specs.model.Calls.EnqueueAt.{ExchangeNext, ExchangeTail, LoadNext, LoadNumber, PassTail}
+use Rattle.inv_rows.specs.model.Calls.GetAt.{FindCount, FindKey, FindValue, FindVersion}
+use Rattle.inv_rows.specs.model.Calls.KeepAt.{HideSpan, LoadHeld, Looks, Loosens, MarkLeft, MarkTaken, Misses, StoreHeld, TakeList}
+use Rattle.inv_rows.specs.model.Calls.Next.{Again, Answering, Retiring}
+use Rattle.inv_rows.specs.model.Calls.Task.{Changes, Dequeues, Enqueues, Gets}
+use Rattle.inv_rows.specs.model.Calls.Work.{Changing, Dequeuing, Enqueuing, Getting, Keeping}
+use Rattle.inv_rows.specs.model.Dequeue.{taken}
+use Rattle.inv_rows.specs.model.Desks.{Desk}
+use Rattle.inv_rows.specs.model.Locals.{rounds_told}
+use Rattle.inv_rows.specs.model.Posts.{cleared, stands, withdrawn, publishes_index}
+use Rattle.inv_rows.specs.model.Rest.{base_left, change_left, closing_left, dequeue_left, enqueue_left, get_left, keep_left, protect_most, room_most, rounds_most, task_left, work_left}
+use Rattle.inv_rows.specs.model.Rounds.{bucket_of, let_index, scheme_of}
+use Rattle.inv_rows.specs.model.declared.post.Post.{Post}
+use Rattle.inv_rows.specs.defs.Pairs.{Pair}
+use Rattle.inv_rows.specs.defs.declared.event.Event.{Event}
+use Rattle.inv_rows.specs.defs.declared.event.Root.{Root}
+use Rattle.inv_rows.specs.Shapes.Slots.{ChangeAtIn, GetIn, KeepIn, WorkIn}
 use Rattle.inv_ends.proofs.Rest.Closings.{cleared_rounds, clearing_left, clearing_next_left, turn_left}
 use Rattle.inv_ends.proofs.Rest.Opens.{deciding_left, enqueue_fills}
 use Rattle.inv_ends.proofs.Rest.Ways.{lost_left, released_left}
 use Rattle.inv_ends.specs.Losses.{InRound, work_fit, rounds_in}
-use Rattle.inv_covers.specs.words.Schemes.{has_one_interval, publishes_rows}
-use Rattle.inv_covers.specs.words.declared.config.Config.{Config}
-use Rattle.inv_covers.specs.words.declared.config.SchemeKind.{SchemeKind}
-use Rattle.inv_covers.specs.words.declared.config.SchemeKind.TheVariants.{He, Ibr, Wfe, Hp}
-use Rattle.inv_covers.specs.words.declared.layout.Layout.{Layout}
+use Rattle.inv_rows.specs.words.Schemes.{has_one_interval, publishes_rows}
+use Rattle.inv_rows.specs.words.declared.config.Config.{Config}
+use Rattle.inv_rows.specs.words.declared.config.SchemeKind.{SchemeKind}
+use Rattle.inv_rows.specs.words.declared.config.SchemeKind.TheVariants.{He, Ibr, Wfe, Hp}
+use Rattle.inv_rows.specs.words.declared.layout.Layout.{Layout}
 use Rattle.std.specs.Prelude.{List, ◌++◌, length, Option, Some, None, nat_lt, ◌==◌}
-use Rattle.inv_covers.proofs.model.Facts.{if_by}
+use Rattle.inv_rows.proofs.model.Facts.{if_by}
 
 -- a get
 

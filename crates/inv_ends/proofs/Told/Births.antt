@@ -1,60 +1,60 @@
 -- The birth era of a row is the one under which it was given last.
-use Rattle.inv_covers.specs.model.Rounds.{scheme_of}
-use Rattle.inv_covers.specs.words.Schemes.{publishes_rows}
-use Rattle.inv_covers.specs.model.Keep.{held_number}
+use Rattle.inv_rows.specs.model.Rounds.{scheme_of}
+use Rattle.inv_rows.specs.words.Schemes.{publishes_rows}
+use Rattle.inv_rows.specs.model.Keep.{held_number}
 use Rattle.std.proofs.Common.{ℕ, ◌+◌, ◌-◌, Bool, true, false, ◌≡◌, ◌∙◌, sym, refl, ap, subst, arith}
 use Rattle.std.proofs.lemmas.Bool.Decides.{nat_tests}
-use Rattle.inv_covers.specs.model.Machine as machine
-use Rattle.inv_covers.specs.defs.declared.event.Event.TheVariants as events
-use Rattle.inv_covers.specs.model.Allocate.{after_claim_slot, is_claimed, walk_past, walking}
-use Rattle.inv_covers.specs.model.Calls.{KeepAt, Phase, Why, Work}
-use Rattle.inv_covers.specs.model.Calls.ChangeAt.{ExchangeRoot, LoadCount, LoadKey, LoadValue, LoadVersion}
-use Rattle.inv_covers.specs.model.Calls.DequeueAt.{ExchangeHead, LoadTail, SwingTail, TakeNumber, TakeValue}
-use Rattle.inv_covers.specs.model.Calls.EnqueueAt.{ExchangeNext, ExchangeTail, LoadNext, LoadNumber, PassTail}
-use Rattle.inv_covers.specs.model.Calls.KeepAt.{HideSpan, LoadHeld, Loosens, Looks, MarkLeft, MarkTaken, Misses, StoreHeld, TakeList}
-use Rattle.inv_covers.specs.model.Calls.Phase.{Idle, Runs, Scans, Works}
-use Rattle.inv_covers.specs.model.Calls.ScanAt.{GiveBack, ReadGuard}
-use Rattle.inv_covers.specs.model.Calls.Why.{Advances, Clears, ClearsNext, Fills, Finishes, FollowsHead, GivesUp, Opens, Releases, Retires, Tidies}
-use Rattle.inv_covers.specs.model.Calls.Work.{Changing, Dequeuing, Enqueuing, Getting, Keeping}
-use Rattle.inv_covers.specs.model.Change.{changed_bucket}
-use Rattle.inv_covers.specs.model.Locals.{Local, after, begun}
-use Rattle.inv_covers.specs.model.Phases.{Base, Outcome, RowOf, Walk, ends, goes}
-use Rattle.inv_covers.specs.model.Phases.AllocateAt.{ClaimSlot, LoadBirth, StoreLife}
-use Rattle.inv_covers.specs.model.Phases.Base.{Allocate, Begin, Clear, Finish, GiveUp, Move, Protect, Release, Reload, Retire, Write}
-use Rattle.inv_covers.specs.model.Phases.Ending.{Done}
-use Rattle.inv_covers.specs.model.Phases.Outcome.{Ends, Goes}
-use Rattle.inv_covers.specs.model.Phases.RetireAt.{LoadLife, LoadRetire, StoreRetired}
-use Rattle.inv_covers.specs.model.Posts.{counted}
-use Rattle.inv_covers.specs.model.World.{World, begin, finds, list_in, offered, step, told_in}
-use Rattle.inv_covers.specs.model.WriteRow.{last_written}
-use Rattle.inv_covers.specs.model.declared.post.Post.{Post}
-use Rattle.inv_covers.specs.defs.declared.event.Event.{Event}
-use Rattle.inv_covers.specs.defs.declared.lifetime.Lifetime.{Lifetime}
-use Rattle.inv_covers.proofs.shapes.Frame.{after_seated, begin_begins, begin_stays, begun_seated, moves_with, seat_stays, seat_steps}
-use Rattle.inv_covers.proofs.shapes.Inside.{shape_moves}
-use Rattle.inv_covers.proofs.shapes.Kept.{bared_fits, begun_fits, counted_fits, one_moves, run_counted, work_counted}
-use Rattle.inv_covers.proofs.shapes.Shapes.{shape_grows}
-use Rattle.inv_covers.specs.shapes.Frame.{Grows, Moves, Onward, Owes, Passed, Seated, Stores}
-use Rattle.inv_covers.specs.shapes.Seats.{Kind, PhaseFits, PostFits, Run, fills, kind_of, suits}
-use Rattle.inv_covers.specs.shapes.Seats.Kind.{ToClear, ToFill, ToFinish, ToFollow, ToGiveUp, ToMove, ToOpen, ToRelease, ToRetire}
-use Rattle.inv_covers.proofs.rows.Fits.{MoveFits, phase_fits}
-use Rattle.inv_covers.proofs.rows.Made.{passed_life}
-use Rattle.inv_covers.proofs.rows.Steps.{of_new}
-use Rattle.inv_covers.specs.rows.Agree.{Plays}
-use Rattle.inv_covers.specs.rows.Hands.{base_row, hand_why, keep_row, linked_row, row_move, runs_right, work_row}
-use Rattle.inv_covers.specs.rows.Rows.{Good, RowMove, View, has_life, made}
-use Rattle.inv_covers.specs.rows.Rows.Hand.{New}
-use Rattle.inv_covers.specs.rows.Rows.RowMove.{Adopts, Appends, Bears, Claims, Drops, Links, Lists, Pops, Reads, Replaces, Returns, Seals, Stays}
-use Rattle.inv_covers.specs.rows.Rows.Status.{Claimed}
+use Rattle.inv_rows.specs.model.Machine as machine
+use Rattle.inv_rows.specs.defs.declared.event.Event.TheVariants as events
+use Rattle.inv_rows.specs.model.Allocate.{after_claim_slot, is_claimed, walk_past, walking}
+use Rattle.inv_rows.specs.model.Calls.{KeepAt, Phase, Why, Work}
+use Rattle.inv_rows.specs.model.Calls.ChangeAt.{ExchangeRoot, LoadCount, LoadKey, LoadValue, LoadVersion}
+use Rattle.inv_rows.specs.model.Calls.DequeueAt.{ExchangeHead, LoadTail, SwingTail, TakeNumber, TakeValue}
+use Rattle.inv_rows.specs.model.Calls.EnqueueAt.{ExchangeNext, ExchangeTail, LoadNext, LoadNumber, PassTail}
+use Rattle.inv_rows.specs.model.Calls.KeepAt.{HideSpan, LoadHeld, Loosens, Looks, MarkLeft, MarkTaken, Misses, StoreHeld, TakeList}
+use Rattle.inv_rows.specs.model.Calls.Phase.{Idle, Runs, Scans, Works}
+use Rattle.inv_rows.specs.model.Calls.ScanAt.{GiveBack, ReadGuard}
+use Rattle.inv_rows.specs.model.Calls.Why.{Advances, Clears, ClearsNext, Fills, Finishes, FollowsHead, GivesUp, Opens, Releases, Retires, Tidies}
+use Rattle.inv_rows.specs.model.Calls.Work.{Changing, Dequeuing, Enqueuing, Getting, Keeping}
+use Rattle.inv_rows.specs.model.Change.{changed_bucket}
+use Rattle.inv_rows.specs.model.Locals.{Local, after, begun}
+use Rattle.inv_rows.specs.model.Phases.{Base, Outcome, RowOf, Walk, ends, goes}
+use Rattle.inv_rows.specs.model.Phases.AllocateAt.{ClaimSlot, LoadBirth, StoreLife}
+use Rattle.inv_rows.specs.model.Phases.Base.{Allocate, Begin, Clear, Finish, GiveUp, Move, Protect, Release, Reload, Retire, Write}
+use Rattle.inv_rows.specs.model.Phases.Ending.{Done}
+use Rattle.inv_rows.specs.model.Phases.Outcome.{Ends, Goes}
+use Rattle.inv_rows.specs.model.Phases.RetireAt.{LoadLife, LoadRetire, StoreRetired}
+use Rattle.inv_rows.specs.model.Posts.{counted}
+use Rattle.inv_rows.specs.model.World.{World, begin, finds, list_in, offered, step, told_in}
+use Rattle.inv_rows.specs.model.WriteRow.{last_written}
+use Rattle.inv_rows.specs.model.declared.post.Post.{Post}
+use Rattle.inv_rows.specs.defs.declared.event.Event.{Event}
+use Rattle.inv_rows.specs.defs.declared.lifetime.Lifetime.{Lifetime}
+use Rattle.inv_rows.proofs.Shapes.Frame.{after_seated, begin_begins, begin_stays, begun_seated, moves_with, seat_stays, seat_steps}
+use Rattle.inv_rows.proofs.Shapes.Inside.{shape_moves}
+use Rattle.inv_rows.proofs.Shapes.Kept.{bared_fits, begun_fits, counted_fits, one_moves, run_counted, work_counted}
+use Rattle.inv_rows.proofs.Shapes.Shapes.{shape_grows}
+use Rattle.inv_rows.specs.Shapes.Frame.{Grows, Moves, Onward, Owes, Passed, Seated, Stores}
+use Rattle.inv_rows.specs.Shapes.Seats.{Kind, PhaseFits, PostFits, Run, fills, kind_of, suits}
+use Rattle.inv_rows.specs.Shapes.Seats.Kind.{ToClear, ToFill, ToFinish, ToFollow, ToGiveUp, ToMove, ToOpen, ToRelease, ToRetire}
+use Rattle.inv_rows.proofs.Fits.{MoveFits, phase_fits}
+use Rattle.inv_rows.proofs.Made.{passed_life}
+use Rattle.inv_rows.proofs.Steps.{of_new}
+use Rattle.inv_rows.specs.Agree.{Plays}
+use Rattle.inv_rows.specs.Hands.{base_row, hand_why, keep_row, linked_row, row_move, runs_right, work_row}
+use Rattle.inv_rows.specs.Rows.{Good, RowMove, View, has_life, made}
+use Rattle.inv_rows.specs.Rows.Hand.{New}
+use Rattle.inv_rows.specs.Rows.RowMove.{Adopts, Appends, Bears, Claims, Drops, Links, Lists, Pops, Reads, Replaces, Returns, Seals, Stays}
+use Rattle.inv_rows.specs.Rows.Status.{Claimed}
 use Rattle.inv_ends.proofs.Told.Rows.{rows_told, rows_were}
 use Rattle.inv_ends.specs.Births.{GivenBase, GivenBegin, GivenKept, GivenNeeds, GivenPhase, GivenStart, RetiresGiven, given_after, given_all, given_by}
 use Rattle.inv_ends.specs.Told.{RowRetires, RowWas, birth_base, birth_in, move_of, of_rows, row_events}
-use Rattle.inv_covers.specs.defs.Events.{is_of_rows}
-use Rattle.inv_covers.specs.words.Place.{is_valid}
-use Rattle.inv_covers.specs.words.Place.Place.{Clock}
-use Rattle.inv_covers.specs.words.declared.layout.Layout.{Layout}
+use Rattle.inv_rows.specs.defs.Events.{is_of_rows}
+use Rattle.inv_rows.specs.words.Place.{is_valid}
+use Rattle.inv_rows.specs.words.Place.Place.{Clock}
+use Rattle.inv_rows.specs.words.declared.layout.Layout.{Layout}
 use Rattle.std.specs.Prelude.{List, [], ◌∷◌, Option, Some, None, if◌then◌else◌, ◌==◌}
-use Rattle.inv_covers.proofs.model.Facts.{no_truth_2}
+use Rattle.inv_rows.proofs.model.Facts.{no_truth_2}
 
 -- only events of rows give one
 event_given : (e : Event) (given : ℕ → ℕ) → is_of_rows e ≡ false → given_by e given ≡ given

@@ -1,75 +1,75 @@
 -- What a step tells of rows is its move of rows.
-use Rattle.inv_covers.specs.defs.declared.event.Guard.{Guard}
+use Rattle.inv_rows.specs.defs.declared.event.Guard.{Guard}
 use Rattle.std.proofs.Common.{ℕ, ◌+◌, ◌-◌, Bool, true, false, ◌≡◌, ◌∙◌, sym, refl, ap, arith, ◌≤◌}
 use Rattle.std.proofs.lemmas.Bool.Decides.{nat_tests}
 use Rattle.std.proofs.lemmas.List.Elements.{filter-append}
 use Rattle.std.specs.List.{filter, list_any, list_all}
-use Rattle.inv_covers.specs.model.Memory as memory
-use Rattle.inv_covers.specs.model.Scan as scans
-use Rattle.inv_covers.specs.defs.declared.event.Event.TheVariants as events
-use Rattle.inv_covers.specs.defs.declared.event.Root.TheVariants as roots
-use Rattle.inv_covers.specs.defs.declared.call.ClockMove.TheVariants as moves
-use Rattle.inv_covers.specs.model.Allocate.{after_claim_slot, is_claimed, walk_past, walking}
-use Rattle.inv_covers.specs.model.Calls.{AfterScan, ChangeKept, KeepAt, Phase, Why, Work}
-use Rattle.inv_covers.specs.model.Calls.AfterScan.{Answered, Counted, Repeated}
-use Rattle.inv_covers.specs.model.Calls.ChangeAt.{ExchangeRoot, LoadCount, LoadKey, LoadValue, LoadVersion}
-use Rattle.inv_covers.specs.model.Calls.DequeueAt.{ExchangeHead, LoadTail, SwingTail, TakeNumber, TakeValue}
-use Rattle.inv_covers.specs.model.Calls.EnqueueAt.{ExchangeNext, ExchangeTail, LoadNext, LoadNumber, PassTail}
-use Rattle.inv_covers.specs.model.Calls.KeepAt.{HideSpan, LoadHeld, Loosens, Looks, MarkLeft, MarkTaken, Misses, StoreHeld, TakeList}
-use Rattle.inv_covers.specs.model.Calls.Phase.{Idle, Runs, Scans, Works}
-use Rattle.inv_covers.specs.model.Calls.ScanAt.{GiveBack, ReadGuard}
-use Rattle.inv_covers.specs.model.Calls.Why.{Advances, Clears, ClearsNext, Fills, Finishes, FollowsHead, GivesUp, Opens, Releases, Retires, Tidies}
-use Rattle.inv_covers.specs.model.Calls.Work.{Changing, Dequeuing, Enqueuing, Getting, Keeping}
-use Rattle.inv_covers.specs.model.Change.{changed_bucket}
-use Rattle.inv_covers.specs.model.Desks.{Desk}
-use Rattle.inv_covers.specs.model.Guards.{guard_at, guards, published}
-use Rattle.inv_covers.specs.model.Locals.{Local, turn}
-use Rattle.inv_covers.specs.model.Machine.{after, allocate_turn, base_move, begin_turn, move_turn, protect_turn, retire_move, retire_turn}
-use Rattle.inv_covers.specs.model.Memory.{place_in}
-use Rattle.inv_covers.specs.model.MoveClock.{after_hand_over}
-use Rattle.inv_covers.specs.model.Phases.{Aim, AllocateAt, Base, BeginAt, Ending, MoveAt, Outcome, ProtectAt, RetireAt, Walk, ends, goes}
-use Rattle.inv_covers.specs.model.Phases.AllocateAt.{ClaimSlot, LoadBirth, StoreLife}
-use Rattle.inv_covers.specs.model.Phases.Base.{Allocate, Begin, Clear, Finish, GiveUp, Move, Protect, Release, Reload, Retire, Write}
-use Rattle.inv_covers.specs.model.Phases.BeginAt.{LoadLower, PublishSpan}
-use Rattle.inv_covers.specs.model.Phases.Ending.{Clocked}
-use Rattle.inv_covers.specs.model.Phases.MoveAt.{AnswerAsked, CheckEra, ExchangeClock, HandOver, HideEra, HideLate, LoadAsked, LoadEra, LoadRequest, LoadReserved, ShowEra}
-use Rattle.inv_covers.specs.model.Phases.Outcome.{Ends, Goes}
-use Rattle.inv_covers.specs.model.Phases.ProtectAt.{AnswerOwn, CheckClock, CheckOwnClock, CheckUpper, LoadAnswer, LoadClock, LoadLink, LoadOwnClock, LoadOwnLink, LoadWithin, PublishEra, PublishHelper, PublishRequest, RaiseUpper, TakeAnswer, WithdrawHelper, WithdrawRequest, ByHazard}
-use Rattle.inv_covers.specs.model.Phases.HazardAt.{FirstLink, PublishLink, CheckLink}
-use Rattle.inv_covers.specs.model.Phases.RetireAt.{LoadLife, LoadRetire, StoreRetired}
-use Rattle.inv_covers.specs.model.Posts.{cleared, cleared_from, counted, reserves_helper, reserves_span, stands, upper, publishes_index}
-use Rattle.inv_covers.specs.model.Protect.{held_post, protected, told_held}
-use Rattle.inv_covers.specs.model.Rounds.{let_index, scheme_of}
-use Rattle.inv_covers.specs.model.Scan.{Entry, giving_back, scanned, unmet_from, with_back, with_kept, reads_guard}
-use Rattle.inv_covers.specs.model.SlowPath.{asking, own_request}
-use Rattle.inv_covers.specs.model.Steps.{phase_move, phase_turn, resumed}
-use Rattle.inv_covers.specs.model.World.{World, finds, list_in, offered, told_in}
-use Rattle.inv_covers.specs.model.WriteRow.{last_written}
-use Rattle.inv_covers.specs.model.declared.post.Post.{Post}
-use Rattle.inv_covers.proofs.Begun.{standing_stays}
-use Rattle.inv_covers.specs.Covers.{takes_or_frees}
-use Rattle.inv_covers.specs.defs.declared.event.Event.{Event}
-use Rattle.inv_covers.specs.defs.declared.event.Root.{Root}
-use Rattle.inv_covers.specs.defs.declared.lifetime.Lifetime.{Lifetime}
+use Rattle.inv_rows.specs.model.Memory as memory
+use Rattle.inv_rows.specs.model.Scan as scans
+use Rattle.inv_rows.specs.defs.declared.event.Event.TheVariants as events
+use Rattle.inv_rows.specs.defs.declared.event.Root.TheVariants as roots
+use Rattle.inv_rows.specs.defs.declared.call.ClockMove.TheVariants as moves
+use Rattle.inv_rows.specs.model.Allocate.{after_claim_slot, is_claimed, walk_past, walking}
+use Rattle.inv_rows.specs.model.Calls.{AfterScan, ChangeKept, KeepAt, Phase, Why, Work}
+use Rattle.inv_rows.specs.model.Calls.AfterScan.{Answered, Counted, Repeated}
+use Rattle.inv_rows.specs.model.Calls.ChangeAt.{ExchangeRoot, LoadCount, LoadKey, LoadValue, LoadVersion}
+use Rattle.inv_rows.specs.model.Calls.DequeueAt.{ExchangeHead, LoadTail, SwingTail, TakeNumber, TakeValue}
+use Rattle.inv_rows.specs.model.Calls.EnqueueAt.{ExchangeNext, ExchangeTail, LoadNext, LoadNumber, PassTail}
+use Rattle.inv_rows.specs.model.Calls.KeepAt.{HideSpan, LoadHeld, Loosens, Looks, MarkLeft, MarkTaken, Misses, StoreHeld, TakeList}
+use Rattle.inv_rows.specs.model.Calls.Phase.{Idle, Runs, Scans, Works}
+use Rattle.inv_rows.specs.model.Calls.ScanAt.{GiveBack, ReadGuard}
+use Rattle.inv_rows.specs.model.Calls.Why.{Advances, Clears, ClearsNext, Fills, Finishes, FollowsHead, GivesUp, Opens, Releases, Retires, Tidies}
+use Rattle.inv_rows.specs.model.Calls.Work.{Changing, Dequeuing, Enqueuing, Getting, Keeping}
+use Rattle.inv_rows.specs.model.Change.{changed_bucket}
+use Rattle.inv_rows.specs.model.Desks.{Desk}
+use Rattle.inv_rows.specs.model.Guards.{guard_at, guards, published}
+use Rattle.inv_rows.specs.model.Locals.{Local, turn}
+use Rattle.inv_rows.specs.model.Machine.{after, allocate_turn, base_move, begin_turn, move_turn, protect_turn, retire_move, retire_turn}
+use Rattle.inv_rows.specs.model.Memory.{place_in}
+use Rattle.inv_rows.specs.model.MoveClock.{after_hand_over}
+use Rattle.inv_rows.specs.model.Phases.{Aim, AllocateAt, Base, BeginAt, Ending, MoveAt, Outcome, ProtectAt, RetireAt, Walk, ends, goes}
+use Rattle.inv_rows.specs.model.Phases.AllocateAt.{ClaimSlot, LoadBirth, StoreLife}
+use Rattle.inv_rows.specs.model.Phases.Base.{Allocate, Begin, Clear, Finish, GiveUp, Move, Protect, Release, Reload, Retire, Write}
+use Rattle.inv_rows.specs.model.Phases.BeginAt.{LoadLower, PublishSpan}
+use Rattle.inv_rows.specs.model.Phases.Ending.{Clocked}
+use Rattle.inv_rows.specs.model.Phases.MoveAt.{AnswerAsked, CheckEra, ExchangeClock, HandOver, HideEra, HideLate, LoadAsked, LoadEra, LoadRequest, LoadReserved, ShowEra}
+use Rattle.inv_rows.specs.model.Phases.Outcome.{Ends, Goes}
+use Rattle.inv_rows.specs.model.Phases.ProtectAt.{AnswerOwn, CheckClock, CheckOwnClock, CheckUpper, LoadAnswer, LoadClock, LoadLink, LoadOwnClock, LoadOwnLink, LoadWithin, PublishEra, PublishHelper, PublishRequest, RaiseUpper, TakeAnswer, WithdrawHelper, WithdrawRequest, ByHazard}
+use Rattle.inv_rows.specs.model.Phases.HazardAt.{FirstLink, PublishLink, CheckLink}
+use Rattle.inv_rows.specs.model.Phases.RetireAt.{LoadLife, LoadRetire, StoreRetired}
+use Rattle.inv_rows.specs.model.Posts.{cleared, cleared_from, counted, reserves_helper, reserves_span, stands, upper, publishes_index}
+use Rattle.inv_rows.specs.model.Protect.{held_post, protected, told_held}
+use Rattle.inv_rows.specs.model.Rounds.{let_index, scheme_of}
+use Rattle.inv_rows.specs.model.Scan.{Entry, giving_back, scanned, unmet_from, with_back, with_kept, reads_guard}
+use Rattle.inv_rows.specs.model.SlowPath.{asking, own_request}
+use Rattle.inv_rows.specs.model.Steps.{phase_move, phase_turn, resumed}
+use Rattle.inv_rows.specs.model.World.{World, finds, list_in, offered, told_in}
+use Rattle.inv_rows.specs.model.WriteRow.{last_written}
+use Rattle.inv_rows.specs.model.declared.post.Post.{Post}
+use Rattle.inv_rows.proofs.Covering.Begun.{standing_stays}
+use Rattle.inv_rows.specs.Covering.Covers.{takes_or_frees}
+use Rattle.inv_rows.specs.defs.declared.event.Event.{Event}
+use Rattle.inv_rows.specs.defs.declared.event.Root.{Root}
+use Rattle.inv_rows.specs.defs.declared.lifetime.Lifetime.{Lifetime}
 use Rattle.inv_ends.proofs.Told.Turns.{Adds, AddsPlain, adds_wide, hands_list, is_later, out_adds, resume_adds, work_adds, work_still}
 use Rattle.model_history.proofs.Passes.{copied_told, keep_told, work_post, work_told}
 use Rattle.inv_ends.specs.Told.{NoReuse, RowWas, RowsTold, RowsWere, birth_at, birth_base, birth_in, move_of, of_rows, reuses, row_events}
-use Rattle.inv_covers.specs.defs.Events.{is_of_rows}
-use Rattle.inv_covers.specs.shapes.Eras.{PhaseEras, base_eras, retire_eras}
-use Rattle.inv_covers.proofs.rows.Fits.{MoveFits, phase_fits}
-use Rattle.inv_covers.specs.rows.Agree.{Plays}
-use Rattle.inv_covers.specs.rows.Hands.{allocate_row, base_row, hand_retire, hand_why, keep_row, linked_row, retire_row, row_move, runs_right, work_row}
-use Rattle.inv_covers.specs.rows.Rows.{Good, RowMove, View}
-use Rattle.inv_covers.specs.rows.Rows.Hand.{Dated, Known}
-use Rattle.inv_covers.specs.rows.Rows.RowMove.{Adopts, Appends, Bears, Claims, Drops, Links, Lists, Pops, Reads, Replaces, Returns, Seals, Stays}
-use Rattle.inv_covers.specs.words.Packed.{read_reservation}
-use Rattle.inv_covers.specs.words.Schemes.{has_one_interval, publishes_rows}
-use Rattle.inv_covers.specs.words.Place.{Place, claim_word}
-use Rattle.inv_covers.specs.words.Place.Place.{Claim, Clock}
-use Rattle.inv_covers.specs.words.declared.layout.Layout.{Layout}
+use Rattle.inv_rows.specs.defs.Events.{is_of_rows}
+use Rattle.inv_rows.specs.Shapes.Eras.{PhaseEras, base_eras, retire_eras}
+use Rattle.inv_rows.proofs.Fits.{MoveFits, phase_fits}
+use Rattle.inv_rows.specs.Agree.{Plays}
+use Rattle.inv_rows.specs.Hands.{allocate_row, base_row, hand_retire, hand_why, keep_row, linked_row, retire_row, row_move, runs_right, work_row}
+use Rattle.inv_rows.specs.Rows.{Good, RowMove, View}
+use Rattle.inv_rows.specs.Rows.Hand.{Dated, Known}
+use Rattle.inv_rows.specs.Rows.RowMove.{Adopts, Appends, Bears, Claims, Drops, Links, Lists, Pops, Reads, Replaces, Returns, Seals, Stays}
+use Rattle.inv_rows.specs.words.Packed.{read_reservation}
+use Rattle.inv_rows.specs.words.Schemes.{has_one_interval, publishes_rows}
+use Rattle.inv_rows.specs.words.Place.{Place, claim_word}
+use Rattle.inv_rows.specs.words.Place.Place.{Claim, Clock}
+use Rattle.inv_rows.specs.words.declared.layout.Layout.{Layout}
 use Rattle.std.specs.Prelude.{List, None, Option, Some, [], drop, if◌then◌else◌, nat_lt, ◌++◌, ◌==◌, ◌∷◌, ◌||◌}
-use Rattle.inv_covers.proofs.model.Facts.{no_truth_2}
-pub use Rattle.inv_covers.proofs.shapes.Frame.{concluded_told}
+use Rattle.inv_rows.proofs.model.Facts.{no_truth_2}
+pub use Rattle.inv_rows.proofs.Shapes.Frame.{concluded_told}
 
 -- what a machine, a scan or a step on what is kept tells itself, and the post that it leaves
 abbrev pub own_told : Phase → Post → ℕ → List Event

@@ -5,57 +5,57 @@ use Rattle.std.proofs.lemmas.Bool.Decides.{nat_tests}
 use Rattle.std.proofs.lemmas.List.{append_assoc}
 use Rattle.std.proofs.lemmas.List.Folds.{list_any-append, list_all-append}
 use Rattle.std.specs.List.{list_any, list_all}
-use Rattle.inv_covers.specs.model.Get as gets
-use Rattle.inv_covers.specs.model.Change as alters
-use Rattle.inv_covers.specs.model.Enqueue as enqueues
-use Rattle.inv_covers.specs.model.Dequeue as dequeues
-use Rattle.inv_covers.specs.model.Keep as keeps
-use Rattle.inv_covers.specs.model.Steps as steps
-use Rattle.inv_covers.specs.model.Calls as calls
-use Rattle.inv_covers.specs.defs.declared.call.Answer.TheVariants as the_answers
-use Rattle.inv_covers.specs.defs.declared.event.Event.TheVariants as events
-use Rattle.inv_covers.specs.defs.declared.event.Root.TheVariants as roots
-use Rattle.inv_covers.specs.defs.declared.call.ClockMove.TheVariants as moves
-use Rattle.inv_covers.specs.defs.declared.fold.Change.TheVariants as changes
-use Rattle.inv_covers.specs.model.declared.ends.ProtectEnd.TheVariants as protect_ends
-use Rattle.inv_covers.specs.model.declared.ends.FollowEnd.TheVariants as follow_ends
-use Rattle.inv_covers.specs.model.declared.ends.AllocateEnd.TheVariants as allocate_ends
-use Rattle.inv_covers.specs.model.Calls.{AfterScan, CallOutcome, CallTurn, ChangeAt, ChangeKept, DequeueAt, EnqueueAt, EnqueueKept, GetAt, KeepAt, LetGo, Next, Task, Why, Work}
-use Rattle.inv_covers.specs.model.Calls.CallOutcome.{GoesOn}
-use Rattle.inv_covers.specs.model.Calls.ChangeAt.{ExchangeRoot, LoadCount, LoadKey, LoadValue, LoadVersion}
-use Rattle.inv_covers.specs.model.Calls.DequeueAt.{ExchangeHead, LoadTail, SwingTail, TakeNumber, TakeValue}
-use Rattle.inv_covers.specs.model.Calls.EnqueueAt.{ExchangeNext, ExchangeTail, LoadNext, LoadNumber, PassTail}
-use Rattle.inv_covers.specs.model.Calls.GetAt.{FindCount, FindKey, FindValue, FindVersion}
-use Rattle.inv_covers.specs.model.Calls.KeepAt.{HideSpan, LoadHeld, Loosens, Looks, MarkLeft, MarkTaken, Misses, StoreHeld, TakeList}
-use Rattle.inv_covers.specs.model.Calls.LetGo.{Dropped, Parting, Rehold, Released}
-use Rattle.inv_covers.specs.model.Calls.Next.{Again, Answering, MakeRoom, Retiring}
-use Rattle.inv_covers.specs.model.Calls.Task.{Changes, Dequeues, Enqueues, Gets, Holds}
-use Rattle.inv_covers.specs.model.Calls.Why.{Advances, Clears, ClearsNext, Fills, Finishes, FollowsHead, GivesUp, Opens, Releases, Retires, Tidies}
-use Rattle.inv_covers.specs.model.Calls.Work.{Changing, Dequeuing, Enqueuing, Getting, Keeping}
-use Rattle.inv_covers.specs.model.Desks.{Desk, with_life}
-use Rattle.inv_covers.specs.model.Locals.{told_by, told_end}
-use Rattle.inv_covers.specs.model.Phases.{Ending, Base}
-use Rattle.inv_covers.specs.model.Phases.Ending.{Allocated, Clocked, Done, Followed, Protected, Retired}
-use Rattle.inv_covers.specs.model.Posts.{cleared, stands, withdrawn, publishes_index}
-use Rattle.inv_covers.specs.model.Rounds.{bucket_of, clear_base, clear_post, clear_told, clearing, clearing_by, clearing_next, clearing_next_by, closed, finish_base, finish_span, finishing, finishing_by, given_up, index_of, kept_row, let_index, scheme_of, taken_of}
-use Rattle.inv_covers.specs.model.declared.ends.AllocateEnd.{AllocateEnd}
-use Rattle.inv_covers.specs.model.declared.ends.FollowEnd.{FollowEnd}
-use Rattle.inv_covers.specs.model.declared.post.Post.{Post}
-use Rattle.inv_covers.proofs.Stands.{withdrawn_shrinks}
+use Rattle.inv_rows.specs.model.Get as gets
+use Rattle.inv_rows.specs.model.Change as alters
+use Rattle.inv_rows.specs.model.Enqueue as enqueues
+use Rattle.inv_rows.specs.model.Dequeue as dequeues
+use Rattle.inv_rows.specs.model.Keep as keeps
+use Rattle.inv_rows.specs.model.Steps as steps
+use Rattle.inv_rows.specs.model.Calls as calls
+use Rattle.inv_rows.specs.defs.declared.call.Answer.TheVariants as the_answers
+use Rattle.inv_rows.specs.defs.declared.event.Event.TheVariants as events
+use Rattle.inv_rows.specs.defs.declared.event.Root.TheVariants as roots
+use Rattle.inv_rows.specs.defs.declared.call.ClockMove.TheVariants as moves
+use Rattle.inv_rows.specs.defs.declared.fold.Change.TheVariants as changes
+use Rattle.inv_rows.specs.model.declared.ends.ProtectEnd.TheVariants as protect_ends
+use Rattle.inv_rows.specs.model.declared.ends.FollowEnd.TheVariants as follow_ends
+use Rattle.inv_rows.specs.model.declared.ends.AllocateEnd.TheVariants as allocate_ends
+use Rattle.inv_rows.specs.model.Calls.{AfterScan, CallOutcome, CallTurn, ChangeAt, ChangeKept, DequeueAt, EnqueueAt, EnqueueKept, GetAt, KeepAt, LetGo, Next, Task, Why, Work}
+use Rattle.inv_rows.specs.model.Calls.CallOutcome.{GoesOn}
+use Rattle.inv_rows.specs.model.Calls.ChangeAt.{ExchangeRoot, LoadCount, LoadKey, LoadValue, LoadVersion}
+use Rattle.inv_rows.specs.model.Calls.DequeueAt.{ExchangeHead, LoadTail, SwingTail, TakeNumber, TakeValue}
+use Rattle.inv_rows.specs.model.Calls.EnqueueAt.{ExchangeNext, ExchangeTail, LoadNext, LoadNumber, PassTail}
+use Rattle.inv_rows.specs.model.Calls.GetAt.{FindCount, FindKey, FindValue, FindVersion}
+use Rattle.inv_rows.specs.model.Calls.KeepAt.{HideSpan, LoadHeld, Loosens, Looks, MarkLeft, MarkTaken, Misses, StoreHeld, TakeList}
+use Rattle.inv_rows.specs.model.Calls.LetGo.{Dropped, Parting, Rehold, Released}
+use Rattle.inv_rows.specs.model.Calls.Next.{Again, Answering, MakeRoom, Retiring}
+use Rattle.inv_rows.specs.model.Calls.Task.{Changes, Dequeues, Enqueues, Gets, Holds}
+use Rattle.inv_rows.specs.model.Calls.Why.{Advances, Clears, ClearsNext, Fills, Finishes, FollowsHead, GivesUp, Opens, Releases, Retires, Tidies}
+use Rattle.inv_rows.specs.model.Calls.Work.{Changing, Dequeuing, Enqueuing, Getting, Keeping}
+use Rattle.inv_rows.specs.model.Desks.{Desk, with_life}
+use Rattle.inv_rows.specs.model.Locals.{told_by, told_end}
+use Rattle.inv_rows.specs.model.Phases.{Ending, Base}
+use Rattle.inv_rows.specs.model.Phases.Ending.{Allocated, Clocked, Done, Followed, Protected, Retired}
+use Rattle.inv_rows.specs.model.Posts.{cleared, stands, withdrawn, publishes_index}
+use Rattle.inv_rows.specs.model.Rounds.{bucket_of, clear_base, clear_post, clear_told, clearing, clearing_by, clearing_next, clearing_next_by, closed, finish_base, finish_span, finishing, finishing_by, given_up, index_of, kept_row, let_index, scheme_of, taken_of}
+use Rattle.inv_rows.specs.model.declared.ends.AllocateEnd.{AllocateEnd}
+use Rattle.inv_rows.specs.model.declared.ends.FollowEnd.{FollowEnd}
+use Rattle.inv_rows.specs.model.declared.post.Post.{Post}
+use Rattle.inv_rows.proofs.Covering.Stands.{withdrawn_shrinks}
 use Rattle.inv_ends.specs.Lists.{is_of_lists}
 use Rattle.inv_ends.specs.Stands.{is_clear, stood_by, stood}
 use Rattle.model_history.proofs.Passes.{copied_post, copied_told, keep_post, keep_told, work_post, work_told}
-use Rattle.inv_covers.specs.Tries.{Shrinks}
-use Rattle.inv_covers.specs.defs.declared.call.Answer.{Answer}
-use Rattle.inv_covers.specs.defs.declared.event.Event.{Event}
-use Rattle.inv_covers.specs.defs.declared.event.Root.{Root}
-use Rattle.inv_covers.specs.defs.declared.fold.Change.{Change}
-use Rattle.inv_covers.specs.words.declared.config.SchemeKind.{SchemeKind}
+use Rattle.inv_rows.specs.Covering.Tries.{Shrinks}
+use Rattle.inv_rows.specs.defs.declared.call.Answer.{Answer}
+use Rattle.inv_rows.specs.defs.declared.event.Event.{Event}
+use Rattle.inv_rows.specs.defs.declared.event.Root.{Root}
+use Rattle.inv_rows.specs.defs.declared.fold.Change.{Change}
+use Rattle.inv_rows.specs.words.declared.config.SchemeKind.{SchemeKind}
 use Rattle.std.specs.Prelude.{List, None, Option, Some, [], if◌then◌else◌, length, nat_lt, ◌%◌, ◌++◌, ◌==◌, ◌||◌, ◌∷◌}
-use Rattle.inv_covers.proofs.model.Standing.{stands-withdrawn_same, stands-withdrawn_other}
-use Rattle.inv_covers.proofs.model.Facts.{either_true, no_truth_2}
-use Rattle.inv_covers.proofs.model.Schemes.{each_clear, each_finish}
-use Rattle.inv_covers.specs.words.Schemes.{has_one_interval, publishes_rows}
+use Rattle.inv_rows.proofs.model.Standing.{stands-withdrawn_same, stands-withdrawn_other}
+use Rattle.inv_rows.proofs.model.Facts.{either_true, no_truth_2}
+use Rattle.inv_rows.proofs.model.Schemes.{each_clear, each_finish}
+use Rattle.inv_rows.specs.words.Schemes.{has_one_interval, publishes_rows}
 
 -- an event that comes after those of a machine or of a step on what is kept, besides those of lists
 abbrev pub is_sequel : Event → Bool

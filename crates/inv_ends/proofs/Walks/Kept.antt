@@ -1,35 +1,35 @@
 -- A walk's facts hold from the start on, and over each step and each call that begins.
 use Rattle.std.proofs.Common.{ℕ, ◌+◌, ◌≤◌, Bool, true, false, ◌≡◌, ◌∙◌, sym, refl, ap, subst, arith}
 use Rattle.std.proofs.lemmas.Bool.Decides.{nat_tests}
-use Rattle.inv_covers.specs.model.declared.ends.AllocateEnd.TheVariants as allocate_ends
-use Rattle.inv_covers.specs.model.Machine as machine
-use Rattle.inv_covers.specs.model.Allocate.{after_claim_slot, is_claimed, walk_past, walking}
-use Rattle.inv_covers.specs.model.Calls.{Phase, Why}
-use Rattle.inv_covers.specs.model.Calls.Phase.{Idle, Runs, Scans, Works}
-use Rattle.inv_covers.specs.model.Locals.{Local, after, begun}
-use Rattle.inv_covers.specs.model.Memory.{upd}
-use Rattle.inv_covers.specs.model.Phases.{Base, Outcome, RowOf, Walk, ends, goes}
-use Rattle.inv_covers.specs.model.Phases.AllocateAt.{ClaimSlot, LoadBirth, StoreLife}
-use Rattle.inv_covers.specs.model.Phases.Base.{Allocate, Begin, Clear, Finish, GiveUp, Move, Protect, Release, Reload, Retire, Write}
-use Rattle.inv_covers.specs.model.Phases.Ending.{Allocated, Done}
-use Rattle.inv_covers.specs.model.Phases.Outcome.{Ends, Goes}
-use Rattle.inv_covers.specs.model.Posts.{counted}
-use Rattle.inv_covers.specs.model.World.{begin, finds, offered, step}
-use Rattle.inv_covers.specs.model.WriteRow.{last_written}
-use Rattle.inv_covers.specs.model.declared.post.Post.{Post}
-use Rattle.inv_covers.proofs.shapes.Frame.{after_seated, begin_begins, begin_stays, begun_seated, moves_with, seat_stays, seat_steps}
-use Rattle.inv_covers.proofs.shapes.Inside.{shape_moves}
-use Rattle.inv_covers.proofs.shapes.Kept.{bared_fits, begun_fits, counted_fits, one_moves, run_counted, work_counted}
-use Rattle.inv_covers.proofs.shapes.Shapes.{shape_grows}
-use Rattle.inv_covers.specs.shapes.Frame.{Grows, Moves, Onward, Owes, Passed, Seated}
-use Rattle.inv_covers.specs.shapes.Seats.{PhaseFits, PostFits, Run, fills, kind_of}
+use Rattle.inv_rows.specs.model.declared.ends.AllocateEnd.TheVariants as allocate_ends
+use Rattle.inv_rows.specs.model.Machine as machine
+use Rattle.inv_rows.specs.model.Allocate.{after_claim_slot, is_claimed, walk_past, walking}
+use Rattle.inv_rows.specs.model.Calls.{Phase, Why}
+use Rattle.inv_rows.specs.model.Calls.Phase.{Idle, Runs, Scans, Works}
+use Rattle.inv_rows.specs.model.Locals.{Local, after, begun}
+use Rattle.inv_rows.specs.model.Memory.{upd}
+use Rattle.inv_rows.specs.model.Phases.{Base, Outcome, RowOf, Walk, ends, goes}
+use Rattle.inv_rows.specs.model.Phases.AllocateAt.{ClaimSlot, LoadBirth, StoreLife}
+use Rattle.inv_rows.specs.model.Phases.Base.{Allocate, Begin, Clear, Finish, GiveUp, Move, Protect, Release, Reload, Retire, Write}
+use Rattle.inv_rows.specs.model.Phases.Ending.{Allocated, Done}
+use Rattle.inv_rows.specs.model.Phases.Outcome.{Ends, Goes}
+use Rattle.inv_rows.specs.model.Posts.{counted}
+use Rattle.inv_rows.specs.model.World.{begin, finds, offered, step}
+use Rattle.inv_rows.specs.model.WriteRow.{last_written}
+use Rattle.inv_rows.specs.model.declared.post.Post.{Post}
+use Rattle.inv_rows.proofs.Shapes.Frame.{after_seated, begin_begins, begin_stays, begun_seated, moves_with, seat_stays, seat_steps}
+use Rattle.inv_rows.proofs.Shapes.Inside.{shape_moves}
+use Rattle.inv_rows.proofs.Shapes.Kept.{bared_fits, begun_fits, counted_fits, one_moves, run_counted, work_counted}
+use Rattle.inv_rows.proofs.Shapes.Shapes.{shape_grows}
+use Rattle.inv_rows.specs.Shapes.Frame.{Grows, Moves, Onward, Owes, Passed, Seated}
+use Rattle.inv_rows.specs.Shapes.Seats.{PhaseFits, PostFits, Run, fills, kind_of}
 use Rattle.inv_ends.proofs.Walks.Seen.{OnSeen, begins_seen, more_seen, past_seen}
 use Rattle.inv_ends.specs.Walks.{FullSeen, WalkBase, WalkPhase, WalkSeen, WalkingBegin, WalkingKept, WalkingStart, seen_after, seen_base, seen_in}
-use Rattle.inv_covers.specs.words.Place.{is_valid}
-use Rattle.inv_covers.specs.words.declared.layout.Layout.{Layout}
+use Rattle.inv_rows.specs.words.Place.{is_valid}
+use Rattle.inv_rows.specs.words.declared.layout.Layout.{Layout}
 use Rattle.std.specs.Prelude.{[], Option, Some, None, if◌then◌else◌, ◌==◌}
 use Rattle.inv_ends.proofs.Told.Births.{apart, each_stores}
-use Rattle.inv_covers.proofs.model.Facts.{no_truth_2}
+use Rattle.inv_rows.proofs.model.Facts.{no_truth_2}
 
 -- where a call comes to by no step of a machine there is no walk that has begun
 walk_grows : (layout : Layout) (k : ℕ) (seen : ℕ → Bool) → is_valid layout ≡ true → Grows (PostFits layout k) (λ post phase. WalkPhase layout.config.slots seen phase)

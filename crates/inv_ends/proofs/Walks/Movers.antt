@@ -2,59 +2,59 @@
 -- that begins.
 use Rattle.std.proofs.Common.{ℕ, ◌+◌, ◌≤◌, ◌<◌, ◌^◌, Bool, true, false, ◌≡◌, ◌∙◌, sym, refl, ap, subst, arith}
 use Rattle.std.proofs.lemmas.Bool.Decides.{nat_tests}
-use Rattle.inv_covers.specs.model.Machine as machine
-use Rattle.inv_covers.specs.model.MoveClock as moving
-use Rattle.inv_covers.specs.shapes.Seats as kinds
-use Rattle.inv_covers.specs.words.declared.packed.Request.{Request as Asking}
-use Rattle.inv_covers.specs.defs.declared.event.Event.TheVariants as events
-use Rattle.inv_covers.specs.defs.declared.call.ClockMove.TheVariants as moves
-use Rattle.inv_covers.specs.words.declared.packed.Request.TheVariants as requests
-use Rattle.inv_covers.proofs.model.Ranges.{bounds_of}
-use Rattle.inv_covers.specs.model.Calls.{Phase, Why}
-use Rattle.inv_covers.specs.model.Calls.Phase.{Idle, Runs, Scans, Works}
-use Rattle.inv_covers.specs.model.Links.{root_at}
-use Rattle.inv_covers.specs.model.Locals.{Local, after, begun}
-use Rattle.inv_covers.specs.model.Machine.{base_move, move_move, move_turn}
-use Rattle.inv_covers.specs.model.Memory.{found, place_in, upd}
-use Rattle.inv_covers.specs.model.MoveClock.{after_hand_over, all_met, helping, next_request}
-use Rattle.inv_covers.specs.model.Phases.{Base, MoveAt, Outcome, ends, goes}
-use Rattle.inv_covers.specs.model.Phases.Base.{Allocate, Begin, Clear, Finish, GiveUp, Move, Protect, Release, Reload, Retire, Write}
-use Rattle.inv_covers.specs.model.Phases.Ending.{Clocked}
-use Rattle.inv_covers.specs.model.Phases.MoveAt.{AnswerAsked, CheckEra, ExchangeClock, HandOver, HideEra, HideLate, LoadAsked, LoadEra, LoadRequest, LoadReserved, ShowEra}
-use Rattle.inv_covers.specs.model.Phases.Outcome.{Ends, Goes}
-use Rattle.inv_covers.specs.model.Posts.{counted, tag_of}
-use Rattle.inv_covers.specs.model.SlowPath.{asking}
-use Rattle.inv_covers.specs.model.Steps.{phase_move}
-use Rattle.inv_covers.specs.model.World.{World, begin, finds, offered, step}
-use Rattle.inv_covers.specs.model.declared.post.Post.{Post}
-use Rattle.inv_covers.specs.defs.declared.call.Call.{Call}
-use Rattle.inv_covers.specs.defs.declared.event.Root.{Root}
-use Rattle.inv_covers.proofs.shapes.Frame.{after_seated, begin_begins, begin_stays, begun_seated, moves_with, seat_stays, seat_steps}
-use Rattle.inv_covers.proofs.shapes.Inside.{shape_moves}
-use Rattle.inv_covers.proofs.shapes.Kept.{bared_fits, begun_fits, counted_fits, one_moves, run_counted, work_counted}
-use Rattle.inv_covers.proofs.shapes.Shapes.{shape_grows}
-use Rattle.inv_covers.specs.shapes.Frame.{Grows, Moves, Onward, Owes, Passed, Seated}
-use Rattle.inv_covers.specs.shapes.Seats.{Kind, PhaseFits, PostFits, Run, kind_of, suits}
-use Rattle.inv_covers.specs.shapes.Seats.Kind.{ToClear, ToFill, ToFinish, ToFollow, ToGiveUp, ToMove, ToOpen, ToRelease, ToRetire}
-use Rattle.inv_covers.proofs.Requests.Going.{link_few}
-use Rattle.inv_covers.proofs.Requests.Helping.{asker_of}
-use Rattle.inv_covers.proofs.Requests.Kept.{at_of}
-use Rattle.inv_covers.specs.Requests.Context.{At}
-use Rattle.inv_covers.specs.Requests.NextDeals.{next_deals}
-use Rattle.inv_covers.specs.Requests.Standing.{request_of}
-use Rattle.inv_covers.specs.Requests.Views.{Deal, View, Deal as dealing}
-use Rattle.inv_covers.specs.Requests.Views.Deal.{Answered, Open, Quiet, Taken}
+use Rattle.inv_rows.specs.model.Machine as machine
+use Rattle.inv_rows.specs.model.MoveClock as moving
+use Rattle.inv_rows.specs.Shapes.Seats as kinds
+use Rattle.inv_rows.specs.words.declared.packed.Request.{Request as Asking}
+use Rattle.inv_rows.specs.defs.declared.event.Event.TheVariants as events
+use Rattle.inv_rows.specs.defs.declared.call.ClockMove.TheVariants as moves
+use Rattle.inv_rows.specs.words.declared.packed.Request.TheVariants as requests
+use Rattle.inv_rows.proofs.model.Ranges.{bounds_of}
+use Rattle.inv_rows.specs.model.Calls.{Phase, Why}
+use Rattle.inv_rows.specs.model.Calls.Phase.{Idle, Runs, Scans, Works}
+use Rattle.inv_rows.specs.model.Links.{root_at}
+use Rattle.inv_rows.specs.model.Locals.{Local, after, begun}
+use Rattle.inv_rows.specs.model.Machine.{base_move, move_move, move_turn}
+use Rattle.inv_rows.specs.model.Memory.{found, place_in, upd}
+use Rattle.inv_rows.specs.model.MoveClock.{after_hand_over, all_met, helping, next_request}
+use Rattle.inv_rows.specs.model.Phases.{Base, MoveAt, Outcome, ends, goes}
+use Rattle.inv_rows.specs.model.Phases.Base.{Allocate, Begin, Clear, Finish, GiveUp, Move, Protect, Release, Reload, Retire, Write}
+use Rattle.inv_rows.specs.model.Phases.Ending.{Clocked}
+use Rattle.inv_rows.specs.model.Phases.MoveAt.{AnswerAsked, CheckEra, ExchangeClock, HandOver, HideEra, HideLate, LoadAsked, LoadEra, LoadRequest, LoadReserved, ShowEra}
+use Rattle.inv_rows.specs.model.Phases.Outcome.{Ends, Goes}
+use Rattle.inv_rows.specs.model.Posts.{counted, tag_of}
+use Rattle.inv_rows.specs.model.SlowPath.{asking}
+use Rattle.inv_rows.specs.model.Steps.{phase_move}
+use Rattle.inv_rows.specs.model.World.{World, begin, finds, offered, step}
+use Rattle.inv_rows.specs.model.declared.post.Post.{Post}
+use Rattle.inv_rows.specs.defs.declared.call.Call.{Call}
+use Rattle.inv_rows.specs.defs.declared.event.Root.{Root}
+use Rattle.inv_rows.proofs.Shapes.Frame.{after_seated, begin_begins, begin_stays, begun_seated, moves_with, seat_stays, seat_steps}
+use Rattle.inv_rows.proofs.Shapes.Inside.{shape_moves}
+use Rattle.inv_rows.proofs.Shapes.Kept.{bared_fits, begun_fits, counted_fits, one_moves, run_counted, work_counted}
+use Rattle.inv_rows.proofs.Shapes.Shapes.{shape_grows}
+use Rattle.inv_rows.specs.Shapes.Frame.{Grows, Moves, Onward, Owes, Passed, Seated}
+use Rattle.inv_rows.specs.Shapes.Seats.{Kind, PhaseFits, PostFits, Run, kind_of, suits}
+use Rattle.inv_rows.specs.Shapes.Seats.Kind.{ToClear, ToFill, ToFinish, ToFollow, ToGiveUp, ToMove, ToOpen, ToRelease, ToRetire}
+use Rattle.inv_rows.proofs.Covering.Requests.Going.{link_few}
+use Rattle.inv_rows.proofs.Covering.Requests.Helping.{asker_of}
+use Rattle.inv_rows.proofs.Covering.Requests.Kept.{at_of}
+use Rattle.inv_rows.specs.Covering.Requests.Context.{At}
+use Rattle.inv_rows.specs.Covering.Requests.NextDeals.{next_deals}
+use Rattle.inv_rows.specs.Covering.Requests.Standing.{request_of}
+use Rattle.inv_rows.specs.Covering.Requests.Views.{Deal, View, Deal as dealing}
+use Rattle.inv_rows.specs.Covering.Requests.Views.Deal.{Answered, Open, Quiet, Taken}
 use Rattle.inv_ends.proofs.Told.Births.{each_stores}
 use Rattle.inv_ends.proofs.Walks.Over.{hand_over, help_over, over_open, over_stays, read_over}
 use Rattle.inv_ends.specs.Moves.{AtRequest, BaseMet, MeetingBegin, MeetingKept, MeetingNeeds, MeetingStart, MetAnswered, MetOpen, MoveMet, Past, PhaseMet, done_at, met_after, met_at, met_base, met_in, met_of, open_at, over_in}
-use Rattle.inv_covers.specs.words.Packed.{answered_word, pending_word, read_request, read_reservation}
-use Rattle.inv_covers.proofs.words.Parts.{read_request-pending, read_request-answered}
-use Rattle.inv_covers.specs.words.Place.{Place, is_valid}
-use Rattle.inv_covers.specs.words.Place.Place.{Clock, Head, Index, Request}
-use Rattle.inv_covers.specs.words.declared.layout.Layout.{Layout}
+use Rattle.inv_rows.specs.words.Packed.{answered_word, pending_word, read_request, read_reservation}
+use Rattle.inv_rows.proofs.words.Parts.{read_request-pending, read_request-answered}
+use Rattle.inv_rows.specs.words.Place.{Place, is_valid}
+use Rattle.inv_rows.specs.words.Place.Place.{Clock, Head, Index, Request}
+use Rattle.inv_rows.specs.words.declared.layout.Layout.{Layout}
 use Rattle.std.specs.Prelude.{[], ◌∷◌, Option, Some, None, nat_lt, nat_le, if◌then◌else◌, ◌==◌, ◌&&◌, ◌||◌}
-use Rattle.inv_covers.proofs.Requests.Serving.{read_idle}
-use Rattle.inv_covers.proofs.model.Facts.{no_truth_2}
+use Rattle.inv_rows.proofs.Covering.Requests.Serving.{read_idle}
+use Rattle.inv_rows.proofs.model.Facts.{no_truth_2}
 
 abbrev pub Known : Type 0
 Known = ℕ → ℕ → ℕ → Bool

@@ -1,40 +1,40 @@
 -- A request that is over stays over: its answer stands until it is taken, and then the tag of its index has risen.
-use Rattle.inv_covers.specs.words.declared.layout.Layout.{Layout}
-use Rattle.inv_covers.specs.words.Schemes.{publishes_rows}
-use Rattle.inv_covers.proofs.shapes.Tries.{helps_plain}
+use Rattle.inv_rows.specs.words.declared.layout.Layout.{Layout}
+use Rattle.inv_rows.specs.words.Schemes.{publishes_rows}
+use Rattle.inv_rows.proofs.Shapes.Tries.{helps_plain}
 use Rattle.std.proofs.Common.{ℕ, ◌+◌, ◌<◌, Bool, true, false, ◌≡◌, ◌∙◌, sym, refl, ap, subst, arith}
 use Rattle.std.proofs.lemmas.Bool.Decides.{nat_tests}
-use Rattle.inv_covers.specs.model.Calls.{Phase, Why}
-use Rattle.inv_covers.specs.model.Calls.Phase.{Idle, Runs, Scans, Works}
-use Rattle.inv_covers.specs.model.Links.{link_number}
-use Rattle.inv_covers.specs.model.Memory.{upd}
-use Rattle.inv_covers.specs.model.Phases.{Aim}
-use Rattle.inv_covers.specs.model.Phases.Base.{Allocate, Begin, Clear, Finish, GiveUp, Move, Protect, Release, Reload, Retire, Write}
-use Rattle.inv_covers.specs.model.Phases.MoveAt.{AnswerAsked, CheckEra, ExchangeClock, HandOver, HideEra, HideLate, LoadAsked, LoadEra, LoadRequest, LoadReserved, ShowEra}
-use Rattle.inv_covers.specs.model.Phases.ProtectAt.{AnswerOwn, CheckClock, CheckOwnClock, CheckUpper, LoadAnswer, LoadClock, LoadLink, LoadOwnClock, LoadOwnLink, LoadWithin, PublishEra, PublishHelper, PublishRequest, RaiseUpper, TakeAnswer, WithdrawHelper, WithdrawRequest, ByHazard}
-use Rattle.inv_covers.specs.model.Posts.{tag_of}
-use Rattle.inv_covers.specs.model.SlowPath.{asking, own_request}
-use Rattle.inv_covers.specs.model.World.{World, step}
-use Rattle.inv_covers.specs.defs.declared.event.Root.{Root}
-use Rattle.inv_covers.specs.shapes.Seats.{Seats, Run, PhaseFits}
-use Rattle.inv_covers.proofs.Requests.Answering.{Bits, own_bits}
-use Rattle.inv_covers.proofs.Requests.Going.{stands_in}
-use Rattle.inv_covers.proofs.Requests.Kept.{at_of}
-use Rattle.inv_covers.specs.Requests.Context.{At}
-use Rattle.inv_covers.specs.Requests.Deals.{answered_with, asked_by, gave_by, has_tag, is_quiet, taken_with}
-use Rattle.inv_covers.specs.Requests.NextDeals.{move_deals, next_deals, phase_deals, protect_deals}
-use Rattle.inv_covers.specs.Requests.Standing.{request_of}
-use Rattle.inv_covers.specs.Requests.Views.{Deal, View}
-use Rattle.inv_covers.specs.Requests.Views.Deal.{Answered, Open, Passed, Quiet, Taken}
+use Rattle.inv_rows.specs.model.Calls.{Phase, Why}
+use Rattle.inv_rows.specs.model.Calls.Phase.{Idle, Runs, Scans, Works}
+use Rattle.inv_rows.specs.model.Links.{link_number}
+use Rattle.inv_rows.specs.model.Memory.{upd}
+use Rattle.inv_rows.specs.model.Phases.{Aim}
+use Rattle.inv_rows.specs.model.Phases.Base.{Allocate, Begin, Clear, Finish, GiveUp, Move, Protect, Release, Reload, Retire, Write}
+use Rattle.inv_rows.specs.model.Phases.MoveAt.{AnswerAsked, CheckEra, ExchangeClock, HandOver, HideEra, HideLate, LoadAsked, LoadEra, LoadRequest, LoadReserved, ShowEra}
+use Rattle.inv_rows.specs.model.Phases.ProtectAt.{AnswerOwn, CheckClock, CheckOwnClock, CheckUpper, LoadAnswer, LoadClock, LoadLink, LoadOwnClock, LoadOwnLink, LoadWithin, PublishEra, PublishHelper, PublishRequest, RaiseUpper, TakeAnswer, WithdrawHelper, WithdrawRequest, ByHazard}
+use Rattle.inv_rows.specs.model.Posts.{tag_of}
+use Rattle.inv_rows.specs.model.SlowPath.{asking, own_request}
+use Rattle.inv_rows.specs.model.World.{World, step}
+use Rattle.inv_rows.specs.defs.declared.event.Root.{Root}
+use Rattle.inv_rows.specs.Shapes.Seats.{Seats, Run, PhaseFits}
+use Rattle.inv_rows.proofs.Covering.Requests.Answering.{Bits, own_bits}
+use Rattle.inv_rows.proofs.Covering.Requests.Going.{stands_in}
+use Rattle.inv_rows.proofs.Covering.Requests.Kept.{at_of}
+use Rattle.inv_rows.specs.Covering.Requests.Context.{At}
+use Rattle.inv_rows.specs.Covering.Requests.Deals.{answered_with, asked_by, gave_by, has_tag, is_quiet, taken_with}
+use Rattle.inv_rows.specs.Covering.Requests.NextDeals.{move_deals, next_deals, phase_deals, protect_deals}
+use Rattle.inv_rows.specs.Covering.Requests.Standing.{request_of}
+use Rattle.inv_rows.specs.Covering.Requests.Views.{Deal, View}
+use Rattle.inv_rows.specs.Covering.Requests.Views.Deal.{Answered, Open, Passed, Quiet, Taken}
 use Rattle.inv_ends.proofs.Walks.Tags.{tag_taken, tags_rise, take_below}
 use Rattle.inv_ends.specs.Moves.{MeetingNeeds, done_at, open_at, over_in}
-use Rattle.inv_covers.proofs.words.Parts.{halves_one, pending≢answered}
-use Rattle.inv_covers.specs.words.Packed.{halves, pending_word}
-use Rattle.inv_covers.specs.words.Place.{is_valid}
-use Rattle.inv_covers.specs.words.Place.Place.{Index, Request}
+use Rattle.inv_rows.proofs.words.Parts.{halves_one, pending≢answered}
+use Rattle.inv_rows.specs.words.Packed.{halves, pending_word}
+use Rattle.inv_rows.specs.words.Place.{is_valid}
+use Rattle.inv_rows.specs.words.Place.Place.{Index, Request}
 use Rattle.std.specs.Prelude.{length, nat_lt, if◌then◌else◌, ◌==◌, ◌&&◌, ◌||◌}
-use Rattle.inv_covers.proofs.Requests.Handing.{mark_few, asked_bits}
-use Rattle.inv_covers.proofs.model.Facts.{first_of, number_is, same_test, no_truth_2, or_along}
+use Rattle.inv_rows.proofs.Covering.Requests.Handing.{mark_few, asked_bits}
+use Rattle.inv_rows.proofs.model.Facts.{first_of, number_is, same_test, no_truth_2, or_along}
 
 -- a deal that is not pending, and which this tag is no answer of
 pub quiet_done : (t j : ℕ) (d : Deal) → is_quiet d ≡ true → done_at t j d ≡ false

@@ -4,12 +4,12 @@ use Rattle.std.proofs.lemmas.Bool.Decides.{nat_tests}
 use Rattle.std.proofs.lemmas.Nat.Bits.{bit_at_or, bit_at-zero, bit_at-lt}
 use Rattle.std.specs.Int.{bit_at}
 use Rattle.std.specs.Prelude.{bit_or, max, Option, Some, None, if◌then◌else◌, ◌==◌, ◌&&◌, ◌||◌}
-use Rattle.inv_covers.specs.model.Allocate.{is_claimed, next_slot, shown_of, shown_word, walk_at, walk_from, walk_on, walk_past}
-use Rattle.inv_covers.specs.model.Phases.{Walk}
-use Rattle.inv_covers.proofs.model.Facts.{number_is, either_true, no_truth_2}
+use Rattle.inv_rows.specs.model.Allocate.{is_claimed, next_slot, shown_of, shown_word, walk_at, walk_from, walk_on, walk_past}
+use Rattle.inv_rows.specs.model.Phases.{Walk}
+use Rattle.inv_rows.proofs.model.Facts.{number_is, either_true, no_truth_2}
 use Rattle.inv_ends.specs.Walks.{WalkSeen, has_passed, placed}
-use Rattle.inv_covers.specs.words.Place.{claim_bit, claim_word}
-use Rattle.inv_covers.proofs.shapes.Inside.{next_in}
+use Rattle.inv_rows.specs.words.Place.{claim_bit, claim_word}
+use Rattle.inv_rows.proofs.Shapes.Inside.{next_in}
 
 -- the walk's order
 next_placed : (slots start slot left : ℕ) → start ≤ slots → slot ≤ slots → placed slots start slot (suc left) ≡ true → placed slots start (next_slot slots slot) left ≡ true

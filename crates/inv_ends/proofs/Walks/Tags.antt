@@ -1,55 +1,55 @@
 -- A seat's tags after its step: one rises where an answer is taken, and else they stay.
-use Rattle.inv_covers.specs.model.Calls.Work.{Keeping}
-use Rattle.inv_covers.specs.model.Calls.KeepAt.{HideSpan}
+use Rattle.inv_rows.specs.model.Calls.Work.{Keeping}
+use Rattle.inv_rows.specs.model.Calls.KeepAt.{HideSpan}
 use Rattle.std.proofs.Common.{ℕ, ◌+◌, ◌≤◌, ◌<◌, ◌-◌, Bool, true, false, ◌≡◌, ◌≢◌, ◌∙◌, sym, refl, ap, subst, arith}
 use Rattle.std.proofs.lemmas.Bool.Decides.{nat_tests}
 use Rattle.std.proofs.lemmas.Grind.{common_steps}
 use Rattle.std.specs.Prelude.{slice_index, slice_set, List, [], ◌∷◌, length, Option, Some, None, if◌then◌else◌, ◌==◌, ◌||◌}
-use Rattle.inv_covers.specs.model.Machine as machine
-use Rattle.inv_covers.specs.model.Phases.Ending.{Followed, Clocked}
-use Rattle.inv_covers.specs.model.declared.ends.FollowEnd.TheVariants as follow_ends
-use Rattle.inv_covers.specs.defs.declared.event.Event.TheVariants as events
-use Rattle.inv_covers.specs.defs.declared.event.Root.TheVariants as roots
-use Rattle.inv_covers.specs.defs.declared.call.ClockMove.TheVariants as moves
-use Rattle.inv_covers.specs.model.Allocate.{after_claim_slot, is_claimed, walk_past, walking}
-use Rattle.inv_covers.specs.model.Calls.{KeepAt, Phase, Why, Work}
-use Rattle.inv_covers.specs.model.Calls.Phase.{Idle, Runs, Scans, Works}
-use Rattle.inv_covers.specs.model.Links.{parent_of}
-use Rattle.inv_covers.specs.model.Locals.{Local, after, settled}
-use Rattle.inv_covers.specs.model.Machine.{move_turn}
-use Rattle.inv_covers.specs.model.Memory.{bump}
-use Rattle.inv_covers.specs.model.MoveClock.{after_hand_over}
-use Rattle.inv_covers.specs.model.Phases.{Aim, Base, Ending, MoveAt, Outcome, ProtectAt, Walk, ends, goes}
-use Rattle.inv_covers.specs.model.Phases.Aim.{Alone, Follows}
-use Rattle.inv_covers.specs.model.Phases.AllocateAt.{ClaimSlot, LoadBirth, StoreLife}
-use Rattle.inv_covers.specs.model.Phases.Base.{Allocate, Begin, Clear, Finish, GiveUp, Move, Protect, Release, Reload, Retire, Write}
-use Rattle.inv_covers.specs.model.Phases.BeginAt.{LoadLower, PublishSpan}
-use Rattle.inv_covers.specs.model.Phases.MoveAt.{AnswerAsked, CheckEra, ExchangeClock, HandOver, HideEra, HideLate, LoadAsked, LoadEra, LoadRequest, LoadReserved, ShowEra}
-use Rattle.inv_covers.specs.model.Phases.Outcome.{Ends, Goes}
-use Rattle.inv_covers.specs.model.Phases.ProtectAt.{AnswerOwn, CheckClock, CheckOwnClock, CheckUpper, LoadAnswer, LoadClock, LoadLink, LoadOwnClock, LoadOwnLink, LoadWithin, PublishEra, PublishHelper, PublishRequest, RaiseUpper, TakeAnswer, WithdrawHelper, WithdrawRequest, ByHazard}
-use Rattle.inv_covers.specs.model.Phases.HazardAt.{FirstLink, PublishLink, CheckLink}
-use Rattle.inv_covers.specs.model.Phases.RetireAt.{LoadLife, LoadRetire, StoreRetired}
-use Rattle.inv_covers.specs.model.Posts.{counted, reserves_helper, tag_of, upper, with_row, with_tag}
-use Rattle.inv_covers.specs.model.Protect.{concluded, held_post, protected, told_held}
-use Rattle.inv_covers.specs.model.SlowPath.{asking, own_request}
-use Rattle.inv_covers.specs.model.Steps.{phase_turn}
-use Rattle.inv_covers.specs.model.World.{World, finds, offered, step}
-use Rattle.inv_covers.specs.model.WriteRow.{last_written}
-use Rattle.inv_covers.specs.model.declared.post.Post.{Post}
-use Rattle.inv_covers.specs.defs.declared.event.Event.{Event}
-use Rattle.inv_covers.specs.defs.declared.event.Root.{Root}
-use Rattle.inv_covers.proofs.shapes.Frame.{after_seated, moves_with, seat_stays, seat_steps}
-use Rattle.inv_covers.proofs.shapes.Inside.{shape_moves}
-use Rattle.inv_covers.proofs.shapes.Kept.{bared_fits, counted_fits, run_counted, work_counted}
-use Rattle.inv_covers.proofs.shapes.Shapes.{shape_grows}
-use Rattle.inv_covers.specs.shapes.Frame.{Grows, Moves, Onward, Owes, Seated, bared}
-use Rattle.inv_covers.specs.shapes.Seats.{PhaseFits, PostFits, Run, Seats}
-use Rattle.inv_covers.specs.words.Packed.{read_reservation}
-use Rattle.inv_covers.specs.words.Place.{is_valid}
-use Rattle.inv_covers.specs.words.declared.layout.Layout.{Layout}
+use Rattle.inv_rows.specs.model.Machine as machine
+use Rattle.inv_rows.specs.model.Phases.Ending.{Followed, Clocked}
+use Rattle.inv_rows.specs.model.declared.ends.FollowEnd.TheVariants as follow_ends
+use Rattle.inv_rows.specs.defs.declared.event.Event.TheVariants as events
+use Rattle.inv_rows.specs.defs.declared.event.Root.TheVariants as roots
+use Rattle.inv_rows.specs.defs.declared.call.ClockMove.TheVariants as moves
+use Rattle.inv_rows.specs.model.Allocate.{after_claim_slot, is_claimed, walk_past, walking}
+use Rattle.inv_rows.specs.model.Calls.{KeepAt, Phase, Why, Work}
+use Rattle.inv_rows.specs.model.Calls.Phase.{Idle, Runs, Scans, Works}
+use Rattle.inv_rows.specs.model.Links.{parent_of}
+use Rattle.inv_rows.specs.model.Locals.{Local, after, settled}
+use Rattle.inv_rows.specs.model.Machine.{move_turn}
+use Rattle.inv_rows.specs.model.Memory.{bump}
+use Rattle.inv_rows.specs.model.MoveClock.{after_hand_over}
+use Rattle.inv_rows.specs.model.Phases.{Aim, Base, Ending, MoveAt, Outcome, ProtectAt, Walk, ends, goes}
+use Rattle.inv_rows.specs.model.Phases.Aim.{Alone, Follows}
+use Rattle.inv_rows.specs.model.Phases.AllocateAt.{ClaimSlot, LoadBirth, StoreLife}
+use Rattle.inv_rows.specs.model.Phases.Base.{Allocate, Begin, Clear, Finish, GiveUp, Move, Protect, Release, Reload, Retire, Write}
+use Rattle.inv_rows.specs.model.Phases.BeginAt.{LoadLower, PublishSpan}
+use Rattle.inv_rows.specs.model.Phases.MoveAt.{AnswerAsked, CheckEra, ExchangeClock, HandOver, HideEra, HideLate, LoadAsked, LoadEra, LoadRequest, LoadReserved, ShowEra}
+use Rattle.inv_rows.specs.model.Phases.Outcome.{Ends, Goes}
+use Rattle.inv_rows.specs.model.Phases.ProtectAt.{AnswerOwn, CheckClock, CheckOwnClock, CheckUpper, LoadAnswer, LoadClock, LoadLink, LoadOwnClock, LoadOwnLink, LoadWithin, PublishEra, PublishHelper, PublishRequest, RaiseUpper, TakeAnswer, WithdrawHelper, WithdrawRequest, ByHazard}
+use Rattle.inv_rows.specs.model.Phases.HazardAt.{FirstLink, PublishLink, CheckLink}
+use Rattle.inv_rows.specs.model.Phases.RetireAt.{LoadLife, LoadRetire, StoreRetired}
+use Rattle.inv_rows.specs.model.Posts.{counted, reserves_helper, tag_of, upper, with_row, with_tag}
+use Rattle.inv_rows.specs.model.Protect.{concluded, held_post, protected, told_held}
+use Rattle.inv_rows.specs.model.SlowPath.{asking, own_request}
+use Rattle.inv_rows.specs.model.Steps.{phase_turn}
+use Rattle.inv_rows.specs.model.World.{World, finds, offered, step}
+use Rattle.inv_rows.specs.model.WriteRow.{last_written}
+use Rattle.inv_rows.specs.model.declared.post.Post.{Post}
+use Rattle.inv_rows.specs.defs.declared.event.Event.{Event}
+use Rattle.inv_rows.specs.defs.declared.event.Root.{Root}
+use Rattle.inv_rows.proofs.Shapes.Frame.{after_seated, moves_with, seat_stays, seat_steps}
+use Rattle.inv_rows.proofs.Shapes.Inside.{shape_moves}
+use Rattle.inv_rows.proofs.Shapes.Kept.{bared_fits, counted_fits, run_counted, work_counted}
+use Rattle.inv_rows.proofs.Shapes.Shapes.{shape_grows}
+use Rattle.inv_rows.specs.Shapes.Frame.{Grows, Moves, Onward, Owes, Seated, bared}
+use Rattle.inv_rows.specs.Shapes.Seats.{PhaseFits, PostFits, Run, Seats}
+use Rattle.inv_rows.specs.words.Packed.{read_reservation}
+use Rattle.inv_rows.specs.words.Place.{is_valid}
+use Rattle.inv_rows.specs.words.declared.layout.Layout.{Layout}
 use Rattle.inv_ends.proofs.Ends.Stood.{at_below}
 use Rattle.inv_ends.proofs.Told.Births.{each_stores}
-use Rattle.inv_covers.proofs.model.Facts.{set_there, no_truth_2}
+use Rattle.inv_rows.proofs.model.Facts.{set_there, no_truth_2}
 
 -- the step takes an answer
 abbrev pub takes_at : ProtectAt → Bool

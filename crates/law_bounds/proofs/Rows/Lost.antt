@@ -18,8 +18,8 @@ use Rattle.law_all.specs.inv.model.words.declared.layout.Layout.{Layout}
 use Rattle.law_all.specs.inv.rows.Agree.{Agree, Words, bit_of, claim_of}
 use Rattle.law_all.specs.inv.model.defs.declared.fold.Change.{Change}
 use Rattle.law_all.specs.inv.model.defs.declared.lifetime.Lifetime.{Lifetime}
-use Rattle.law_all.specs.inv.contents.Contents.{Contents}
-use Rattle.law_all.specs.inv.contents.Items.{Items}
+use Rattle.law_all.specs.inv.Contents.Contents.{Contents}
+use Rattle.law_all.specs.inv.Contents.Items.{Items}
 use Rattle.law_all.specs.inv.rows.Chain.{next_of, past_of, queue_of}
 use Rattle.law_all.specs.inv.rows.Hands.{each_once, hand_in, in_list}
 use Rattle.law_all.specs.inv.rows.Queue.{InLine, Line, in_queue}

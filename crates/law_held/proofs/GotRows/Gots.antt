@@ -26,9 +26,9 @@ use Rattle.law_scans.specs.inv.model.Phases.Ending.{Done, Protected, Followed, A
 use Rattle.law_scans.specs.inv.model.Calls.{Task, Gets, Changes, Holds, Enqueues, Dequeues, Why, Opens, GetAt, FindVersion, FindCount, FindKey, FindValue, Work, Getting, Changing, Enqueuing, Dequeuing, Keeping, ReadGuard, GiveBack, Phase, Idle, Runs, Scans, Works, CallOutcome, GoesOn, Answers}
 use Rattle.law_scans.proofs.inv.model.Frames.{after_same}
 use Rattle.law_scans.proofs.inv.model.Facts.{same_number, first_of, rest_of, zero_test}
-use Rattle.law_scans.specs.inv.contents.Contents.{ground_of}
-use Rattle.law_scans.specs.inv.contents.Knows.{Knows, GetKnows, FoundRow, get_reads, reads_in}
-use Rattle.law_scans.specs.inv.contents.Stands.{read_index}
+use Rattle.law_scans.specs.inv.Contents.Contents.{ground_of}
+use Rattle.law_scans.specs.inv.Contents.Knows.{Knows, GetKnows, FoundRow, get_reads, reads_in}
+use Rattle.law_scans.specs.inv.Contents.Stands.{read_index}
 use Rattle.law_scans.proofs.reuse.OneStep.Along.{Kept, history_keeps}
 use Rattle.law_scans.proofs.inv.ends.Origins.Ends.{ends_with}
 use Rattle.law_scans.specs.inv.ends.Origins.{ends_base}

@@ -18,7 +18,7 @@ use Rattle.law_scans.specs.inv.model.Posts.{counted}
 use Rattle.law_scans.specs.inv.model.World.{World, finds, offered, step, told_in}
 use Rattle.law_scans.specs.inv.model.Calls.{ChangeKept, EnqueueKept, LoadVersion, LoadCount, LoadKey, LoadValue, ExchangeRoot, LoadNumber, LoadNext, PassTail, ExchangeNext, ExchangeTail, LoadTail, SwingTail, TakeNumber, TakeValue, ExchangeHead, Getting, Changing, Enqueuing, Dequeuing, Keeping, Phase, Idle, Runs, Scans, Works, CallTurn, CallOutcome, GoesOn, Answers}
 use Rattle.law_scans.proofs.inv.model.Facts.{same_number, first_of, rest_of}
-use Rattle.law_scans.proofs.inv.contents.Contents.Told.{booked_append}
+use Rattle.law_scans.proofs.inv.Contents.Contents.Told.{booked_append}
 use Rattle.law_scans.specs.laws.records.Record.{Past, tells_of}
 use Rattle.law_scans.specs.laws.records.Record.Past.{Start, Then}
 use Rattle.law_scans.specs.laws.StateAt.{changes_of, count_of, bucket_at, row_at}
@@ -27,7 +27,7 @@ use Rattle.law_scans.proofs.reuse.Lawful.Maps.{told_changes}
 use Rattle.law_scans.proofs.Placing.Fronts.{linked_front, queued_front, taken_front}
 use Rattle.law_scans.proofs.Placing.Marks.{is_common, ordered, InOrder, step_order}
 use Rattle.law_scans.proofs.laws.Tells.{tells_both}
-use Rattle.law_scans.proofs.inv.contents.Contents.Shelves.{same_bucket}
+use Rattle.law_scans.proofs.inv.Contents.Contents.Shelves.{same_bucket}
 
 -- row s is that of this version of bucket b
 abbrev pub RowOf : (version b s : ℕ) → Past → Type 0

@@ -13,7 +13,7 @@ use Rattle.law_scans.specs.laws.records.Record.Past.{Then}
 use Rattle.law_scans.proofs.reuse.history.AllOf.{all_of}
 use Rattle.law_scans.proofs.laws.Tells.{tells_both}
 use Rattle.law_scans.specs.laws.StateAt.{stood_at, is_row}
-use Rattle.law_scans.proofs.inv.contents.Stands.Rounds.{is_clear}
+use Rattle.law_scans.proofs.inv.Contents.Stands.Rounds.{is_clear}
 
 -- an event that changes nothing of guards, lives and taken rows
 abbrev pub is_flat : Event → Bool

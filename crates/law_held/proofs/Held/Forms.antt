@@ -38,7 +38,7 @@ use Rattle.law_scans.specs.inv.shapes.Seats.{Run, ToClear, suits, protect_fits, 
 use Rattle.law_scans.proofs.reuse.history.AllOf.{all_of, of_along}
 use Rattle.law_scans.proofs.reuse.history.Passes.{is_quiet, all_quiet, Closed, step_goes}
 use Rattle.law_held.proofs.Held.Flat.{is_flat, is_settled}
-use Rattle.law_scans.proofs.inv.contents.Stands.Rounds.{is_clear}
+use Rattle.law_scans.proofs.inv.Contents.Stands.Rounds.{is_clear}
 use Rattle.law_scans.proofs.reuse.Lawful.Gots.{cleared_table}
 use Rattle.law_scans.proofs.inv.requests.Paced.{wfe_not_ibr}
 use Rattle.law_scans.proofs.inv.model.words.Schemes.{interval_not_rows}

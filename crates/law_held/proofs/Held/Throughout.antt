@@ -27,7 +27,7 @@ use Rattle.law_scans.specs.inv.model.Calls.{ReadGuard, GiveBack, Why, Phase, Idl
 use Rattle.law_scans.specs.inv.model.Keep as keeps
 use Rattle.law_scans.specs.inv.model.Rounds.{let_index, scheme_of}
 use Rattle.law_scans.specs.inv.model.words.Schemes.{has_one_interval, publishes_rows}
-use Rattle.law_scans.proofs.inv.contents.Stands.Rounds.{is_clear}
+use Rattle.law_scans.proofs.inv.Contents.Stands.Rounds.{is_clear}
 use Rattle.law_scans.proofs.inv.model.Facts.{both, same_number, first_of, rest_of, implies_or, or_left_true, or_more, then_of}
 use Rattle.law_scans.proofs.inv.covers.Resting.{rests_give}
 use Rattle.law_scans.proofs.inv.ends.Ends.Held.{held_stands}

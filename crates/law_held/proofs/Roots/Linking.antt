@@ -25,7 +25,7 @@ use Rattle.law_scans.specs.laws.records.Record.Past.{Then}
 use Rattle.law_scans.specs.inv.history.History.{Item, record_of, world_of}
 use Rattle.law_scans.specs.laws.StateAt.{stood_at, is_dequeue, is_row, began_of, tail_at, bucket_at, head_at}
 use Rattle.law_scans.proofs.reuse.Reuse.Keeps.{record_stands}
-use Rattle.law_scans.specs.inv.contents.Stands.{Stood}
+use Rattle.law_scans.specs.inv.Contents.Stands.{Stood}
 use Rattle.law_scans.proofs.reuse.history.AllOf.{all_of, of_weaker}
 use Rattle.law_scans.proofs.reuse.AnswersTold.Owed.{Serves}
 use Rattle.law_scans.proofs.Placing.Fronts.{linked_front, queued_front, taken_front}

@@ -26,7 +26,7 @@ use Rattle.law_scans.proofs.reuse.AnswersTold.Owed.{ChangeServes, Serves, call_f
 use Rattle.law_scans.proofs.inv.covers.Held.{finds_at}
 use Rattle.law_scans.specs.laws.StateAt.{was_current, bucket_of, count_of, queued_of, is_there, pairs_at}
 use Rattle.law_scans.specs.inv.history.Record.{Past, begins, held_since}
-use Rattle.law_scans.specs.inv.contents.Reads.{numbers_in}
+use Rattle.law_scans.specs.inv.Contents.Reads.{numbers_in}
 use Rattle.law_scans.specs.inv.requests.Views.{View as Asked}
 use Rattle.law_scans.specs.inv.rows.Queue.{Line, stands_on}
 use Rattle.law_scans.specs.inv.rows.Rows.{View}

@@ -43,8 +43,8 @@ use Rattle.law_scans.specs.inv.shapes.Seats.{PhaseFits, Run, Seats}
 use Rattle.law_scans.specs.inv.history.Record.{Past, tells_of}
 use Rattle.law_scans.proofs.inv.history.Passes.{keep_post}
 use Rattle.law_scans.proofs.inv.ends.Told.Turns.{keep_just}
-use Rattle.law_scans.specs.inv.contents.Told.{LookRight}
-use Rattle.law_scans.proofs.inv.contents.Contents.Kept.{contents_looked}
+use Rattle.law_scans.specs.inv.Contents.Told.{LookRight}
+use Rattle.law_scans.proofs.inv.Contents.Contents.Kept.{contents_looked}
 use Rattle.law_scans.proofs.inv.Inv.Whole.{contents_need}
 use Rattle.law_scans.specs.inv.shapes.Frame.{KeepFits, read_slot}
 use Rattle.law_scans.specs.inv.shapes.Slots.{CopyIn, KeepIn, PhaseIn, Slots}

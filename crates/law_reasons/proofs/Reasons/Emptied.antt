@@ -21,7 +21,7 @@ use Rattle.law_scans.proofs.inv.model.Facts.{same_number}
 use Rattle.law_scans.specs.inv.shapes.Seats.{Seats, Run, root_by}
 use Rattle.law_scans.proofs.inv.Inv.Whole.{origins_need}
 use Rattle.law_scans.specs.inv.Known.{Known}
-use Rattle.law_scans.proofs.inv.contents.Items.Gives.{empty_right}
+use Rattle.law_scans.proofs.inv.Contents.Items.Gives.{empty_right}
 use Rattle.law_scans.proofs.reuse.Lawful.Current.{idle_untracked}
 use Rattle.law_scans.proofs.inv.ends.Origins.Kept.{origins_kept, origins_start, origins_begin}
 use Rattle.law_scans.specs.inv.ends.Origins.{Origins}

@@ -23,7 +23,7 @@ use Rattle.law_scans.proofs.inv.covers.Begun.{first_begins}
 use Rattle.law_scans.proofs.inv.covers.Held.{stepped_post}
 use Rattle.law_scans.proofs.reuse.shapes.Frame.{begin_begins, begin_stays, seat_stays, seat_steps}
 use Rattle.law_scans.specs.inv.shapes.Frame.{phase_left}
-use Rattle.law_scans.proofs.inv.contents.Items.Gives.{items_count}
+use Rattle.law_scans.proofs.inv.Contents.Items.Gives.{items_count}
 use Rattle.law_scans.proofs.inv.requests.Kept.{requests_start, requests_begin}
 use Rattle.law_scans.specs.inv.requests.NextDeals.{next_deals}
 use Rattle.law_scans.specs.inv.requests.Standing.{Requests}

@@ -20,16 +20,16 @@ use Rattle.law_scans.specs.inv.model.Phases.Ending.{Protected}
 use Rattle.law_scans.specs.inv.model.Calls.{ChangeKept, EnqueueKept, LoadCount, LoadValue, LoadNext, Task, Changes, Opens, Changing, Enqueuing, Phase, Runs, Works}
 use Rattle.law_scans.specs.inv.model.World.{World, finds}
 use Rattle.law_scans.proofs.inv.model.Facts.{same_number, same_both}
-use Rattle.law_scans.proofs.inv.contents.Contents.Lasts.{on}
-use Rattle.law_scans.proofs.inv.contents.Contents.Lists.{take_next}
-use Rattle.law_scans.proofs.inv.contents.Contents.Reading.{count_shown, value_shown}
-use Rattle.law_scans.specs.inv.contents.Knows.{AtCount, AtValue, Knows, pair_at, reads_in, looks_in}
-use Rattle.law_scans.specs.inv.contents.Shelf.{pairs_by, shelf_of}
+use Rattle.law_scans.proofs.inv.Contents.Contents.Lasts.{on}
+use Rattle.law_scans.proofs.inv.Contents.Contents.Lists.{take_next}
+use Rattle.law_scans.proofs.inv.Contents.Contents.Reading.{count_shown, value_shown}
+use Rattle.law_scans.specs.inv.Contents.Knows.{AtCount, AtValue, Knows, pair_at, reads_in, looks_in}
+use Rattle.law_scans.specs.inv.Contents.Shelf.{pairs_by, shelf_of}
 use Rattle.law_scans.proofs.inv.covers.Held.{finds_at}
 use Rattle.law_scans.specs.inv.shapes.Seats.{root_by}
 use Rattle.law_scans.proofs.inv.Inv.Whole.{contents_need}
 use Rattle.law_scans.specs.inv.Known.{Known}
-use Rattle.law_scans.proofs.inv.contents.Items.Gives.{items_count}
+use Rattle.law_scans.proofs.inv.Contents.Items.Gives.{items_count}
 use Rattle.law_scans.proofs.reuse.Lawful.Current.{Current, shelf_since, since, since_is}
 use Rattle.law_scans.proofs.reuse.Lawful.Gots.{null_at}
 use Rattle.law_scans.proofs.reuse.Lawful.Maps.{base_of}
@@ -41,9 +41,9 @@ use Rattle.law_scans.specs.inv.ends.Tracked.{root_in}
 use Rattle.law_scans.specs.inv.requests.Views.{View as Asked}
 use Rattle.law_scans.specs.inv.rows.Queue.{Line, stands_on}
 use Rattle.law_scans.specs.inv.rows.Rows.{View, is_settled}
-use Rattle.law_scans.specs.inv.contents.Reads.{numbers_in}
+use Rattle.law_scans.specs.inv.Contents.Reads.{numbers_in}
 use Rattle.law_reasons.proofs.Reasons.Refusing.{ReadAt}
-use Rattle.law_scans.proofs.inv.contents.Contents.Turns.{empty_list}
+use Rattle.law_scans.proofs.inv.Contents.Contents.Turns.{empty_list}
 
 -- a position of a history's record, and the World there
 pub record Shown (w : World) (v : View) (l : Line) (z : Asked) (p : Past) : Type 0 where

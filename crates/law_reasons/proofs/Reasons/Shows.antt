@@ -18,8 +18,8 @@ use Rattle.law_scans.specs.inv.model.Posts.{counted}
 use Rattle.law_scans.specs.inv.model.World.{World, finds, offered, step, told_in}
 use Rattle.law_scans.specs.inv.model.Calls.{ChangeKept, EnqueueKept, LoadVersion, LoadCount, LoadKey, LoadValue, ExchangeRoot, LoadNumber, LoadNext, PassTail, ExchangeNext, ExchangeTail, LoadTail, SwingTail, TakeNumber, TakeValue, ExchangeHead, Getting, Changing, Enqueuing, Dequeuing, Keeping, Phase, Idle, Runs, Scans, Works, CallTurn, CallOutcome, GoesOn, Answers}
 use Rattle.law_scans.proofs.inv.model.Facts.{same_number, first_of, rest_of}
-use Rattle.law_scans.proofs.inv.contents.Contents.Told.{booked_append}
-use Rattle.law_scans.specs.inv.contents.Told.{AllRight}
+use Rattle.law_scans.proofs.inv.Contents.Contents.Told.{booked_append}
+use Rattle.law_scans.specs.inv.Contents.Told.{AllRight}
 use Rattle.law_scans.specs.inv.history.Record.{Past, tells_of}
 use Rattle.law_scans.specs.inv.history.Record.Past.{Start, Then}
 use Rattle.law_scans.specs.laws.StateAt.{changed_to, shows_of}
@@ -28,7 +28,7 @@ use Rattle.law_scans.proofs.inv.history.AllOf.{all_of, of_weaker}
 use Rattle.law_scans.proofs.Placing.Fronts.{linked_front, queued_front, taken_front}
 use Rattle.law_scans.proofs.Placing.Marks.{is_common, ordered, InOrder, step_order}
 use Rattle.law_scans.proofs.laws.Tells.{tells_both}
-use Rattle.law_scans.proofs.inv.contents.Contents.Shelves.{same_bucket}
+use Rattle.law_scans.proofs.inv.Contents.Contents.Shelves.{same_bucket}
 
 -- what each row of the book shows by the record
 pub record Shows (a : Book) (p : Past) : Type 0 where

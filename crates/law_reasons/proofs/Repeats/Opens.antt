@@ -31,7 +31,7 @@ use Rattle.law_scans.specs.inv.model.Protect as protects
 use Rattle.law_scans.specs.inv.model.Rounds.{begin_base, clear_base, clear_post, clear_told, clearing_by, finish_base, finishing_by, index_of, round, round_by, scheme_of}
 use Rattle.law_scans.specs.inv.model.Steps as steps
 use Rattle.law_scans.specs.inv.model.World.{World, finds, offered, told_in}
-use Rattle.law_scans.proofs.inv.covers.words.Schemes.{rows_not_interval}
+use Rattle.law_scans.proofs.inv.model.words.Schemes.{rows_not_interval}
 use Rattle.law_scans.specs.inv.shapes.Frame.{phase_left}
 use Rattle.law_scans.specs.inv.shapes.Seats.{PhaseFits, Run, Seats, base_fits, protect_fits}
 use Rattle.law_scans.specs.inv.shapes.Slots.{PhaseIn, Slots}

@@ -17,7 +17,7 @@ use Rattle.law_scans.specs.inv.model.Steps as steps
 use Rattle.law_scans.specs.inv.model.World.{World, begin, step, is_busy}
 use Rattle.law_scans.proofs.reuse.shapes.Frame.{begin_stays, begin_begins}
 use Rattle.law_scans.specs.inv.Known.{Known}
-use Rattle.law_scans.proofs.inv.contents.Items.Gives.{items_count}
+use Rattle.law_scans.proofs.inv.Contents.Items.Gives.{items_count}
 use Rattle.law_scans.proofs.reuse.Lawful.Current.{idle_untracked}
 use Rattle.law_scans.proofs.inv.ends.Origins.Kept.{origins_begin}
 use Rattle.law_scans.specs.inv.ends.Origins.{Origins}

@@ -48,18 +48,18 @@ use Rattle.inv_all.specs.ends.Tracked.{carries_in, root_in, Tracked, Carried, Gi
 use Rattle.inv_all.proofs.ends.Origins.Came.{link_busy, helps_busy}
 use Rattle.inv_all.proofs.ends.Origins.Ends.{end_good, end_root}
 use Rattle.inv_all.proofs.ends.Origins.Kept.{origins_kept, origins_start, origins_begin, idle_deal}
-use Rattle.inv_all.specs.contents.Knows.{Ground, Knows, looks_in}
-use Rattle.inv_all.specs.contents.Shelf.{Shelf, shelf_of}
-use Rattle.inv_all.proofs.contents.Contents.Begun.{free_plain}
-use Rattle.inv_all.proofs.contents.Stands.Rounds.{each_first}
-use Rattle.inv_all.proofs.contents.Contents.Buckets.{buckets_show}
-use Rattle.inv_all.proofs.contents.Contents.Kept.{step_did, end_calm}
-use Rattle.inv_all.proofs.contents.Contents.Lasts.{on, knows_lasts}
-use Rattle.inv_all.proofs.contents.Contents.Machines.{rows_stay}
-use Rattle.inv_all.proofs.contents.Contents.Phases.{Beside, links_in, phase_beside}
-use Rattle.inv_all.proofs.contents.Contents.Rounds.{plain_knows, clearing_adds}
-use Rattle.inv_all.proofs.contents.Contents.Told.{SameBook, SameSlot, same_slot, claimed_book, claimed_append, calm_claimed}
-use Rattle.inv_all.proofs.contents.Contents.Views.{owned_stays}
+use Rattle.inv_all.specs.Contents.Knows.{Ground, Knows, looks_in}
+use Rattle.inv_all.specs.Contents.Shelf.{Shelf, shelf_of}
+use Rattle.inv_all.proofs.Contents.Contents.Begun.{free_plain}
+use Rattle.inv_all.proofs.Contents.Stands.Rounds.{each_first}
+use Rattle.inv_all.proofs.Contents.Contents.Buckets.{buckets_show}
+use Rattle.inv_all.proofs.Contents.Contents.Kept.{step_did, end_calm}
+use Rattle.inv_all.proofs.Contents.Contents.Lasts.{on, knows_lasts}
+use Rattle.inv_all.proofs.Contents.Contents.Machines.{rows_stay}
+use Rattle.inv_all.proofs.Contents.Contents.Phases.{Beside, links_in, phase_beside}
+use Rattle.inv_all.proofs.Contents.Contents.Rounds.{plain_knows, clearing_adds}
+use Rattle.inv_all.proofs.Contents.Contents.Told.{SameBook, SameSlot, same_slot, claimed_book, claimed_append, calm_claimed}
+use Rattle.inv_all.proofs.Contents.Contents.Views.{owned_stays}
 use Rattle.inv_all.specs.Known.{Known}
 use Rattle.inv_all.proofs.Inv.Rows.{rows_need}
 use Rattle.inv_all.proofs.Inv.Whole.{contents_need, links_show, links_stay, origins_need}

@@ -31,8 +31,8 @@ use Rattle.inv_all.specs.requests.Views.{View as Asked}
 use Rattle.inv_all.specs.rows.Queue.{Line}
 use Rattle.inv_all.specs.rows.Rows.{View}
 use Rattle.inv_all.specs.ends.Tracked.{root_in}
-use Rattle.inv_all.specs.contents.Knows.{Knows, GetKnows, FoundRow, looks_in}
-use Rattle.inv_all.proofs.contents.Contents.Lasts.{on}
+use Rattle.inv_all.specs.Contents.Knows.{Knows, GetKnows, FoundRow, looks_in}
+use Rattle.inv_all.proofs.Contents.Contents.Lasts.{on}
 use Rattle.inv_all.specs.Known.{Known}
 use Rattle.inv_all.proofs.history.Passes.{Closing, First, copied_post, keep_post, work_post, scan_told, get_allows, ending_allows, why_allows, outcome_allows, work_allows, phase_allows, step_closes}
 use Rattle.law_reuse.proofs.Lawful.Current.{Current, ended_since, shelf_since, since_is, link_since}

@@ -21,7 +21,7 @@ use Rattle.inv_all.specs.rows.Agree.{first_rows, rows_after}
 use Rattle.inv_all.specs.rows.Chain.{first_line, line_after}
 use Rattle.inv_all.specs.rows.Queue.{Line}
 use Rattle.inv_all.specs.rows.Rows.{View}
-use Rattle.inv_all.specs.contents.Told.{TellsRight, AllRight, GotRight}
+use Rattle.inv_all.specs.Contents.Told.{TellsRight, AllRight, GotRight}
 use Rattle.inv_all.specs.history.Record.{Past, Each, begins, value_since, tells_of}
 use Rattle.inv_all.specs.history.Record.Past.{Start, Then}
 use Rattle.laws.specs.StateAt.{with_change, changes_of, count_of, value_at, same_value, was_current}

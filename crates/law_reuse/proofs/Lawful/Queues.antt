@@ -10,7 +10,7 @@ use Rattle.inv_all.specs.model.Book.{Book, booked, booked_all}
 use Rattle.inv_all.specs.model.Posts.{counted}
 use Rattle.inv_all.specs.model.World.{finds, is_busy, told_in, may_start, offered}
 use Rattle.inv_all.proofs.model.Facts.{both, first_of, rest_of}
-use Rattle.inv_all.specs.contents.Gives.{QueueRight, AllQueueRight}
+use Rattle.inv_all.specs.Contents.Gives.{QueueRight, AllQueueRight}
 use Rattle.inv_all.specs.history.Record.{Past, Each, tells_of}
 use Rattle.inv_all.specs.history.Record.Past.{Then}
 use Rattle.inv_all.proofs.history.Entries.{entries_of_each}

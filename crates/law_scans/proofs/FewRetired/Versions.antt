@@ -6,8 +6,8 @@ use Rattle.law_reuse.specs.laws.words.declared.layout.Layout.{Layout}
 use Rattle.law_reuse.specs.laws.defs.declared.call.Call.{Call}
 use Rattle.law_reuse.specs.laws.defs.declared.fold.Change.{Change}
 use Rattle.law_reuse.specs.inv.model.World.{World, is_busy, told_in, may_start}
-use Rattle.law_reuse.specs.inv.contents.Gives.{QueueCounts}
-use Rattle.law_reuse.proofs.inv.contents.Items.Gives.{items_count}
+use Rattle.law_reuse.specs.inv.Contents.Gives.{QueueCounts}
+use Rattle.law_reuse.proofs.inv.Contents.Items.Gives.{items_count}
 use Rattle.law_reuse.specs.laws.records.Record.{Past}
 use Rattle.law_reuse.specs.laws.StateAt.{changes_of, count_of, taken_of}
 use Rattle.law_reuse.specs.history.History.{Item, Begins, Steps, Made, done, made_of, first_made}

@@ -22,7 +22,7 @@ use Rattle.law_reuse.specs.inv.rows.Agree.{Agree, rows_after}
 use Rattle.law_reuse.specs.inv.rows.Queue.{Line}
 use Rattle.law_reuse.specs.inv.rows.Rows.{Hand, RowMove, View}
 use Rattle.law_reuse.specs.inv.rows.Rows.RowMove.{Stays, Claims, Bears, Drops, Links, Replaces, Appends, Pops, Reads, Seals, Lists, Returns, Adopts}
-use Rattle.law_reuse.specs.inv.contents.Told.{NextChange, TellsRight, AllRight}
+use Rattle.law_reuse.specs.inv.Contents.Told.{NextChange, TellsRight, AllRight}
 use Rattle.law_reuse.specs.inv.history.Record.{Past, tells_of}
 use Rattle.law_reuse.specs.inv.Inv.{TellsRight as StepTells}
 use Rattle.law_reuse.specs.inv.Known.{Known}

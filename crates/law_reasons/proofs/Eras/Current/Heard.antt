@@ -6,7 +6,7 @@ use Rattle.law_scans.specs.laws.words.Packed.{read_request}
 use Rattle.law_scans.specs.laws.words.Place.{is_valid}
 use Rattle.law_scans.specs.laws.words.Place.Place.{Clock}
 use Rattle.law_scans.specs.laws.words.declared.layout.Layout.{Layout}
-use Rattle.law_scans.proofs.inv.covers.words.Parts.{read_request-answered}
+use Rattle.law_scans.proofs.inv.model.words.Parts.{read_request-answered}
 use Rattle.law_scans.specs.laws.defs.declared.call.Call.{Call}
 use Rattle.law_scans.specs.laws.defs.declared.event.Root.{Root}
 use Rattle.law_scans.proofs.inv.model.Ranges.{bounds_of}

@@ -26,7 +26,7 @@ use Rattle.law_scans.specs.inv.model.Posts.{counted}
 use Rattle.law_scans.specs.inv.model.World.{World, finds, offered, told_in}
 use Rattle.law_scans.proofs.laws.records.defs.Facts.{both, first_of, rest_of, and_true, lt_test, number_is}
 use Rattle.law_scans.proofs.inv.model.Ranges.{bounds_of}
-use Rattle.law_scans.proofs.inv.covers.words.Schemes.{clock_eras, counts_eras, helps_eras, eras_not_interval, rows_not_interval}
+use Rattle.law_scans.proofs.inv.model.words.Schemes.{clock_eras, counts_eras, helps_eras, eras_not_interval, rows_not_interval}
 use Rattle.law_scans.specs.inv.covers.Held.{index_base}
 use Rattle.law_scans.specs.inv.history.History.{Made, first_made, record_of}
 use Rattle.law_scans.specs.laws.records.Record.{Past, Each, tells_of}

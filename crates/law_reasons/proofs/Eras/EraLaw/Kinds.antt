@@ -22,7 +22,7 @@ use Rattle.law_scans.specs.inv.model.Posts.{counted}
 use Rattle.law_scans.specs.inv.model.Scan.{reads_guard}
 use Rattle.law_scans.specs.inv.model.World.{World, finds, offered, told_in}
 use Rattle.law_scans.proofs.laws.records.defs.Facts.{both, first_of, rest_of, and_true, false_of_not}
-use Rattle.law_scans.proofs.inv.covers.words.Schemes.{clock_eras, counts_eras, eras_not_rows, helps_not_rows, interval_not_rows}
+use Rattle.law_scans.proofs.inv.model.words.Schemes.{clock_eras, counts_eras, eras_not_rows, helps_not_rows, interval_not_rows}
 use Rattle.law_scans.specs.inv.history.History.{Made, first_made, record_of}
 use Rattle.law_scans.specs.laws.records.Record.{Past, Each}
 use Rattle.law_scans.specs.laws.records.Record.Past.{Start}

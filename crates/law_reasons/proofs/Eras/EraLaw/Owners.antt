@@ -25,7 +25,7 @@ use Rattle.law_scans.specs.laws.records.Record.Past.{Then}
 use Rattle.law_scans.proofs.laws.Along.{Single, OfKind}
 use Rattle.law_reasons.proofs.Eras.EraLaw.Shapes.{published_event, shape_single, work_single}
 use Rattle.law_scans.proofs.reuse.ReadGuards.{reads_are}
-use Rattle.law_scans.proofs.inv.covers.words.Schemes.{helps_not_rows}
+use Rattle.law_scans.proofs.inv.model.words.Schemes.{helps_not_rows}
 use Rattle.law_scans.proofs.inv.ends.Told.Rows.{own_told, step_filter}
 use Rattle.law_scans.proofs.inv.ends.Told.Turns.{is_later}
 use Rattle.law_scans.proofs.reuse.Holding.Values.{Ranges}

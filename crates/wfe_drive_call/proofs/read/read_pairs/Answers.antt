@@ -10,6 +10,7 @@ use Rattle.wfe_drive_call.proofs.read.read_pairs.Goals as goal
 pub loop-pair-init : goal.loop-pair-init
 loop-pair-init g c = record {
   valid = c.requires.valid;
+  later = c.requires.later;
   same = g.W.Words.same_self c.args.words.now;
   below = omega arith;
   many = rw c.requires.none refl;
@@ -60,6 +61,7 @@ loop-pair-preserved g c =
     let asks2 = work_asks kept (LoadValue c.args.slot c.args.count c.step-key.result) (step_post c.args.post.now (c.loop-pair.steps + 1)) desk c.load_cell-in-loop-pair.result (here_on asks.here read) (rw c.loop-pair.invariant.many c.load_cell-in-loop-pair.ensures) in
     record {
       valid = c.step-value.ensures.valid;
+      later = c.step-value.ensures.later;
       same = g.W.Words.same_on _ _ _ (g.W.Words.same_on _ _ _ c.loop-pair.invariant.same c.step-key.ensures.same) c.step-value.ensures.same;
       below = omega arith;
       many = more_counted kept.pairs (c.step-key.result, c.step-value.result) c.loop-pair.pair c.loop-pair.invariant.many c.push.ensures;

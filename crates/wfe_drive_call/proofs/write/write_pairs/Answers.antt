@@ -9,6 +9,7 @@ use Rattle.wfe_drive_call.proofs.write.write_pairs.Goals as goal
 pub loop-pair-init : goal.loop-pair-init
 loop-pair-init g c = record {
   valid = c.requires.valid;
+  later = c.requires.later;
   same = g.W.Words.same_self c.args.words.now;
   rest = omega arith;
   below = omega arith;
@@ -56,6 +57,7 @@ loop-pair-preserved g c =
     let second = value_asks kept c.args.slot c.loop-pair.pair c.get-key.result (step_post c.args.post.now (c.loop-pair.steps + 1)) desk c.store_cell-in-loop-pair.result left c.get-key.ensures (here_on first.here stored) c.store_cell-in-loop-pair.ensures in
     record {
       valid = c.step-in-loop-pair.ensures.valid;
+      later = c.step-in-loop-pair.ensures.later;
       same = g.W.Words.same_on _ _ _ (g.W.Words.same_on _ _ _ c.loop-pair.invariant.same c.step.ensures.same) c.step-in-loop-pair.ensures.same;
       rest = omega arith;
       below = omega arith;

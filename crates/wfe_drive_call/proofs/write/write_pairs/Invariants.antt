@@ -10,6 +10,7 @@ invariant-loop-pair g l =
     let words = g.W.Words in
     record {
       valid : words.valid l.words;
+      later : words.later l.words;
       same : words.same l.fn.words l.words;
       rest : words.rest l.words ≤ words.rest l.fn.words;
       below : l.pair ≤ l.count;

@@ -23,6 +23,7 @@ loop-end-init g c =
     let may = may_here (g.W.Words.comes c.args.words.now) c.requires.valid h in
     record {
       valid = c.requires.valid;
+      later = c.requires.later;
       same = g.W.Words.same_self c.args.words.now;
       rest = omega arith;
       room = c.requires.room;
@@ -74,6 +75,7 @@ loop-end-preserved g c =
     let may = may_here (g.W.Words.comes c.step-found.new.words) c.step-found.ensures.valid here in
     record {
       valid = c.step-found.ensures.valid;
+      later = c.step-found.ensures.later;
       same = g.W.Words.same_on _ _ _ c.loop-end.invariant.same c.step-found.ensures.same;
       rest = omega (arith, c.loop-end.invariant.rest, c.step-found.ensures.rest);
       room = search rules;

@@ -16,6 +16,7 @@ invariant-loop-end g l =
     let phase = g.M.Machine.phase in
     record {
       valid : words.valid l.words;
+      later : words.later l.words;
       same : words.same l.fn.words l.words;
       rest : words.rest l.words ≤ words.rest l.fn.words;
       room : HasRoom l.desk l.post.layout;

@@ -7,6 +7,7 @@ use Rattle.wfe_drive_words.proofs.asking.try_within.Goals as goal
 pub loop-failed-init : goal.loop-failed-init
 loop-failed-init g c = record {
   valid = c.requires.valid;
+  later = c.requires.later;
   same = g.W.Words.same_self c.args.words.now;
   rest = omega arith;
   below = omega arith;
@@ -31,6 +32,7 @@ returns-in-Held-clause-leads g c = λ t h.
 pub loop-failed-preserved : goal.loop-failed-preserved
 loop-failed-preserved g c = record {
   valid = c.try_once.ensures.valid;
+  later = c.try_once.ensures.later;
   same = g.W.Words.same_on _ _ _ c.loop-failed.invariant.same c.try_once.ensures.same;
   rest = omega (arith, c.loop-failed.invariant.rest, c.try_once.ensures.rest);
   below = omega arith;

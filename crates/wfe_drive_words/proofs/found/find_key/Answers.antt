@@ -33,6 +33,7 @@ returns-then-step-key-clause-leads g c = λ r e h.
 pub loop-pair-preserved : goal.loop-pair-preserved
 loop-pair-preserved g c = record {
   valid = c.step.ensures.valid;
+  later = c.step.ensures.later;
   same = g.W.Words.same_on _ _ _ c.loop-pair.invariant.same c.step.ensures.same;
   below = omega arith;
   leads = λ r e h.

@@ -9,6 +9,7 @@ invariant-loop-pair g l =
     let words = g.W.Words in
     record {
       valid : words.valid l.words;
+      later : words.later l.words;
       same : words.same l.fn.words l.words;
       below : l.pair ≤ l.count;
       leads : (r : Reader) → r.post.layout ≡ l.post.layout → Here (words.at l.fn.words) (next_pair l.key r 2 l.slot l.version l.count 0)

@@ -8,6 +8,7 @@ use Rattle.wfe_drive_words.proofs.hazard.check_on.Goals as goal
 pub loop-root-init : goal.loop-root-init
 loop-root-init g c = record {
   valid = c.requires.valid;
+  later = c.requires.later;
   same = g.W.Words.same_self c.args.words.now;
   rest = omega arith;
   leads = λ t h. checks_none (g.W.Words.at c.args.words.now) (g.W.Words.stands c.args.words.now) t c.args.index c.args.root c.args.first c.args.post.now;
@@ -41,6 +42,7 @@ returns-then-is_over-clause-leads g c = λ t h.
 pub loop-root-preserved : goal.loop-root-preserved
 loop-root-preserved g c = record {
   valid = c.check_once-found.ensures.valid;
+  later = c.check_once-found.ensures.later;
   same = g.W.Words.same_on _ _ _ c.loop-root.invariant.same c.check_once-found.ensures.same;
   rest = omega (arith, c.loop-root.invariant.rest, c.check_once-found.ensures.rest);
   leads = λ t h.

@@ -6,6 +6,7 @@ use Rattle.wfe_drive_words.proofs.protect.try_on.Goals as goal
 pub loop-link-init : goal.loop-link-init
 loop-link-init g c = record {
   valid = c.requires.valid;
+  later = c.requires.later;
   same = g.W.Words.same_self c.args.words.now;
   rest = omega arith;
   leads = λ t p. tries_none (g.W.Words.at c.args.words.now) (g.W.Words.stands c.args.words.now) t c.args.index c.args.root c.args.first c.args.post.now;
@@ -47,6 +48,7 @@ overflow_add-steps g c =
 pub loop-link-preserved : goal.loop-link-preserved
 loop-link-preserved g c = record {
   valid = c.try_once.ensures.valid;
+  later = c.try_once.ensures.later;
   same = g.W.Words.same_on _ _ _ c.loop-link.invariant.same c.try_once.ensures.same;
   rest = omega (arith, c.loop-link.invariant.rest, c.try_once.ensures.rest);
   leads = λ t p.

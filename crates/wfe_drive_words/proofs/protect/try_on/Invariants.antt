@@ -8,6 +8,7 @@ invariant-loop-link g l =
     let words = g.W.Words in
     record {
       valid : words.valid l.words;
+      later : words.later l.words;
       same : words.same l.fn.words l.words;
       rest : words.rest l.words ≤ words.rest l.fn.words;
       leads : (t : Trial) → Publishes (words.at l.fn.words) (endless t) l.index l.root l.first l.post → (n : ℕ)

@@ -1,5 +1,6 @@
 use Rattle.std.proofs.Common.{◌∙◌, ◌+◌, sym, refl, ap, subst, Some}
 use Rattle.wfe_check_lines.specs.Kinds.{KindIn}
+use Rattle.wfe_check_lines.specs.Progress.{Tells}
 use Rattle.wfe_check_lines.specs.Reading.{GoodAt, Told}
 use Rattle.wfe_check_lines.specs.Reading.Stage.{Over}
 use Rattle.wfe_check_lines.specs.declared.kind.Kind.TheVariants as kinds
@@ -13,11 +14,10 @@ entry-requires g c =
     let here = bodied_at g.J.Judge.judges c.args.self.now c.in-Body.version c.in-Body.config c.in-Body.judge stage entries c.in-Body.is is in
     record { good = (c.in-Body.version, c.in-Body.config, entries, here.1, subst (KindIn c.in-Body.config) c.in-Some-Entry.field-0-is c.in-Some-Entry.ensures.within) }
 
-pub returns-in_ok-self-in-First : goal.returns-in_ok-self-in-First
-returns-in_ok-self-in-First g c told is =
+pub returns-in-First : goal.returns-in-First
+returns-in-First g c told is =
     let here = starts_at g.J.Judge.judges c.args.self.now told.stage told.entries c.in-First.is is in
-    let (x, e, at, count) = c.in_ok-self-in-First.ensures told here.1 in
-    (x, first_line told c.args.line.now here.0 ∙ e, at, count)
+    subst (λ next. Tells g.J.Judge.judges c.begin.result told next c.begin.new.self) (sym (first_line told c.args.line.now here.0)) (c.begin.ensures told here.1)
 
 pub returns-in-Ok-true : goal.returns-in-Ok-true
 returns-in-Ok-true g c told is =

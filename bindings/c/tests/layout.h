@@ -1,0 +1,13 @@
+/* The form of what is passed, which the exports' structs have too. */
+#include "wfe.h"
+#ifdef __cplusplus
+#define HAS(what) static_assert(what, #what)
+#else
+#define HAS(what) _Static_assert(what, #what)
+#endif
+HAS(sizeof(void *) == 8);
+HAS(sizeof(wfe_seat) == 16 && offsetof(wfe_seat, at) == 8);
+HAS(sizeof(wfe_setting) == 48 && offsetof(wfe_setting, last_version) == 32 && offsetof(wfe_setting, pairs) == 40);
+HAS(sizeof(wfe_answer) == 32 && offsetof(wfe_answer, slot) == 12 && offsetof(wfe_answer, number) == 16 && offsetof(wfe_answer, value) == 24);
+HAS(sizeof(wfe_notes_told) == 40 && offsetof(wfe_notes_told, early) == 16 && offsetof(wfe_notes_told, backs) == 24 && offsetof(wfe_notes_told, steps) == 32);
+HAS(sizeof(wfe_about_told) == 64 && offsetof(wfe_about_told, listed) == 8 && offsetof(wfe_about_told, setting) == 16);

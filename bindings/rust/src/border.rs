@@ -1,0 +1,170 @@
+//! The border to the library: all of this crate that is `unsafe`.
+//!
+//! What the library owes by its proof is said by the contracts of the crate `wfe_c` (`crates/wfe_c/src`); what it is owed, by five
+//! sentences of `bindings/c/wfe.h`. Each block below names which of them it keeps.
+
+mod cells;
+
+pub use cells::{Cells, Guard};
+
+use crate::setting::Setting;
+use std::mem::size_of;
+
+/// The code of a number of seats that is out of range, the first number that is judged.
+const BAD_SEATS: u32 = 19;
+
+/// An answer, as `wfe_answer` of C.
+#[repr(C)]
+#[derive(Clone, Copy, Debug)]
+pub(crate) struct Answer {
+    pub code: u32,
+    pub clock: u32,
+    pub era: u32,
+    pub slot: u32,
+    pub number: u64,
+    pub value: u64,
+}
+
+/// `wfe_notes_told`.
+#[repr(C)]
+#[derive(Clone, Copy, Debug)]
+pub(crate) struct NotesTold {
+    pub code: u32,
+    pub given: u32,
+    pub retired: u32,
+    pub unused: u32,
+    pub early: u32,
+    pub backs: u64,
+    pub steps: u64,
+}
+
+/// `wfe_about_told`.
+#[repr(C)]
+#[derive(Clone, Copy, Debug)]
+pub(crate) struct AboutTold {
+    pub code: u32,
+    pub number: u32,
+    pub listed: u64,
+    pub setting: SettingTold,
+}
+
+/// `wfe_setting`.
+#[repr(C)]
+#[derive(Clone, Copy, Debug)]
+pub(crate) struct SettingTold {
+    pub scheme: u32,
+    pub seats: u32,
+    pub indexes: u32,
+    pub slots: u32,
+    pub buckets: u32,
+    pub tries: u32,
+    pub every: u32,
+    pub last_era: u32,
+    pub last_version: u64,
+    pub pairs: u32,
+}
+
+/// `wfe_seat`. It is neither `Copy` nor `Clone`: the library wants one handle for a seat.
+#[repr(C)]
+pub(crate) struct Handle {
+    state: u32,
+    at: *mut u8,
+}
+
+// The exports of the crate `wfe_c`. No pointer is null.
+extern "C" {
+    fn wfe_c_usual(scheme: u32, threads: u32, keys: u32) -> SettingTold;
+    fn wfe_c_open(setting: SettingTold, seats: *mut Handle, count: usize) -> u32;
+    fn wfe_c_leave(seat: *mut Handle) -> Answer;
+    fn wfe_c_adopt(seat: *mut Handle, place: u32) -> Answer;
+    fn wfe_c_get(seat: *mut Handle, key: u64) -> Answer;
+    fn wfe_c_put(seat: *mut Handle, key: u64, value: u64) -> Answer;
+    fn wfe_c_put_if(seat: *mut Handle, key: u64, value: u64, version: u64) -> Answer;
+    fn wfe_c_remove(seat: *mut Handle, key: u64) -> Answer;
+    fn wfe_c_enqueue(seat: *mut Handle, value: u64) -> Answer;
+    fn wfe_c_dequeue(seat: *mut Handle) -> Answer;
+    fn wfe_c_hold(seat: *mut Handle, key: u64) -> Answer;
+    fn wfe_c_release(seat: *mut Handle) -> Answer;
+    fn wfe_c_copy(seat: *mut Handle, from: u32, index: u32) -> Answer;
+    fn wfe_c_look(seat: *mut Handle, index: u32, key: u64) -> Answer;
+    fn wfe_c_drop_index(seat: *mut Handle, index: u32) -> Answer;
+    fn wfe_c_advance(seat: *mut Handle) -> Answer;
+    fn wfe_c_scan(seat: *mut Handle) -> Answer;
+    fn wfe_c_notes(seat: *mut Handle) -> NotesTold;
+    fn wfe_c_backs(seat: *mut Handle, slots: *mut u32, room: usize) -> Answer;
+    fn wfe_c_about(seat: *mut Handle) -> AboutTold;
+    fn wfe_c_seen(seat: *mut Handle, bucket: u32) -> Answer;
+}
+
+// SAFETY: `Send` is proved of the handle's type in the crate `wfe_c` (`proofs/place/Place/TheSendSync`), and a handle that goes to
+// another thread in safe Rust is ordered by what takes it there. It is not `Sync`: nothing is to make two calls at once.
+unsafe impl Send for Handle {}
+
+pub(crate) fn usual(scheme: u32, threads: u32, keys: u32) -> SettingTold {
+    // SAFETY: numbers alone are passed, and the export requires nothing of them.
+    unsafe { wfe_c_usual(scheme, threads, keys) }
+}
+
+/// The handles of a new table's seats, or the code of why there is none.
+pub(crate) fn open(setting: &Setting) -> Result<Vec<Handle>, u32> {
+    let told = SettingTold::from(setting);
+    if !(1..=64).contains(&told.seats) {
+        return Err(BAD_SEATS);
+    }
+    let mut handles: Vec<Handle> = (0..told.seats).map(|_| Handle { state: 0, at: std::ptr::null_mut() }).collect();
+    // SAFETY: so many handles are at the pointer, and each is all zeros.
+    match unsafe { wfe_c_open(told, handles.as_mut_ptr(), handles.len()) } {
+        0 => Ok(handles),
+        code => Err(code),
+    }
+}
+
+macro_rules! calls {
+    ($($export:ident $name:ident($($argument:ident: $kind:ty),*) -> $answer:ty;)*) => {
+        impl Handle {
+            $(
+                #[inline]
+                pub(crate) fn $name(&mut self, $($argument: $kind),*) -> $answer {
+                    // SAFETY: the handle is what `open` left in it, borrowed by this call alone, so that one call at a time is made
+                    // with it.
+                    unsafe { $export(self, $($argument),*) }
+                }
+            )*
+        }
+    };
+}
+
+calls! {
+    wfe_c_leave leave() -> Answer;
+    wfe_c_adopt adopt(place: u32) -> Answer;
+    wfe_c_get get(key: u64) -> Answer;
+    wfe_c_put put(key: u64, value: u64) -> Answer;
+    wfe_c_put_if put_if(key: u64, value: u64, version: u64) -> Answer;
+    wfe_c_remove remove(key: u64) -> Answer;
+    wfe_c_enqueue enqueue(value: u64) -> Answer;
+    wfe_c_dequeue dequeue() -> Answer;
+    wfe_c_hold hold(key: u64) -> Answer;
+    wfe_c_release release() -> Answer;
+    wfe_c_copy copy(from: u32, index: u32) -> Answer;
+    wfe_c_look look(index: u32, key: u64) -> Answer;
+    wfe_c_drop_index drop_index(index: u32) -> Answer;
+    wfe_c_advance advance() -> Answer;
+    wfe_c_scan scan() -> Answer;
+    wfe_c_notes notes() -> NotesTold;
+    wfe_c_about about() -> AboutTold;
+    wfe_c_seen seen(bucket: u32) -> Answer;
+}
+
+impl Handle {
+    /// Writes the slots that went back in the last call, as many as there is room for, and gives how many there were.
+    pub(crate) fn backs(&mut self, slots: &mut [u32]) -> usize {
+        // SAFETY: as of the calls above; and the slice is as long as is said, and borrowed by this call alone.
+        let answer = unsafe { wfe_c_backs(self, slots.as_mut_ptr(), slots.len()) };
+        answer.number as usize
+    }
+}
+
+const _: () = {
+    assert!(size_of::<Handle>() == 16 && size_of::<Answer>() == 32 && size_of::<NotesTold>() == 40);
+    assert!(size_of::<SettingTold>() == 48 && size_of::<AboutTold>() == 64);
+};

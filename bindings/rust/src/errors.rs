@@ -1,0 +1,229 @@
+use crate::setting::Field;
+use std::error::Error;
+use std::fmt;
+
+/// Why no table was made.
+#[derive(Clone, Copy, Debug, PartialEq, Eq)]
+pub enum OpenError {
+    /// A number of the setting is outside its range: the first such.
+    BadSetting(Field),
+    /// The setting is good, and memory ran out.
+    NoMemory,
+}
+
+/// Why a put changed nothing.
+#[derive(Clone, Copy, Debug, PartialEq, Eq)]
+pub enum PutError {
+    /// No row was free, though the call has scanned.
+    Full,
+    /// The bucket had no room for another key, at this version.
+    BucketFull {
+        /// The bucket's version.
+        version: u64,
+    },
+    /// The bucket is at the setting's last version.
+    Spent {
+        /// That version.
+        version: u64,
+    },
+}
+
+/// Why a put that names a version changed nothing.
+#[derive(Clone, Copy, Debug, PartialEq, Eq)]
+pub enum PutIfError {
+    /// The bucket had this version, and another one was named.
+    Stale {
+        /// The bucket's version.
+        version: u64,
+    },
+    /// No row was free, though the call has scanned.
+    Full,
+    /// The bucket had no room for another key, at this version, which was named.
+    BucketFull {
+        /// The bucket's version.
+        version: u64,
+    },
+    /// The bucket is at the setting's last version, which was named.
+    Spent {
+        /// That version.
+        version: u64,
+    },
+}
+
+/// Why a remove changed nothing.
+#[derive(Clone, Copy, Debug, PartialEq, Eq)]
+pub enum RemoveError {
+    /// The key had no value, at this version.
+    Absent {
+        /// The bucket's version.
+        version: u64,
+    },
+    /// No row was free, though the call has scanned. (A remove links a row without the key.)
+    Full,
+    /// The bucket is at the setting's last version, and the key has a value.
+    Spent {
+        /// That version.
+        version: u64,
+    },
+}
+
+/// Why nothing was queued.
+#[derive(Clone, Copy, Debug, PartialEq, Eq)]
+pub enum EnqueueError {
+    /// No row was free, though the call has scanned.
+    Full,
+    /// The queue is at the setting's last version.
+    Spent {
+        /// That number.
+        number: u64,
+    },
+}
+
+/// Why no list was adopted.
+#[derive(Clone, Copy, Debug, PartialEq, Eq)]
+pub enum AdoptError {
+    /// That seat had not left.
+    NotLeft,
+    /// That seat's list has been adopted.
+    AdoptedBefore,
+    /// The table has no such seat.
+    NoSuchSeat,
+}
+
+/// The table has no such index, or no row may be kept at it, or a copy does not go upwards.
+#[derive(Clone, Copy, Debug, PartialEq, Eq)]
+pub struct IndexError;
+
+/// Why a cell was not changed. It hands the value back that was to go there.
+pub enum CellError<T> {
+    /// The cell had another version than the one named.
+    Stale {
+        /// The cell's version.
+        version: u64,
+        /// The value that was to go there.
+        value: Option<Box<T>>,
+    },
+    /// No row was free; try again when others have ended their guards, or adopt what those left that are gone.
+    Full {
+        /// The value that was to go there.
+        value: Option<Box<T>>,
+    },
+    /// The cell is at its last version.
+    Spent {
+        /// The value that was to go there.
+        value: Option<Box<T>>,
+    },
+}
+
+impl<T> CellError<T> {
+    /// The value that was to go into the cell; none where the cell was to be emptied.
+    pub fn into_value(self) -> Option<Box<T>> {
+        match self {
+            CellError::Stale { value, .. } | CellError::Full { value } | CellError::Spent { value } => value,
+        }
+    }
+}
+
+const FULL: &str = "no row was free";
+
+fn bucket_full(f: &mut fmt::Formatter<'_>, version: u64) -> fmt::Result {
+    write!(f, "the bucket had no room for another key, at version {version}")
+}
+
+fn spent(f: &mut fmt::Formatter<'_>, version: u64) -> fmt::Result {
+    write!(f, "the bucket is at its last version, {version}")
+}
+
+impl fmt::Display for OpenError {
+    fn fmt(&self, f: &mut fmt::Formatter<'_>) -> fmt::Result {
+        match self {
+            OpenError::BadSetting(field) => write!(f, "the setting's {}", field.range()),
+            OpenError::NoMemory => f.write_str("memory ran out"),
+        }
+    }
+}
+
+impl fmt::Display for PutError {
+    fn fmt(&self, f: &mut fmt::Formatter<'_>) -> fmt::Result {
+        match *self {
+            PutError::Full => f.write_str(FULL),
+            PutError::BucketFull { version } => bucket_full(f, version),
+            PutError::Spent { version } => spent(f, version),
+        }
+    }
+}
+
+impl fmt::Display for PutIfError {
+    fn fmt(&self, f: &mut fmt::Formatter<'_>) -> fmt::Result {
+        match *self {
+            PutIfError::Stale { version } => write!(f, "another version was named than the bucket's, {version}"),
+            PutIfError::Full => f.write_str(FULL),
+            PutIfError::BucketFull { version } => bucket_full(f, version),
+            PutIfError::Spent { version } => spent(f, version),
+        }
+    }
+}
+
+impl fmt::Display for RemoveError {
+    fn fmt(&self, f: &mut fmt::Formatter<'_>) -> fmt::Result {
+        match *self {
+            RemoveError::Absent { version } => write!(f, "the key had no value, at version {version}"),
+            RemoveError::Full => f.write_str(FULL),
+            RemoveError::Spent { version } => spent(f, version),
+        }
+    }
+}
+
+impl fmt::Display for EnqueueError {
+    fn fmt(&self, f: &mut fmt::Formatter<'_>) -> fmt::Result {
+        match *self {
+            EnqueueError::Full => f.write_str(FULL),
+            EnqueueError::Spent { number } => write!(f, "the queue is at its last number, {number}"),
+        }
+    }
+}
+
+impl fmt::Display for AdoptError {
+    fn fmt(&self, f: &mut fmt::Formatter<'_>) -> fmt::Result {
+        f.write_str(match self {
+            AdoptError::NotLeft => "that seat has not left",
+            AdoptError::AdoptedBefore => "that seat's list has been adopted",
+            AdoptError::NoSuchSeat => "the table has no such seat",
+        })
+    }
+}
+
+impl fmt::Display for IndexError {
+    fn fmt(&self, f: &mut fmt::Formatter<'_>) -> fmt::Result {
+        f.write_str("the table has no such index, no row may be kept at it, or the copy does not go upwards")
+    }
+}
+
+impl<T> fmt::Display for CellError<T> {
+    fn fmt(&self, f: &mut fmt::Formatter<'_>) -> fmt::Result {
+        match self {
+            CellError::Stale { version, .. } => write!(f, "another version was named than the cell's, {version}"),
+            CellError::Full { .. } => f.write_str(FULL),
+            CellError::Spent { .. } => f.write_str("the cell is at its last version"),
+        }
+    }
+}
+
+impl<T> fmt::Debug for CellError<T> {
+    fn fmt(&self, f: &mut fmt::Formatter<'_>) -> fmt::Result {
+        f.write_str(match self {
+            CellError::Stale { .. } => "Stale",
+            CellError::Full { .. } => "Full",
+            CellError::Spent { .. } => "Spent",
+        })
+    }
+}
+
+impl<T> Error for CellError<T> {}
+impl Error for OpenError {}
+impl Error for PutError {}
+impl Error for PutIfError {}
+impl Error for RemoveError {}
+impl Error for EnqueueError {}
+impl Error for AdoptError {}
+impl Error for IndexError {}

@@ -1,0 +1,4 @@
+pub mod Contents
+pub mod Items
+pub mod QueueReads
+pub mod Stands

@@ -1,0 +1,5 @@
+use Rattle.inv_all.proofs.Contents.Contents.Begun as kept
+use Rattle.inv_all.proofs.row_contents.contents_start.Goals as goal
+
+pub returns : goal.returns
+returns c = kept.contents_start

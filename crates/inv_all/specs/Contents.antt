@@ -1,0 +1,11 @@
+pub mod Bounded
+pub mod Buckets
+pub mod Contents
+pub mod Gives
+pub mod Items
+pub mod Knows
+pub mod Reads
+pub mod Shelf
+pub mod Stands
+pub mod Told
+pub mod Turns

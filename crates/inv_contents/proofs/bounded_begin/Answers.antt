@@ -1,5 +1,0 @@
-use Rattle.inv_contents.proofs.Items.Bounds as kept
-use Rattle.inv_contents.proofs.bounded_begin.Goals as goal
-
-pub returns : goal.returns
-returns c = kept.bounded_begin

@@ -1,5 +1,0 @@
-use Rattle.inv_contents.proofs.Contents.Kept as kept
-use Rattle.inv_contents.proofs.contents_kept.Goals as goal
-
-pub returns : goal.returns
-returns c = kept.contents_kept

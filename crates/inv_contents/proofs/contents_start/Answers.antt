@@ -1,5 +1,0 @@
-use Rattle.inv_contents.proofs.Contents.Begun as kept
-use Rattle.inv_contents.proofs.contents_start.Goals as goal
-
-pub returns : goal.returns
-returns c = kept.contents_start

@@ -1,5 +1,0 @@
-use Rattle.inv_contents.proofs.Items.Begun as kept
-use Rattle.inv_contents.proofs.items_begin.Goals as goal
-
-pub returns : goal.returns
-returns c = kept.items_begin

@@ -1,5 +1,0 @@
-use Rattle.inv_contents.proofs.Stands.Kept as kept
-use Rattle.inv_contents.proofs.stands_begin.Goals as goal
-
-pub returns : goal.returns
-returns c = kept.stands_begin

@@ -1,0 +1,9 @@
+pub mod About
+pub mod Called
+pub mod Handle
+pub mod Joined
+pub mod Notes
+pub mod Opened
+pub mod Place
+pub mod Setting
+pub mod Told

@@ -1,0 +1,140 @@
+// What a call tells C: a code, and what goes with it.
+ghost use Rattle.std.specs.Prelude.{◌≡◌};
+ghost use Rattle.wfe_c.specs.Told.{clock_era, clock_kind, says, says_at, told_of};
+
+use crate::codes::*;
+use wfe_table::{Answer, ClockMove};
+
+// Each field that the code gives no meaning is 0.
+#[repr(C)]
+#[derive(Clone, Copy)]
+pub struct CAnswer {
+    pub code: u32,
+    pub clock: u32,
+    pub era: u32,
+    pub slot: u32,
+    pub number: u64,
+    pub value: u64,
+}
+
+// A code alone.
+#[inline(always)]
+pub(crate) fn says(code: u32) -> CAnswer
+    ensures { result ≡ says code }
+{
+    CAnswer {
+        code,
+        clock: 0,
+        era: 0,
+        slot: 0,
+        number: 0,
+        value: 0,
+    }
+}
+
+#[inline(always)]
+pub(crate) fn says_at(code: u32, number: u64) -> CAnswer
+    ensures { result ≡ says_at code number }
+{
+    CAnswer {
+        number,
+        ..says(code)
+    }
+}
+
+#[inline(always)]
+fn clock_kind(clock: ClockMove) -> u32
+    ensures { result ≡ clock_kind clock }
+{
+    match clock {
+        ClockMove::Still => 0,
+        ClockMove::Moved { .. } => 1,
+        ClockMove::Other { .. } => 2,
+        ClockMove::EraSpent { .. } => 3,
+    }
+}
+
+#[inline(always)]
+fn clock_era(clock: ClockMove) -> u32
+    ensures { result ≡ clock_era clock }
+{
+    match clock {
+        ClockMove::Still => 0,
+        ClockMove::Moved { era } | ClockMove::EraSpent { era } => era,
+        ClockMove::Other { seen } => seen,
+    }
+}
+
+// A call's answer as C is told it.
+#[inline(always)]
+pub(crate) fn told(answer: Answer) -> CAnswer
+    ensures { result ≡ told_of answer }
+{
+    match answer {
+        Answer::Got {
+            version,
+            value: Some(value),
+        } => CAnswer {
+            value,
+            ..says_at(OK, version)
+        },
+        Answer::Got {
+            version,
+            value: None,
+        } => says_at(ABSENT, version),
+        Answer::Done { version, clock } => CAnswer {
+            clock: clock_kind(clock),
+            era: clock_era(clock),
+            ..says_at(OK, version)
+        },
+        Answer::Absent { version } => says_at(ABSENT, version),
+        Answer::Full => says(FULL),
+        Answer::BucketFull { version } => says_at(BUCKET_FULL, version),
+        Answer::Spent { number } => says_at(SPENT, number),
+        Answer::Queued { number } => says_at(OK, number),
+        Answer::Taken {
+            number,
+            value,
+            clock,
+        } => CAnswer {
+            clock: clock_kind(clock),
+            era: clock_era(clock),
+            value,
+            ..says_at(OK, number)
+        },
+        Answer::Empty => says(EMPTY),
+        Answer::Holding { slot } | Answer::Copied { slot } => CAnswer { slot, ..says(OK) },
+        Answer::Nothing => says(NOTHING),
+        Answer::Released | Answer::Dropped => says(OK),
+        Answer::Clock { outcome } => CAnswer {
+            clock: clock_kind(outcome),
+            era: clock_era(outcome),
+            ..says(OK)
+        },
+        Answer::Scanned { kept, back } => CAnswer {
+            value: back as u64,
+            ..says_at(OK, kept as u64)
+        },
+        Answer::Looked {
+            slot,
+            version,
+            value: Some(value),
+        } => CAnswer {
+            slot,
+            value,
+            ..says_at(OK, version)
+        },
+        Answer::Looked {
+            slot,
+            version,
+            value: None,
+        } => CAnswer {
+            slot,
+            ..says_at(ABSENT, version)
+        },
+        Answer::Stale { version } => says_at(STALE, version),
+        Answer::Left { count } | Answer::Adopted { count } => says_at(OK, count as u64),
+        Answer::NotLeft => says(NOT_LEFT),
+        Answer::AdoptedBefore => says(ADOPTED_BEFORE),
+    }
+}

@@ -1,0 +1,19 @@
+//! Exports for C: each call on a seat (`calls.rt`), opening and leaving (`opening.rt`, `leaving.rt`), notes (`notes.rt`, `about.rt`), by handles
+//! that keep their table (`handle.rt`, `taking.rt`). What a caller in C could get wrong is tested, and answered by a code (`answer.rt`). C's
+//! side is `bindings/c/wfe.h`.
+#![tactic(auto)]
+
+mod about;
+mod answer;
+mod calls;
+mod codes;
+mod handle;
+mod joined;
+mod leaving;
+mod making;
+mod notes;
+mod opening;
+mod place;
+mod pointed;
+mod setting;
+mod taking;

@@ -1,0 +1,3 @@
+pub use Rattle.wfe_table.specs as table
+pub mod Calls
+pub mod Stores
