@@ -5,12 +5,36 @@ ghost use Rattle.wfe_words.specs.Place.{claim_bit, claim_mask, claim_word, confi
 
 use crate::packed::{self, Link, life_word, link_word};
 use crate::{BadConfig, Config, Field};
+use std::marker::Model;
 
 /// The words of a table: which there are, their numbers from 0, and the values with which they
-/// start. Seats, indexes, slots, buckets and places of a row are counted from 0 too.
+/// start. Seats, indexes, slots, buckets and places of a row are counted from 0 too. It is seen as its
+/// setting.
 #[derive(Clone, Copy, Debug, PartialEq, Eq)]
 pub struct Layout {
     config: Config,
+    // What a step would else add up again: the numbers of the first words of these groups, and how many words a row has.
+    intervals: u32,
+    roots: u32,
+    lives: u32,
+    rows: u32,
+    places: u32,
+}
+
+impl Model for Layout {
+    ghost use Rattle.wfe_words.specs.Setting.{Setting};
+
+    ghost Value = { Setting };
+
+    ghost use Rattle.wfe_words.specs.Firsts.{AreFirsts, inside_is, inside_of, setting_of};
+
+    ghost view = { setting_of };
+
+    ghost invariant = { AreFirsts };
+
+    ghost inverse = { inside_of };
+
+    ghost inverse_ok = { inside_is };
 }
 
 #[tactic(auto, using(crate::proofs::Bounds::bounds), unfolding(crate::specs::Place::words, crate::specs::Place::number))]
@@ -29,7 +53,32 @@ impl Layout {
         config.judge(Field::LastEra)?;
         config.judge(Field::LastVersion)?;
         config.judge(Field::Pairs)?;
-        Ok(Layout { config })
+        Ok(Layout::of(config))
+    }
+
+    // That of a setting whose numbers lie in their ranges.
+    fn of(config: Config) -> Layout
+        requires { IsTrue (is_valid (record { config = config })) }
+        ensures { result ≡ record { config = config } }
+    {
+        let indexes = 1 + config.seats;
+        let intervals = indexes + config.seats * config.indexes;
+        let requests = intervals + config.seats;
+        let roots = requests + config.seats;
+        let head = roots + config.buckets;
+        let claims = head + 2;
+        let lives = claims + (config.slots + 64) / 64;
+        let count = config.slots + 1;
+        let rows = lives + count;
+        let places = 3 + 2 * config.pairs;
+        Layout {
+            config,
+            intervals,
+            roots,
+            lives,
+            rows,
+            places,
+        }
     }
 
     pub fn config(&self) -> Config
@@ -205,7 +254,7 @@ impl Layout {
         requires { IsTrue (is_valid self.now) }
         ensures { result ≡ first_interval self.now }
     {
-        self.first_index() + self.config.seats * self.config.indexes
+        self.intervals
     }
 
     fn first_request(&self) -> u32
@@ -219,7 +268,7 @@ impl Layout {
         requires { IsTrue (is_valid self.now) }
         ensures { result ≡ first_bucket self.now }
     {
-        self.first_request() + self.config.seats
+        self.roots
     }
 
     fn first_claim(&self) -> u32
@@ -233,14 +282,14 @@ impl Layout {
         requires { IsTrue (is_valid self.now) }
         ensures { result ≡ first_life self.now }
     {
-        self.first_claim() + (self.config.slots + 64) / 64
+        self.lives
     }
 
     fn first_row(&self) -> u32
         requires { IsTrue (is_valid self.now) }
         ensures { result ≡ first_row self.now }
     {
-        self.first_life() + self.row_count()
+        self.rows
     }
 
     fn first_place(&self) -> u32
@@ -261,6 +310,6 @@ impl Layout {
         requires { IsTrue (is_valid self.now) }
         ensures { result ≡ row_places self.now }
     {
-        3 + 2 * self.config.pairs
+        self.places
     }
 }
