@@ -1,13 +1,13 @@
 #!/usr/bin/env python3
-"""How many steps gets and holds take on one shared table while a helper is stopped amid its calls, under each scheme.
+"""How many steps gets and holds take, and how many rows wait, on one shared table while a helper is stopped, under each scheme.
 
 Run it at the top of the repository, once `./build wfe_bench` has made the program: bench/stalled.py [--seconds N]
 
-Five threads share a table of one bucket. Two read it, two change it and move the clock without a rest, and one does
-nothing but move the clock, and so helps readers where they ask for help. That one, the helper, is stopped wherever it is
-for a quarter of a second, then let go for a moment, and stopped again. The program prints the greatest number of steps
-that a get and a hold took; beside it stands the bound that the contracts of `get` and `hold` promise. The script fails
-where a number is above its bound.
+Five threads share a table of one bucket. Two read it, two change it and move the clock without a rest, and one holds a
+row that it never lets go, and moves the clock, and so helps readers where they ask for help. That one, the helper, is
+stopped wherever it is for a quarter of a second, then let go for a moment, and stopped again. The program prints the
+greatest number of steps that a get and a hold took, and of rows on one writer's list after a put; beside them stand the
+bounds that contracts promise. The script fails where a number is above its bound.
 """
 import argparse
 import ctypes
@@ -18,6 +18,9 @@ import sys
 import time
 
 SCHEMES = ("he", "ibr", "wfe", "hp")
+
+# The setting of the program, in crates/wfe_bench/src/stalled.rt.
+SEATS, INDEXES, BUCKETS, EVERY = 5, 3, 1, 1
 TOP = os.path.dirname(os.path.dirname(os.path.realpath(__file__)))
 PROGRAM = f"{TOP}/crates/wfe_bench/out/wfe_bench"
 
@@ -66,7 +69,17 @@ def stalled(scheme, seconds):
         text = process.communicate()[0]
     if process.returncode != 0:
         sys.exit(f"{PROGRAM} {scheme} stalled: status {process.returncode}")
-    return re.findall(r"^(get|hold) (\d+) (\d+) (\d+|none)$", text, re.M), stops
+    steps = re.findall(r"^(get|hold) (\d+) (\d+) (\d+|none)$", text, re.M)
+    return steps, int(re.search(r"^list (\d+)$", text, re.M).group(1)), stops
+
+
+def list_bound(scheme):
+    """The most rows that a seat's list may have where its call ends, as far as it is proved: under eras so many for each guard."""
+    kept = BUCKETS + 1 + SEATS * (EVERY + 2)
+    guards = {"he": SEATS * INDEXES, "wfe": SEATS + SEATS * INDEXES, "hp": SEATS * INDEXES}
+    if scheme not in guards:
+        return None
+    return guards[scheme] * (1 if scheme == "hp" else kept) + EVERY - 1
 
 
 def main():
@@ -76,12 +89,20 @@ def main():
     if not os.path.exists(PROGRAM):
         sys.exit("make the program first: ./build wfe_bench")
     print("| scheme | call | calls | most steps | bound | stops of the helper |\n|---|---|---|---|---|---|")
+    lists = []
     for scheme in SCHEMES:
-        rows, stops = stalled(scheme, seconds)
+        rows, longest, stops = stalled(scheme, seconds)
+        lists.append((scheme, longest))
         for call, calls, steps, bound in rows:
             print(f"| `{scheme}` | {call} | {int(calls):,} | {steps} | {bound} | {stops} |", flush=True)
             if bound != "none" and int(steps) > int(bound):
                 sys.exit(f"{call} took {steps} steps, and the bound is {bound}")
+    print("\n| scheme | longest list | bound |\n|---|---|---|")
+    for scheme, longest in lists:
+        bound = list_bound(scheme)
+        print(f"| `{scheme}` | {longest} | {'none' if bound is None else bound} |")
+        if bound is not None and longest > bound:
+            sys.exit(f"{longest} rows wait at a seat, and the bound is {bound}")
 
 
 if __name__ == "__main__":

@@ -1,5 +1,10 @@
+pub mod Few
 pub mod Judged
 pub mod Keeps
+pub mod Marks
+pub mod Pace
+pub mod Scanned
 pub mod Since
 pub mod Still
 pub mod There
+pub mod Total

@@ -4,4 +4,6 @@ pub mod Eras
 pub mod Hazards
 pub mod Rows
 pub mod Scans
+pub mod Waits
+pub mod Whole
 pub mod Wrong

@@ -107,11 +107,17 @@ pub record JudgedBy (config : Config) (i : ℕ) (life : Lifetime) (p : Past) : T
   pub there : WasThere config.slots span life.slot p
 
 -- So it is, where a seat is in no call, with each life on its list that its last block judged; all others came since, by `ScanLeaves`.
+abbrev pub JudgesSo : Config → Past → Type 0
+JudgesSo config p =
+    (i : ℕ) (life : Lifetime)
+    → is_open i p ≡ false
+    → in_list (judged_of i p) life.slot life.birth life.retire ≡ true
+    → JudgedBy config i life p
+
+-- after each history of a table whose guards publish eras
 abbrev pub RecordsJudge : Type 0
 RecordsJudge =
-    (layout : Layout) (items : List Item) (i : ℕ) (life : Lifetime)
+    (layout : Layout) (items : List Item)
     → is_valid layout ≡ true
     → publishes_rows layout.config.scheme ≡ false
-    → is_open i (record_of layout items) ≡ false
-    → in_list (judged_of i (record_of layout items)) life.slot life.birth life.retire ≡ true
-    → JudgedBy layout.config i life (record_of layout items)
+    → JudgesSo layout.config (record_of layout items)

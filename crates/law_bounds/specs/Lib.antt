@@ -2,6 +2,9 @@ pub use Rattle.law_all.specs.laws
 pub use Rattle.law_all.specs.inv
 pub mod Eras
 pub mod Hazards
+pub mod Kept
 pub mod Rows
 pub mod Scans
+pub mod Waits
+pub mod Whole
 pub mod WrongRecords

@@ -1,20 +1,26 @@
 -- Wrong records, each of which the sentence beside it refuses. No history tells one of them.
 use Rattle.std.specs.Prelude.{List, None, Some, [], ℕ, ◌∷◌}
+use Rattle.law_all.specs.RunLaw.{AtClose}
 use Rattle.law_all.specs.inv.history.Record.{Past, tells_of}
 use Rattle.law_all.specs.inv.history.Record.Past.{Start}
+use Rattle.law_all.specs.inv.model.Desks.{no_notes}
+use Rattle.law_all.specs.inv.model.Locals.{Group}
 use Rattle.law_all.specs.inv.model.defs.declared.call.Answer.TheVariants as answers
 use Rattle.law_all.specs.inv.model.defs.declared.call.Call.TheVariants as calls
 use Rattle.law_all.specs.inv.model.defs.declared.event.Event.{Event}
 use Rattle.law_all.specs.inv.model.defs.declared.event.Event.TheVariants as events
 use Rattle.law_all.specs.inv.model.defs.declared.event.Guard.TheVariants as guards
 use Rattle.law_all.specs.inv.model.defs.declared.event.Root.TheVariants as roots
+use Rattle.law_all.specs.inv.model.defs.declared.lifetime.Lifetime.{Lifetime}
 use Rattle.law_all.specs.inv.model.words.declared.config.Config.{Config}
 use Rattle.law_all.specs.inv.model.words.declared.config.SchemeKind.{SchemeKind}
 use Rattle.law_all.specs.inv.model.words.declared.config.SchemeKind.TheVariants.{He, Hp}
 use Rattle.law_bounds.specs.Eras.{StillBounds}
 use Rattle.law_bounds.specs.Hazards.{HazardBounds, RowsNeeded}
-use Rattle.law_bounds.specs.Rows.{FewTaken, NoneLost}
+use Rattle.law_bounds.specs.Kept.{KeepsFew}
+use Rattle.law_bounds.specs.Rows.{ClosesWhole, FewTaken, NoneLost}
 use Rattle.law_bounds.specs.Scans.{ScanBounds}
+use Rattle.law_bounds.specs.Waits.{WaitsFew}
 
 -- one seat of three indexes, two buckets and this many slots
 abbrev pub small : SchemeKind → (slots : ℕ) → Config
@@ -139,8 +145,70 @@ pub record ErasRefused : Type 0 where
   pub young : StillBounds (small He 2) too_early → ⊥
   pub old : StillBounds (small He 2) never_given → ⊥
 
+-- What guards keep. Eight rows are retired in one era, which a guard publishes; and a scan reads that, and keeps them.
+abbrev pub two_more : List Event → List Event
+two_more told = events.Retire 6 1 1 ∷ events.Retire 7 1 1 ∷ told
+
+abbrev pub eight_retired : Past
+eight_retired = six_retired (two_more [])
+
+abbrev pub eight_kept : Past
+eight_kept =
+    six_retired (two_more (events.Read (guards.Index 0 0) (Some (record { lo = 1; hi = 1 })) ∷ events.End 9 (answers.Absent 0) ∷ []))
+
+-- four rows are retired once the clock has moved, with lives in the era before, in which nobody had them
+abbrev pub from_nowhere : Past
+from_nowhere =
+    by_seat (events.Begin (calls.Remove 0) ∷ events.Era 2 ∷ events.Retire 0 1 1 ∷ events.Retire 1 1 1 ∷ events.Retire 2 1 1 ∷ events.Retire 3 1 1 ∷ [])
+
+pub record KeptRefused : Type 0 where
+  pub pace : KeepsFew (small He 9) (six_retired []) → ⊥
+  pub parts : KeepsFew (small He 9) from_nowhere → ⊥
+  pub all : KeepsFew (small He 9) eight_retired → ⊥
+  pub scan : KeepsFew (small He 9) eight_kept → ⊥
+
+-- What waits for a seat. Another list is shown; one has a row twice; a row stays that nothing keeps; a list of one life came as one of none; six
+-- rows wait for a scan; a list came that no call has answered; and a closed table shows that the dummy is free.
+abbrev pub lone_life : Lifetime
+lone_life = record { slot = 0; birth = 1; retire = 1 }
+
+abbrev pub six_lives : List Lifetime
+six_lives =
+    lone_life
+    ∷ record { slot = 1; birth = 1; retire = 1 }
+    ∷ record { slot = 2; birth = 1; retire = 1 }
+    ∷ record { slot = 3; birth = 1; retire = 1 }
+    ∷ record { slot = 4; birth = 1; retire = 1 }
+    ∷ record { slot = 5; birth = 1; retire = 1 } ∷ []
+
+abbrev pub unanswered : Past
+unanswered =
+    tells_of (retires (events.End 9 (answers.Absent 0) ∷ [])) 1
+    (events.Begin (calls.Adopt 0) ∷ events.Adopted 0 1 ∷ events.End 1 (answers.Adopted 1) ∷ [])
+
+abbrev pub no_dummy : AtClose
+no_dummy = record { clock = 1; buckets = []; queue = []; used = [] }
+
+abbrev pub scanned : Group
+scanned = record { call = calls.Scan; answer = answers.Scanned 1 0; notes = no_notes }
+
+pub record WaitsRefused : Type 0 where
+  pub other : WaitsFew (small Hp 2) 0 Start [] (lone_life ∷ []) → ⊥
+  pub twice : WaitsFew (small Hp 2) 0 twice_retired [] (lone_life ∷ lone_life ∷ []) → ⊥
+  pub unseen : WaitsFew (small Hp 2) 0 kept_unseen [] (lone_life ∷ []) → ⊥
+  pub blank : WaitsFew (small Hp 2) 0 kept_unseen [] (lone_life ∷ []) → ⊥
+  pub emptied : WaitsFew (small Hp 2) 0 kept_unseen (scanned ∷ []) (lone_life ∷ []) → ⊥
+  pub more : WaitsFew (small Hp 2) 1 miscounted [] (lone_life ∷ []) → ⊥
+  pub late : WaitsFew (small He 9) 0 unscanned [] six_lives → ⊥
+  pub came : WaitsFew (small He 9) 1 unanswered [] (lone_life ∷ []) → ⊥
+  pub hazards : WaitsFew (small Hp 9) 0 unscanned [] six_lives → ⊥
+  pub eras : WaitsFew (small He 9) 0 unscanned [] six_lives → ⊥
+  pub closed : ClosesWhole no_dummy 0 → ⊥
+
 pub record WrongRefused : Type 0 where
   pub rows : RowsRefused
   pub scans : ScansRefused
   pub hazards : HazardsRefused
   pub eras : ErasRefused
+  pub kept : KeptRefused
+  pub waits : WaitsRefused

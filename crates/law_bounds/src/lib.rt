@@ -1,14 +1,18 @@
-//! Bounds of reclamation: which rows are taken (`Rows.antt`) and wait (`Scans.antt`, `Hazards.antt`), and which a guard keeps that
-//! stands still (`Eras.antt`). They are of the record of each history, and follow from what histories keep. Each function here
-//! does nothing, and carries a theorem.
+//! Bounds of reclamation: which rows are taken (`Rows.antt`) and wait (`Scans.antt`, `Hazards.antt`), which a guard keeps that stands
+//! still (`Eras.antt`), and how many (`Kept.antt`). They are of the record of each history, and follow from what histories keep; what
+//! callers are told of them is in `Waits.antt`, and all of them together in `Whole.antt`. Each function here does nothing, and carries
+//! a theorem.
 #![tactic(auto)]
 
 mod refusals;
 
 ghost use Rattle.law_bounds.specs.Eras.{RecordsBoundStill, RecordsJudge};
 ghost use Rattle.law_bounds.specs.Hazards.{RecordsBoundHazards, RecordsNeedRows};
+ghost use Rattle.law_bounds.specs.Kept.{RecordsKeepFew};
 ghost use Rattle.law_bounds.specs.Rows.{ClosesLoseNone, RecordsLoseNone, RecordsTakeFew};
 ghost use Rattle.law_bounds.specs.Scans.{GoodLeaves, RecordsBoundScans};
+ghost use Rattle.law_bounds.specs.Waits.{SeatsWaitFew, TablesCloseFew};
+ghost use Rattle.law_bounds.specs.Whole.{HistoriesBounded};
 
 pub use refusals::wrong_records_are_refused;
 
@@ -68,4 +72,33 @@ pub fn records_bound_still()
 /// that interval's eras.
 pub fn records_judge()
     ensures { RecordsJudge }
+{}
+
+/// Where guards publish eras: while the clock stays at an era, but at the last, each seat retires at most `every` rows. What an interval
+/// keeps of all lists was there at a position while the clock had not passed it, in a bucket, in the queue or in hand, or was given
+/// to a call that had begun by then, or was retired before it, while the clock was one of its eras. So while its eras are before the
+/// last one it keeps at most one row for each bucket, one for each value that waits and the dummy, two for each seat, and for each of its
+/// eras `every` for each seat; and a scan leaves at most so many for each guard that it read, by what that published.
+pub fn records_keep_few()
+    ensures { RecordsKeepFew }
+{}
+
+/// What waits for a seat that has ended its last call, and has not left. No row is twice on its list; something that its last scan
+/// read keeps each row that the scan judged, so none is left of these where nothing was published; of the others fewer than `every`
+/// came by retirements, and no more with lists that it took over than its calls were answered since the last that only scans. Under
+/// hazard pointers at most one row for each guard waits, and `every` but one, beside those that came with lists.
+pub fn seats_wait_few()
+    ensures { SeatsWaitFew }
+{}
+
+/// What waits on all lists of a table whose seats have ended their calls. No row is lost, so just as many are taken as buckets were
+/// changed, values are left with the dummy, and rows wait on lists. Under hazard pointers these are at most one for each guard and
+/// `every` but one, for each seat, beside those that came with lists.
+pub fn tables_close_few()
+    ensures { TablesCloseFew }
+{}
+
+/// All of these that hold of the record of each history, in one statement.
+pub fn histories_are_bounded()
+    ensures { HistoriesBounded }
 {}

@@ -1,6 +1,6 @@
-// Readers on one shared table tell their most steps, while other threads move its clock and change what is read without a rest.
-// One more thread moves the clock, and so helps readers, after a first sleep by which it can be told from the others;
-// `bench/stalled.py` stops it amid its calls.
+// Readers on one shared table tell their most steps, and writers their longest retire list, while these move its clock and change
+// what is read without a rest. One more thread holds a row and moves the clock, and so helps readers, after a first sleep by which
+// it can be told from the others; `bench/stalled.py` stops it amid its calls.
 mod caller;
 
 ghost use Rattle.std.specs.Prelude.{All};
@@ -76,17 +76,18 @@ fn run<R: Threads + Clock + Sync + AllocGlobal>(
     Ok(most)
 }
 
-// The lines of gets and of holds: how many, their most steps, and the bound on these, where there is one.
+// The lines of gets and of holds: how many, their most steps, and the bound on these, where there is one. Then the most rows that
+// waited at a seat after a put.
 fn print_most<R: Print>(rt: &R, scheme: SchemeKind, most: Most) -> ExitCode {
     let printed = if scheme == SchemeKind::Wfe {
         println!(rt;
-            "get {} {} {GET_STEPS}\nhold {} {} {HOLD_STEPS}",
-            most.gets, most.get_steps, most.holds, most.hold_steps
+            "get {} {} {GET_STEPS}\nhold {} {} {HOLD_STEPS}\nlist {}",
+            most.gets, most.get_steps, most.holds, most.hold_steps, most.list
         )
     } else {
         println!(rt;
-            "get {} {} none\nhold {} {} none",
-            most.gets, most.get_steps, most.holds, most.hold_steps
+            "get {} {} none\nhold {} {} none\nlist {}",
+            most.gets, most.get_steps, most.holds, most.hold_steps, most.list
         )
     };
     match printed {
@@ -95,7 +96,7 @@ fn print_most<R: Print>(rt: &R, scheme: SchemeKind, most: Most) -> ExitCode {
     }
 }
 
-/// Lets the readers read for so many seconds, and prints their most steps.
+/// Lets the threads work for so many seconds, and prints their most steps and their longest list.
 pub fn print_stalled<R: Threads + Clock + Sync + AllocGlobal + Print>(
     rt: &R,
     scheme: SchemeKind,

@@ -1,7 +1,7 @@
 // Judges a case: whether the command prints what is due, and ends with the number that the last line of it means; and whether a record that
 // is due is lawful.
 use crate::case::{Case, Kind};
-use crate::outcome::{Drip, Outcome, play};
+use crate::outcome::{Outcome, Paced, play};
 use std::alloc::AllocError;
 use std::thread::Threads;
 use std::{io, str};
@@ -108,33 +108,20 @@ fn entries_in(record: &[u8]) -> usize {
         .count()
 }
 
-// Plays the command over these bytes, whole, and says what is wrong with what came of it, if anything is.
+// Plays the command over these bytes, whole or one at a time, and says what is wrong with what came of it, if anything is.
 fn played<R: Threads + Sync + AllocGlobal>(
     rt: &R,
     words: &[String],
     folder: &str,
     input: &[u8],
-    due: &[u8],
-) -> io::Result<Option<String>> {
-    let Ok(source) = CleanSource::new(rt.alloc(), input) else {
-        return Err(AllocError.into());
-    };
-    let found = play(rt, words, source, due.len().saturating_add(MORE))?;
-    Ok(fault(rt, folder, &found, due)?)
-}
-
-// The same, with a byte at a time.
-fn dripped<R: Threads + Sync + AllocGlobal>(
-    rt: &R,
-    words: &[String],
-    folder: &str,
-    input: &[u8],
+    drips: bool,
     due: &[u8],
 ) -> io::Result<Option<String>> {
     let Ok(inner) = CleanSource::new(rt.alloc(), input) else {
         return Err(AllocError.into());
     };
-    let found = play(rt, words, Drip { inner }, due.len().saturating_add(MORE))?;
+    let source = Paced { inner, drips };
+    let found = play(rt, words, source, due.len().saturating_add(MORE))?;
     Ok(fault(rt, folder, &found, due)?)
 }
 
@@ -155,7 +142,7 @@ fn checked<R: Threads + Sync + AllocGlobal>(rt: &R, record: &[u8]) -> io::Result
     let mut words = Vec::new(rt.alloc());
     words.push(String::from_str(rt.alloc(), "check")?)?;
     let want = format!(in rt.alloc(); "lawful {}\n", entries_in(record))?;
-    played(rt, &words, "check", record, want.as_bytes())
+    played(rt, &words, "check", record, false, want.as_bytes())
 }
 
 // Plays a case once more, where its command reads: byte by byte; and hands on the record of a replay that came to its end.
@@ -166,7 +153,7 @@ fn played_again<R: Threads + Sync + AllocGlobal>(
     input: &[u8],
     due: &[u8],
 ) -> io::Result<Option<String>> {
-    let wrong = dripped(rt, words, kind.folder, input, due)?;
+    let wrong = played(rt, words, kind.folder, input, true, due)?;
     if wrong.is_some() {
         return with_place(rt, "byte by byte", wrong);
     }
@@ -185,7 +172,7 @@ fn judged<R: Threads + Sync + AllocGlobal>(
     due: &[u8],
 ) -> io::Result<Option<String>> {
     let words = words_of(rt, kind, input)?;
-    let wrong = played(rt, &words, kind.folder, input, due)?;
+    let wrong = played(rt, &words, kind.folder, input, false, due)?;
     if wrong.is_some() || kind.has_words {
         return Ok(wrong);
     }

@@ -14,13 +14,15 @@ pub struct Outcome {
     pub sink: MemSink,
 }
 
-/// A source that gives one byte at a call, as a slow pipe may.
+/// A source that gives what there is room for, or one byte at a call, as a slow pipe may.
 #[derive(Drop)]
-pub struct Drip {
+pub struct Paced {
     pub inner: CleanSource,
+    /// Whether it gives one byte at a call.
+    pub drips: bool,
 }
 
-impl Source for Drip {
+impl Source for Paced {
     ghost left = { λ s. Some s.inner };
 
     ghost faults = { λ _. 0 };
@@ -28,18 +30,18 @@ impl Source for Drip {
     ghost may_stand = { false };
 
     fn read(&mut self, buf: &mut [u8]) -> Result<usize, Failed> {
-        if buf.is_empty() {
-            return self.inner.read(buf);
+        if self.drips && !buf.is_empty() {
+            return self.inner.read(&mut buf[..1]);
         }
-        self.inner.read(&mut buf[..1])
+        self.inner.read(buf)
     }
 }
 
 /// Plays the command that the words name. So many bytes may be written.
-pub fn play<R: Threads + Sync + AllocGlobal, S: Source + Drop>(
+pub fn play<R: Threads + Sync + AllocGlobal>(
     rt: &R,
     words: &[String],
-    mut source: S,
+    mut source: Paced,
     room: usize,
 ) -> Result<Outcome, AllocError> {
     let alloc = rt.alloc();

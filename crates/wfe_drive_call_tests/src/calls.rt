@@ -1,6 +1,6 @@
 // What no clause says: calls on words that one owner has, with the operations that they performed. (What calls answer, and in
 // how many steps, is in the cases of `wfe run`, whose calls are driven by the same code.)
-ghost use Rattle.std.specs.Prelude.{◌≡◌, ◌<◌, IfOk, true};
+ghost use Rattle.std.specs.Prelude.{◌≡◌, IfOk};
 ghost use Rattle.wfe_core.specs.Calls.{Idle};
 ghost use Rattle.wfe_core.specs.DeskHeld.{HasRoom};
 ghost use Rattle.wfe_drive_call.specs.drive_words.Called.{Here, at_phase};

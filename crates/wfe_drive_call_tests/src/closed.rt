@@ -37,10 +37,10 @@ fn words_after<R: Abort + AllocGlobal>(
     Ok((post.layout, kept.cells))
 }
 
-// The first put, of a key with the number after it. Its row is row 0.
+// The first put, of a key with the number after it. Its row is the row of slot 0.
 const FIRST: (u64, u64, u64, ClockMove) = (32, 33, 13, ClockMove::Still);
 
-// The next put, whose row is row 1.
+// The next put, whose row is the row of slot 1.
 const SECOND: (u64, u64, u64, ClockMove) = (34, 35, 30, ClockMove::Moved { era: 2 });
 
 // Whether a table of one bucket holds this: version, pairs and rows in use, and nothing in its queue.
@@ -66,7 +66,7 @@ fn a_table_at_its_start_is_empty(rt: HostRuntime) -> Result<(), Fail> {
     Ok(())
 }
 
-// Whether each word of two pairs is its own number, where row 1 begins at word 29.
+// Whether each word of two pairs is its own number, where the row of slot 1 begins at word 29.
 fn are_their_numbers(cells: &mut PlainCells) -> bool
     requires { length cells.old ≡ 60 }
     ensures { cells.new ≡ cells.old }
@@ -90,7 +90,7 @@ fn pairs_are_read_from_place_3_on(rt: HostRuntime) -> Result<(), Fail> {
 fn rows_with_their_bits_set_are_in_use(rt: HostRuntime) -> Result<(), Fail> {
     let (layout, mut cells) = words_after(&rt, &[FIRST])?;
     assert!(rt; layout.words() == 60);
-    // Rows 0 and 2 are taken. The bits after that of the last row are set too.
+    // The rows of slots 0 and 2 are taken. The bits after that of the last row are set too.
     assert!(rt; load(&mut cells, 10) == 0xffff_ffff_ffff_fffd);
     let closed = read(rt.alloc(), layout, &mut cells)?;
     assert!(rt; holds(&closed, 1, &[(32, 33)], &[0, 2]));

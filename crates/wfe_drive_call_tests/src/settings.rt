@@ -1,7 +1,7 @@
 // The setting of a small table.
 use wfe_core::{Config, SchemeKind};
 
-/// A table of sixty words. Row 0 begins at word 14, row 1 at word 29, and the one claim word is word 10.
+/// A table of sixty words. The row of slot 0 begins at word 14, that of slot 1 at word 29, and the one claim word is word 10.
 pub const SMALL: Config = Config {
     scheme: SchemeKind::Wfe,
     seats: 1,

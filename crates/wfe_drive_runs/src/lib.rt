@@ -9,7 +9,6 @@ mod fill;
 mod follow;
 mod followed_run;
 mod front;
-mod guarding;
 mod hold;
 mod item;
 mod item_row;
@@ -21,7 +20,6 @@ mod scan_run;
 mod span;
 mod tail;
 mod tidy_run;
-mod unmet;
 
 pub use base_run::run;
 pub use fill::{store_cell, write_item};

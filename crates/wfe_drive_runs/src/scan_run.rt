@@ -14,10 +14,9 @@ ghost use Rattle.wfe_drive_words.specs.drive_cells.Spots.{spotted};
 ghost use Rattle.wfe_drive_words.specs.Called.{Here, at_phase};
 ghost use Rattle.wfe_drive_runs.specs.Pieces.{TurnsTo, giving_at};
 
-use crate::guarding::{guard_at, guard_count, guard_word, shown_by};
-use crate::unmet::first_unmet;
 use wfe_core::{Desk, Event, Guard, Lifetime, Op, Post, ScanReport};
 use wfe_drive_words::{Located, Words, step};
+use wfe_scan::{first_unmet, guard_at, guard_count, guard_word, shown_by};
 
 /// Scans. Each step is counted, and what goes back is noted.
 #[inline(always)]

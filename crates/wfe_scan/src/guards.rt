@@ -11,8 +11,9 @@ ghost use Rattle.wfe_core.specs.Valid.{Bounds, IsValid};
 use wfe_core::{Event, Guard, Interval, Post, Shown, linked_row, one_era};
 use wfe_words::{Config, Layout, SchemeKind, read_reservation, read_span};
 
-// How many guards there are.
-pub fn guards(config: Config) -> u32
+/// How many guards a table of this setting has: the words that publish reservations or rows.
+#[inline(always)]
+pub fn guard_count(config: Config) -> u32
     requires { Bounds config }
     ensures { result ≡ model_guards config }
 {
@@ -24,6 +25,7 @@ pub fn guards(config: Config) -> u32
 }
 
 // The index word of a number, by seat and then index.
+#[inline(always)]
 fn index_at(config: Config, number: u32) -> Guard
     requires { Bounds config }
     ensures { result ≡ model_index_at config number }
@@ -34,9 +36,10 @@ fn index_at(config: Config, number: u32) -> Guard
     }
 }
 
-// The guard that a scan reads after so many others. Under Wait-Free Eras the helper words come first:
-// a helper hands over to an index word before it withdraws its own, so what is handed over is met at
-// one of the two.
+/// The guard that a scan reads after so many others. Under Wait-Free Eras the helper words come first:
+/// a helper hands over to an index word before it withdraws its own, so what is handed over is met at
+/// one of the two.
+#[inline(always)]
 pub fn guard_at(config: Config, number: u32) -> Guard
     requires { Bounds config }
     ensures { result ≡ model_guard_at config number }
@@ -54,7 +57,8 @@ pub fn guard_at(config: Config, number: u32) -> Guard
     }
 }
 
-// A guard's word.
+/// The number of a guard's word.
+#[inline(always)]
 pub fn guard_word(layout: Layout, guard: Guard) -> u32
     requires valid { is_valid layout ≡ true }
     requires there { has layout (guard_place guard) ≡ true }
@@ -68,6 +72,7 @@ pub fn guard_word(layout: Layout, guard: Guard) -> u32
 }
 
 // The eras that a guard publishes with this word.
+#[inline(always)]
 fn eras_in(guard: Guard, word: u64) -> Option<Interval>
     ensures { result ≡ model_eras_in guard word }
 {
@@ -84,12 +89,14 @@ fn eras_in(guard: Guard, word: u64) -> Option<Interval>
 }
 
 // The index words publish rows, and no eras.
+#[inline(always)]
 fn publishes_rows(config: Config) -> bool
     ensures { result ≡ shows_rows config.scheme }
 {
     matches!(config.scheme, SchemeKind::Hp)
 }
 
+#[inline(always)]
 fn eras_shown(span: Option<Interval>) -> Shown
     ensures { result ≡ shown span }
 {
@@ -99,12 +106,27 @@ fn eras_shown(span: Option<Interval>) -> Shown
     }
 }
 
+#[inline(always)]
 fn row_shown(slot: Option<u32>) -> Shown
     ensures { result ≡ shown_row slot }
 {
     match slot {
         None => Shown::Nothing,
         Some(slot) => Shown::Row { slot },
+    }
+}
+
+/// What a guard publishes with this word: a row under hazard pointers, else eras, or nothing.
+#[inline(always)]
+pub fn shown_by(post: &Post, guard: Guard, word: u64) -> Shown
+    requires valid { IsValid post.now }
+    requires fits { ShownFits (shows_rows post.now.layout.config.scheme) post.now word }
+    ensures { result ≡ model_published (shows_rows post.now.layout.config.scheme) guard word }
+{
+    if publishes_rows(post.layout.config()) {
+        row_shown(linked_row(word as u32))
+    } else {
+        eras_shown(eras_in(guard, word))
     }
 }
 

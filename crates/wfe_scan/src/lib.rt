@@ -6,5 +6,7 @@ mod guards;
 mod scan;
 mod unmet;
 
+pub use guards::{guard_at, guard_count, guard_word, shown_by};
 pub use scan::{Scan, Scanner};
+pub use unmet::first_unmet;
 pub use wfe_core::{CallMachine, Desk, Notes, RetireList, ScanReport};

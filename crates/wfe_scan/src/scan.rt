@@ -8,7 +8,7 @@ ghost use Rattle.wfe_core.specs.Scan.{scan_move, unmet_from};
 ghost use Rattle.wfe_core.specs.Valid.{IsValid};
 ghost use Rattle.wfe_scan.specs.Scans.{Leaves, giving, op_ready, scan_phase, scan_step, scans_at};
 
-use super::guards::{guard_at, guard_word, guards, published};
+use super::guards::{guard_at, guard_count, guard_word, published};
 use super::unmet::first_unmet;
 use wfe_core::{Answer, CallMachine, Desk, Event, Layout, Op, Post, Told};
 
@@ -79,7 +79,7 @@ impl Scanner {
                 let (shown, event) = published(post, guard, found);
                 desk.report.note(number, guard, shown);
                 told.push(event);
-                if number + 1 < guards(config) {
+                if number + 1 < guard_count(config) {
                     self.at = At::ReadGuard { number: number + 1 };
                     return false;
                 }

@@ -6,6 +6,7 @@ ghost use Rattle.wfe_core.specs.Scan.{first_unmet as model_first_unmet};
 use wfe_core::{Guard, Lifetime, RetireList, Shown, meets};
 
 // What a guard published keeps a life.
+#[inline(always)]
 fn keeps(life: Lifetime, shown: Shown) -> bool
     ensures { result ≡ is_kept life shown }
 {
@@ -17,6 +18,7 @@ fn keeps(life: Lifetime, shown: Shown) -> bool
 }
 
 // Something that was read keeps a life.
+#[inline(always)]
 fn is_met(life: Lifetime, read: &[(Guard, Shown)]) -> bool
     ensures { result ≡ keeps_any life read.now }
 {
@@ -28,7 +30,8 @@ fn is_met(life: Lifetime, read: &[(Guard, Shown)]) -> bool
     false
 }
 
-// The first entry of the list from a place on whose life nothing keeps that was read, with its place.
+/// The first entry of the list from a place on whose life nothing keeps that was read, with its place.
+#[inline(always)]
 pub fn first_unmet(
     list: &RetireList,
     read: &[(Guard, Shown)],

@@ -69,16 +69,16 @@ fn put_run<K: Sink>(
     watchers: &mut [Box<dyn Watcher>],
     version: u32,
     config: &Config,
-    record: &RunRecord,
+    made: &RunRecord,
 ) -> Result<(), Fault>
-    requires few { length record.now.seats.items < 2 ^ 32 }
-    requires fits { All (λ row. length row.pairs.items ≤ 14) record.now.closed.buckets.items }
+    requires few { length made.now.seats.items < 2 ^ 32 }
+    requires fits { All (λ row. length row.pairs.items ≤ 14) made.now.closed.buckets.items }
     ensures { Emits (boxed stands) K.written K.faults K.may_stand result sink.old sink.new watchers.old watchers.new
-        (run_pieces version config.now (lists_in record.now.seats.items) (closing_of record.now.closed)) }
+        (run_pieces version config.now (lists_in made.now.seats.items) (closing_of made.now.closed)) }
 {
     put_setting(sink, version, config)?;
-    tell_seats(sink, watchers, record.seats.as_slice())?;
-    put_closed(sink, &record.closed)?;
+    tell_seats(sink, watchers, made.seats.as_slice())?;
+    put_closed(sink, &made.closed)?;
     Ok(())
 }
 
@@ -96,16 +96,16 @@ pub fn print_run<K: Sink>(
     watchers: &mut [Box<dyn Watcher>],
     version: u32,
     config: &Config,
-    record: &RunRecord,
+    made: &RunRecord,
 ) -> Status
-    requires few { length record.now.seats.items < 2 ^ 32 }
-    requires fits { All (λ row. length row.pairs.items ≤ 14) record.now.closed.buckets.items }
+    requires few { length made.now.seats.items < 2 ^ 32 }
+    requires fits { All (λ row. length row.pairs.items ≤ 14) made.now.closed.buckets.items }
     ensures prints { Prints (boxed stands) result (watch_text shown shows watchers.new) (outside (K.written sink.old) watchers.old) (outside (K.written sink.new) watchers.new)
-        (run_pieces version config.now (lists_in record.now.seats.items) (closing_of record.now.closed)) }
+        (run_pieces version config.now (lists_in made.now.seats.items) (closing_of made.now.closed)) }
     ensures later { K.faults sink.old ≤ K.faults sink.new }
     ensures cause { result ≡ Status.WriteFault → Rose K.may_stand (K.faults sink.old) (K.faults sink.new) }
 {
-    match put_run(sink, watchers, version, config, record) {
+    match put_run(sink, watchers, version, config, made) {
         Ok(()) => match put_end(sink, watchers) {
             Ok(()) => Status::Done,
             Err(_) => Status::WriteFault,

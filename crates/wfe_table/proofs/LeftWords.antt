@@ -18,6 +18,8 @@ use Rattle.law_all.specs.RunOrder.{RunOrder}
 use Rattle.law_all.specs.Runs.{at_close, logs_of}
 use Rattle.law_all.proofs.RunOrder.{runs_have_order}
 use Rattle.law_all.proofs.Runs.Lawful.{runs_are_lawful}
+use Rattle.law_bounds.specs.Waits.{ClosesFew}
+use Rattle.law_bounds.proofs.Waits.Closes.{tables_close_few}
 use Rattle.wfe_table.specs.Closing.{IsLeft, closing_of}
 
 one_word : (words : List ℕ) (i word : ℕ) → get_elem? words i ≡ some word → take (suc i) words ≡ take i words ++ word ∷ []
@@ -66,4 +68,6 @@ left layout words tracks room closed count e is most read closed_by =
           (runs_are_lawful layout e.items (record { valid = e.valid; idle = e.idle }));
       order = subst (RunOrder layout.config (logs_of layout e.items)) (sym (closing_is layout (record_of layout e.items) closed closed_is))
           (runs_have_order layout e.items (record { valid = e.valid; idle = e.idle }));
+      rows = subst (ClosesFew layout e.items) (sym (closing_is layout (record_of layout e.items) closed closed_is))
+          (tables_close_few layout e.items (record { valid = e.valid; idle = e.idle }));
     }

@@ -1,5 +1,5 @@
 -- A call that a seat has made on the shared table: the seat after it is sound, and what its record says.
-use Rattle.std.proofs.Common.{List, [], ap, false, refl, subst, sym, true, ℕ, ◌++◌, ◌∙◌, ◌∷◌, ◌≡◌}
+use Rattle.std.proofs.Common.{List, None, Some, [], ap, false, refl, subst, sym, true, ℕ, ◌++◌, ◌∙◌, ◌∷◌, ◌≡◌}
 use Rattle.wfe_core.specs.Locals.{Group, Local, busy_in}
 use Rattle.wfe_core.specs.declared.op.Op.{Op}
 use Rattle.wfe_core.specs.declared.post.Post.{Post}
@@ -15,13 +15,19 @@ use Rattle.law_all.proofs.Logs.Reports.{records_report}
 use Rattle.law_all.proofs.Logs.Meets.{logs_extend}
 use Rattle.law_all.proofs.Records.{calls_answer, logs_answer}
 use Rattle.law_all.proofs.Whole.{histories_are_lawful}
+use Rattle.law_bounds.specs.Waits.{WaitsFew, came_in, last_call}
+use Rattle.law_bounds.proofs.Waits.Came.{came_more, last_more}
+use Rattle.law_bounds.proofs.Waits.Seats.{seats_wait_few}
+use Rattle.law_bounds.proofs.Whole.{histories_are_bounded}
+use Rattle.laws.specs.Standing.{is_leave}
 use Rattle.wfe_drive_call.specs.drive_words.Called.{Called, Ends, Here, LeadsTo}
 use Rattle.wfe_drive_call.specs.drive_words.Comes.{departs}
 use Rattle.wfe_drive_rule.specs.Handles.{IsResting, IsSeated, IsTracked}
 use Rattle.wfe_drive_rule.specs.Views.{Handle, Track, call_in, entered, own, seat_of, standing}
 use Rattle.wfe_drive_rule.specs.history.History.{Item, record_of, world_of}
 use Rattle.wfe_drive_rule.proofs.Seated.{resting_slot}
-use Rattle.wfe_table.specs.Calls.{IsLawfulPast, IsMade, group_of}
+use Rattle.law_moves.proofs.Whole.{histories_are_paced}
+use Rattle.wfe_table.specs.Calls.{IsBoundedPast, IsLawfulPast, IsMade, IsPacedPast, group_of}
 use Rattle.wfe_table.specs.Public.{SeatNow}
 use Rattle.wfe_table.specs.Sound.{IsMet}
 
@@ -73,6 +79,24 @@ is_lawful : (layout : Layout) (past : List Item) → is_valid layout ≡ true �
 unfolding IsLawfulPast
 is_lawful layout past valid = histories_are_lawful layout past valid
 
+is_bounded : (layout : Layout) (past : List Item) → is_valid layout ≡ true → IsBoundedPast layout past
+unfolding IsBoundedPast
+is_bounded layout past valid = histories_are_bounded layout past valid
+
+is_paced : (layout : Layout) (past : List Item) → is_valid layout ≡ true → IsPacedPast layout past
+unfolding IsPacedPast
+is_paced layout past valid = histories_are_paced layout past valid
+
+-- what waits for the seat, by its past
+waits_few : (layout : Layout) (old new : SeatNow) (call : Call) (answer : Answer) (ops : List (Op × ℕ)) → IsTracked layout new.track → Ends call answer ops old.track.local new.track.local → is_leave (Some call) ≡ false
+    → WaitsFew layout.config (seat_of new.track) (record_of layout new.track.past) new.track.local.log new.track.local.desk.list
+waits_few layout old new call answer ops t ends stays =
+    let group : Group = group_of call answer new in
+    let last : is_leave (last_call new.track.local.log) ≡ false = ap (λ (log : List Group). is_leave (last_call log)) ends.left.log ∙ ap is_leave (last_more None old.track.local.log group) ∙ stays in
+    subst (λ (l : Local). WaitsFew layout.config (seat_of new.track) (record_of layout new.track.past) l.log l.desk.list) t.stood
+    (seats_wait_few layout new.track.past (seat_of new.track) t.valid (ap (λ (l : Local). busy_in l.phase) t.stood ∙ ap busy_in ends.left.idle)
+    (ap (λ (l : Local). is_leave (last_call l.log)) t.stood ∙ last))
+
 -- the seat before its call: it stands where its past leaves it, and no call is under way
 pub record Rests (layout : Layout) (track : Track) : Type 0 where
   pub tracked : IsTracked layout track
@@ -107,6 +131,10 @@ made_by layout old new call answer ops more r t ends grows = record {
   lawful = is_lawful layout new.track.past t.valid;
   reported = subst (λ (l : Local). IsReported layout (seat_of new.track) (record_of layout new.track.past) l.desk.report) t.stood
       (records_report layout new.track.past (seat_of new.track) t.valid (ap (λ (l : Local). busy_in l.phase) t.stood ∙ ap busy_in ends.left.idle));
+  bounded = is_bounded layout new.track.past t.valid;
+  paced = is_paced layout new.track.past t.valid;
+  waits = λ stays. waits_few layout old new call answer ops t ends stays;
+  came = ap came_in ends.left.log ∙ came_more 0 old.track.local.log (group_of call answer new);
 }
 
 -- its operations are these

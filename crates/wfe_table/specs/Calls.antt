@@ -1,5 +1,5 @@
 -- A call that was made on a seat of a shared table, and the answers that its caller is given.
-use Rattle.std.specs.Prelude.{List, None, Option, Some, ℕ, [], ◌∷◌, ◌++◌, ◌≡◌, ◌≢◌}
+use Rattle.std.specs.Prelude.{List, None, Option, Some, false, ℕ, [], ◌∷◌, ◌++◌, ◌≡◌, ◌≢◌}
 use Rattle.wfe_core.specs.Locals.{Group}
 use Rattle.wfe_core.specs.declared.op.Op.{Op}
 use Rattle.wfe_core.specs.defs.declared.call.Answer.{Answer}
@@ -14,6 +14,10 @@ use Rattle.law_all.specs.Logs.Records.{IsAnswered}
 use Rattle.law_all.specs.Logs.Reports.{IsReported}
 use Rattle.law_all.specs.Logs.Versions.{counts_of}
 use Rattle.law_all.specs.Whole.{IsLawful}
+use Rattle.law_bounds.specs.Waits.{WaitsFew, came_after, came_in}
+use Rattle.law_bounds.specs.Whole.{IsBounded}
+use Rattle.law_moves.specs.Whole.{IsPaced}
+use Rattle.laws.specs.Standing.{is_leave}
 use Rattle.wfe_drive_call.specs.drive_words.Called.{Ends}
 use Rattle.wfe_drive_rule.specs.Handles.{IsTracked}
 use Rattle.wfe_drive_rule.specs.Views.{seat_of}
@@ -36,6 +40,14 @@ group_of call answer seat = record { call = call; answer = answer; notes = seat.
 unfoldable pub IsLawfulPast : Layout → List Item → Type 0
 IsLawfulPast layout past = IsLawful layout past
 
+-- its record keeps all bounds of reclamation
+unfoldable pub IsBoundedPast : Layout → List Item → Type 0
+IsBoundedPast layout past = IsBounded layout.config (record_of layout past)
+
+-- its record keeps the bounds of steps by what others did
+unfoldable pub IsPacedPast : Layout → List Item → Type 0
+IsPacedPast layout past = IsPaced layout.config (record_of layout past)
+
 -- the seat made this call, and was answered so
 pub record IsMade (layout : Layout) (old new : SeatNow) (call : Call) (answer : Answer) : Type 0 where
   -- its operations, each with what it found, are the machine's, each a step of the seat in a World to which a history comes; the
@@ -57,6 +69,19 @@ pub record IsMade (layout : Layout) (old new : SeatNow) (call : Call) (answer : 
   pub lawful : IsLawfulPast layout new.track.past
   -- by its record the report shows the guards that the seat's last block read, how many rows went back after it, and how many stayed
   pub reported : IsReported layout (seat_of new.track) (record_of layout new.track.past) new.track.local.desk.report
+  -- its record keeps the bounds: how many rows are taken wherever seats have stopped, what scans leave, and what guards keep
+  pub bounded : IsBoundedPast layout new.track.past
+  -- and of steps: where a get, a hold or a change ends, it has taken no more than moves of the clock and changes of its bucket, or of the queue,
+  -- during the call allow
+  pub paced : IsPacedPast layout new.track.past
+  -- So many rows wait on the list of a seat that stays: those that something keeps which its last scan read, and those that came since, fewer
+  -- than `every` by retirements. Under hazard pointers that is at most one for each guard and `every` but one: Michael's bound. Both leave out
+  -- what came with lists that the seat has taken over since its last scan, since an adopt scans nothing; its calls have answered how many.
+  pub waits :
+      is_leave (Some call) ≡ false
+      → WaitsFew layout.config (seat_of new.track) (record_of layout new.track.past) new.track.local.log new.track.local.desk.list
+  -- how many that is: this answer counts on from those before it
+  pub came : came_in new.track.local.log ≡ came_after answer (came_in old.track.local.log)
 
 -- the seat took over no list, since the exchange of its place word, its one operation, found this word
 pub record IsMissed (layout : Layout) (old new : SeatNow) (place found : ℕ) : Type 0 where

@@ -5,6 +5,7 @@ use Rattle.wfe_core.specs.World.{is_busy}
 use Rattle.law_all.specs.RunLaw.{AtClose, RunLaw}
 use Rattle.law_all.specs.RunOrder.{RunOrder}
 use Rattle.law_all.specs.Runs.{logs_of}
+use Rattle.law_bounds.specs.Waits.{ClosesFew}
 use Rattle.wfe_table_end.specs.ClosedTable.{IsClosed, Reaches}
 use Rattle.wfe_table_end.specs.Contents.{IsRead, filling_of}
 use Rattle.wfe_table_end.specs.declared.closed.Closed.{Closed}
@@ -42,6 +43,10 @@ pub record IsLeft (layout : Layout) (tracks : List Track) (closed : Closed) : Ty
   pub run : RunLaw layout.config (logs_of layout items) (closing_of closed)
   -- and they are in one order, as of a map and a queue used by one call after another, which come to what is answered
   pub order : RunOrder layout.config (logs_of layout items) (closing_of closed)
+  -- No row is lost: just as many are taken as buckets were changed, values are left with the dummy, and rows wait on the lists, those of
+  -- seats that left and were not taken over among them; no row is twice among these. Under hazard pointers the lists have at most one row for
+  -- each guard and `every` but one, for each seat, beside those that came with lists that were taken over since the last scans.
+  pub rows : ClosesFew layout items (closing_of closed)
 
 -- fewer seats than the table has; or enough of them, and memory ran out
 abbrev pub IsHandedBack : TableNow → List SeatNow → CloseError → Type 0

@@ -78,7 +78,9 @@ pub(crate) fn read_end(
 
 impl Shared {
     /// Ends the table, and says what it holds. Its seats have to be handed in, in any order; where
-    /// fewer are there than the table has, or memory runs out, all comes back as it was.
+    /// fewer are there than the table has, or memory runs out, all comes back as it was. No row is lost: those
+    /// that are taken are just the rows of the buckets that were changed, of the queue with its dummy, and of the
+    /// lists, each once.
     pub fn close(self, alloc: Global, seats: Vec<Seat>) -> Result<Closed, CloseError>
         requires of { All (λ seat. IsOf seat self) seats.items }
         ensures enough { IfOk result (λ closed. self.layout.config.seats ≤ length seats.items) }

@@ -263,7 +263,8 @@ impl Seat {
     }
 
     /// The rows on the seat's retire list, each with its life in eras: those that it has retired, or has
-    /// taken over from a seat that left, and not given back.
+    /// taken over from a seat that left, and not given back. How many may be left after a call is said by `waits`
+    /// of `IsMade`.
     pub fn list(&self) -> &RetireList
         ensures { result.now.lives ≡ self.now.track.local.desk.list }
     {

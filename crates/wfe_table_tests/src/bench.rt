@@ -1,12 +1,12 @@
 // A shared table whose seats may leave, in the hands of a test.
-ghost use Rattle.std.specs.Prelude.{All};
+ghost use Rattle.std.specs.Prelude.{◌≡◌, All, IfSome};
 ghost use Rattle.wfe_table.specs.Public.{IsOf};
 
 use crate::calls::make;
-use crate::hands::{handed_back, put_away, put_back, take_gone, take_out};
 use std::alloc::Global;
-use std::test::Fail;
-use wfe_table::{Answer, Call, Closed, Config, LeftSeat, Seat, Shared, leave};
+use wfe_table::{
+    Answer, Call, CloseError, CloseLeftError, Closed, Config, LeftSeat, Seat, Shared, leave,
+};
 
 /// A table, the seats that are there, and those that have left.
 #[derive(Drop)]
@@ -20,13 +20,15 @@ pub struct Bench {
 
 impl Bench {
     /// A table at its start.
-    pub fn new(alloc: Global, config: Config) -> Result<Bench, Fail> {
-        let (shared, seats) = Shared::new(alloc, config)?;
-        Ok(Bench {
-            shared,
-            seats,
-            left: Vec::new(alloc),
-        })
+    pub fn new(alloc: Global, config: Config) -> Option<Bench> {
+        match Shared::new(alloc, config) {
+            Ok((shared, seats)) => Some(Bench {
+                shared,
+                seats,
+                left: Vec::new(alloc),
+            }),
+            Err(_) => None,
+        }
     }
 
     /// The table's setting.
@@ -67,26 +69,73 @@ impl Bench {
         make(&self.shared, &mut self.seats[place], call)
     }
 
+    // Takes the seat of this number out, if it is there.
+    fn take(&mut self, number: u32) -> Option<Seat>
+        ensures table { self.new.shared ≡ self.old.shared }
+        ensures of { IfSome result (λ seat. IsOf seat self.old.shared) }
+    {
+        let place = self.place(number);
+        if place >= self.seats.len() {
+            return None;
+        }
+        Some(self.seats.remove(place))
+    }
+
+    // Takes the seat that has left first out.
+    fn take_left(&mut self) -> Option<LeftSeat>
+        ensures table { self.new.shared ≡ self.old.shared }
+        ensures of { IfSome result (λ seat. IsOf seat self.old.shared) }
+    {
+        if self.left.is_empty() {
+            return None;
+        }
+        Some(self.left.remove(0))
+    }
+
+    // The seat after the others, where there is memory for it.
+    fn with(mut self, seat: Seat) -> Option<Bench>
+        requires { IsOf seat self.shared }
+    {
+        match self.seats.push(seat) {
+            Ok(()) => Some(self),
+            Err(_) => None,
+        }
+    }
+
+    // Puts a seat that has left after the others, where there is memory for it.
+    fn put_left(&mut self, seat: LeftSeat) -> bool
+        requires { IsOf seat self.old.shared }
+    {
+        self.left.push(seat).is_ok()
+    }
+
     /// The seat leaves, if it is there.
     pub fn leave(&mut self, number: u32) -> bool {
-        let place = self.place(number);
-        match take_out(&self.shared, &mut self.seats, place) {
-            Some(seat) => put_away(&self.shared, &mut self.left, leave(&self.shared, seat)),
+        match self.take(number) {
+            Some(seat) => {
+                let seat = leave(&self.shared, seat);
+                self.put_left(seat)
+            }
             None => false,
         }
     }
 
-    /// A close without the seat of this number, which is there, hands all back.
-    pub fn miss(self, alloc: Global, number: u32) -> Option<Bench> {
-        let place = self.place(number);
-        let Bench {
-            shared,
-            mut seats,
-            left,
-        } = self;
-        let seat = take_out(&shared, &mut seats, place)?;
-        let (shared, seats, left) = handed_back(alloc, shared, seats, left)?;
-        let seats = put_back(&shared, seats, seat)?;
+    // What a close hands back where a seat is missing.
+    fn handed_back(self, alloc: Global) -> Option<Bench>
+        ensures { IfSome result (λ bench. bench.shared ≡ self.shared) }
+    {
+        let closed = self.shared.close_left(alloc, self.seats, self.left);
+        let Err(
+            CloseLeftError::SeatMissing {
+                shared,
+                seats,
+                left,
+                ..
+            },
+        ) = closed
+        else {
+            return None;
+        };
         Some(Bench {
             shared,
             seats,
@@ -94,33 +143,46 @@ impl Bench {
         })
     }
 
+    /// A close without the seat of this number, which is there, hands all back.
+    pub fn miss(mut self, alloc: Global, number: u32) -> Option<Bench> {
+        let seat = self.take(number)?;
+        self.handed_back(alloc)?.with(seat)
+    }
+
     /// The same without the seat that has left first.
-    pub fn miss_left(self, alloc: Global) -> Option<Bench> {
-        let Bench {
-            shared,
-            seats,
-            mut left,
-        } = self;
-        let seat = take_gone(&shared, &mut left)?;
-        let (shared, seats, mut left) = handed_back(alloc, shared, seats, left)?;
-        if !put_away(&shared, &mut left, seat) {
-            return None;
+    pub fn miss_left(mut self, alloc: Global) -> Option<Bench> {
+        let seat = self.take_left()?;
+        let mut bench = self.handed_back(alloc)?;
+        if bench.put_left(seat) {
+            Some(bench)
+        } else {
+            None
         }
-        Some(Bench {
+    }
+
+    /// The same without the first seat of a table of which none has left, by the close for such.
+    pub fn miss_one(mut self, alloc: Global) -> Option<Bench> {
+        let seat = self.take(0)?;
+        let closed = self.shared.close(alloc, self.seats);
+        let Err(CloseError::SeatMissing { shared, seats, .. }) = closed else {
+            return None;
+        };
+        let bench = Bench {
             shared,
             seats,
-            left,
-        })
+            left: self.left,
+        };
+        bench.with(seat)
     }
 
     /// Ends the table with all of its seats.
     pub fn close(self, alloc: Global) -> Option<Closed> {
-        let Bench {
-            shared,
-            seats,
-            left,
-        } = self;
-        shared.close_left(alloc, seats, left).ok()
+        self.shared.close_left(alloc, self.seats, self.left).ok()
+    }
+
+    /// Ends a table of which no seat has left.
+    pub fn close_all(self, alloc: Global) -> Option<Closed> {
+        self.shared.close(alloc, self.seats).ok()
     }
 }
 

@@ -83,5 +83,5 @@ const SCRIPTS: [&str; 11] = [
 
 #[test]
 fn changes_are_refused_where_there_is_no_room(rt: HostRuntime) -> Result<(), Fail> {
-    play_all(&rt, &SCRIPTS)
+    play_all(rt.alloc(), &SCRIPTS)
 }

@@ -76,5 +76,5 @@ const SCRIPTS: [&str; 7] = [
 
 #[test]
 fn lists_are_left_and_taken_over(rt: HostRuntime) -> Result<(), Fail> {
-    play_all(&rt, &SCRIPTS)
+    play_all(rt.alloc(), &SCRIPTS)
 }

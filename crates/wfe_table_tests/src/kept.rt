@@ -58,5 +58,5 @@ const SCRIPTS: [&str; 4] = [
 
 #[test]
 fn rows_are_kept_at_indexes(rt: HostRuntime) -> Result<(), Fail> {
-    play_all(&rt, &SCRIPTS)
+    play_all(rt.alloc(), &SCRIPTS)
 }

@@ -14,8 +14,6 @@ mod full;
 #[cfg(test)]
 mod handing;
 #[cfg(test)]
-mod hands;
-#[cfg(test)]
 mod kept;
 #[cfg(test)]
 mod making;

@@ -1,7 +1,6 @@
 // How a shared table is made: which settings are refused, and that its seats come in number order.
 use std::alloc::Global;
-use std::test::Fail;
-use wfe_table::{Config, MakeError, SchemeKind, Shared};
+use wfe_table::{Config, MakeError, SchemeKind, Seat, Shared};
 use wfe_words::Field;
 
 pub const GOOD: Config = Config {
@@ -34,61 +33,75 @@ fn with(field: Field, number: u32) -> Config {
     config
 }
 
-#[test]
-fn a_number_out_of_range_is_refused_by_its_field(rt: HostRuntime) -> Result<(), Fail> {
-    for (field, low, high) in [
-        (Field::Seats, 0, 65),
-        (Field::Indexes, 2, 9),
-        (Field::Slots, 1, 65_537),
-        (Field::Buckets, 0, 1_025),
-        (Field::Tries, 0, 65),
-        (Field::Every, 0, 65_537),
-        (Field::LastEra, 0, 0),
-        (Field::LastVersion, 0, 0),
-        (Field::Pairs, 0, 7),
-    ] {
-        for number in [low, high] {
-            let refused = Shared::new(rt.alloc(), with(field, number)).err();
-            let want = MakeError::BadConfig { field };
-            assert!(rt; refused == Some(want));
-        }
+// Numbers out of range.
+const WRONG: [(Field, u32); 16] = [
+    (Field::Seats, 0),
+    (Field::Seats, 65),
+    (Field::Indexes, 2),
+    (Field::Indexes, 9),
+    (Field::Slots, 1),
+    (Field::Slots, 65_537),
+    (Field::Buckets, 0),
+    (Field::Buckets, 1_025),
+    (Field::Tries, 0),
+    (Field::Tries, 65),
+    (Field::Every, 0),
+    (Field::Every, 65_537),
+    (Field::LastEra, 0),
+    (Field::LastVersion, 0),
+    (Field::Pairs, 0),
+    (Field::Pairs, 7),
+];
+
+// Whether no table is made of the setting, for this field.
+fn is_refused(alloc: Global, config: Config, field: Field) -> bool {
+    match Shared::new(alloc, config) {
+        Ok(_) => false,
+        Err(error) => error == MakeError::BadConfig { field },
     }
-    Ok(())
 }
 
 #[test]
-fn the_first_number_out_of_range_is_named(rt: HostRuntime) -> Result<(), Fail> {
+fn a_number_out_of_range_is_refused_by_its_field(rt: HostRuntime) {
+    for (field, number) in &WRONG {
+        assert!(rt; is_refused(rt.alloc(), with(*field, *number), *field));
+    }
+}
+
+#[test]
+fn the_first_number_out_of_range_is_named(rt: HostRuntime) {
     let config = Config {
         last_version: 281_474_976_710_657,
         ..with(Field::Pairs, 0)
     };
-    let want = MakeError::BadConfig {
-        field: Field::LastVersion,
-    };
-    assert!(rt; Shared::new(rt.alloc(), config).err() == Some(want));
-    Ok(())
+    assert!(rt; is_refused(rt.alloc(), config, Field::LastVersion));
 }
 
-// Whether the seats of a new table come in number order.
-fn come_in_order(alloc: Global, scheme: SchemeKind, seats: u32) -> Result<bool, MakeError> {
+// Whether seats come in number order.
+fn are_in_order(seats: &[Seat]) -> bool {
+    for (place, seat) in seats.iter().enumerate() {
+        if seat.number() as usize != place {
+            return false;
+        }
+    }
+    true
+}
+
+// Whether so many seats of a new table come, in number order.
+fn come_in_order(alloc: Global, scheme: SchemeKind, seats: u32) -> bool {
     let config = Config {
         scheme,
         seats,
         ..GOOD
     };
-    let (_, made) = Shared::new(alloc, config)?;
-    let mut count = 0u32;
-    for seat in &made {
-        if seat.number() != count {
-            return Ok(false);
-        }
-        count = count.saturating_add(1);
+    match Shared::new(alloc, config) {
+        Ok((_, made)) => made.len() == seats as usize && are_in_order(&made),
+        Err(_) => false,
     }
-    Ok(count == seats)
 }
 
 #[test]
-fn seats_come_in_number_order(rt: HostRuntime) -> Result<(), Fail> {
+fn seats_come_in_number_order(rt: HostRuntime) {
     for scheme in [
         SchemeKind::He,
         SchemeKind::Ibr,
@@ -96,8 +109,7 @@ fn seats_come_in_number_order(rt: HostRuntime) -> Result<(), Fail> {
         SchemeKind::Hp,
     ] {
         for seats in [1, 2, 64] {
-            assert!(rt; come_in_order(rt.alloc(), scheme, seats)?);
+            assert!(rt; come_in_order(rt.alloc(), scheme, seats));
         }
     }
-    Ok(())
 }

@@ -12,8 +12,8 @@
 // `0 list` shows the rows on the seat's retire list, `0 report` what its last scan read and did, and `0 seen` the version of each
 // bucket that it has seen.
 use crate::bench::Bench;
-use crate::told::{Wanted, tell_call, tell_list, tell_report, tell_seen};
-use std::process::Abort;
+use crate::told::{Wanted, add, tell_call, tell_list, tell_report, tell_seen};
+use std::alloc::{AllocError, Global};
 use std::test::Fail;
 use wfe_record_calls::read_call;
 use wfe_record_words::{Words, read_header};
@@ -23,11 +23,16 @@ use wfe_table::{Call, Config};
 const VERSION: u32 = 5;
 
 /// Plays each script under each of its schemes.
-pub fn play_all<R: Abort + AllocGlobal>(rt: &R, scripts: &[&str]) -> Result<(), Fail> {
+pub fn play_all(alloc: Global, scripts: &[&str]) -> Result<(), Fail> {
     for script in scripts {
-        for place in 0..schemes_of(*script) {
-            play(rt, *script, place)?;
-        }
+        play_each(alloc, *script)?;
+    }
+    Ok(())
+}
+
+fn play_each(alloc: Global, script: &str) -> Result<(), Fail> {
+    for place in 0..schemes_of(script) {
+        play(alloc, script, place)?;
     }
     Ok(())
 }
@@ -40,18 +45,16 @@ pub fn schemes_of(script: &str) -> usize {
     }
 }
 
-/// Plays a script under the scheme of this place, and gives the table as it is then.
-pub fn play<R: Abort + AllocGlobal>(rt: &R, script: &str, place: usize) -> Result<Bench, Fail> {
-    let text = chosen(rt, script, place)?;
-    let (first, lines) = text.as_str().split_once('\n').unwrap_or(("", ""));
-    let mut bench = open(rt, first)?;
-    play_lines(rt, &mut bench, lines)?;
-    Ok(bench)
+/// Plays a script under the scheme of this place, and gives the table as it is then. The first line that does not come as it is due
+/// fails, with what came.
+pub fn play(alloc: Global, script: &str, place: usize) -> Result<Bench, Fail> {
+    let text = chosen(alloc, script, place)?;
+    play_text(alloc, text.as_str())
 }
 
 // The script as it is under the scheme of this place.
-fn chosen<R: AllocGlobal>(rt: &R, script: &str, place: usize) -> Result<String, Fail> {
-    let mut text = String::new(rt.alloc());
+fn chosen(alloc: Global, script: &str, place: usize) -> Result<String, AllocError> {
+    let mut text = String::new(alloc);
     for word in script.split(' ') {
         text.push_str(word.split('/').nth(place).unwrap_or(word))?;
         text.push(' ')?;
@@ -59,40 +62,35 @@ fn chosen<R: AllocGlobal>(rt: &R, script: &str, place: usize) -> Result<String, 
     Ok(text)
 }
 
+fn play_text(alloc: Global, text: &str) -> Result<Bench, Fail> {
+    let (first, lines) = text.split_once('\n').unwrap_or(("", ""));
+    match open(alloc, first) {
+        Some(bench) => play_lines(alloc, bench, lines),
+        None => Err(Fail::new("no table")),
+    }
+}
+
 // A table of the setting that a record's first line has.
-fn open<R: AllocGlobal>(rt: &R, first: &str) -> Result<Bench, Fail> {
-    match read_header(first.as_bytes()) {
-        Some((_, config)) => Bench::new(rt.alloc(), config),
-        None => Err(Fail::new("no setting")),
-    }
+fn open(alloc: Global, first: &str) -> Option<Bench> {
+    let (_, config) = read_header(first.as_bytes())?;
+    Bench::new(alloc, config)
 }
 
-/// Plays lines on a table.
-pub fn play_lines<R: Abort + AllocGlobal>(
-    rt: &R,
-    bench: &mut Bench,
-    lines: &str,
-) -> Result<(), Fail> {
+/// Plays lines on a table, and gives it as it is then.
+pub fn play_lines(alloc: Global, mut bench: Bench, lines: &str) -> Result<Bench, Fail> {
     for line in lines.lines() {
-        play_line(rt, bench, line.trim_end())?;
+        play_line(alloc, &mut bench, line.trim_end())?;
     }
-    Ok(())
+    Ok(bench)
 }
 
-fn play_line<R: Abort + AllocGlobal>(rt: &R, bench: &mut Bench, line: &str) -> Result<(), Fail> {
-    let (given, wanted) = parts_of(line);
-    let mut came = String::from_str(rt.alloc(), given)?;
-    match read(bench.config(), given) {
-        Some((number, Some(call))) => make(bench, number, call, wanted, &mut came)?,
-        Some((number, None)) => show(bench, number, &mut came)?,
-        None => return Err(Fail::new("no seat")),
+fn play_line(alloc: Global, bench: &mut Bench, line: &str) -> Result<(), Fail> {
+    let came = come(alloc, bench, line);
+    if came.as_str() == line {
+        Ok(())
+    } else {
+        Err(Fail::new(came))
     }
-    expect(rt, came.as_str(), line);
-    Ok(())
-}
-
-fn expect<R: Abort>(rt: &R, came: &str, due: &str) {
-    assert_eq!(rt; came, due);
 }
 
 // What a line gives, and what is wanted of it.
@@ -106,6 +104,19 @@ fn parts_of(line: &str) -> (&str, Wanted) {
     (line, Wanted::Nothing)
 }
 
+// Does what a line gives, and says what came of it.
+fn come(alloc: Global, bench: &mut Bench, line: &str) -> String {
+    let mut came = String::new(alloc);
+    let (given, wanted) = parts_of(line);
+    add(&mut came, given);
+    match read(bench.config(), given) {
+        Some((number, Some(call))) => make(bench, number, call, wanted, &mut came),
+        Some((number, None)) => show(bench, number, &mut came),
+        None => add(&mut came, ": no seat"),
+    }
+    came
+}
+
 // The seat that a line names, and the call that it is given, if it is one.
 fn read(config: Config, given: &str) -> Option<(u32, Option<Call>)> {
     let mut words = Words::of(given.as_bytes());
@@ -114,33 +125,27 @@ fn read(config: Config, given: &str) -> Option<(u32, Option<Call>)> {
 }
 
 // Makes the seat's call, and adds what came of it.
-fn make(
-    bench: &mut Bench,
-    number: u32,
-    call: Call,
-    wanted: Wanted,
-    came: &mut String,
-) -> Result<(), Fail> {
+fn make(bench: &mut Bench, number: u32, call: Call, wanted: Wanted, came: &mut String) {
     if call == Call::Leave && bench.leave(number) {
-        return Ok(());
+        return;
     }
     let answer = bench.make(number, call);
     match (answer, bench.seat(number)) {
         (Some(answer), Some(seat)) => tell_call(seat, answer, wanted, came),
-        _ => Err(Fail::new("no call of a seat that is there")),
+        _ => add(came, ": no call of a seat that is there"),
     }
 }
 
 // Adds what the seat shows.
-fn show(bench: &Bench, number: u32, came: &mut String) -> Result<(), Fail> {
+fn show(bench: &Bench, number: u32, came: &mut String) {
     let Some(seat) = bench.seat(number) else {
-        return Err(Fail::new("no seat that is there"));
+        return add(came, ": no seat that is there");
     };
     if came.as_str().ends_with(" list") {
-        return tell_list(seat, came);
+        tell_list(seat, came);
+    } else if came.as_str().ends_with(" report") {
+        tell_report(seat, bench.config().scheme, came);
+    } else {
+        tell_seen(bench, number, came);
     }
-    if came.as_str().ends_with(" report") {
-        return tell_report(seat, bench.config().scheme, came);
-    }
-    tell_seen(bench, number, came)
 }

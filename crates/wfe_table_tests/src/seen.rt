@@ -109,5 +109,5 @@ const SCRIPTS: [&str; 3] = [
 
 #[test]
 fn a_seat_has_seen_the_version_that_its_own_call_told_last(rt: HostRuntime) -> Result<(), Fail> {
-    play_all(&rt, &SCRIPTS)
+    play_all(rt.alloc(), &SCRIPTS)
 }

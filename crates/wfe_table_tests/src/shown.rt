@@ -55,5 +55,5 @@ const SCRIPTS: [&str; 4] = [
 
 #[test]
 fn a_seat_shows_its_last_scan_and_its_list(rt: HostRuntime) -> Result<(), Fail> {
-    play_all(&rt, &SCRIPTS)
+    play_all(rt.alloc(), &SCRIPTS)
 }

@@ -75,5 +75,5 @@ const SCRIPTS: [&str; 4] = [
 
 #[test]
 fn a_reader_keeps_rows_while_a_writer_goes_on(rt: HostRuntime) -> Result<(), Fail> {
-    play_all(&rt, &SCRIPTS)
+    play_all(rt.alloc(), &SCRIPTS)
 }

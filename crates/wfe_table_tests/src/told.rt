@@ -1,7 +1,7 @@
-// What came of calls, and what seats show, as the text of scripts has it.
+// What came of calls, and what seats show, as the text of scripts has it. Where memory runs out the text is cut, and so is not the one
+// that is due.
 use crate::bench::Bench;
 use std::str;
-use std::test::Fail;
 use wfe_core::{Event, Guard, Shown};
 use wfe_table::{Answer, Lifetime, SchemeKind, Seat};
 use wfe_trace::{Line, print_count, print_event};
@@ -14,63 +14,66 @@ pub enum Wanted {
     Nothing,
 }
 
-// Adds a mark, and what a line has after these words.
-fn add(came: &mut String, mark: &str, before: &str, line: &Line) -> Result<(), Fail> {
-    let text = str::from_utf8(line.bytes())?;
-    let text = text.trim_end();
-    came.push_str(mark)?;
-    came.push_str(text.strip_prefix(before).unwrap_or(text))?;
-    Ok(())
+/// Adds words.
+pub fn add(came: &mut String, words: &str) {
+    let _ = came.push_str(words);
 }
 
-fn tell(came: &mut String, event: Event) -> Result<(), Fail> {
+// Adds what a line has after these words.
+fn add_line(came: &mut String, before: &str, line: &Line) {
+    let text = str::from_utf8(line.bytes()).unwrap_or("no text").trim_end();
+    add(came, text.strip_prefix(before).unwrap_or(text));
+}
+
+fn tell(came: &mut String, event: Event) {
     let mut line = Line::new();
     print_event(0, &event, &mut line);
-    add(came, " |", "0", &line)
+    add(came, " |");
+    add_line(came, "0", &line);
 }
 
-// Adds an answer alone.
-fn tell_answer(came: &mut String, mark: &str, answer: Answer) -> Result<(), Fail> {
+// Adds an answer alone, after a mark.
+fn tell_answer(came: &mut String, mark: &str, answer: Answer) {
     let mut line = Line::new();
     print_event(0, &Event::End { steps: 0, answer }, &mut line);
-    add(came, mark, "0 end 0", &line)
+    add(came, mark);
+    add_line(came, "0 end 0", &line);
 }
 
-fn tell_backs(came: &mut String, slots: &[u32]) -> Result<(), Fail> {
+fn tell_backs(came: &mut String, slots: &[u32]) {
     for slot in slots {
-        tell(came, Event::Back { slot: *slot })?;
+        tell(came, Event::Back { slot: *slot });
     }
-    Ok(())
+}
+
+// Adds the row that a call was given, and the one that it retired.
+fn tell_rows(came: &mut String, given: Option<(u32, u32)>, retired: Option<Lifetime>) {
+    if let Some((slot, birth)) = given {
+        tell(came, Event::Give { slot, birth });
+    }
+    if let Some(life) = retired {
+        tell(came, retire(life));
+    }
 }
 
 // Adds what the seat's last call did, and its answer.
-fn tell_all(seat: &Seat, answer: Answer, came: &mut String) -> Result<(), Fail> {
+fn tell_all(seat: &Seat, answer: Answer, came: &mut String) {
     let notes = seat.notes();
     let slots = notes.back.as_slice();
     let (early, late) = slots.split_at((notes.early as usize).min(slots.len()));
-    tell_backs(came, early)?;
-    if let Some((slot, birth)) = notes.given {
-        tell(came, Event::Give { slot, birth })?;
-    }
-    if let Some(life) = notes.retired {
-        tell(came, retire(life))?;
-    }
-    tell_backs(came, late)?;
+    tell_backs(came, early);
+    tell_rows(came, notes.given, notes.retired);
+    tell_backs(came, late);
     let steps = notes.steps;
-    tell(came, Event::End { steps, answer })
+    tell(came, Event::End { steps, answer });
 }
 
 /// Adds what is wanted of the seat's last call.
-pub fn tell_call(
-    seat: &Seat,
-    answer: Answer,
-    wanted: Wanted,
-    came: &mut String,
-) -> Result<(), Fail> {
+pub fn tell_call(seat: &Seat, answer: Answer, wanted: Wanted, came: &mut String) {
     match wanted {
         Wanted::All => tell_all(seat, answer, came),
         Wanted::Answer => tell_answer(came, " =", answer),
-        Wanted::Nothing => Ok(()),
+        Wanted::Nothing => {}
     }
 }
 
@@ -83,12 +86,11 @@ fn retire(life: Lifetime) -> Event {
 }
 
 /// Adds the rows on the seat's list, as they were retired.
-pub fn tell_list(seat: &Seat, came: &mut String) -> Result<(), Fail> {
+pub fn tell_list(seat: &Seat, came: &mut String) {
     let list = seat.list();
     for place in 0..list.len() {
-        tell(came, retire(list.get(place)))?;
+        tell(came, retire(list.get(place)));
     }
-    Ok(())
 }
 
 // A guard as a scan read it.
@@ -108,27 +110,24 @@ fn read(scheme: SchemeKind, guard: Guard, shown: Shown) -> Event {
 }
 
 /// Adds the guards that the seat's last scan read, and how many rows stayed and went back.
-pub fn tell_report(seat: &Seat, scheme: SchemeKind, came: &mut String) -> Result<(), Fail> {
+pub fn tell_report(seat: &Seat, scheme: SchemeKind, came: &mut String) {
     let report = seat.report();
     for (guard, shown) in report.read.as_slice() {
-        tell(came, read(scheme, *guard, *shown))?;
+        tell(came, read(scheme, *guard, *shown));
     }
     let answer = Answer::Scanned {
         kept: report.kept,
         back: report.back,
     };
-    tell_answer(came, " |", answer)
+    tell_answer(came, " |", answer);
 }
 
 /// Adds the version of each bucket that the seat has seen.
-pub fn tell_seen(bench: &Bench, number: u32, came: &mut String) -> Result<(), Fail> {
-    came.push_str(" |")?;
+pub fn tell_seen(bench: &Bench, number: u32, came: &mut String) {
+    add(came, " |");
     for bucket in 0..bench.config().buckets {
-        if let Some(version) = bench.seen(number, bucket) {
-            let mut line = Line::new();
-            print_count(b"", version, &mut line);
-            add(came, "", "", &line)?;
-        }
+        let mut line = Line::new();
+        print_count(b"", bench.seen(number, bucket).unwrap_or(0), &mut line);
+        add_line(came, "", &line);
     }
-    Ok(())
 }

@@ -1,1 +1,2 @@
+pub mod OnTable
 pub mod Works

@@ -33,12 +33,12 @@ use Rattle.law_bounds.proofs.Scans.Judged.{closed_settled, judged_at}
 use Rattle.law_bounds.proofs.Scans.Keeps as scans
 
 -- Intervals of eras up to the clock, and no rows.
-abbrev shown_fits : (clock : ℕ) → Shown → Bool
+abbrev pub shown_fits : (clock : ℕ) → Shown → Bool
 shown_fits clock Nothing = true
 shown_fits clock (Eras span) = nat_le span.lo span.hi && nat_le span.hi clock
 shown_fits clock (Row slot) = false
 
-abbrev eras_fit : (clock : ℕ) → List Seen → Bool
+abbrev pub eras_fit : (clock : ℕ) → List Seen → Bool
 eras_fit clock [] = true
 eras_fit clock (seen ∷ read) = shown_fits clock seen.1 && eras_fit clock read
 
@@ -95,14 +95,14 @@ entry_fits : (config : Config) (i k : ℕ) (p : Past) (event : Event) (same : Bo
 entry_fits config i k p event true e s t r h f = own_fits config p k event (read_of (guards config) i p) s t r h f
 entry_fits config i k p event false e s t r h f = f
 
-fits_at : (config : Config) (i : ℕ) (p : Past) → publishes_rows config.scheme ≡ false → Each (kind_ok config.scheme) p → Each read_ok p → Each (era_ok config) p → eras_fit (clock_of p) (read_of (guards config) i p) ≡ true
+pub fits_at : (config : Config) (i : ℕ) (p : Past) → publishes_rows config.scheme ≡ false → Each (kind_ok config.scheme) p → Each read_ok p → Each (era_ok config) p → eras_fit (clock_of p) (read_of (guards config) i p) ≡ true
 fits_at config i Start s t r h = refl
 fits_at config i (Then p k event) s t r h =
     fit_later (clock_of p) (ticked_by event (clock_of p)) (if i == k then read_by (guards config) event (read_of (guards config) i p) else read_of (guards config) i p) (ticked_rises event (clock_of p))
     (entry_fits config i k p event (i == k) refl s t.0 r.0 h.1 (fits_at config i p s t.1 r.1 h.1))
 
 -- A life that was judged is on the list.
-abbrev Within : List Lifetime → List Lifetime → Type 0
+abbrev pub Within : List Lifetime → List Lifetime → Type 0
 Within judged list = (s b r : ℕ) → in_list judged s b r ≡ true → in_list list s b r ≡ true
 
 in_either : (xs ys : List Lifetime) (s b r : ℕ) → in_list xs s b r ≡ true → in_list (xs ++ ys) s b r ≡ true
@@ -161,7 +161,7 @@ other_within i (events.Adopted place count) list judged w = by (i == place)
     by false = w
 other_within i event list judged w = w
 
-within_at : (i : ℕ) (p : Past) → Within (judged_of i p) (list_of i p)
+pub within_at : (i : ℕ) (p : Past) → Within (judged_of i p) (list_of i p)
 within_at i Start = λ s b r h. h
 within_at i (Then p k event) = by (i == k) (within_at i p)
   where
@@ -175,7 +175,7 @@ same_life : (a b : Lifetime) → a.slot ≡ b.slot → a.birth ≡ b.birth → a
 same_life a b e f g =
     ap (λ (x : ℕ). record { slot = x; birth = a.birth; retire = a.retire }) e ∙ ap (λ (x : ℕ). record { slot = b.slot; birth = x; retire = a.retire }) f ∙ ap (λ (x : ℕ). record { slot = b.slot; birth = b.birth; retire = x }) g
 
-kept_in : (read : List Seen) (lives : List Lifetime) (life : Lifetime) → next_back read lives ≡ None → in_list lives life.slot life.birth life.retire ≡ true → keeps_any life read ≡ true
+pub kept_in : (read : List Seen) (lives : List Lifetime) (life : Lifetime) → next_back read lives ≡ None → in_list lives life.slot life.birth life.retire ≡ true → keeps_any life read ≡ true
 kept_in read [] life n h = absurd (no_truth h)
 kept_in read (first ∷ lives) life n h = by (keeps_any first read) refl n (kept_in read lives life) h
   where
@@ -237,7 +237,7 @@ judged_so config i life p t l k = record {
 }
 
 pub records_judge : RecordsJudge
-records_judge layout items i life d s closed on =
+records_judge layout items d s i life closed on =
     let c : Config = layout.config in
     let p : Past = record_of layout items in
     let t = scans.told_of_history layout items d in

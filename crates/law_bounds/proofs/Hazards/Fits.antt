@@ -133,7 +133,7 @@ own_apart (events.Saw guard slot) list judged l j = l
 own_apart (events.Back slot) list judged l j = apart_without slot judged j
 own_apart event list judged l j = j
 
-other_apart : (i : ℕ) (event : Event) (judged : List Lifetime) → are_apart (slots_of judged) ≡ true → are_apart (slots_of (handed_by i event judged)) ≡ true
+pub other_apart : (i : ℕ) (event : Event) (judged : List Lifetime) → are_apart (slots_of judged) ≡ true → are_apart (slots_of (handed_by i event judged)) ≡ true
 other_apart i (events.Adopted place count) judged j = by (i == place)
   where
     by : (same : Bool) → are_apart (slots_of (if same then [] else judged)) ≡ true

@@ -14,11 +14,11 @@ use Rattle.law_bounds.proofs.Rows.Counts.{Missing, filtered, missing}
 use Rattle.law_bounds.proofs.Rows.Lost.{records_take_few}
 use Rattle.law_bounds.proofs.Scans.Keeps.{Told, told_of_history}
 
-one_most : (b : Bool) → one b ≤ 1
+pub one_most : (b : Bool) → one b ≤ 1
 one_most true = omega arith
 one_most false = omega arith
 
-changed_most : (n : ℕ) (p : Past) → changed_below n p ≤ n
+pub changed_most : (n : ℕ) (p : Past) → changed_below n p ≤ n
 changed_most zero p = omega arith
 changed_most (suc n) p =
     let more = changed_most n p in

@@ -26,13 +26,15 @@ const ROUNDS: u64 = 64;
 // Milliseconds that the helper sleeps before its first call.
 const SLEEP: u64 = 300;
 
-/// How many gets and holds were made, and the most steps that one of them took.
+/// How many gets and holds were made, the most steps that one of them took, and the most rows that
+/// waited on the list of one seat after a put.
 #[derive(Clone, Copy)]
 pub struct Most {
     pub gets: u64,
     pub get_steps: u64,
     pub holds: u64,
     pub hold_steps: u64,
+    pub list: usize,
 }
 
 impl Most {
@@ -43,6 +45,15 @@ impl Most {
             get_steps: 0,
             holds: 0,
             hold_steps: 0,
+            list: 0,
+        }
+    }
+
+    // No call but a put, after which so many rows wait.
+    fn of_list(list: usize) -> Most {
+        Most {
+            list,
+            ..Most::none()
         }
     }
 
@@ -53,6 +64,7 @@ impl Most {
             get_steps: self.get_steps.max(other.get_steps),
             holds: self.holds.saturating_add(other.holds),
             hold_steps: self.hold_steps.max(other.hold_steps),
+            list: self.list.max(other.list),
         }
     }
 }
@@ -71,8 +83,8 @@ impl Caller {
         Caller { seat }
     }
 
-    /// Calls for so many seconds, by the seat's part: the first seat is the helper's, the next two are
-    /// the movers'.
+    /// Calls for so many seconds, by the seat's part: the first seat is the helper's, which holds a row
+    /// and never lets it go, and the next two are the movers'.
     pub fn work<R: Clock>(&mut self, rt: &R, shared: &Shared, seconds: u64) -> Most
         requires of { IsOf self.old.seat shared.now }
         ensures of { IsOf self.new.seat shared.now }
@@ -84,6 +96,7 @@ impl Caller {
         let number = self.seat.number();
         if number == 0 {
             thread::sleep(rt, Duration::from_millis(SLEEP));
+            let _ = self.hold(shared, 0);
         }
         for turn in 0..u64::MAX {
             for round in 0..ROUNDS {
@@ -91,7 +104,7 @@ impl Caller {
                     0 => {
                         shared.advance(&mut self.seat);
                     }
-                    1 | 2 => self.change(shared, round % KEYS, turn),
+                    1 | 2 => most = most.with(self.change(shared, round % KEYS, turn)),
                     _ => most = most.with(self.read(shared, round % KEYS)),
                 }
             }
@@ -104,12 +117,14 @@ impl Caller {
     }
 
     // Puts a key, and moves the clock.
-    fn change(&mut self, shared: &Shared, key: u64, value: u64)
+    fn change(&mut self, shared: &Shared, key: u64, value: u64) -> Most
         requires of { IsOf self.old.seat shared.now }
         ensures of { IsOf self.new.seat shared.now }
     {
         let _ = shared.put(&mut self.seat, key, value);
+        let list = self.seat.list().len();
         shared.advance(&mut self.seat);
+        Most::of_list(list)
     }
 
     // A get and a hold of the key.
@@ -125,6 +140,7 @@ impl Caller {
             get_steps,
             holds: 1,
             hold_steps,
+            list: 0,
         }
     }
 

@@ -1,0 +1,5 @@
+pub mod Falls
+pub mod Fits
+pub mod Keeps
+pub mod Paid
+pub mod Worth

@@ -1,0 +1,5 @@
+pub mod Ahead
+pub mod Calls
+pub mod GoOn
+pub mod Keeps
+pub mod Since

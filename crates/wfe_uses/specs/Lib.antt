@@ -1,0 +1,4 @@
+pub mod Counting
+pub mod Flowing
+pub mod Handing
+pub mod Keeping
