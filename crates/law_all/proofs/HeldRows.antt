@@ -27,7 +27,8 @@ use Rattle.law_held.specs.inv.model.defs.declared.event.Event.{Event}
 use Rattle.law_held.specs.inv.model.defs.declared.event.Root.TheVariants as roots
 use Rattle.law_held.specs.inv.model.defs.declared.event.Root.{Root}
 use Rattle.law_held.specs.inv.model.words.declared.layout.Layout.{Layout}
-use Rattle.law_held.specs.laws.StateAt.{RowShows, began_of, bucket_of, shows_of}
+use Rattle.law_held.specs.laws.StateAt.{began_of}
+use Rattle.law_held.specs.laws.StructuresAt.{RowShows, bucket_of, shows_of}
 use Rattle.law_held.specs.inv.Inv.{Inv}
 use Rattle.law_held.specs.inv.requests.Parents.{rises_at}
 use Rattle.law_held.specs.inv.shapes.Seats.{kind_of, suits}

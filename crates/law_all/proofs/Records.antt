@@ -17,7 +17,8 @@ use Rattle.law_held.specs.inv.model.words.declared.layout.Layout.{Layout}
 use Rattle.law_held.specs.laws.HistoryAnswers.{full_ok}
 use Rattle.law_held.specs.laws.HistoryHolds.{sources_ok}
 use Rattle.law_held.specs.laws.Once.{lists_ok, order_ok}
-use Rattle.law_held.specs.laws.StateAt.{began_of, bucket_of, count_of, pairs_at, value_at}
+use Rattle.law_held.specs.laws.StateAt.{began_of}
+use Rattle.law_held.specs.laws.StructuresAt.{bucket_of, count_of, pairs_at, value_at}
 use Rattle.law_all.proofs.letter.Clocks.{full_kept}
 use Rattle.law_reasons.proofs.Full.Keeps.{records_keep_full}
 use Rattle.law_reasons.proofs.Reasons.Keeps.{records_keep_reasons}

@@ -8,7 +8,7 @@ use Rattle.law_all.specs.inv.model.defs.declared.call.Call.TheVariants as calls
 use Rattle.law_all.specs.inv.model.defs.declared.call.ClockMove.{ClockMove}
 use Rattle.law_all.specs.inv.model.words.Place.{is_valid}
 use Rattle.law_all.specs.inv.model.words.declared.layout.Layout.{Layout}
-use Rattle.law_all.specs.laws.StateAt.{bucket_of, value_at}
+use Rattle.law_all.specs.laws.StructuresAt.{bucket_of, value_at}
 use Rattle.law_all.specs.laws.StepLaw.{steps_right}
 use Rattle.law_all.specs.inv.history.History.{Item, record_of, world_of}
 use Rattle.law_all.specs.Logs.Answered.{Says}

@@ -6,7 +6,7 @@ use Rattle.law_all.specs.inv.model.defs.declared.call.Answer.TheVariants as answ
 use Rattle.law_all.specs.inv.model.defs.declared.call.Answer.{Answer}
 use Rattle.law_all.specs.inv.model.defs.declared.call.Call.TheVariants as calls
 use Rattle.law_all.specs.inv.model.defs.declared.call.Call.{Call}
-use Rattle.law_all.specs.laws.StateAt.{bucket_of}
+use Rattle.law_all.specs.laws.StructuresAt.{bucket_of}
 
 -- a row that is kept: the key of the hold that it came from, its slot, and the calls of the seat before that hold
 pub record Keeping : Type 0 where

@@ -20,7 +20,8 @@ use Rattle.law_all.specs.inv.model.words.Schemes.{moves as moves_clock}
 use Rattle.law_all.specs.inv.model.words.declared.config.Config.{Config}
 use Rattle.law_all.specs.laws.AnswerLaw.{is_advance, owes, retires_for, suits}
 pub use Rattle.law_all.specs.laws.AnswerLaw.{is_still}
-use Rattle.law_all.specs.laws.StateAt.{Filling, bucket_of, is_among, numbered_from, one, without_one}
+use Rattle.law_all.specs.laws.StateAt.{is_among, one, without_one}
+use Rattle.law_all.specs.laws.StructuresAt.{Filling, bucket_of, numbered_from}
 use Rattle.law_all.specs.Kept.{Keeping, kept_in, looked_in}
 use Rattle.law_all.specs.Logs.Versions.{number_queued, number_taken, seen_in, version_told}
 

@@ -5,7 +5,7 @@ use Rattle.law_all.specs.inv.model.Locals.{Group}
 use Rattle.law_all.specs.inv.model.defs.declared.call.Answer.{Answer}
 use Rattle.law_all.specs.inv.model.defs.declared.call.Call.{Call}
 use Rattle.law_all.specs.inv.model.words.declared.config.Config.{Config}
-use Rattle.law_all.specs.laws.StateAt.{numbered_from}
+use Rattle.law_all.specs.laws.StructuresAt.{numbered_from}
 use Rattle.law_all.specs.RunLaw.{AtClose, bucket_in, log_in}
 use Rattle.law_linear.specs.Object.{Object}
 use Rattle.law_linear.specs.Order.{Made, Serves, first_state, state_after}

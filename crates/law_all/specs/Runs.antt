@@ -7,7 +7,8 @@ use Rattle.law_all.specs.inv.model.defs.declared.call.Answer.TheVariants as answ
 use Rattle.law_all.specs.inv.model.words.Place.{is_valid, row_count}
 use Rattle.law_all.specs.inv.model.words.declared.config.Config.{Config}
 use Rattle.law_all.specs.inv.model.words.declared.layout.Layout.{Layout}
-use Rattle.law_all.specs.laws.StateAt.{changes_of, clock_of, count_of, filling_at, numbered_from, one, queued_of, taken_at, taken_of}
+use Rattle.law_all.specs.laws.StateAt.{clock_of, one, taken_at}
+use Rattle.law_all.specs.laws.StructuresAt.{changes_of, count_of, filling_at, numbered_from, queued_of, taken_of}
 use Rattle.law_all.specs.inv.history.History.{Item, record_of, world_of}
 use Rattle.law_all.specs.inv.history.Record.{Past}
 use Rattle.law_all.specs.RunLaw.{AnswersLaw, AtClose, InOrder, IsCall, KeepsLaw, ListsLaw, QueuesRight, ReadsRight, RisesLaw, RunLaw, backs_in, clock_told, era_spent, era_told, gives, is_change_of, is_moved_to, is_queued_as, is_taken_as, once_up_to, total, total_of, unuseds}

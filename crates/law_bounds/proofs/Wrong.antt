@@ -12,7 +12,8 @@ use Rattle.law_all.specs.inv.model.defs.declared.call.Call.TheVariants as calls
 use Rattle.law_all.specs.inv.model.defs.declared.lifetime.Interval.{Interval}
 use Rattle.law_all.specs.inv.model.defs.declared.lifetime.Lifetime.{Lifetime}
 use Rattle.law_all.specs.inv.model.words.declared.config.SchemeKind.TheVariants.{He}
-use Rattle.law_all.specs.laws.StateAt.{clock_of, count, is_give, one, queued_of, taken_at, taken_by, told}
+use Rattle.law_all.specs.laws.StateAt.{clock_of, count, is_give, one, taken_at, taken_by, told}
+use Rattle.law_all.specs.laws.StructuresAt.{queued_of}
 use Rattle.law_bounds.specs.Eras.{IsGiven, WasThere}
 use Rattle.law_bounds.specs.Kept.{KeptFew, WaitedMost, kept_by, retires_from}
 use Rattle.law_bounds.specs.Rows.{changed_below, open_below, waiting_at}

@@ -8,7 +8,8 @@ use Rattle.law_all.specs.inv.model.words.Place.{is_valid}
 use Rattle.law_all.specs.inv.model.words.declared.config.Config.{Config}
 use Rattle.law_all.specs.inv.model.words.declared.layout.Layout.{Layout}
 use Rattle.law_all.specs.laws.Lists.{list_of}
-use Rattle.law_all.specs.laws.StateAt.{Filling, bucket_at, count_of, head_at, is_one_of, is_open, next_at, one, queued_of, taken_at, taken_of}
+use Rattle.law_all.specs.laws.StateAt.{bucket_at, head_at, is_one_of, is_open, next_at, one, taken_at}
+use Rattle.law_all.specs.laws.StructuresAt.{Filling, count_of, queued_of, taken_of}
 use Rattle.law_all.specs.RunLaw.{AtClose}
 use Rattle.law_all.specs.Runs.{AtRest, at_close}
 

@@ -1,10 +1,12 @@
-//! Bounds of reclamation: which rows are taken (`Rows.antt`) and wait (`Scans.antt`, `Hazards.antt`), which a guard keeps that stands
-//! still (`Eras.antt`), and how many (`Kept.antt`). They are of the record of each history, and follow from what histories keep; what
-//! callers are told of them is in `Waits.antt`, and all of them together in `Whole.antt`. Each function here does nothing, and carries
-//! a theorem.
+//! Which rows are taken (`Rows.antt`) and wait (`Scans.antt`, `Hazards.antt`), which a guard keeps that stands still (`Eras.antt`), how
+//! many (`Kept.antt`); how many steps calls take by what others do (`Gets.antt`, `Changes.antt`); lock-freedom (`Free.antt`).
+//!
+//! They are of the record of each history, and follow from what histories keep; what callers are told of rows is in `Waits.antt`, all
+//! bounds of rows together are in `Whole.antt`, those of steps in `Paces.antt`. Each function here does nothing, and carries a theorem.
 #![tactic(auto)]
 
 mod refusals;
+mod steps;
 
 ghost use Rattle.law_bounds.specs.Eras.{RecordsBoundStill, RecordsJudge};
 ghost use Rattle.law_bounds.specs.Hazards.{RecordsBoundHazards, RecordsNeedRows};
@@ -15,6 +17,10 @@ ghost use Rattle.law_bounds.specs.Waits.{SeatsWaitFew, TablesCloseFew};
 ghost use Rattle.law_bounds.specs.Whole.{HistoriesBounded};
 
 pub use refusals::wrong_records_are_refused;
+pub use steps::{
+    changes_end, changes_go_on, histories_are_paced, histories_get_on, lock_free, reads_end,
+    reads_go_on, seats_get_on, wrong_steps_are_refused,
+};
 
 /// After each history that leaves no call under way the taken rows are just the rows of the roots of the buckets that were
 /// changed, the queue's rows with its dummy, and those on the lists, of seats that left too until another takes them over; each

@@ -8,7 +8,8 @@ use Rattle.laws.specs.HistoryAnswers.{answer_right, answers_ok, owes, reason, re
 use Rattle.laws.specs.Lists.{has_left}
 use Rattle.laws.specs.QueueLaw.{empty_ok}
 use Rattle.laws.specs.Standing.{open_ok}
-use Rattle.laws.specs.StateAt.{began_by, began_of, changes_of, is_dequeue, is_open, same_value, told_of, was_empty, with_told}
+use Rattle.laws.specs.StateAt.{began_by, began_of, is_dequeue, is_open, told_of, with_told}
+use Rattle.laws.specs.StructuresAt.{changes_of, same_value, was_empty}
 use Rattle.laws.specs.defs.Entry.{Entry}
 use Rattle.laws.specs.defs.declared.call.Answer.TheVariants as answers
 use Rattle.laws.specs.defs.declared.call.Answer.{Answer}

@@ -6,7 +6,8 @@ use Rattle.std.specs.Prelude.{◌==◌, ◌&&◌, ◌||◌, not, nat_lt, is_some
 use Rattle.laws.proofs.records.defs.Facts.{both, first_of, number_is, rest_of, same_number}
 use Rattle.laws.specs.AnswerLaw.{any_up_to, has_number, lacks_row, put_at, remove_at, suits}
 use Rattle.laws.specs.HistoryAnswers.{owes, put_reason, reason, remove_reason}
-use Rattle.laws.specs.StateAt.{Filling, all_taken, begun_at, changes_of, count_of, has_told, is_there, pairs_at, queued_of, shows_of, taken_of, told_of, was_current, was_empty}
+use Rattle.laws.specs.StateAt.{has_told, told_of}
+use Rattle.laws.specs.StructuresAt.{Filling, all_taken, begun_at, changes_of, count_of, is_there, pairs_at, queued_of, shows_of, taken_of, was_current, was_empty}
 use Rattle.laws.specs.defs.Events.{is_null}
 use Rattle.laws.specs.defs.Pairs.{pairs_after, value_in}
 use Rattle.laws.specs.defs.declared.call.Answer.TheVariants as answers

@@ -5,7 +5,7 @@ use Rattle.std.proofs.lemmas.Bool.Decides.{nat_tests}
 use Rattle.std.proofs.lemmas.List.{append-nil, length-append}
 use Rattle.std.specs.Prelude.{◌==◌, if◌then◌else◌, ◌&&◌, not, nat_le}
 use Rattle.laws.proofs.records.defs.Facts.{either_true, false_of_not, first_of, number_is, rest_of}
-use Rattle.laws.specs.StateAt.{Filling, changes_of, count_of, was_current, with_change}
+use Rattle.laws.specs.StructuresAt.{Filling, changes_of, count_of, was_current, with_change}
 use Rattle.laws.specs.defs.Pairs.{pairs_after}
 use Rattle.laws.specs.defs.declared.event.Event.TheVariants as events
 use Rattle.laws.specs.defs.declared.event.Event.{Event}

@@ -9,7 +9,8 @@ use Rattle.laws.proofs.records.defs.Values.{pairs_from-append}
 use Rattle.laws.specs.HistoryAnswers.{owes, put_reason, reason, remove_reason}
 use Rattle.laws.specs.MapLaw.{map_ok}
 use Rattle.laws.specs.QueueLaw.{queue_ok}
-use Rattle.laws.specs.StateAt.{Filling, bucket_of, began_of, changes_of, count_of, had_version, is_open, is_there, pairs_at, queued_of, same_value, taken_of, told_of, value_at, was_current}
+use Rattle.laws.specs.StateAt.{began_of, is_open, told_of}
+use Rattle.laws.specs.StructuresAt.{Filling, bucket_of, changes_of, count_of, had_version, is_there, pairs_at, queued_of, same_value, taken_of, value_at, was_current}
 use Rattle.laws.specs.defs.Pairs.{Pair, changed, pairs_after, value_in}
 use Rattle.laws.specs.defs.declared.call.Answer.TheVariants as answers
 use Rattle.laws.specs.defs.declared.call.Answer.{Answer}

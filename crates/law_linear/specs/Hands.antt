@@ -1,7 +1,8 @@
 -- What seats keep, by the Ends of their calls; and what a hold, a copy and a look may answer by it.
 use Rattle.std.specs.Prelude.{Bool, None, Option, Some, [], if◌then◌else◌, not, true, ℕ, ◌%◌, ◌&&◌, ◌==◌}
-use Rattle.laws.specs.StateAt.RowShows.{ShowsVersion}
-use Rattle.laws.specs.StateAt.{RowShows, began_of, pairs_at, shows_of, was_current}
+use Rattle.laws.specs.StructuresAt.RowShows.{ShowsVersion}
+use Rattle.laws.specs.StateAt.{began_of}
+use Rattle.laws.specs.StructuresAt.{RowShows, pairs_at, shows_of, was_current}
 use Rattle.laws.specs.defs.declared.call.Answer.TheVariants as answers
 use Rattle.laws.specs.defs.declared.call.Answer.{Answer}
 use Rattle.laws.specs.defs.declared.call.Call.TheVariants as calls

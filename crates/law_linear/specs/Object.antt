@@ -1,7 +1,7 @@
 -- A table as those see it who call it one at a time: a map in buckets, a queue, and what each caller keeps of the map. First what it may
 -- answer to a call, then what it is after the answer.
 use Rattle.std.specs.Prelude.{Bool, List, None, Option, Some, [], false, if◌then◌else◌, is_some, length, nat_lt, not, true, ℕ, ◌%◌, ◌&&◌, ◌+◌, ◌++◌, ◌==◌, ◌∷◌, ◌||◌}
-use Rattle.laws.specs.StateAt.{Filling, same_value}
+use Rattle.laws.specs.StructuresAt.{Filling, same_value}
 use Rattle.laws.specs.defs.Pairs.{value_in, with_pair, without_key}
 use Rattle.laws.specs.defs.declared.call.Answer.TheVariants as answers
 use Rattle.laws.specs.defs.declared.call.Answer.{Answer}

@@ -1,6 +1,6 @@
 -- A record with points put in, one for each call: there the call takes effect, all at once.
 use Rattle.std.specs.Prelude.{drop, if◌then◌else◌, length, true, ℕ, ◌==◌, ◌≡◌}
-use Rattle.laws.specs.StateAt.{changes_of, count_of, queued_of, taken_of}
+use Rattle.laws.specs.StructuresAt.{changes_of, count_of, queued_of, taken_of}
 use Rattle.laws.specs.defs.Pairs.{pairs_after}
 use Rattle.laws.specs.defs.declared.call.Answer.TheVariants as answers
 use Rattle.laws.specs.defs.declared.call.Answer.{Answer}

@@ -14,7 +14,7 @@ use Rattle.laws.specs.QueueLaw.{queue_ok}
 use Rattle.laws.specs.HistoryTurns.{one_step, OpenLaw}
 use Rattle.laws.specs.HistorySteps.{NumberLaw}
 use Rattle.laws.specs.Lists.{has_left, is_adopted}
-use Rattle.laws.specs.StateAt.{changes_of, queued_of, taken_of}
+use Rattle.laws.specs.StructuresAt.{changes_of, queued_of, taken_of}
 
 -- each history's record keeps it, whatever calls begin and whichever seats make their steps
 abbrev pub RecordsKeepQueue : Type 0

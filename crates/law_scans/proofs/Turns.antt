@@ -2,6 +2,7 @@ pub mod Counting
 pub mod Finds
 pub mod Handovers
 pub mod HazardCounts
+pub mod HazardNumbers
 pub mod TryCounts
 pub mod TryEntries
 pub mod TurnCounts

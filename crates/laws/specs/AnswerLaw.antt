@@ -15,7 +15,8 @@ use Rattle.wfe_words.specs.Schemes.{moves as moves_clock}
 use Rattle.wfe_words.specs.declared.config.Config.{Config}
 use Rattle.laws.specs.ScanLaw.{guards, blocks_of}
 use Rattle.laws.specs.Lists.{adopts, has_left, is_adopted, list_of}
-use Rattle.laws.specs.StateAt.{retires_of, changed_of, seen, same_value, began_of, count_of, is_there, pairs_at, was_current, queued_of, has_told, begun_at, is_bare, stands, bucket_of, taken_since, clock_of, taken_of, tails_of, finds_of, times, is_read, is_back, is_give, is_among, RowShows, ShowsVersion, shows_of, value_at}
+use Rattle.laws.specs.StateAt.{retires_of, changed_of, seen, began_of, has_told, is_bare, stands, taken_since, clock_of, tails_of, finds_of, times, is_read, is_back, is_give, is_among}
+use Rattle.laws.specs.StructuresAt.{ShowsVersion, same_value, count_of, is_there, pairs_at, was_current, queued_of, begun_at, bucket_of, taken_of, RowShows, shows_of, value_at}
 
 -- the answers that a call may have
 abbrev pub suits : Call → Answer → Bool

@@ -1,5 +1,5 @@
 -- Which eras are told.
-use Rattle.std.specs.Prelude.{Bool, false, true, None, Option, Some, nat_le, ℕ, ◌==◌, ◌&&◌, ◌||◌, ◌+◌, nat_lt, not, if◌then◌else◌, ◌≡◌}
+use Rattle.std.specs.Prelude.{Bool, false, true, None, Option, Some, nat_le, ℕ, ◌==◌, ◌&&◌, ◌||◌, ◌+◌, nat_lt, not, ◌≡◌}
 use Rattle.model_record.specs.Record.{Test, EachEntry, Past, begins, own}
 use Rattle.model_record.specs.defs.declared.call.Call.{Call}
 use Rattle.model_record.specs.defs.declared.call.Call.TheVariants as calls

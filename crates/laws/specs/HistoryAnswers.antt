@@ -15,7 +15,8 @@ use Rattle.wfe_words.specs.declared.config.Config.{Config}
 use Rattle.laws.specs.AnswerLaw.{adopt_reason, enqueue_reason, from_of, is_advance, is_still, lacks_ok, moves_before, moves_of, retires_for, same_event, suits, shows_value, tells_none}
 use Rattle.laws.specs.HistoryScans.{Search, search_of}
 use Rattle.laws.specs.ScanLaw.{guards}
-use Rattle.laws.specs.StateAt.{began_of, begun_at, bucket_of, changed_of, clock_of, count_of, finds_of, had_version, has_told, is_row, is_there, pairs_at, retires_of, seen, stood_at, taken_since, told, told_of, was_current, was_empty, shows_of}
+use Rattle.laws.specs.StateAt.{began_of, changed_of, clock_of, finds_of, has_told, is_row, retires_of, seen, stood_at, taken_since, told, told_of}
+use Rattle.laws.specs.StructuresAt.{begun_at, bucket_of, count_of, had_version, is_there, pairs_at, was_current, was_empty, shows_of}
 
 abbrev pub counts_right : Event → ℕ → Bool
 counts_right (events.End steps answer) before = before == retires_for answer

@@ -17,7 +17,8 @@ use Rattle.wfe_words.specs.declared.config.SchemeKind.{SchemeKind}
 use Rattle.laws.specs.HoldLaw.{finds_ok, has_had, is_blank, is_held, is_last}
 use Rattle.laws.specs.NoReuse.{is_reuse}
 use Rattle.laws.specs.Once.{is_slot}
-use Rattle.laws.specs.StateAt.{began_of, bucket_at, head_at, is_dequeue, is_row, next_at, null_of, row_at, stood_at, tail_at, published_at, value_of}
+use Rattle.laws.specs.StateAt.{began_of, bucket_at, head_at, is_dequeue, is_row, next_at, null_of, stood_at, tail_at, published_at, value_of}
+use Rattle.laws.specs.StructuresAt.{row_at}
 
 -- the entry does not reuse row s, or the row does not stand at index j of seat k
 abbrev pub reuse_ok : ℕ → ℕ → ℕ → Test

@@ -16,7 +16,8 @@ use Rattle.wfe_words.specs.Schemes.{has_one_interval}
 use Rattle.wfe_words.specs.declared.config.Config.{Config}
 use Rattle.wfe_words.specs.declared.config.SchemeKind.{SchemeKind}
 use Rattle.laws.specs.Once.{is_slot}
-use Rattle.laws.specs.StateAt.{taken_at, life_at, value_of, published_at, stands, standing_of, is_bare, bucket_at, head_at, same_value, tail_at, began_of, has_root, has_told, is_dequeue, rooted_of, row_at, next_at}
+use Rattle.laws.specs.StateAt.{taken_at, life_at, value_of, published_at, stands, standing_of, is_bare, bucket_at, head_at, tail_at, began_of, has_root, has_told, is_dequeue, rooted_of, next_at}
+use Rattle.laws.specs.StructuresAt.{same_value, row_at}
 
 -- the guard of a seat's index: its index word, or under 2GE the seat's interval word
 abbrev pub own_guard : SchemeKind → (seat index : ℕ) → Guard

@@ -26,3 +26,4 @@ pub mod ScanLaw
 pub mod Standing
 pub mod StateAt
 pub mod StepLaw
+pub mod StructuresAt

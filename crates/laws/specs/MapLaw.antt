@@ -2,7 +2,7 @@
 use Rattle.std.specs.Prelude.{true, ℕ, ◌&&◌, ◌+◌, ◌==◌}
 use Rattle.model_record.specs.Record.{EachEntry, Past, Test}
 use Rattle.model_record.specs.defs.declared.event.Event.TheVariants as events
-use Rattle.laws.specs.StateAt.{bucket_of, count_of, same_value, value_at, was_current}
+use Rattle.laws.specs.StructuresAt.{bucket_of, count_of, same_value, value_at, was_current}
 
 -- The n-th change of a bucket has version n, and its key lies there. A get answers its key's value at a version current during the call.
 abbrev pub map_ok : ℕ → Test

@@ -3,7 +3,8 @@ use Rattle.std.specs.Prelude.{length, nat_le, slice_index_or, true, not, â—Œ==â—
 use Rattle.model_record.specs.Record.{Test, EachEntry, Past}
 use Rattle.model_record.specs.defs.declared.call.Answer.TheVariants as answers
 use Rattle.model_record.specs.defs.declared.event.Event.TheVariants as events
-use Rattle.laws.specs.StateAt.{queued_of, taken_of, was_empty, is_dequeue, began_of}
+use Rattle.laws.specs.StateAt.{is_dequeue, began_of}
+use Rattle.laws.specs.StructuresAt.{queued_of, taken_of, was_empty}
 
 -- the n-th value is queued under number n; values are taken by their numbers, each after it was queued
 abbrev pub queue_ok : Test

@@ -13,7 +13,8 @@ use Rattle.wfe_words.specs.declared.config.Config.{Config}
 use Rattle.wfe_words.specs.declared.config.SchemeKind.{SchemeKind}
 use Rattle.wfe_words.specs.declared.config.SchemeKind.TheVariants.{He, Hp, Ibr, Wfe}
 use Rattle.laws.specs.Lists.{list_of}
-use Rattle.laws.specs.StateAt.{same_guard, read_of, scans_of, value_of, hazard_of, same_span, same_value, seen, began_of, was_taken}
+use Rattle.laws.specs.StateAt.{same_guard, read_of, scans_of, value_of, hazard_of, same_span, seen, began_of, was_taken}
+use Rattle.laws.specs.StructuresAt.{same_value}
 
 -- the index word of this number, by seat and then index
 abbrev pub index_at : Config → ℕ → Guard

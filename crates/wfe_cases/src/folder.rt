@@ -12,20 +12,28 @@ fn stem<'a>(file: &'a str, ending: &str) -> Option<&'a str> {
     }
 }
 
-// The names of the cases, each once: those of all files with one of the two endings, and those of other files whole, which are cases
-// without files.
+// The name of the case that has this file: that before one of the two endings, or that of another file whole, which is a case without
+// files.
+fn case_of<'a>(file: &'a str, kind: &Kind) -> &'a str {
+    match stem(file, kind.due) {
+        Some(name) => name,
+        None => stem(file, kind.input).unwrap_or(file),
+    }
+}
+
+// The names of the cases, one for each file.
 fn names_in<R: Files + AllocGlobal + Clone + Drop>(rt: &R, kind: &Kind) -> io::Result<Vec<String>> {
     let mut names: Vec<String> = Vec::new(rt.alloc());
     for entry in fs::read_dir(rt, kind.folder)? {
         let entry = entry?;
-        let file = entry.file_name();
-        let input = stem(file, kind.input);
-        let name = match stem(file, kind.due) {
-            Some(name) => name,
-            None => input.unwrap_or(file),
-        };
+        let name = case_of(entry.file_name(), kind);
         names.push(String::from_str(rt.alloc(), name)?)?;
     }
+    Ok(names)
+}
+
+// The names in order, each once.
+fn each_once(mut names: Vec<String>) -> Result<Vec<String>, AllocError> {
     names.sort()?;
     names.dedup();
     Ok(names)
@@ -51,7 +59,7 @@ pub fn cases_in<R: Files + AllocGlobal + Clone + Drop>(
     kind: &Kind,
 ) -> io::Result<Vec<Case>> {
     let mut cases = Vec::new(rt.alloc());
-    for name in names_in(rt, kind)? {
+    for name in each_once(names_in(rt, kind)?)? {
         let input = bytes_of(rt, kind.folder, name.as_str(), kind.input)?;
         let due = bytes_of(rt, kind.folder, name.as_str(), kind.due)?;
         cases.push(Case { name, input, due })?;

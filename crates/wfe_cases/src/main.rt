@@ -11,6 +11,7 @@ mod outcome;
 use case::{Case, Kind};
 use folder::cases_in;
 use judge::complaint;
+use std::alloc::AllocError;
 use std::io;
 use std::process::ExitCode;
 use std::rt::Runtime;
@@ -83,6 +84,19 @@ fn play_case<R: Threads + Sync + Print + AllocGlobal>(
     }
 }
 
+fn play_each<R: Threads + Sync + Print + AllocGlobal>(
+    rt: &R,
+    kind: &Kind,
+    cases: &[Case],
+    counts: &mut Counts,
+) -> io::Result<()> {
+    for case in cases {
+        let is_well = play_case(rt, kind, case)?;
+        counts.add(is_well);
+    }
+    Ok(())
+}
+
 // Plays the cases of a folder. One without any, as where the program runs elsewhere, is wrong.
 fn play_folder<R: Runtime + Threads + Sync + AllocGlobal>(
     rt: &R,
@@ -96,11 +110,7 @@ fn play_folder<R: Runtime + Threads + Sync + AllocGlobal>(
         println!(rt; "{folder}: there is no case")?;
         counts.add(false);
     }
-    for case in &cases {
-        let is_well = play_case(rt, kind, case)?;
-        counts.add(is_well);
-    }
-    Ok(())
+    play_each(rt, kind, &cases, counts)
 }
 
 fn play_all<R: Runtime + Threads + Sync + AllocGlobal>(rt: &R) -> io::Result<Counts> {

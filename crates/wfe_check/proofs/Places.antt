@@ -5,7 +5,8 @@ use Rattle.std.specs.Prelude.{is_none, if◌then◌else◌}
 use Rattle.laws.specs.records.Record.{Past}
 use Rattle.laws.specs.HoldLaw.{got_right, gots_ok, stands_as}
 use Rattle.laws.specs.ScanLaw.{Blocks, seeks_room}
-use Rattle.laws.specs.StateAt.{has_told, head_at, is_one_of, next_at, row_at}
+use Rattle.laws.specs.StateAt.{has_told, head_at, is_one_of, next_at}
+use Rattle.laws.specs.StructuresAt.{row_at}
 use Rattle.wfe_defs.proofs.Facts.{same_number}
 use Rattle.wfe_defs.specs.Events.{is_null}
 use Rattle.wfe_defs.specs.declared.call.Call.{Call}

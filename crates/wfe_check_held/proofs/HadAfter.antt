@@ -11,7 +11,8 @@ use Rattle.wfe_defs.specs.declared.event.Event.TheVariants as events
 use Rattle.wfe_defs.specs.declared.event.Root.{Root}
 use Rattle.wfe_defs.specs.declared.event.Root.TheVariants as roots
 use Rattle.laws.specs.HoldLaw.{has_had}
-use Rattle.laws.specs.StateAt.{began_of, bucket_at, bucket_by, head_by, tail_by, head_at, same_value, tail_at}
+use Rattle.laws.specs.StateAt.{began_of, bucket_at, bucket_by, head_by, tail_by, head_at, tail_at}
+use Rattle.laws.specs.StructuresAt.{same_value}
 use Rattle.wfe_check_rows.specs.Positions.{entries, since}
 use Rattle.wfe_check_held.specs.Roots.{looks, looks_at, place_of, root_row}
 use Rattle.wfe_check_held.specs.Steps.{IsFound, had_after}

@@ -19,7 +19,8 @@ use Rattle.laws.specs.EraLaw.{guard_ok, is_one_era, kind_ok, rising_ok, same_int
 use Rattle.laws.specs.HoldLaw.{bare_ok, behind_ok, guards_rest, index_rests, indexes_rest, is_alike, is_blank, keeps_none, links_ok, stands_for}
 use Rattle.laws.specs.Once.{is_slot}
 use Rattle.laws.specs.ScanLaw.{read_ok}
-use Rattle.laws.specs.StateAt.{began_of, hazard_of, head_at, is_bare, is_dequeue, is_index, next_at, published_at, same_span, same_value, seat_of, standing_of, stands, tail_at, value_of}
+use Rattle.laws.specs.StateAt.{began_of, hazard_of, head_at, is_bare, is_dequeue, is_index, next_at, published_at, same_span, seat_of, standing_of, stands, tail_at, value_of}
+use Rattle.laws.specs.StructuresAt.{same_value}
 use Rattle.laws.specs.Good.{named_indexes, rests_of}
 use Rattle.laws.specs.Ranges.{EntryIn, GuardIn}
 use Rattle.wfe_check_rows.specs.declared.rows.Rows.{Rows}

@@ -15,7 +15,8 @@ use Rattle.laws.specs.defs.declared.shown.Shown.{Shown}
 use Rattle.laws.specs.EraLaw.{is_one_era, same_interval, span_rises}
 use Rattle.laws.specs.HoldLaw.{is_alike, is_blank, own_guard}
 use Rattle.laws.specs.Once.{is_slot}
-use Rattle.laws.specs.StateAt.{is_dequeue, is_empty, is_index, is_one_of, same_guard, same_span, same_value, seat_of, without_row}
+use Rattle.laws.specs.StateAt.{is_dequeue, is_empty, is_index, is_one_of, same_guard, same_span, seat_of, without_row}
+use Rattle.laws.specs.StructuresAt.{same_value}
 use Rattle.wfe_check_rows.specs.declared.rows.Rows.{Rows}
 use Rattle.wfe_check_rows.specs.Shown.{life_of, root, row}
 use Rattle.wfe_check_held.specs.declared.protections.Protections.{Protections}

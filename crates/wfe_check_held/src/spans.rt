@@ -3,7 +3,8 @@ ghost use Rattle.std.specs.Prelude.{◌≡◌};
 ghost use Rattle.laws.specs.words.Schemes.{has_one_interval};
 ghost use Rattle.laws.specs.EraLaw.{is_one_era as is_one_era_of, same_interval as same_intervals, span_rises};
 ghost use Rattle.laws.specs.HoldLaw.{is_alike as alike, is_blank as blank, own_guard as guard_of};
-ghost use Rattle.laws.specs.StateAt.{is_index as is_index_of, same_guard as same_guards, same_span as same_spans, same_value, seat_of as seat_of_guard};
+ghost use Rattle.laws.specs.StateAt.{is_index as is_index_of, same_guard as same_guards, same_span as same_spans, seat_of as seat_of_guard};
+ghost use Rattle.laws.specs.StructuresAt.{same_value};
 
 use wfe_defs::{Guard, Interval, Shown};
 use wfe_words::SchemeKind;

@@ -9,7 +9,8 @@ use Rattle.laws.specs.defs.declared.event.Event.{Event}
 use Rattle.laws.specs.defs.declared.event.Event.TheVariants as events
 use Rattle.laws.specs.records.Record.{Past, begins, value_since}
 use Rattle.laws.specs.records.Record.Past.{Start, Then}
-use Rattle.laws.specs.StateAt.{bucket_at, changes_of, count_of, row_at, value_at, was_current, with_change}
+use Rattle.laws.specs.StateAt.{bucket_at}
+use Rattle.laws.specs.StructuresAt.{changes_of, count_of, row_at, value_at, was_current, with_change}
 use Rattle.wfe_defs.specs.declared.fold.Change.{Change}
 use Rattle.wfe_defs.specs.Pairs.{pairs_after, value_in}
 use Rattle.wfe_check_map.specs.declared.bucket.Mark.{Mark}

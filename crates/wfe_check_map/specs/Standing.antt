@@ -2,7 +2,7 @@
 use Rattle.std.specs.Prelude.{◌≡◌, ℕ, [], ◌<◌, ◌≤◌, length, drop, slice_index, slice_index_or}
 use Rattle.laws.specs.words.declared.config.Config.{Config}
 use Rattle.laws.specs.records.Record.{Past, begins}
-use Rattle.laws.specs.StateAt.{queued_of, taken_of, all_taken}
+use Rattle.laws.specs.StructuresAt.{queued_of, taken_of, all_taken}
 use Rattle.wfe_check_map.specs.declared.contents.Contents.{Contents}
 use Rattle.wfe_check_rows.specs.Positions.{entries, since, ceased}
 use Rattle.wfe_check_map.specs.Told.{Waiting, marks_of}

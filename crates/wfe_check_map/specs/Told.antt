@@ -4,7 +4,8 @@ use Rattle.laws.specs.records.Record.{Past}
 use Rattle.laws.specs.records.Record.Past.{Start, Then}
 use Rattle.laws.specs.defs.declared.event.Event.{Event}
 use Rattle.laws.specs.defs.declared.event.Event.TheVariants as events
-use Rattle.laws.specs.StateAt.{bucket_at, same_value}
+use Rattle.laws.specs.StateAt.{bucket_at}
+use Rattle.laws.specs.StructuresAt.{same_value}
 use Rattle.wfe_defs.specs.Pairs.{pairs_after, value_in}
 use Rattle.wfe_check_map.specs.declared.bucket.Mark.{Mark}
 use Rattle.wfe_check_map.specs.Marks.{changes_in}

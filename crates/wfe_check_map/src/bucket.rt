@@ -4,7 +4,7 @@
 ghost use Rattle.std.specs.Prelude.{◌≡◌, ◌<◌, ◌≤◌, [], ◌∷◌, ◌++◌, length, take, map, slice_get, OnOk};
 ghost use Rattle.wfe_defs.specs.Pairs.{pairs_after, value_in};
 ghost use Rattle.wfe_check_map.specs.Marks.{changes_in};
-ghost use Rattle.laws.specs.StateAt.{same_value as is_same};
+ghost use Rattle.laws.specs.StructuresAt.{same_value as is_same};
 ghost use Rattle.wfe_check_map.specs.Told.{current_by, numbered_in, row_in, shows_in};
 ghost use Rattle.wfe_check_map.specs.Steps.{IsLast, AreLinked, EndsAt, SkipsTo, last_of, numbered};
 

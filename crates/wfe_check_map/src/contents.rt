@@ -3,7 +3,8 @@ ghost use Rattle.std.specs.Prelude.{◌≡◌, ◌<◌, ◌==◌, ◌&&◌, ◌+
 ghost use Rattle.std.specs.Prelude.{is_none};
 ghost use Rattle.laws.specs.MapLaw.{map_ok};
 ghost use Rattle.laws.specs.QueueLaw.{queue_ok, empty_ok};
-ghost use Rattle.laws.specs.StateAt.{began_of, bucket_of, count_of, row_at, same_value as is_same, value_at, was_current, was_empty as is_empty_since};
+ghost use Rattle.laws.specs.StateAt.{began_of};
+ghost use Rattle.laws.specs.StructuresAt.{bucket_of, count_of, row_at, same_value as is_same, value_at, was_current, was_empty as is_empty_since};
 ghost use Rattle.laws.specs.records.Record.{Past};
 ghost use Rattle.laws.specs.records.Record.Past.{Start, Then};
 ghost use Rattle.laws.specs.Ranges.{EntryIn};

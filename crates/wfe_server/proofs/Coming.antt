@@ -10,7 +10,7 @@ use Rattle.std.specs.Prelude.{All, map}
 use Rattle.std.specs.declared.alloc.Global.{Global}
 use Rattle.std.specs.declared.vec.Vec.{Vec}
 use Rattle.wfe_table.specs.all.RunLaw.{AtClose, call_made, events_of_all}
-use Rattle.laws.specs.StateAt.{Filling}
+use Rattle.laws.specs.StructuresAt.{Filling}
 use Rattle.wfe_table.specs.all.Runs.{logs_of}
 use Rattle.wfe_core.proofs.Ranges.{bounds_of}
 use Rattle.wfe_core.specs.Locals.{Group}

@@ -1,5 +1,5 @@
 // One worker for each seat of a table that they share, from its making to its end.
-ghost use Rattle.std.specs.Prelude.{◌≡◌, ◌<◌, ◌≤◌, ℕ, [], All, IfOk, None, length, map, slice_index_or};
+ghost use Rattle.std.specs.Prelude.{◌≡◌, ◌<◌, ◌≤◌, ℕ, [], All, IfOk, None, length, slice_index_or};
 ghost use Rattle.wfe_table.specs.rule.Views.{seat_of};
 ghost use Rattle.wfe_table.specs.Public.{new_seat, new_seats};
 ghost use Rattle.wfe_table.specs.Closing.{closing_of};

@@ -1,5 +1,5 @@
 // A worker: one seat with its script.
-ghost use Rattle.std.specs.Prelude.{◌≡◌, ◌<◌, IfOk, OnOk, length, slice_index_or, true};
+ghost use Rattle.std.specs.Prelude.{◌≡◌, IfOk, OnOk, true};
 ghost use Rattle.wfe_core.specs.Locals.{may_begin, stays};
 ghost use Rattle.wfe_table.specs.Public.{IsOf};
 ghost use Rattle.wfe_server_lines.specs.Fitting.{MayBegin};

@@ -3,7 +3,7 @@ use Rattle.std.proofs.Common.{List, [], ap, arith, drop, get_or, length, sym, ta
 use Rattle.std.proofs.lemmas.List.{append-nil, append_assoc, drop_all, drop_more, get_or-map, length-map, take_more}
 use Rattle.std.specs.Fmt.{decimal}
 use Rattle.std.specs.Prelude.{map}
-use Rattle.laws.specs.StateAt.{Filling}
+use Rattle.laws.specs.StructuresAt.{Filling}
 use Rattle.wfe_core.specs.defs.Pairs.{Pair}
 use Rattle.wfe_table_end.specs.declared.closed.BucketRow.{BucketRow}
 use Rattle.wfe_table_end.specs.Contents.{filling_of}

@@ -1,7 +1,7 @@
 -- The lines of a closed table.
 use Rattle.std.specs.Prelude.{List, [], codes, if◌then◌else◌, ℕ, ◌+◌, ◌++◌, ◌==◌, ◌∷◌}
 use Rattle.std.specs.Fmt.{decimal}
-use Rattle.laws.specs.StateAt.{Filling}
+use Rattle.laws.specs.StructuresAt.{Filling}
 use Rattle.wfe_core.specs.defs.Pairs.{Pair}
 use Rattle.wfe_trace.specs.Record.{line_of}
 

@@ -26,7 +26,7 @@ use Rattle.wfe_drive_rule.specs.Handles.{IsResting, IsSeated, IsTracked}
 use Rattle.wfe_drive_rule.specs.Views.{Handle, Track, call_in, entered, own, seat_of, standing}
 use Rattle.wfe_drive_rule.specs.history.History.{Item, record_of, world_of}
 use Rattle.wfe_drive_rule.proofs.Seated.{resting_slot}
-use Rattle.law_moves.proofs.Whole.{histories_are_paced}
+use Rattle.law_bounds.proofs.Paces.{histories_are_paced}
 use Rattle.wfe_table.specs.Calls.{IsBoundedPast, IsLawfulPast, IsMade, IsPacedPast, group_of}
 use Rattle.wfe_table.specs.Public.{SeatNow}
 use Rattle.wfe_table.specs.Sound.{IsMet}

@@ -16,7 +16,7 @@ use Rattle.law_all.specs.Logs.Versions.{counts_of}
 use Rattle.law_all.specs.Whole.{IsLawful}
 use Rattle.law_bounds.specs.Waits.{WaitsFew, came_after, came_in}
 use Rattle.law_bounds.specs.Whole.{IsBounded}
-use Rattle.law_moves.specs.Whole.{IsPaced}
+use Rattle.law_bounds.specs.Paces.{IsPaced}
 use Rattle.laws.specs.Standing.{is_leave}
 use Rattle.wfe_drive_call.specs.drive_words.Called.{Ends}
 use Rattle.wfe_drive_rule.specs.Handles.{IsTracked}

@@ -1,6 +1,6 @@
 -- What a history comes to: a World of its layout with the invariant, whose book has of the map and of the queue what the record says.
 use Rattle.std.proofs.Common.{List, true, ℕ, ◌≡◌}
-use Rattle.laws.specs.StateAt.{changes_of, queued_of, taken_of}
+use Rattle.laws.specs.StructuresAt.{changes_of, queued_of, taken_of}
 use Rattle.law_reasons.specs.inv.history.History.{Item, Made, made_of}
 use Rattle.law_reasons.specs.inv.Inv.{Inv}
 use Rattle.law_reasons.proofs.inv.history.Snoc.{layout_is}

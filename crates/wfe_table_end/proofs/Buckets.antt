@@ -4,7 +4,7 @@ use Rattle.std.proofs.Math.Seq.{take-length}
 use Rattle.std.proofs.lemmas.List.{nil_from_length}
 use Rattle.std.proofs.lemmas.List.FromFn.{fill_by_all}
 use Rattle.std.specs.Prelude.{◌==◌}
-use Rattle.laws.specs.StateAt.{Filling, changes_of, filling_at}
+use Rattle.laws.specs.StructuresAt.{Filling, changes_of, filling_at}
 use Rattle.laws.specs.records.Record.{Past}
 use Rattle.law_reasons.specs.inv.Contents.Buckets.{BucketShows}
 use Rattle.wfe_core.proofs.Facts.{one_less_one_more, zero_of_test}

@@ -2,7 +2,8 @@
 use Rattle.std.proofs.Common.{List, ap, drop, map, refl, subst, sym, ℕ, ◌-◌, ◌∙◌, ◌≡◌}
 use Rattle.std.specs.List.{range_with_len}
 use mathlib.Core.Path.{fun_ext}
-use Rattle.laws.specs.StateAt.{Filling, numbered_from, taken_at}
+use Rattle.laws.specs.StateAt.{taken_at}
+use Rattle.laws.specs.StructuresAt.{Filling, numbered_from}
 use Rattle.law_reasons.specs.inv.history.History.{Item, record_of, world_of}
 use Rattle.laws.specs.records.Record.{Past}
 use Rattle.law_reasons.proofs.inv.Inv.Tells.{inv_shows}

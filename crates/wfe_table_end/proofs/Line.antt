@@ -14,7 +14,7 @@ use Rattle.law_reasons.specs.inv.rows.Chain.{queue_of}
 use Rattle.law_reasons.specs.inv.rows.Queue.{in_queue}
 use Rattle.law_reasons.specs.inv.rows.Rows.{Status, is_taken}
 use Rattle.law_reasons.specs.inv.rows.Rows.Status.{Free, Claimed, Born, Linked, InQueue, Cut, Sealed, Listed}
-use Rattle.laws.specs.StateAt.{numbered_from}
+use Rattle.laws.specs.StructuresAt.{numbered_from}
 use Rattle.wfe_core.proofs.Facts.{one_less_one_more, same_test, zero_of_test}
 use Rattle.wfe_core.specs.World.{World}
 use Rattle.wfe_core.specs.words.Place.{Place, row_count}

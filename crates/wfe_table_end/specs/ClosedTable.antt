@@ -1,7 +1,8 @@
 -- What a table that is closed holds, by the record of a history that comes to its words.
 use Rattle.std.specs.Prelude.{List, drop, map, ℕ, ◌≡◌}
 use Rattle.std.specs.List.{range_with_len}
-use Rattle.laws.specs.StateAt.{clock_of, filling_at, numbered_from, queued_of, taken_at, taken_of}
+use Rattle.laws.specs.StateAt.{clock_of, taken_at}
+use Rattle.laws.specs.StructuresAt.{filling_at, numbered_from, queued_of, taken_of}
 use Rattle.law_reasons.specs.inv.history.History.{Item, world_of}
 use Rattle.laws.specs.records.Record.{Past}
 use Rattle.wfe_core.specs.words.Place.{row_count}

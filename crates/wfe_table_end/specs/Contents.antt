@@ -4,7 +4,7 @@ use Rattle.std.specs.List.{range_with_len}
 use Rattle.wfe_core.specs.Allocate.{is_claimed}
 use Rattle.wfe_core.specs.Get.{key_place, value_place}
 use Rattle.wfe_core.specs.defs.Pairs.{Pair}
-use Rattle.laws.specs.StateAt.{Filling}
+use Rattle.laws.specs.StructuresAt.{Filling}
 use Rattle.wfe_core.specs.words.Place.{Place, claim_word, is_valid, row_count, words}
 use Rattle.wfe_core.specs.words.Place.Place.{Bucket, Claim, Clock, Head, Row}
 use Rattle.wfe_core.specs.words.declared.layout.Layout.{Layout}

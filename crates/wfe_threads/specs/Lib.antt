@@ -1,2 +1,1 @@
-pub mod OnTable
 pub mod Works

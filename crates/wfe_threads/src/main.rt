@@ -1,11 +1,10 @@
-//! A program on the threads' table, as a user of the library writes it. Its threads make each call (`worker.rt`), fifteen thousand with
-//! a seat of its own each, those aside that it had to repeat; then come tables whose threads come and go (`shifts.rt`). What is printed
-//! is the same in whatever order the threads took their steps.
+//! A program on the threads' table that makes each call (`worker.rt`). It is as a user of the library writes it. Each thread makes
+//! fifteen thousand calls with a seat of its own, those aside that it had to repeat, and what is printed is the same in
+//! whatever order the threads took their steps.
 #![tactic(auto)]
 
 mod boxes;
 mod report;
-mod shifts;
 mod tally;
 mod worker;
 
@@ -15,7 +14,6 @@ ghost use Rattle.wfe_threads.specs.Works.{WorksOn};
 
 use boxes::Boxes;
 use report::{Ended, print_report};
-use shifts::print_shifts;
 use std::alloc::Global;
 use std::process::ExitCode;
 use std::thread;
@@ -150,7 +148,7 @@ fn run<R: Threads + Sync + Print + AllocGlobal>(
     ended.judge()
 }
 
-fn print_all<R: Threads + Sync + Print + AllocGlobal>(rt: &R) -> Result<(), &'static str> {
+fn main(rt: HostRuntime) -> ExitCode {
     for scheme in [
         SchemeKind::He,
         SchemeKind::Ibr,
@@ -158,18 +156,11 @@ fn print_all<R: Threads + Sync + Print + AllocGlobal>(rt: &R) -> Result<(), &'st
         SchemeKind::Hp,
     ] {
         for count in [2, 4] {
-            run(rt, scheme, count)?;
+            if let Err(fault) = run(&rt, scheme, count) {
+                let _ = eprintln!(rt; "{fault}");
+                return ExitCode::FAILURE;
+            }
         }
     }
-    print_shifts(rt)
-}
-
-fn main(rt: HostRuntime) -> ExitCode {
-    match print_all(&rt) {
-        Ok(()) => ExitCode::SUCCESS,
-        Err(fault) => {
-            let _ = eprintln!(rt; "{fault}");
-            ExitCode::FAILURE
-        }
-    }
+    ExitCode::SUCCESS
 }

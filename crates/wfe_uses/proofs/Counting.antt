@@ -8,7 +8,7 @@ use Rattle.std.proofs.lemmas.List.Sums.{sum_by-cons, sum_by_push}
 use Rattle.std.proofs.lemmas.Option.{get_or_from_slice_get}
 use Rattle.std.specs.Prelude.{All, count_by, map, slice_get, sum_by}
 use Rattle.law_all.proofs.Runs.Lawful.{all_changes}
-use Rattle.laws.specs.StateAt.{bucket_of}
+use Rattle.laws.specs.StructuresAt.{bucket_of}
 use Rattle.wfe_core.specs.Desks.{Notes}
 use Rattle.wfe_core.specs.Locals.{Group}
 use Rattle.wfe_core.specs.defs.Pairs.{value_after, value_in}

@@ -7,7 +7,7 @@ use Rattle.std.proofs.lemmas.List.Sums.{sum_by-append, sum_by-cons, sum_by-take-
 use Rattle.std.specs.Prelude.{All, count_by, drop, map, slice_get, sum_by}
 use Rattle.std.specs.declared.alloc.Global.{Global}
 use Rattle.std.specs.declared.vec.Vec.{Vec}
-use Rattle.laws.specs.StateAt.{numbered_from}
+use Rattle.laws.specs.StructuresAt.{numbered_from}
 use Rattle.wfe_core.specs.Locals.{Group}
 use Rattle.wfe_core.specs.defs.declared.call.Answer.TheVariants as answers
 use Rattle.wfe_core.specs.defs.declared.call.Answer.{Answer}

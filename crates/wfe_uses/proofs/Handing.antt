@@ -1,7 +1,7 @@
 -- What a seat's put made is known to another seat that has heard of it, whose get then finds no older version.
 use Rattle.std.proofs.Common.{List, ap, arith, subst, sym, ℕ, ◌∙◌, ◌≡◌}
 use Rattle.law_all.proofs.Logs.Grows.{Grows, grows_along, grows_tells, records_grow, same_changes}
-use Rattle.laws.specs.StateAt.{bucket_of, value_at}
+use Rattle.laws.specs.StructuresAt.{bucket_of, value_at}
 use Rattle.wfe_core.specs.defs.Pairs.{pairs_after, value_in}
 use Rattle.wfe_core.specs.defs.declared.call.Answer.TheVariants as answers
 use Rattle.wfe_core.specs.defs.declared.call.Call.TheVariants as calls

@@ -1,6 +1,6 @@
 -- What is known of a put that is done, to its thread and to one that was told of it.
 use Rattle.std.specs.Prelude.{List, Some, ℕ, ◌≡◌, ◌≤◌}
-use Rattle.laws.specs.StateAt.{bucket_of, count_of, value_at}
+use Rattle.laws.specs.StructuresAt.{bucket_of, count_of, value_at}
 use Rattle.wfe_core.specs.words.declared.layout.Layout.{Layout}
 use Rattle.wfe_table.specs.Public.{TableNow}
 use Rattle.wfe_table.specs.history.History.{Item, record_of}

@@ -15,8 +15,9 @@ use Rattle.law_all.specs.inv.model.defs.Pairs.{pairs_after, value_in, Pair}
 use Rattle.law_all.specs.inv.model.words.declared.config.Config.{Config}
 use Rattle.law_all.specs.laws.AnswerLaw.{suits}
 use Rattle.law_all.specs.laws.HistoryAnswers.{answer_right, owes, same_told}
-use Rattle.law_all.specs.laws.StateAt.RowShows.{LinkedAt, ShowsVersion, Unlinked}
-use Rattle.law_all.specs.laws.StateAt.{RowShows, began_of, begun_at, bucket_of, count_of, is_open, pairs_at, same_value, shows_of, stood_at, told_of, value_at}
+use Rattle.law_all.specs.laws.StructuresAt.RowShows.{LinkedAt, ShowsVersion, Unlinked}
+use Rattle.law_all.specs.laws.StateAt.{began_of, is_open, stood_at, told_of}
+use Rattle.law_all.specs.laws.StructuresAt.{RowShows, begun_at, bucket_of, count_of, pairs_at, same_value, shows_of, value_at}
 use Rattle.law_all.specs.inv.history.Record.Past.{Start, Then}
 use Rattle.law_all.specs.inv.history.Record.{Each, Past}
 use Rattle.law_all.specs.Kept.{Keeping, kept_by, kept_in}

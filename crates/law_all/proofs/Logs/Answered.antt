@@ -9,7 +9,7 @@ use Rattle.law_scans.specs.laws.defs.declared.fold.Change.{Change}
 use Rattle.law_scans.specs.laws.defs.declared.fold.Change.TheVariants as changes
 use Rattle.law_scans.specs.laws.words.declared.config.Config.{Config}
 use Rattle.law_scans.specs.laws.Lists.{adopts, has_left, is_adopted, is_left}
-use Rattle.law_scans.specs.laws.StateAt.{bucket_of, count_of, pairs_at, queued_of, value_at}
+use Rattle.law_scans.specs.laws.StructuresAt.{bucket_of, count_of, pairs_at, queued_of, value_at}
 use Rattle.std.specs.Prelude.{◌==◌, ◌&&◌, ◌||◌, is_some}
 use Rattle.law_scans.specs.laws.defs.Entry.{Entry}
 use Rattle.law_scans.specs.laws.records.Record.{Past, tells}

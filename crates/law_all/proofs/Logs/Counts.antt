@@ -1,7 +1,7 @@
 -- What is counted at positions, and where a call began.
 use Rattle.std.proofs.Common.{ℕ, ◌≡◌, Bool, true, false, length, refl, sym, subst, arith}
 use Rattle.law_scans.specs.laws.defs.declared.event.Event.{Event}
-use Rattle.law_scans.specs.laws.StateAt.{begun_at, queued_of, taken_of}
+use Rattle.law_scans.specs.laws.StructuresAt.{begun_at, queued_of, taken_of}
 use Rattle.law_scans.specs.laws.records.Record.{Past, begins, value_since}
 use Rattle.law_scans.specs.laws.records.Record.Past.{Start, Then}
 use Rattle.law_all.specs.Logs.Versions.{AtMost, Counts, counts_of}

@@ -9,7 +9,8 @@ use Rattle.law_scans.specs.laws.defs.declared.event.Event.{Event}
 use Rattle.law_scans.specs.laws.defs.declared.event.Event.TheVariants as events
 use Rattle.law_scans.specs.laws.defs.declared.fold.Change.{Change}
 use Rattle.law_scans.specs.laws.defs.declared.fold.Change.TheVariants as the_changes
-use Rattle.law_scans.specs.laws.StateAt.{bucket_at, changes_of, count_of, queued_of, row_at, taken_of, with_change}
+use Rattle.law_scans.specs.laws.StateAt.{bucket_at}
+use Rattle.law_scans.specs.laws.StructuresAt.{changes_of, count_of, queued_of, row_at, taken_of, with_change}
 use Rattle.law_scans.specs.inv.history.History.{Item, Begins, Steps, Made, did, done_if, fits, first_made, made_from, made_of}
 use Rattle.law_scans.specs.laws.records.Record.{Past, tells, tells_of}
 use Rattle.law_scans.specs.laws.records.Record.Past.{Then}

@@ -12,7 +12,8 @@ use Rattle.law_scans.specs.laws.AnswerLaw.{same_event}
 use Rattle.law_scans.specs.laws.HistoryAnswers.{same_told}
 use Rattle.law_scans.specs.laws.MapLaw.{map_ok}
 use Rattle.law_scans.specs.laws.QueueLaw.{queue_ok}
-use Rattle.law_scans.specs.laws.StateAt.{begun_at, bucket_of, changes_of, count_of, queued_of, same_value, taken_of, value_at, was_current, with_told}
+use Rattle.law_scans.specs.laws.StateAt.{with_told}
+use Rattle.law_scans.specs.laws.StructuresAt.{begun_at, bucket_of, changes_of, count_of, queued_of, same_value, taken_of, value_at, was_current}
 use Rattle.law_scans.specs.laws.records.Record.{Past}
 use Rattle.law_scans.specs.laws.records.Record.Past.{Then}
 use Rattle.law_scans.proofs.inv.Machines.{is_within}

@@ -13,7 +13,8 @@ use Rattle.law_scans.specs.laws.words.declared.config.Config.{Config}
 use Rattle.law_scans.specs.laws.HistoryHolds.{sources_ok}
 use Rattle.law_scans.specs.laws.HoldLaw.{has_had}
 use Rattle.law_scans.specs.laws.Once.{order_ok}
-use Rattle.law_scans.specs.laws.StateAt.{began_of, bucket_at, bucket_of, count_of, has_told, row_at, same_value}
+use Rattle.law_scans.specs.laws.StateAt.{began_of, bucket_at, has_told}
+use Rattle.law_scans.specs.laws.StructuresAt.{bucket_of, count_of, row_at, same_value}
 use Rattle.law_scans.specs.laws.records.Record.{Past, Each, begins, held_since, own, told_since}
 use Rattle.law_scans.specs.laws.records.Record.Past.{Start, Then}
 use Rattle.law_all.specs.Logs.Answered.{IsRow}

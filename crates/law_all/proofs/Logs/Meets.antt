@@ -8,7 +8,7 @@ use Rattle.law_scans.specs.laws.defs.declared.call.Answer.TheVariants as answers
 use Rattle.law_scans.specs.laws.defs.declared.call.Call.{Call}
 use Rattle.law_scans.specs.laws.defs.declared.call.Call.TheVariants as calls
 use Rattle.law_scans.specs.laws.words.declared.config.Config.{Config}
-use Rattle.law_scans.specs.laws.StateAt.{bucket_of, count_of, queued_of, taken_of}
+use Rattle.law_scans.specs.laws.StructuresAt.{bucket_of, count_of, queued_of, taken_of}
 use Rattle.law_scans.specs.laws.records.Record.{Past}
 use Rattle.law_all.specs.Logs.Answered.{IsMet, Says}
 use Rattle.law_all.specs.Logs.Records.{LogsExtend}

@@ -9,7 +9,8 @@ use Rattle.law_scans.specs.laws.defs.declared.fold.Change.{Change}
 use Rattle.law_scans.specs.laws.defs.declared.fold.Change.TheVariants as changes
 use Rattle.law_scans.specs.laws.Once.{Due, due_at, due_cut, due_linked, meets_due, order_ok}
 use Rattle.law_scans.specs.laws.Once.Due.{ChangeDue, CutDue}
-use Rattle.law_scans.specs.laws.StateAt.{bucket_at, changes_of, count_of, row_at}
+use Rattle.law_scans.specs.laws.StateAt.{bucket_at}
+use Rattle.law_scans.specs.laws.StructuresAt.{changes_of, count_of, row_at}
 use Rattle.law_scans.specs.laws.records.Record.{Past, Each}
 use Rattle.law_scans.specs.laws.records.Record.Past.{Start, Then}
 

@@ -21,8 +21,9 @@ use Rattle.law_scans.specs.laws.words.declared.config.Config.{Config}
 use Rattle.law_scans.specs.laws.AnswerLaw.{full_ok, shows_value, tells_none}
 use Rattle.law_scans.specs.laws.HistoryAnswers.{look_reason, owes, put_if_reason, reason, same_told}
 use Rattle.law_scans.specs.laws.ScanLaw.{guards}
-use Rattle.law_scans.specs.laws.StateAt.{all_taken, begun_at, bucket_of, changes_of, count_of, had_version, has_told, is_give, is_read, is_row, is_there, pairs_at, queued_of, same_value, shows_of, stood_at, RowShows, taken_of, taken_since, times, value_at, was_current, was_empty}
-use Rattle.law_scans.specs.laws.StateAt.RowShows.{LinkedAt, ShowsVersion, Unlinked}
+use Rattle.law_scans.specs.laws.StateAt.{has_told, is_give, is_read, is_row, stood_at, taken_since, times}
+use Rattle.law_scans.specs.laws.StructuresAt.{all_taken, begun_at, bucket_of, changes_of, count_of, had_version, is_there, pairs_at, queued_of, same_value, shows_of, RowShows, taken_of, value_at, was_current, was_empty}
+use Rattle.law_scans.specs.laws.StructuresAt.RowShows.{LinkedAt, ShowsVersion, Unlinked}
 use Rattle.law_scans.specs.laws.records.Record.{Past, begins}
 use Rattle.law_scans.specs.laws.records.Record.Past.{Start, Then}
 use Rattle.law_all.specs.Logs.Answered.{IsAbsent, IsCrowded, IsDone, IsDoneAt, IsEmpty, IsFull, IsFullAt, IsGot, IsKept, IsLast, IsLooked, IsQueued, IsRow, IsSpent, IsSpentAt, IsStale, Says, SaysOfRows, value_left}

@@ -11,8 +11,9 @@ use Rattle.law_scans.specs.laws.defs.declared.fold.Change.TheVariants as changes
 use Rattle.law_scans.specs.laws.MapLaw.{map_ok}
 use Rattle.law_scans.specs.laws.Once.Due.{ChangeDue, CutDue}
 use Rattle.law_scans.specs.laws.Once.{Due, due_at, due_cut, due_linked, is_free, meets_due, order_ok}
-use Rattle.law_scans.specs.laws.StateAt.RowShows.{LinkedAt, ShowsVersion, Unlinked}
-use Rattle.law_scans.specs.laws.StateAt.{RowShows, bucket_at, bucket_of, changed_to, changes_of, count_of, row_at, row_changed, shows_of}
+use Rattle.law_scans.specs.laws.StructuresAt.RowShows.{LinkedAt, ShowsVersion, Unlinked}
+use Rattle.law_scans.specs.laws.StateAt.{bucket_at}
+use Rattle.law_scans.specs.laws.StructuresAt.{RowShows, bucket_of, changed_to, changes_of, count_of, row_at, row_changed, shows_of}
 use Rattle.law_scans.specs.laws.records.Record.Past.{Start, Then}
 use Rattle.law_scans.specs.laws.records.Record.{Each, Past}
 use Rattle.law_all.proofs.Logs.Grows.{grows_entry, more_count, same_row}

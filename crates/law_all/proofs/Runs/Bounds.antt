@@ -12,7 +12,7 @@ use Rattle.law_all.proofs.inv.Inv.Begun.{inv_start}
 use Rattle.law_all.proofs.inv.Inv.Tells.{inv_shows}
 use Rattle.law_all.proofs.inv.history.Along.{items_keep}
 use Rattle.law_reasons.proofs.reuse.Lawful.Books.{record_books}
-use Rattle.law_all.specs.laws.StateAt.{count_of, queued_of, taken_of}
+use Rattle.law_all.specs.laws.StructuresAt.{count_of, queued_of, taken_of}
 
 pub record Bounds (most : ℕ) (p : Past) : Type 0 where
   pub versions : (b : ℕ) → count_of b p ≤ most

@@ -15,7 +15,8 @@ use Rattle.law_all.specs.inv.model.defs.declared.fold.Change.TheVariants as chan
 use Rattle.law_all.specs.inv.model.words.declared.layout.Layout.{Layout}
 use Rattle.law_all.specs.laws.HistoryAnswers.{owes}
 use Rattle.law_all.specs.laws.MapLaw.{map_ok}
-use Rattle.law_all.specs.laws.StateAt.{bucket_of, changes_of, count_of, one, told}
+use Rattle.law_all.specs.laws.StateAt.{one, told}
+use Rattle.law_all.specs.laws.StructuresAt.{bucket_of, changes_of, count_of}
 use Rattle.law_all.specs.inv.history.History.{Item, record_of}
 use Rattle.law_all.specs.inv.history.Record.{Each, Past}
 use Rattle.law_all.specs.inv.history.Record.Past.{Start, Then}

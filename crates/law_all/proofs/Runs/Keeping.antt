@@ -12,8 +12,9 @@ use Rattle.law_all.specs.inv.model.words.declared.config.Config.{Config}
 use Rattle.law_all.specs.inv.model.words.declared.layout.Layout.{Layout}
 use Rattle.law_all.specs.laws.HistoryHolds.{copies_ok, indexes_ok}
 use Rattle.law_all.specs.laws.HistoryTable.{ranges_ok}
-use Rattle.law_all.specs.laws.StateAt.RowShows.{ShowsVersion}
-use Rattle.law_all.specs.laws.StateAt.{began_of, changes_of, count_of, is_open, shows_of, stood_at, value_at}
+use Rattle.law_all.specs.laws.StructuresAt.RowShows.{ShowsVersion}
+use Rattle.law_all.specs.laws.StateAt.{began_of, is_open, stood_at}
+use Rattle.law_all.specs.laws.StructuresAt.{changes_of, count_of, shows_of, value_at}
 use Rattle.law_all.proofs.Whole.{histories_are_lawful}
 use Rattle.law_all.proofs.inv.history.Entries.{each_of_entries}
 use Rattle.law_all.specs.inv.history.History.{Item, record_of}

@@ -20,9 +20,10 @@ use Rattle.law_all.specs.laws.HistoryAnswers.{answer_right, owes, reason, same_t
 use Rattle.law_all.specs.laws.HistoryHolds.{clears_at, copies_ok, indexes_ok, protects_at}
 use Rattle.law_all.specs.laws.HistoryTable.{is_in_range, ranges_ok}
 use Rattle.law_all.specs.laws.Standing.{is_copy}
-use Rattle.law_all.specs.laws.StateAt.RowShows.{LinkedAt, ShowsVersion, Unlinked}
+use Rattle.law_all.specs.laws.StructuresAt.RowShows.{LinkedAt, ShowsVersion, Unlinked}
 use Rattle.law_all.specs.laws.Lists.{has_left}
-use Rattle.law_all.specs.laws.StateAt.{RowShows, began_of, bucket_of, count_of, has_told, is_open, is_row, shows_of, stood_at, stood_by, told_of}
+use Rattle.law_all.specs.laws.StateAt.{began_of, has_told, is_open, is_row, stood_at, stood_by, told_of}
+use Rattle.law_all.specs.laws.StructuresAt.{RowShows, bucket_of, count_of, shows_of}
 use Rattle.law_all.specs.inv.history.Record.Past.{Start, Then}
 use Rattle.law_all.specs.inv.history.Record.{Each, Past, begins, own, tells, told_since}
 use Rattle.law_all.specs.Logs.Answered.{IsRow, IsShown, Says, SaysOfRows}

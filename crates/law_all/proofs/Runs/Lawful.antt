@@ -9,7 +9,8 @@ use Rattle.law_all.specs.inv.model.defs.Pairs.{pairs_after}
 use Rattle.law_all.specs.inv.model.defs.declared.fold.Change.{Change}
 use Rattle.law_all.specs.inv.model.words.Place.{row_count}
 use Rattle.law_all.specs.inv.model.words.declared.layout.Layout.{Layout}
-use Rattle.law_all.specs.laws.StateAt.{Filling, changes_of, clock_of, filling_at, is_among, one, queued_of, taken_at, taken_of}
+use Rattle.law_all.specs.laws.StateAt.{clock_of, is_among, one, taken_at}
+use Rattle.law_all.specs.laws.StructuresAt.{Filling, changes_of, filling_at, queued_of, taken_of}
 use Rattle.law_all.specs.inv.history.History.{record_of}
 use Rattle.law_all.specs.inv.history.Record.{Past}
 use Rattle.law_all.proofs.Runs.Agrees.{runs_agree}

@@ -15,7 +15,8 @@ use Rattle.law_all.specs.inv.model.words.declared.layout.Layout.{Layout}
 use Rattle.law_all.specs.inv.history.History.{Item, record_of}
 use Rattle.law_all.specs.inv.history.Record.Past.{Then}
 use Rattle.law_all.specs.inv.history.Record.{Past}
-use Rattle.law_all.specs.laws.StateAt.{Filling, changes_of, count_of, filling_at, is_open, opened_by}
+use Rattle.law_all.specs.laws.StateAt.{is_open, opened_by}
+use Rattle.law_all.specs.laws.StructuresAt.{Filling, changes_of, count_of, filling_at}
 use Rattle.law_all.specs.Logs.Ledgers.{Ledger, ledger_by, ledger_of, left_by, log_of}
 use Rattle.law_all.specs.RunLaw.{bucket_in, log_in}
 use Rattle.law_all.specs.RunOrder.{Answering, RunOrder, Shows, answer_of, made_by}

@@ -24,7 +24,7 @@ use Rattle.law_all.specs.Logs.Versions.{Counts, counts_of, met_in}
 use Rattle.law_all.proofs.Logs.Grows.{Grows, grows_tells}
 use Rattle.law_all.specs.laws.AnswerLaw.{suits}
 use Rattle.law_all.specs.laws.QueueLaw.{queue_ok}
-use Rattle.law_all.specs.laws.StateAt.{queued_of, taken_of}
+use Rattle.law_all.specs.laws.StructuresAt.{queued_of, taken_of}
 use Rattle.law_all.specs.RunLaw.{InOrder, IsCall, QueuesRight, is_queued_as, is_taken_as}
 use Rattle.law_all.specs.Runs.{AtRest, logs_of}
 use Rattle.law_all.proofs.Runs.Bounds.{bounds}

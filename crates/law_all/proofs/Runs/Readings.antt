@@ -26,7 +26,8 @@ use Rattle.law_all.proofs.Logs.Counts.{begun_counts}
 use Rattle.law_all.proofs.Logs.Grows.{Grows}
 use Rattle.law_all.specs.laws.HistoryAnswers.{put_reason, same_told}
 use Rattle.law_all.proofs.Logs.Heard.{AllHeard, ChangeHeard, heard_one, same_put, same_removed}
-use Rattle.law_all.specs.laws.StateAt.{bucket_of, changes_of, count_of, had_version, is_there, pairs_at, told_of}
+use Rattle.law_all.specs.laws.StateAt.{told_of}
+use Rattle.law_all.specs.laws.StructuresAt.{bucket_of, changes_of, count_of, had_version, is_there, pairs_at}
 use Rattle.law_all.specs.RunLaw.{IsCall, IsMade, ReadsRight, could_put}
 use Rattle.law_all.specs.Runs.{AtRest, logs_of}
 use Rattle.law_all.proofs.Runs.Bounds.{Bounds, bounds}

@@ -9,7 +9,7 @@ use Rattle.law_all.specs.inv.model.defs.declared.call.Call.{Call}
 use Rattle.law_all.specs.inv.model.defs.declared.call.Call.TheVariants as calls
 use Rattle.law_all.specs.inv.model.words.declared.config.Config.{Config}
 use Rattle.law_all.specs.inv.model.words.declared.layout.Layout.{Layout}
-use Rattle.law_all.specs.laws.StateAt.{bucket_of}
+use Rattle.law_all.specs.laws.StructuresAt.{bucket_of}
 use Rattle.law_all.specs.Logs.Answered.{Says}
 use Rattle.law_all.specs.Logs.Versions.{Counts, counts_of, met_in, number_by, number_queued, number_taken, seen_in, version_by, version_told}
 use Rattle.law_all.specs.inv.history.History.{Item, record_of}

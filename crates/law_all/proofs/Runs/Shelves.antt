@@ -11,8 +11,9 @@ use Rattle.law_all.specs.inv.model.defs.declared.event.Event.TheVariants as even
 use Rattle.law_all.specs.inv.model.defs.declared.event.Event.{Event}
 use Rattle.law_all.specs.inv.model.defs.declared.event.Root.TheVariants as roots
 use Rattle.law_all.specs.inv.model.words.declared.config.Config.{Config}
-use Rattle.law_all.specs.laws.StateAt.RowShows.{ShowsVersion}
-use Rattle.law_all.specs.laws.StateAt.{RowShows, changed_to, is_row, shows_of, stood_at}
+use Rattle.law_all.specs.laws.StructuresAt.RowShows.{ShowsVersion}
+use Rattle.law_all.specs.laws.StateAt.{is_row, stood_at}
+use Rattle.law_all.specs.laws.StructuresAt.{RowShows, changed_to, shows_of}
 use Rattle.law_all.specs.inv.history.Record.Past.{Start, Then}
 use Rattle.law_all.specs.inv.history.Record.{Past, tells}
 use Rattle.law_all.specs.Kept.{Keeping, kept_by, kept_from, kept_in, looked_by, looked_from, looked_in}

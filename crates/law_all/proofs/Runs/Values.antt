@@ -14,7 +14,8 @@ use Rattle.law_all.specs.inv.model.defs.declared.event.Event.TheVariants as even
 use Rattle.law_all.specs.inv.model.words.declared.layout.Layout.{Layout}
 use Rattle.law_all.specs.laws.HistoryAnswers.{owes}
 use Rattle.law_all.specs.laws.QueueLaw.{queue_ok}
-use Rattle.law_all.specs.laws.StateAt.{one, queued_of, taken_of, told}
+use Rattle.law_all.specs.laws.StateAt.{one, told}
+use Rattle.law_all.specs.laws.StructuresAt.{queued_of, taken_of}
 use Rattle.law_all.specs.inv.history.History.{Item, record_of}
 use Rattle.law_all.specs.inv.history.Record.{Each, Past}
 use Rattle.law_all.specs.inv.history.Record.Past.{Start, Then}

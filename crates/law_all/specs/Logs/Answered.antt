@@ -15,8 +15,9 @@ use Rattle.law_scans.specs.laws.defs.declared.event.Event.TheVariants as events
 use Rattle.law_scans.specs.laws.AnswerLaw.{adopted_else, stayed}
 use Rattle.law_scans.specs.laws.ScanLaw.{guards}
 use Rattle.law_scans.specs.laws.Lists.{has_left, is_adopted, list_of}
-use Rattle.law_scans.specs.laws.StateAt.{bucket_of, count_of, has_told, is_give, is_read, is_there, pairs_at, queued_of, row_at, shows_of, stood_at, taken_of, taken_since, times, value_at}
-use Rattle.law_scans.specs.laws.StateAt.RowShows.{ShowsVersion}
+use Rattle.law_scans.specs.laws.StateAt.{has_told, is_give, is_read, stood_at, taken_since, times}
+use Rattle.law_scans.specs.laws.StructuresAt.{bucket_of, count_of, is_there, pairs_at, queued_of, row_at, shows_of, taken_of, value_at}
+use Rattle.law_scans.specs.laws.StructuresAt.RowShows.{ShowsVersion}
 use Rattle.law_scans.specs.laws.records.Record.{Past, begins, held_since, tells}
 use Rattle.law_scans.specs.laws.records.Record.Past.{Then}
 use Rattle.law_all.specs.Logs.Versions.{AtMost, Counts, counts_of}

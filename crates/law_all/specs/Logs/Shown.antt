@@ -11,8 +11,9 @@ use Rattle.law_scans.specs.laws.defs.declared.event.Root.TheVariants as roots
 use Rattle.law_scans.specs.laws.words.Place.{is_valid}
 use Rattle.law_scans.specs.laws.words.declared.config.Config.{Config}
 use Rattle.law_scans.specs.laws.words.declared.layout.Layout.{Layout}
-use Rattle.law_scans.specs.laws.StateAt.RowShows.{ShowsVersion}
-use Rattle.law_scans.specs.laws.StateAt.{RowShows, began_of, bucket_of, is_row, shows_of, stood_at}
+use Rattle.law_scans.specs.laws.StructuresAt.RowShows.{ShowsVersion}
+use Rattle.law_scans.specs.laws.StateAt.{began_of, is_row, stood_at}
+use Rattle.law_scans.specs.laws.StructuresAt.{RowShows, bucket_of, shows_of}
 use Rattle.law_scans.specs.inv.history.History.{Item, record_of}
 use Rattle.law_scans.specs.laws.records.Record.{Each, Test}
 

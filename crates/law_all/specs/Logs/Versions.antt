@@ -5,7 +5,7 @@ use Rattle.law_scans.specs.laws.defs.declared.call.Answer.{Answer}
 use Rattle.law_scans.specs.laws.defs.declared.call.Answer.TheVariants as answers
 use Rattle.law_scans.specs.laws.defs.declared.call.Call.{Call}
 use Rattle.law_scans.specs.laws.defs.declared.call.Call.TheVariants as calls
-use Rattle.law_scans.specs.laws.StateAt.{bucket_of, count_of, queued_of, taken_of}
+use Rattle.law_scans.specs.laws.StructuresAt.{bucket_of, count_of, queued_of, taken_of}
 use Rattle.law_scans.specs.laws.records.Record.{Past}
 
 -- the changes of each bucket, the values queued, and how many of them were taken

@@ -6,7 +6,8 @@ use Rattle.law_all.specs.inv.history.History.{record_of}
 use Rattle.law_all.specs.inv.history.Record.{Past}
 use Rattle.law_all.specs.inv.model.words.declared.config.Config.{Config}
 use Rattle.law_all.specs.laws.Lists.{is_handed}
-use Rattle.law_all.specs.laws.StateAt.{count_of, is_open, one, taken_at, told}
+use Rattle.law_all.specs.laws.StateAt.{is_open, one, taken_at, told}
+use Rattle.law_all.specs.laws.StructuresAt.{count_of}
 use Rattle.law_bounds.specs.Hazards.{FreeRow, RecordsNeedRows}
 use Rattle.law_bounds.specs.Rows.{FewTaken, changed_below, listed_below, open_below, used_at, waiting_at}
 use Rattle.law_bounds.proofs.Hazards.Keeps.{Sized, ever_bound, sized}

@@ -9,7 +9,7 @@ use Rattle.law_all.specs.Runs.{at_close}
 use Rattle.law_all.specs.inv.history.History.{record_of}
 use Rattle.law_all.specs.inv.history.Record.{Past}
 use Rattle.law_all.specs.inv.model.words.declared.layout.Layout.{Layout}
-use Rattle.law_all.specs.laws.StateAt.{Filling, count_of, filling_at, numbered_from, queued_of, taken_of}
+use Rattle.law_all.specs.laws.StructuresAt.{Filling, count_of, filling_at, numbered_from, queued_of, taken_of}
 use Rattle.law_bounds.specs.Rows.{ClosesLoseNone, ClosesWhole, NoneLost, changed_below, is_changed, listed_below, used_at, waiting_at}
 use Rattle.law_bounds.proofs.Rows.Lost.{records_lose_none}
 

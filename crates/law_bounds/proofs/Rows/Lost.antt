@@ -28,7 +28,8 @@ use Rattle.law_all.specs.inv.rows.Rows.Hand.{Dated, Empty, Known, New, Old, Take
 use Rattle.law_all.specs.inv.rows.Rows.Status.{Born, Claimed, Cut, Free, InQueue, Linked, Listed, Sealed}
 use Rattle.law_all.specs.laws.HistoryTable.{is_in_range, ranges_ok}
 use Rattle.law_all.specs.laws.Lists.{list_of}
-use Rattle.law_all.specs.laws.StateAt.{bucket_at, count_of, head_at, is_one_of, is_open, next_at, one, opened_by, queued_of, taken_at, taken_of}
+use Rattle.law_all.specs.laws.StateAt.{bucket_at, head_at, is_one_of, is_open, next_at, one, opened_by, taken_at}
+use Rattle.law_all.specs.laws.StructuresAt.{count_of, queued_of, taken_of}
 use Rattle.law_held.proofs.NextRows.Behind.{BehindKept, behind_of}
 use Rattle.law_held.proofs.Roots.Leads.{Leads, leads_of}
 use Rattle.law_reuse.specs.Answers.{IsBooked}

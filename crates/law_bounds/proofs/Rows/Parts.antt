@@ -17,7 +17,8 @@ use Rattle.law_all.specs.inv.rows.Rows.{Status}
 use Rattle.law_all.specs.inv.rows.Rows.Status.{Born, Claimed, Cut, Free, InQueue, Linked, Listed, Sealed}
 use Rattle.law_all.specs.laws.HistoryTable.{is_in_range, ranges_ok}
 use Rattle.law_all.specs.laws.Lists.{handed_by, list_of}
-use Rattle.law_all.specs.laws.StateAt.{bucket_at, changes_of, count_of, is_one_of, one, with_change}
+use Rattle.law_all.specs.laws.StateAt.{bucket_at, is_one_of, one}
+use Rattle.law_all.specs.laws.StructuresAt.{changes_of, count_of, with_change}
 use Rattle.law_scans.proofs.Ordering.Ordered.{word_of}
 use Rattle.law_bounds.specs.Rows.{are_apart, bucket_rows, changed_below, listed_below, listed_rows, row_in}
 use Rattle.law_bounds.proofs.Rows.Apart.{Part, part_as, part_both, same_bool}

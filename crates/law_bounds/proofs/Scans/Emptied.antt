@@ -21,7 +21,8 @@ use Rattle.law_all.specs.laws.EraLaw.{kind_ok}
 use Rattle.law_all.specs.laws.HoldLaw.{is_blank}
 use Rattle.law_all.specs.laws.Lists.{list_of}
 use Rattle.law_all.specs.laws.ScanLaw.{guard_at, guards, is_over, is_partial, next_back, next_number, read_next, read_ok, scan_ok}
-use Rattle.law_all.specs.laws.StateAt.{hazard_of, is_index, is_scan, published_at, read_by, read_of, same_guard, same_span, same_value, scans_of, value_of, with_read}
+use Rattle.law_all.specs.laws.StateAt.{hazard_of, is_index, is_scan, published_at, read_by, read_of, same_guard, same_span, scans_of, value_of, with_read}
+use Rattle.law_all.specs.laws.StructuresAt.{same_value}
 use Rattle.law_bounds.specs.Scans.{emptied_ok, is_nil, publishes_below, tells_other}
 
 -- all that was read is nothing

@@ -39,7 +39,8 @@ use Rattle.law_scans.proofs.inv.Inv.Reached.{inv_reached}
 use Rattle.law_scans.specs.laws.records.Record.{Past, Each, tells_of}
 use Rattle.law_scans.specs.laws.records.Record.Past.{Start, Then}
 use Rattle.law_scans.specs.laws.records.Turns as schedule
-use Rattle.law_scans.specs.laws.StateAt.{count_of, bucket_at, stood_at, row_at, null_by, null_of}
+use Rattle.law_scans.specs.laws.StateAt.{bucket_at, stood_at, null_by, null_of}
+use Rattle.law_scans.specs.laws.StructuresAt.{count_of, row_at}
 use Rattle.law_scans.proofs.reuse.history.AllOf.{all_of, of_weaker}
 use Rattle.law_scans.proofs.inv.Machines.{is_machine, base_machine, clear_machine}
 use Rattle.law_scans.proofs.laws.Tells.{seen_tells, tells_both}

@@ -21,7 +21,8 @@ use Rattle.law_scans.proofs.inv.model.Facts.{same_number, first_of, rest_of}
 use Rattle.law_scans.proofs.inv.Contents.Contents.Told.{booked_append}
 use Rattle.law_scans.specs.laws.records.Record.{Past, tells_of}
 use Rattle.law_scans.specs.laws.records.Record.Past.{Start, Then}
-use Rattle.law_scans.specs.laws.StateAt.{changes_of, count_of, bucket_at, row_at}
+use Rattle.law_scans.specs.laws.StateAt.{bucket_at}
+use Rattle.law_scans.specs.laws.StructuresAt.{changes_of, count_of, row_at}
 use Rattle.law_scans.proofs.reuse.history.AllOf.{all_of, of_weaker}
 use Rattle.law_scans.proofs.reuse.Lawful.Maps.{told_changes}
 use Rattle.law_scans.proofs.Placing.Fronts.{linked_front, queued_front, taken_front}

@@ -34,7 +34,8 @@ use Rattle.law_scans.specs.inv.Known.{Known}
 use Rattle.law_scans.proofs.inv.Inv.Begun.{known_start, known_begin}
 use Rattle.law_scans.proofs.inv.Inv.Kept.{known_kept, asked_next}
 use Rattle.law_scans.proofs.inv.Inv.Whole.{origins_need}
-use Rattle.law_scans.specs.laws.StateAt.{same_value, tail_at, bucket_at, head_at, began_of}
+use Rattle.law_scans.specs.laws.StateAt.{tail_at, bucket_at, head_at, began_of}
+use Rattle.law_scans.specs.laws.StructuresAt.{same_value}
 use Rattle.law_scans.specs.laws.records.Record.{Past, Each, tells_of, begins, held_since}
 use Rattle.law_scans.specs.laws.records.Record.Past.{Start, Then}
 use Rattle.law_scans.proofs.reuse.history.AllOf.{all_of}

@@ -24,7 +24,7 @@ use Rattle.law_scans.specs.inv.model.World.{World, finds}
 use Rattle.law_scans.proofs.inv.model.Facts.{same_number, both, first_of, rest_of, below_unless, true_of_not, or_left_true, same_both, lt_test_2, or_more}
 use Rattle.law_scans.proofs.reuse.AnswersTold.Owed.{ChangeServes, Serves, call_for, may_want}
 use Rattle.law_scans.proofs.inv.covers.Held.{finds_at}
-use Rattle.law_scans.specs.laws.StateAt.{was_current, bucket_of, count_of, queued_of, is_there, pairs_at}
+use Rattle.law_scans.specs.laws.StructuresAt.{was_current, bucket_of, count_of, queued_of, is_there, pairs_at}
 use Rattle.law_scans.specs.inv.history.Record.{Past, begins, held_since}
 use Rattle.law_scans.specs.inv.Contents.Reads.{numbers_in}
 use Rattle.law_scans.specs.inv.requests.Views.{View as Asked}

@@ -31,7 +31,8 @@ use Rattle.law_scans.proofs.reuse.Lawful.Maps.{records_keep_map}
 use Rattle.law_scans.proofs.Placing.Marks.{tells as step_tells}
 use Rattle.law_scans.specs.laws.HistoryAnswers.{answer_right, reason}
 use Rattle.law_scans.specs.laws.MapLaw.{map_ok}
-use Rattle.law_scans.specs.laws.StateAt.{bucket_of, began_of, told_of, stood_by, stood_at, is_row}
+use Rattle.law_scans.specs.laws.StateAt.{began_of, told_of, stood_by, stood_at, is_row}
+use Rattle.law_scans.specs.laws.StructuresAt.{bucket_of}
 use Rattle.law_scans.specs.laws.HistoryTable.{is_in_range, ranges_ok}
 use Rattle.law_reasons.specs.Records.{RecordsStayInRange}
 use Rattle.law_reasons.proofs.Ranges.Finds.{finds_in, step_finds}

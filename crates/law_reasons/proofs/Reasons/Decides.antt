@@ -48,15 +48,16 @@ use Rattle.law_scans.proofs.inv.Contents.Contents.Kept.{contents_looked}
 use Rattle.law_scans.proofs.inv.Inv.Whole.{contents_need}
 use Rattle.law_scans.specs.inv.shapes.Frame.{KeepFits, read_slot}
 use Rattle.law_scans.specs.inv.shapes.Slots.{CopyIn, KeepIn, PhaseIn, Slots}
-use Rattle.law_scans.specs.laws.StateAt.{queued_of, stood_at, told_of, is_row, begun_at, has_told, was_empty}
+use Rattle.law_scans.specs.laws.StateAt.{stood_at, told_of, is_row, has_told}
+use Rattle.law_scans.specs.laws.StructuresAt.{queued_of, begun_at, was_empty, RowShows, same_value, shows_of, value_at}
 use Rattle.law_scans.proofs.inv.requests.Standings.{machine_stands}
 use Rattle.law_scans.specs.inv.requests.Parents.{OutcomeStands, base_stands, phase_stands}
 use Rattle.law_scans.specs.inv.requests.Views.{View as Asked}
 use Rattle.law_scans.specs.inv.rows.Queue.{Line}
 use Rattle.law_scans.specs.inv.rows.Rows.{View}
 use Rattle.law_scans.specs.laws.AnswerLaw.{adopt_reason, enqueue_reason, shows_value, tells_none}
-use Rattle.law_scans.specs.laws.StateAt.{RowShows, same_value, shows_of, times, value_at}
-use Rattle.law_scans.specs.laws.StateAt.RowShows.{ShowsVersion}
+use Rattle.law_scans.specs.laws.StateAt.{times}
+use Rattle.law_scans.specs.laws.StructuresAt.RowShows.{ShowsVersion}
 use Rattle.law_reasons.proofs.Reasons.Missing.{MissesAt, is_any, is_copying, missed_none}
 use Rattle.law_reasons.proofs.Reasons.Shows.{Shows}
 use Rattle.law_scans.specs.laws.HistoryAnswers.{put_reason, put_if_reason, remove_reason, dequeue_reason, hold_reason, release_reason, copy_reason, drop_reason, leave_reason, look_reason, reason}

@@ -42,7 +42,8 @@ use Rattle.law_scans.proofs.inv.Inv.Begun.{known_start, known_begin}
 use Rattle.law_scans.proofs.inv.Inv.Kept.{known_kept, asked_next}
 use Rattle.law_scans.proofs.inv.Inv.Tells.{inv_tells}
 use Rattle.law_scans.proofs.reuse.Reuse.Keeps.{record_stands}
-use Rattle.law_scans.specs.laws.StateAt.{times, stood_at, queued_of, taken_of, began_of, told_of, all_taken, was_empty}
+use Rattle.law_scans.specs.laws.StateAt.{times, stood_at, began_of, told_of}
+use Rattle.law_scans.specs.laws.StructuresAt.{queued_of, taken_of, all_taken, was_empty}
 use Rattle.law_scans.proofs.reuse.Lawful.Current.{base_begun, current_start, current_begin, current_kept, current_same}
 use Rattle.law_scans.proofs.inv.history.AllOf.{all_of}
 use Rattle.law_scans.proofs.inv.Machines.{is_within, within_of}

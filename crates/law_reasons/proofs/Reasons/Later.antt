@@ -14,7 +14,8 @@ use Rattle.law_scans.specs.inv.model.defs.declared.event.Event.TheVariants as ev
 use Rattle.law_scans.specs.inv.model.defs.declared.fold.Change.{Change}
 use Rattle.law_scans.specs.inv.model.defs.declared.fold.Change.TheVariants as the_changes
 use Rattle.law_scans.proofs.inv.model.Facts.{both, first_of, rest_of}
-use Rattle.law_scans.specs.laws.StateAt.{was_current, bucket_of, changes_of, count_of, with_change, queued_of, all_taken, begun_at, had_version, has_told, is_there, pairs_at, was_empty}
+use Rattle.law_scans.specs.laws.StateAt.{has_told}
+use Rattle.law_scans.specs.laws.StructuresAt.{was_current, bucket_of, changes_of, count_of, with_change, queued_of, all_taken, begun_at, had_version, is_there, pairs_at, was_empty}
 use Rattle.law_scans.specs.inv.history.Record.{Past, begins, own, told_since, tells_of}
 use Rattle.law_scans.specs.inv.history.Record.Past.{Then}
 use Rattle.law_scans.proofs.inv.history.AllOf.{all_of}

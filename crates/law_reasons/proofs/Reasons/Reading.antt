@@ -35,7 +35,7 @@ use Rattle.law_scans.proofs.reuse.Lawful.Gots.{null_at}
 use Rattle.law_scans.proofs.reuse.Lawful.Maps.{base_of}
 use Rattle.law_scans.proofs.inv.ends.Origins.Ends.{end_root}
 use Rattle.law_scans.proofs.reuse.Lawful.Current.{ended_since}
-use Rattle.law_scans.specs.laws.StateAt.{queued_of, changes_of, count_of, begun_at, pairs_at}
+use Rattle.law_scans.specs.laws.StructuresAt.{queued_of, changes_of, count_of, begun_at, pairs_at}
 use Rattle.law_scans.specs.inv.history.Record.{Past}
 use Rattle.law_scans.specs.inv.ends.Tracked.{root_in}
 use Rattle.law_scans.specs.inv.requests.Views.{View as Asked}

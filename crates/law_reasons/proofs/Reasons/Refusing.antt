@@ -14,7 +14,7 @@ use Rattle.law_scans.specs.inv.model.Change as alters
 use Rattle.law_scans.specs.inv.model.Rounds.{key_of}
 use Rattle.law_scans.proofs.inv.model.Facts.{both, first_of, rest_of, below_unless, true_of_not, one_more_less, lt_test_2}
 use Rattle.law_scans.proofs.reuse.AnswersTold.Owed.{call_for, may_want}
-use Rattle.law_scans.specs.laws.StateAt.{was_current, count_of, begun_at, had_version, is_there, pairs_at}
+use Rattle.law_scans.specs.laws.StructuresAt.{was_current, count_of, begun_at, had_version, is_there, pairs_at}
 use Rattle.law_scans.specs.inv.history.Record.{Past}
 use Rattle.law_scans.specs.laws.HistoryAnswers.{put_if_reason, put_reason, remove_reason, reason}
 

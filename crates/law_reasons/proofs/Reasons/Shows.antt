@@ -22,8 +22,8 @@ use Rattle.law_scans.proofs.inv.Contents.Contents.Told.{booked_append}
 use Rattle.law_scans.specs.inv.Contents.Told.{AllRight}
 use Rattle.law_scans.specs.inv.history.Record.{Past, tells_of}
 use Rattle.law_scans.specs.inv.history.Record.Past.{Start, Then}
-use Rattle.law_scans.specs.laws.StateAt.{changed_to, shows_of}
-use Rattle.law_scans.specs.laws.StateAt.RowShows.{LinkedAt, ShowsVersion}
+use Rattle.law_scans.specs.laws.StructuresAt.{changed_to, shows_of}
+use Rattle.law_scans.specs.laws.StructuresAt.RowShows.{LinkedAt, ShowsVersion}
 use Rattle.law_scans.proofs.inv.history.AllOf.{all_of, of_weaker}
 use Rattle.law_scans.proofs.Placing.Fronts.{linked_front, queued_front, taken_front}
 use Rattle.law_scans.proofs.Placing.Marks.{is_common, ordered, InOrder, step_order}

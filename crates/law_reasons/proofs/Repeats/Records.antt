@@ -12,7 +12,8 @@ use Rattle.law_scans.specs.inv.model.Locals.{found_by, rounds_told}
 use Rattle.law_scans.proofs.inv.model.Facts.{same_number, first_of, rest_of}
 use Rattle.law_scans.specs.inv.history.Record.{Past, begins, value_since, tells_of}
 use Rattle.law_scans.specs.inv.history.Record.Past.{Start, Then}
-use Rattle.law_scans.specs.laws.StateAt.{bucket_of, taken_of, began_by, began_of, finds_root, finds_of, tails_by, tails_of}
+use Rattle.law_scans.specs.laws.StateAt.{began_by, began_of, finds_root, finds_of, tails_by, tails_of}
+use Rattle.law_scans.specs.laws.StructuresAt.{bucket_of, taken_of}
 use Rattle.law_scans.proofs.inv.history.AllOf.{all_of}
 use Rattle.law_scans.proofs.inv.Machines.{is_within, within_begins}
 use Rattle.law_scans.proofs.laws.Tells.{seen_own}

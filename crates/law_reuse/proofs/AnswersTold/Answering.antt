@@ -21,7 +21,8 @@ use Rattle.inv_all.specs.model.Calls.{CallTurn, CallOutcome, GoesOn, Answers}
 use Rattle.inv_all.specs.model.World.{World, begin, finds, is_busy, offered, step, told_in, may_start}
 use Rattle.inv_all.proofs.model.Facts.{both, first_of, rest_of, same_number}
 use Rattle.inv_all.proofs.shapes.Frame.{seat_stays, seat_steps, begin_stays, begin_begins}
-use Rattle.laws.specs.StateAt.{same_value, began_by, began_of, with_told, told_of}
+use Rattle.laws.specs.StateAt.{began_by, began_of, with_told, told_of}
+use Rattle.laws.specs.StructuresAt.{same_value}
 use Rattle.inv_all.specs.history.Record.{Past, Each, tells_of}
 use Rattle.inv_all.specs.history.Record.Past.{Then}
 use Rattle.inv_all.proofs.history.Entries.{entries_of_each}

@@ -30,7 +30,8 @@ use Rattle.inv_all.proofs.Inv.Ready.{eras_need}
 use Rattle.inv_all.proofs.Inv.Shown.{clock_small}
 use Rattle.law_reuse.proofs.Once.Calm.{is_unread, run_unread, work_unread}
 use Rattle.law_reuse.proofs.Once.Keeps.{Keeps, first_keeps, begin_keeps, step_keeps}
-use Rattle.laws.specs.StateAt.{hazard_of, same_span, same_value, value_of}
+use Rattle.laws.specs.StateAt.{hazard_of, same_span, value_of}
+use Rattle.laws.specs.StructuresAt.{same_value}
 use Rattle.laws.specs.words.Schemes.{publishes_rows}
 use Rattle.laws.specs.ScanLaw.{read_ok}
 use Rattle.law_reuse.specs.Records.{RecordsReadGuards}

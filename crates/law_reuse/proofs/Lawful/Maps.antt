@@ -24,7 +24,7 @@ use Rattle.inv_all.specs.rows.Rows.{View}
 use Rattle.inv_all.specs.Contents.Told.{TellsRight, AllRight, GotRight}
 use Rattle.inv_all.specs.history.Record.{Past, Each, begins, value_since, tells_of}
 use Rattle.inv_all.specs.history.Record.Past.{Start, Then}
-use Rattle.laws.specs.StateAt.{with_change, changes_of, count_of, value_at, same_value, was_current}
+use Rattle.laws.specs.StructuresAt.{with_change, changes_of, count_of, value_at, same_value, was_current}
 use Rattle.laws.specs.MapLaw.{map_ok}
 use Rattle.inv_all.proofs.history.Entries.{entries_of_each}
 use Rattle.inv_all.specs.history.History.{Begins, Steps, Made, done, first_made, record_of}

@@ -20,7 +20,7 @@ use Rattle.inv_all.specs.Inv.{Inv, TellsRight}
 use Rattle.inv_all.proofs.Inv.Begun.{inv_start, inv_begin}
 use Rattle.inv_all.proofs.Inv.Kept.{inv_kept}
 use Rattle.inv_all.proofs.Inv.Tells.{inv_tells}
-use Rattle.laws.specs.StateAt.{queued_of, taken_of}
+use Rattle.laws.specs.StructuresAt.{queued_of, taken_of}
 use Rattle.laws.specs.QueueLaw.{queue_ok}
 use Rattle.law_reuse.specs.Answers.{RecordsKeepQueue}
 use Rattle.inv_all.proofs.history.AllOf.{all_of}

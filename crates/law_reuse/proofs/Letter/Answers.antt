@@ -13,7 +13,8 @@ use Rattle.laws.specs.Standing.{open_ok}
 use Rattle.laws.specs.QueueLaw.{empty_ok}
 use Rattle.laws.specs.ScanLaw.{guards, is_scan_call}
 use Rattle.laws.specs.Lists.{list_of}
-use Rattle.laws.specs.StateAt.{began_of, call_of, is_open, seen, times, told_of, with_told, was_empty, has_told, is_dequeue, is_read, is_back, changed_of, had_version, is_there, pairs_at, bucket_of}
+use Rattle.laws.specs.StateAt.{began_of, call_of, is_open, seen, times, told_of, with_told, has_told, is_dequeue, is_read, is_back, changed_of}
+use Rattle.laws.specs.StructuresAt.{was_empty, had_version, is_there, pairs_at, bucket_of}
 use Rattle.laws.specs.defs.Events.{is_null}
 use Rattle.laws.specs.defs.declared.call.Answer.{Answer}
 use Rattle.laws.specs.defs.declared.call.Answer.TheVariants as answers

@@ -14,7 +14,8 @@ use Rattle.laws.specs.Once.{is_slot}
 use Rattle.laws.specs.NoReuse.{NoReuse, reuse_ok}
 use Rattle.laws.specs.Standing.{Standing, may_hold, may_miss, may_clear}
 use Rattle.laws.specs.Standing as standing
-use Rattle.laws.specs.StateAt.{stood_at, is_row, began_of, null_of, null_by, seen, has_told, row_at, published_at, value_of, bucket_at, head_at, tail_at, next_at}
+use Rattle.laws.specs.StateAt.{stood_at, is_row, began_of, null_of, null_by, seen, has_told, published_at, value_of, bucket_at, head_at, tail_at, next_at}
+use Rattle.laws.specs.StructuresAt.{row_at}
 use Rattle.laws.specs.defs.Events.{is_null}
 use Rattle.laws.specs.defs.declared.shown.Shown.{Shown}
 use Rattle.laws.specs.defs.declared.shown.Shown.TheVariants.{Eras, Nothing, Row}

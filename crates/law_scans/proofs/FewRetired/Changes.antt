@@ -10,7 +10,8 @@ use Rattle.law_reuse.proofs.laws.records.defs.Facts.{rest_of}
 use Rattle.law_reuse.specs.laws.MapLaw.{map_ok}
 use Rattle.law_reuse.specs.laws.records.Record.{Past, Test, Each}
 use Rattle.law_reuse.specs.laws.records.Record.Past.{Start, Then}
-use Rattle.law_reuse.specs.laws.StateAt.{changes_of, count_of, with_change, taken_of, one, count, told, takes_out}
+use Rattle.law_reuse.specs.laws.StateAt.{one, count, told, takes_out}
+use Rattle.law_reuse.specs.laws.StructuresAt.{changes_of, count_of, with_change, taken_of}
 use Rattle.law_scans.proofs.FewRetired.Counting.{count_sum, count_where, order_next, none_low}
 
 -- changes of a bucket, and of buckets below a number

@@ -9,7 +9,7 @@ use Rattle.law_reuse.specs.inv.model.World.{World, is_busy, told_in, may_start}
 use Rattle.law_reuse.specs.inv.Contents.Gives.{QueueCounts}
 use Rattle.law_reuse.proofs.inv.Contents.Items.Gives.{items_count}
 use Rattle.law_reuse.specs.laws.records.Record.{Past}
-use Rattle.law_reuse.specs.laws.StateAt.{changes_of, count_of, taken_of}
+use Rattle.law_reuse.specs.laws.StructuresAt.{changes_of, count_of, taken_of}
 use Rattle.law_reuse.specs.history.History.{Item, Begins, Steps, Made, done, made_of, first_made}
 use Rattle.law_reuse.proofs.history.Along.{Steady, items_keep}
 use Rattle.law_reuse.specs.inv.Inv.{Inv}

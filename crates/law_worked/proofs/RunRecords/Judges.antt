@@ -16,7 +16,8 @@ use Rattle.law_all.specs.inv.model.defs.declared.call.ClockMove.{ClockMove}
 use Rattle.law_all.specs.inv.model.defs.declared.fold.Change.{Change}
 use Rattle.law_all.specs.inv.model.words.Schemes.{moves}
 use Rattle.law_all.specs.laws.AnswerLaw.{retires_for, suits}
-use Rattle.law_all.specs.laws.StateAt.{bucket_of, is_among, numbered_from, one}
+use Rattle.law_all.specs.laws.StateAt.{is_among, one}
+use Rattle.law_all.specs.laws.StructuresAt.{bucket_of, numbered_from}
 use Rattle.law_all.specs.Logs.Versions.{seen_in, version_told}
 use Rattle.law_all.specs.RunLaw as law
 use Rattle.law_worked.specs.RunRecords.Readers.{Bullet, Holds, ReadersJudge, Sentence, adopted_by, adopted_ok, back_ok, bare_ok, bullets, change_in, changes_rise_ok, clock_ok, each_below, each_call, each_pair, empty_ok, final_ok, full_ok, if_some_ok, keeps_ok, kept_ok, later_ok, made_in, moved_by, never_fall_ok, once_ok, parted_ok, plain_ok, queued_by, queued_in, queues_ok, reads, reads_ok, rises_ok, same_numbers, same_ok, same_pairs, sentences_of, spent_ok, taken_by, taken_in, takes, tellers, unseen_ok, versions_ok}

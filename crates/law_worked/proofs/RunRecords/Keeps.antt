@@ -12,7 +12,7 @@ use Rattle.law_all.specs.inv.model.defs.declared.call.Call.{Call}
 use Rattle.law_all.specs.inv.model.defs.declared.call.Call.TheVariants as calls
 use Rattle.law_all.specs.inv.model.defs.declared.fold.Change.{Change}
 use Rattle.law_all.specs.inv.model.words.declared.config.Config.{Config}
-use Rattle.law_all.specs.laws.StateAt.{bucket_of, same_value}
+use Rattle.law_all.specs.laws.StructuresAt.{bucket_of, same_value}
 use Rattle.law_all.specs.Kept.{Keeping, kept_by, kept_from, kept_in, looked_in}
 use Rattle.law_all.specs.RunLaw.{IsKept, IsLook, KeptRight, bucket_kept, is_version, pairs_by}
 use Rattle.law_all.specs.Logs.Versions.{seen_in}

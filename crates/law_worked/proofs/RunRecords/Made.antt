@@ -14,7 +14,7 @@ use Rattle.law_all.specs.inv.model.defs.declared.call.Call.TheVariants as calls
 use Rattle.law_all.specs.inv.model.defs.declared.fold.Change.{Change}
 use Rattle.law_all.specs.inv.model.defs.declared.fold.Change.TheVariants as changes
 use Rattle.law_all.specs.inv.model.words.declared.config.Config.{Config}
-use Rattle.law_all.specs.laws.StateAt.{bucket_of}
+use Rattle.law_all.specs.laws.StructuresAt.{bucket_of}
 use Rattle.law_all.specs.Logs.Versions.{number_queued, version_told}
 use Rattle.law_all.specs.RunLaw.{AtClose, IsAway, IsCall, IsLook, IsMade, IsThere, KeepsLaw, KeptRight, QueueLaw, QueuesRight, ReadsRight, VersionsLaw, bucket_kept, change_made, could_put, has_number, is_change_of, is_queued_as, is_version, pairs_by, total_of}
 use Rattle.law_worked.specs.RunRecords.Readers.{change_by, change_in, find_call, greatest, listed, made_in, queued_by, queued_in, taken_by, taken_in, tellers, value_by, value_of_call, version_in}

@@ -13,7 +13,7 @@ use Rattle.law_all.specs.inv.model.defs.declared.call.ClockMove.{ClockMove}
 use Rattle.law_all.specs.inv.model.defs.declared.fold.Change.{Change}
 use Rattle.law_all.specs.inv.model.defs.declared.fold.Change.TheVariants as changes
 use Rattle.law_all.specs.inv.model.words.declared.config.Config.{Config}
-use Rattle.law_all.specs.laws.StateAt.{bucket_of, same_value}
+use Rattle.law_all.specs.laws.StructuresAt.{bucket_of, same_value}
 use Rattle.law_all.specs.RunLaw.{IsAway, IsMade, IsThere, QueuesRight, ReadsRight, could_put, has_number, is_still, is_version, pairs_by}
 use Rattle.law_worked.specs.RunRecords.Readers.{adopted_ok, away_ok, back_ok, bare_ok, clock_ok, empty_ok, final_ok, full_ok, if_some_ok, is_this, kept_ok, made_ok, parted_ok, plain_ok, queues_ok, reads_ok, rises_ok, same_numbers, same_pairs, versions_ok}
 

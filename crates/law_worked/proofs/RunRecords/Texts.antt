@@ -14,7 +14,7 @@ use Rattle.law_all.specs.inv.model.defs.declared.event.Event.{Event}
 use Rattle.law_all.specs.inv.model.defs.declared.event.Event.TheVariants as events
 use Rattle.law_all.specs.inv.model.defs.declared.lifetime.Lifetime.{Lifetime}
 use Rattle.law_all.specs.inv.model.words.declared.config.Config.{Config}
-use Rattle.law_all.specs.laws.StateAt.{same_value}
+use Rattle.law_all.specs.laws.StructuresAt.{same_value}
 use Rattle.law_all.specs.RunLaw.{AtClose, IsRun, backs, call_made, change_told, early_backs, events_of, events_of_all, give_told, late_backs, one_told, retire_told, unused_told}
 use Rattle.law_worked.specs.RunRecords.WrongTexts.{IsNoRun, Text, WrongTextsRefused, wrong_texts}
 use Rattle.law_worked.specs.RunRecords.Texts.{Stand, after_lines, between, is_done, lines_ok, lost, next, same_call, same_told, stand, told_next}

@@ -14,7 +14,8 @@ use Rattle.law_all.specs.inv.model.defs.declared.fold.Change.TheVariants as chan
 use Rattle.law_all.specs.inv.model.words.Schemes.{moves}
 use Rattle.law_all.specs.inv.model.words.declared.config.Config.{Config}
 use Rattle.law_all.specs.laws.AnswerLaw.{retires_for, suits}
-use Rattle.law_all.specs.laws.StateAt.{bucket_of, is_among, numbered_from, one, same_value}
+use Rattle.law_all.specs.laws.StateAt.{is_among, one}
+use Rattle.law_all.specs.laws.StructuresAt.{bucket_of, numbered_from, same_value}
 use Rattle.law_all.specs.Kept.{Keeping, kept_in, looked_in}
 use Rattle.law_all.specs.Logs.Versions.{number_queued, number_taken, seen_in, version_told}
 use Rattle.law_all.specs.RunLaw as law

@@ -2,7 +2,7 @@ use Rattle.std.specs.Prelude.{◌==◌, ◌-◌}
 use Rattle.std.proofs.Common.{◌≡◌, ℕ, length, ap, ◌∙◌, ◌+◌, ◌<◌, arith}
 use Rattle.std.proofs.lemmas.Bool.Decides.{nat_tests}
 use Rattle.std.proofs.lemmas.Grind.{common_steps}
-use Rattle.laws.specs.StateAt.{count_of}
+use Rattle.laws.specs.StructuresAt.{count_of}
 use Rattle.wfe_check_map.specs.Told.{marks_of}
 use Rattle.wfe_check_map.proofs.MarksLemmas.{counted}
 use Rattle.wfe_check_map.proofs.contents.Contents.is_next.Goals as goal

@@ -1,6 +1,6 @@
 use Rattle.std.proofs.Common.{refl}
 use Rattle.laws.specs.records.Record.{begins}
-use Rattle.laws.specs.StateAt.{all_taken}
+use Rattle.laws.specs.StructuresAt.{all_taken}
 use Rattle.wfe_check_rows.proofs.Positions.{held_by_numbers}
 use Rattle.wfe_check_map.proofs.contents.Contents.was_empty.Goals as goal
 

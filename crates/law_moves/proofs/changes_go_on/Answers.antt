@@ -1,5 +1,0 @@
-use Rattle.law_moves.proofs.Changes.Keeps as keeps
-use Rattle.law_moves.proofs.changes_go_on.Goals as goal
-
-pub returns : goal.returns
-returns c = keeps.changes_go_on

@@ -1,5 +1,0 @@
-use Rattle.law_moves.proofs.Gets.GoOn as go_on
-use Rattle.law_moves.proofs.reads_go_on.Goals as goal
-
-pub returns : goal.returns
-returns c = go_on.reads_go_on

@@ -1,6 +1,0 @@
--- All seats are the table's.
-use Rattle.wfe_threads.specs.OnTable.{IsStaffOf}
-use Rattle.wfe_threads.proofs.shifts.rounds.Given as goal
-
-abbrev pub invariant-loop-round : goal.invariant-loop-round
-invariant-loop-round g l = IsStaffOf l.staff l.shared
