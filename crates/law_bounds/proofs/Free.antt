@@ -1,8 +1,10 @@
+pub mod Ahead
 pub mod Entry
 pub mod Goes
 pub mod Idle
 pub mod Most
 pub mod Readers
+pub mod Seats
 pub mod Seen
 pub mod Told
 pub mod Whole

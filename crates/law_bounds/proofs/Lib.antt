@@ -5,6 +5,8 @@ pub mod Eras
 pub mod Free
 pub mod Gets
 pub mod Hazards
+pub mod Lags
+pub mod Leaves
 pub mod Paces
 pub mod Rows
 pub mod Scans

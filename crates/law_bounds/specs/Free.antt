@@ -13,12 +13,10 @@ use Rattle.law_held.specs.inv.model.words.declared.layout.Layout.{Layout}
 use Rattle.law_held.specs.laws.StateAt.{told}
 use Rattle.law_bounds.specs.Changes.{once_most, round_most}
 
--- Something is done: a call ends, a bucket is changed, a value is queued or taken, or the clock is moved; or the tail goes on to its next
--- row, which is that of a value that was queued.
+-- Something is done: a call ends, a bucket is changed, a value is queued or taken, or the clock is moved. That the tail goes on is none.
 abbrev pub is_done : Event → Bool
 is_done (events.End steps answer) = true
 is_done (events.Link (roots.Bucket bucket) slot) = true
-is_done (events.Link roots.Tail slot) = true
 is_done (events.Put bucket version key value) = true
 is_done (events.Removed bucket version key) = true
 is_done (events.Queued number value) = true
@@ -31,10 +29,14 @@ abbrev pub done_in : List Event → Bool
 done_in [] = false
 done_in (event ∷ told) = is_done event || done_in told
 
--- The most turns of a seat among which nothing is done: twice what is left of a call that loses no more than four rounds, since an era
--- that it shows may be out of date once.
+-- The most turns of a seat among which nothing is done and the tail stays: twice what is left of a call that loses no more than four
+-- rounds, since an era that it shows may be out of date once.
+abbrev pub still_most : Config → ℕ
+still_most config = 2 * (6 * round_most config + 3 * once_most config) + 1
+
+-- The most among which nothing is done: meanwhile the tail goes on once at most, since it lags by no more than one value (`Tails.antt`).
 abbrev pub free_most : Config → ℕ
-free_most config = 2 * (6 * round_most config + 3 * once_most config) + 1
+free_most config = 2 * still_most config + 1
 
 -- how many turns a seat has taken
 abbrev pub turns_by : ℕ → History → ℕ

@@ -6,9 +6,11 @@ pub mod Free
 pub mod Gets
 pub mod Hazards
 pub mod Kept
+pub mod Leaves
 pub mod Paces
 pub mod Rows
 pub mod Scans
+pub mod Tails
 pub mod Waits
 pub mod Whole
 pub mod WrongRecords

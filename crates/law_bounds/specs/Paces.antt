@@ -8,12 +8,15 @@ use Rattle.law_held.specs.inv.model.words.declared.config.Config.{Config}
 use Rattle.law_held.specs.inv.model.words.declared.layout.Layout.{Layout}
 use Rattle.law_bounds.specs.Changes.{changes_ok}
 use Rattle.law_bounds.specs.Gets.{reads_ok}
+use Rattle.law_bounds.specs.Leaves.{leaves_ok}
 
 pub record IsPaced (config : Config) (p : Past) : Type 0 where
   -- where a get or a hold ends; under Wait-Free Eras these take no more whatever others do
   pub reads : is_wfe config.scheme ≡ false → EachEntry (reads_ok config) p
   -- where a put, a remove, an enqueue or a dequeue ends
   pub changes : EachEntry (changes_ok config) p
+  -- where a leave ends
+  pub leaves : EachEntry (leaves_ok config) p
 
 -- so it is after each history
 abbrev pub HistoriesPaced : Type 0

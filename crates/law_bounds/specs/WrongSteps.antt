@@ -20,6 +20,8 @@ use Rattle.law_held.specs.laws.StepLaw.{end_ok}
 use Rattle.law_bounds.specs.Changes.{changes_ok}
 use Rattle.law_bounds.specs.Free.{FewIdle, free_most}
 use Rattle.law_bounds.specs.Gets.{reads_ok}
+use Rattle.law_bounds.specs.Leaves.{leaves_ok}
+use Rattle.law_bounds.specs.Tails.{KeepsUp}
 
 -- two seats of three indexes, two buckets and two slots
 abbrev pub small : SchemeKind → Config
@@ -47,6 +49,10 @@ bucket_changed call bucket = meanwhile call (calls.Put bucket 7) (events.Link (r
 abbrev pub value_queued : Call → Past
 value_queued call = meanwhile call (calls.Enqueue 7) (events.Link (roots.Next 2) 1 ∷ events.Queued 1 7 ∷ [])
 
+-- a row is let go in the call
+abbrev pub let_go : Call → Past
+let_go call = tells_of (nothing_moved call) 0 (events.Clear 2 1 ∷ [])
+
 -- the sentence refuses this number of steps, and takes one less; the law of steps takes both
 pub record Refuses (ok law : Past → ℕ → Event → Type 0) (p : Past) (steps : ℕ) (answer : Answer) : Type 0 where
   pub refused : ok p 0 (events.End (steps + 1) answer) → ⊥
@@ -59,6 +65,9 @@ reads_by scheme p i event = reads_ok (small scheme) p i event ≡ true
 
 abbrev pub changes_by : SchemeKind → Past → ℕ → Event → Type 0
 changes_by scheme p i event = changes_ok (small scheme) p i event ≡ true
+
+abbrev pub leaves_by : SchemeKind → Past → ℕ → Event → Type 0
+leaves_by scheme p i event = leaves_ok (small scheme) p i event ≡ true
 
 abbrev pub steps_by : SchemeKind → Past → ℕ → Event → Type 0
 steps_by scheme p i event = end_ok (small scheme) p i event ≡ true
@@ -103,18 +112,40 @@ pub record ChangesRefused : Type 0 where
   pub queued : Refuses (changes_by He) (steps_by He) (value_queued (calls.Enqueue 7)) 381 (answers.Queued 2)
   pub taken : Refuses (changes_by He) (steps_by He) (value_queued calls.Dequeue) 303 answers.Empty
 
--- A wrong history: seat 0 begins a call, and takes so many turns that tell nothing.
-abbrev pub silent : Call → (turns : ℕ) → History
-silent call zero = Starts Blank 0 call
-silent call (suc n) = Turns (silent call n) 0 []
+-- Leaves.
+pub record LeavesRefused : Type 0 where
+  -- nothing stood
+  pub none : Refuses (leaves_by He) (steps_by He) (nothing_moved calls.Leave) 1 (answers.Left 0)
+  pub none_hazard : Refuses (leaves_by Hp) (steps_by Hp) (nothing_moved calls.Leave) 1 (answers.Left 0)
+  -- a row did, which costs one step
+  pub row : Refuses (leaves_by He) (steps_by He) (let_go calls.Leave) 2 (answers.Left 0)
+  -- under 2GE one step lets go of all
+  pub within : Refuses (leaves_by Ibr) (steps_by Ibr) (let_go calls.Leave) 2 (answers.Left 0)
+
+-- The tail is two values behind: seat 0 queues one behind the row of seat 1, to which it has not gone on. Nor does it go on where none was
+-- queued.
+pub record TailsRefused : Type 0 where
+  pub two_behind : KeepsUp (tells_of (value_queued (calls.Enqueue 8)) 0 (events.Link (roots.Next 1) 0 ∷ events.Queued 2 8 ∷ [])) → ⊥
+  pub ahead : KeepsUp (meanwhile calls.Dequeue calls.Scan (events.Link roots.Tail 1 ∷ [])) → ⊥
+  pub taken : KeepsUp (value_queued (calls.Enqueue 8))
+
+-- Wrong histories: seat 0 begins a call, and takes so many turns that tell this.
+abbrev pub goes_round : Call → List Event → (turns : ℕ) → History
+goes_round call told zero = Starts Blank 0 call
+goes_round call told (suc n) = Turns (goes_round call told n) 0 told
 
 -- one turn too many is refused, which no count of turns forbids
-pub record IdleRefused : Type 0 where
-  pub refused : (config : Config) (call : Call) → FewIdle config (silent call (config.seats * free_most config + 1)) → ⊥
-  pub taken : (config : Config) (call : Call) → FewIdle config (silent call (config.seats * free_most config))
-  pub counted : (call : Call) (turns : ℕ) → CountsTurns (silent call turns)
+pub record IdleRefused (told : List Event) : Type 0 where
+  pub refused : (config : Config) (call : Call) → FewIdle config (goes_round call told (config.seats * free_most config + 1)) → ⊥
+  pub taken : (config : Config) (call : Call) → FewIdle config (goes_round call told (config.seats * free_most config))
+  pub counted : (call : Call) (turns : ℕ) → CountsTurns (goes_round call told turns)
 
 pub record WrongRefused : Type 0 where
   pub reads : ReadsRefused
   pub changes : ChangesRefused
-  pub idle : IdleRefused
+  pub leaves : LeavesRefused
+  pub tails : TailsRefused
+  -- it tells nothing
+  pub idle : IdleRefused []
+  -- it moves the tail for ever, and nothing else
+  pub swings : IdleRefused (events.Link roots.Tail 1 ∷ [])

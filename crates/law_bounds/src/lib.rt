@@ -1,5 +1,6 @@
 //! Which rows are taken (`Rows.antt`) and wait (`Scans.antt`, `Hazards.antt`), which a guard keeps that stands still (`Eras.antt`), how
-//! many (`Kept.antt`); how many steps calls take by what others do (`Gets.antt`, `Changes.antt`); lock-freedom (`Free.antt`).
+//! many (`Kept.antt`); how many steps calls take by what others do (`Gets.antt`, `Changes.antt`), and a leave (`Leaves.antt`);
+//! lock-freedom (`Free.antt`), and how far the queue's tail is behind (`Tails.antt`).
 //!
 //! They are of the record of each history, and follow from what histories keep; what callers are told of rows is in `Waits.antt`, all
 //! bounds of rows together are in `Whole.antt`, those of steps in `Paces.antt`. Each function here does nothing, and carries a theorem.
@@ -18,8 +19,8 @@ ghost use Rattle.law_bounds.specs.Whole.{HistoriesBounded};
 
 pub use refusals::wrong_records_are_refused;
 pub use steps::{
-    changes_end, changes_go_on, histories_are_paced, histories_get_on, lock_free, reads_end,
-    reads_go_on, seats_get_on, wrong_steps_are_refused,
+    changes_end, changes_go_on, histories_are_paced, histories_get_on, leaves_end, lock_free,
+    reads_end, reads_go_on, seats_get_on, tails_keep_up, wrong_steps_are_refused,
 };
 
 /// After each history that leaves no call under way the taken rows are just the rows of the roots of the buckets that were

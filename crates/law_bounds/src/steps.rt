@@ -1,11 +1,14 @@
 // How many steps calls take by what others do meanwhile: gets and holds by the moves of the clock, or the changes of their bucket's
-// root; puts, removes, enqueues and dequeues by the changes of their bucket, or of the queue; and that something is done among so many
-// turns, whichever seats take them. Each function here does nothing, and carries a theorem of each history.
+// root; puts, removes, enqueues and dequeues by the changes of their bucket, or of the queue; leaves by what they let go of; and that
+// something is done among so many turns, whichever seats take them. Each function here does nothing, and carries a theorem of each
+// history.
 
 ghost use Rattle.law_bounds.specs.Changes.{ChangesEnd, ChangesGoOn};
 ghost use Rattle.law_bounds.specs.Free.{HistoriesGetOn, LockFree, SeatsGetOn};
 ghost use Rattle.law_bounds.specs.Gets.{ReadsEnd, ReadsGoOn};
+ghost use Rattle.law_bounds.specs.Leaves.{LeavesEnd};
 ghost use Rattle.law_bounds.specs.Paces.{HistoriesPaced};
+ghost use Rattle.law_bounds.specs.Tails.{TailsKeepUp};
 ghost use Rattle.law_bounds.specs.WrongSteps.{WrongRefused};
 
 /// Under Hazard Eras and 2GE a get takes at most three steps for each move of the clock during the call and three, and `pairs + 6`
@@ -31,8 +34,20 @@ pub fn changes_go_on()
     ensures { ChangesGoOn }
 {}
 
+/// A leave takes a step for each row that it lets go of, and one, whatever others do; under 2GE, where one step lets go of all, two at
+/// most. So it is told where it ends.
+pub fn leaves_end()
+    ensures { LeavesEnd }
+{}
+
+/// The queue's tail is behind by the last value queued at most: each other one it has gone on to. So between two values queued it goes on
+/// once at most.
+pub fn tails_keep_up()
+    ensures { TailsKeepUp }
+{}
+
 /// Where a seat takes more turns than a number by the setting, wherever the others stand, something is done meanwhile, by it or by
-/// another: a call ends, a bucket is changed, a value is queued or taken, the tail goes on, or the clock is moved.
+/// another: a call ends, a bucket is changed, a value is queued or taken, or the clock is moved. That the tail goes on is none.
 pub fn seats_get_on()
     ensures { SeatsGetOn }
 {}
@@ -52,7 +67,8 @@ pub fn histories_are_paced()
     ensures { HistoriesPaced }
 {}
 
-/// Each of the wrong records is refused by the sentence that it breaks, and not by the law of steps; so is a wrong history.
+/// Each of the wrong records is refused by the sentence that it breaks, and not by the law of steps; so are wrong histories,
+/// which tell nothing for ever, or move the tail for ever.
 pub fn wrong_steps_are_refused()
     ensures { WrongRefused }
 {}

@@ -19,6 +19,7 @@ use Rattle.law_all.proofs.Steps.{logs_take_few_steps, scans_tell_backs}
 use Rattle.wfe_drive_rule.specs.Views.{seat_of}
 use Rattle.wfe_table.specs.Calls.{IsMade, group_of}
 use Rattle.wfe_table.specs.Public.{SeatNow, steps_of}
+use Rattle.wfe_table.specs.Steps.{FewSteps}
 
 -- the steps are those that the law allows the call
 bounded : (layout : Layout) (old new : SeatNow) (call : Call) (answer : Answer) → IsMade layout old new call answer
@@ -106,3 +107,19 @@ scan_bounded layout old new kept back m =
     let told : ℕ = length new.track.local.desk.notes.back in
     let right : (steps_of new == all + told) ≡ true = bounded layout old new calls.Scan (answers.Scanned kept back) m in
     number_is (steps_of new) (all + told) right ∙ ap (λ (x : ℕ). all + x) (backs_told layout old new kept back m)
+
+-- of whichever call
+pub call_bounded : (layout : Layout) (old new : SeatNow) (call : Call) (answer : Answer) → IsMade layout old new call answer → FewSteps layout.config call answer (steps_of new)
+call_bounded layout old new (calls.Get key) answer m = get_bounded layout old new key answer m
+call_bounded layout old new (calls.Hold key) answer m = hold_bounded layout old new key answer m
+call_bounded layout old new calls.Release answer m = release_bounded layout old new answer m
+call_bounded layout old new (calls.DropIndex index) answer m = drop_bounded layout old new index answer m
+call_bounded layout old new (calls.Copy from index) (answers.Copied slot) m = copied_bounded layout old new from index slot m
+call_bounded layout old new (calls.Copy from index) answers.Nothing m = uncopied_bounded layout old new from index m
+call_bounded layout old new (calls.Copy from index) answer m = tt
+call_bounded layout old new (calls.Look index key) answers.Nothing m = unlooked_bounded layout old new index key m
+call_bounded layout old new (calls.Look index key) answer m = le_of_test (steps_of new) (3 + layout.config.pairs) (bounded layout old new (calls.Look index key) answer m)
+call_bounded layout old new calls.Advance answer m = advance_bounded layout old new answer m
+call_bounded layout old new calls.Scan (answers.Scanned kept back) m = scan_bounded layout old new kept back m
+call_bounded layout old new calls.Scan answer m = tt
+call_bounded layout old new call answer m = tt

@@ -11,9 +11,11 @@ pub mod Departs
 pub mod Gathered
 pub mod Hearing
 pub mod Kept
+pub mod Leaves
 pub mod LeftWords
 pub mod Listed
 pub mod Made
+pub mod Paced
 pub mod Parts
 pub mod Ruled
 pub mod Seats

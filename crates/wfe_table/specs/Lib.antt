@@ -17,4 +17,5 @@ pub mod Places
 pub mod Public
 pub mod Ruled
 pub mod Sound
+pub mod Steps
 pub mod TableWords

@@ -29,7 +29,8 @@ impl Shared {
     }
 
     /// Gives the key this value, by a row that takes the place of its bucket's: the bucket's next version.
-    /// Where it is refused it has changed nothing. No bound in steps is promised, but that it ends.
+    /// Where it is refused it has changed nothing. How many steps it takes depends on what others do
+    /// meanwhile: `calls_keep_pace` says how many at most.
     pub fn put(&self, seat: &mut Seat, key: u64, value: u64) -> Result<Done, PutRefusal>
         requires of { IsOf seat.old self.now }
         ensures of { IsOf seat.new self.now }
@@ -94,7 +95,7 @@ impl Shared {
     }
 
     /// Puts a value at the queue's end (Michael and Scott 1996). Where it is refused it has changed nothing.
-    /// No bound in steps is promised, but that it ends.
+    /// `calls_keep_pace` says how many steps it takes at most, by what others do meanwhile.
     pub fn enqueue(&self, seat: &mut Seat, value: u64) -> Result<Queued, EnqueueRefusal>
         requires of { IsOf seat.old self.now }
         ensures of { IsOf seat.new self.now }
@@ -110,8 +111,8 @@ impl Shared {
         }
     }
 
-    /// Takes the value at the queue's front (Michael and Scott 1996). No bound in steps is promised, but that
-    /// it ends.
+    /// Takes the value at the queue's front (Michael and Scott 1996). `calls_keep_pace` says how many steps it
+    /// takes at most, by what others do meanwhile.
     pub fn dequeue(&self, seat: &mut Seat) -> Result<Taken, Empty>
         requires of { IsOf seat.old self.now }
         ensures of { IsOf seat.new self.now }

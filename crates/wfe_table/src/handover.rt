@@ -6,16 +6,19 @@ ghost use Rattle.wfe_table.specs.Public.{IsOf, steps_of};
 ghost use Rattle.wfe_table.specs.history.defs.declared.call.Answer.TheVariants as answers;
 ghost use Rattle.wfe_table.specs.history.defs.declared.call.Call.TheVariants as calls;
 ghost use Rattle.wfe_table.specs.Answers.{adopt_answer, adopt_steps};
+ghost use Rattle.wfe_table.specs.Steps.{leave_steps};
 
 use crate::{LeftSeat, Seat, Shared};
 use wfe_table_end::AdoptEnd;
 
 /// The seat leaves its table: it lets go of all that stands at its indexes, and its list of retired rows
-/// stays with the table, where another seat may adopt it. Keep what is given back until the table is closed.
+/// stays with the table, where another seat may adopt it. It takes a step for each row that stands, and one. Keep what is given back
+/// until the table is closed.
 pub fn leave(shared: &Shared, seat: Seat) -> LeftSeat
     requires of { IsOf seat shared.now }
     ensures of { IsOf result shared.now }
     ensures made { IsMade shared.now.layout seat result calls.Leave (answers.Left (length seat.track.local.desk.list)) }
+    ensures bound { steps_of result ≡ leave_steps seat }
 {
     shared.set_place(seat)
 }

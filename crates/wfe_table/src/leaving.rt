@@ -4,7 +4,8 @@ ghost use Rattle.wfe_core.specs.defs.declared.call.Answer.TheVariants as answers
 ghost use Rattle.wfe_core.specs.defs.declared.call.Call.TheVariants as calls;
 ghost use Rattle.wfe_drive_rule.specs.Handles.{IsSized};
 ghost use Rattle.wfe_table.specs.Calls.{IsMade};
-ghost use Rattle.wfe_table.specs.Public.{IsOf};
+ghost use Rattle.wfe_table.specs.Public.{IsOf, steps_of};
+ghost use Rattle.wfe_table.specs.Steps.{leave_steps};
 
 use crate::left::LeftSeat;
 use crate::part::leave_on;
@@ -51,6 +52,7 @@ impl Shared {
         requires of { IsOf seat self.now }
         ensures of { IsOf result self.now }
         ensures made { IsMade self.now.layout seat result calls.Leave (answers.Left (length seat.track.local.desk.list)) }
+        ensures bound { steps_of result ≡ leave_steps seat }
     {
         seat.leave(&self.ledger.shared)
     }

@@ -23,7 +23,7 @@ mod words;
 
 pub use close::CloseError;
 pub use close_left::CloseLeftError;
-pub use facts::seats_meet_no_more_than_there_is;
+pub use facts::{calls_keep_pace, seats_meet_no_more_than_there_is};
 pub use handover::{adopt, leave};
 pub use left::LeftSeat;
 pub use news::News;

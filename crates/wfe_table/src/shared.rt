@@ -6,7 +6,8 @@ ghost use Rattle.wfe_drive_rule.specs.Handles.{IsSized};
 ghost use Rattle.wfe_table.specs.Calls.{IsMade};
 ghost use Rattle.wfe_table.specs.Closing.{IsLeft, track_of};
 ghost use Rattle.wfe_table.specs.Making.{IsRefused};
-ghost use Rattle.wfe_table.specs.Public.{IsOf, new_seats};
+ghost use Rattle.wfe_table.specs.Public.{IsOf, new_seats, steps_of};
+ghost use Rattle.wfe_table.specs.Steps.{FewSteps};
 
 use crate::close::{gathered, read_end};
 use crate::seat::Seat;
@@ -113,7 +114,8 @@ impl Shared {
 
     /// Makes a call on a seat of this table, named by a value, and gives its answer. The call must be one
     /// that may begin: the indexes that it names are from 2 on and the table has them, and a copy goes
-    /// upwards; and the seat neither leaves by it nor takes over what another has left.
+    /// upwards; and the seat neither leaves by it nor takes over what another has left. Whatever the other
+    /// threads do, it takes no more steps than `bound` says of that call.
     #[inline(always)]
     pub fn call(&self, seat: &mut Seat, call: Call) -> Answer
         requires of { IsOf seat.old self.now }
@@ -121,6 +123,7 @@ impl Shared {
         requires stays { stays call ≡ true }
         ensures of { IsOf seat.new self.now }
         ensures made { IsMade self.now.layout seat.old seat.new call result }
+        ensures bound { FewSteps self.now.layout.config call result (steps_of seat.new) }
     {
         seat.make(&self.ledger.shared, call)
     }

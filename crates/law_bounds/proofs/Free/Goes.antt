@@ -59,7 +59,7 @@ use Rattle.law_reasons.proofs.Repeats.Records.{is_counted}
 use Rattle.law_reasons.proofs.Repeats.Shift.{more_rounds, shifted}
 use Rattle.law_reasons.proofs.Repeats.Tails.{tails_step}
 use Rattle.law_reuse.proofs.AnswersTold.Owed.{ChangeServes, FreeServes, KeepServes, LaterServes, Serves, TaskServes, WhyServes, WorkServes}
-use Rattle.law_bounds.specs.Free.{done_in, turns_by}
+use Rattle.law_bounds.specs.Free.{turns_by}
 use Rattle.law_bounds.proofs.Changes.Falls.{counted_falls}
 use Rattle.law_bounds.proofs.Changes.Fits.{counted_more, phase_known}
 use Rattle.law_bounds.proofs.Changes.Keeps as changes
@@ -69,7 +69,7 @@ use Rattle.law_bounds.proofs.Changes.Worth.{is_last, last_left, phase_worth}
 use Rattle.law_bounds.proofs.Free.Entry.{Roomy, entry_fits, entry_rounds, none_losses, none_rounds, now_few, only, only_losses, only_other, only_own}
 use Rattle.law_bounds.proofs.Free.Most.{Small, keep_small, later_small, left_most, let_small, phase_few, phase_small, why_small, work_small}
 use Rattle.law_bounds.proofs.Free.Seen.{Sees, seen_at, step_sees}
-use Rattle.law_bounds.proofs.Free.Told.{clock_still, goes_still, moves_still}
+use Rattle.law_bounds.proofs.Free.Told.{ahead_in, clock_still, goes_still, moves_still}
 use Rattle.law_reuse.proofs.Turns.Counted.{histories_count}
 
 -- where no row is published, or the call is no get and no hold
@@ -335,7 +335,7 @@ pub record Next (layout : Layout) (path : List Item) (item : Item) : Type 0 wher
 clock_after : (layout : Layout) (path : List Item) (item : Item) → Next layout path item → clock_of (done (made_of layout path) item).past ≡ (done (made_of layout path) item).world.mem Clock
 clock_after layout path item n = subst (λ (m : Made). clock_of m.past ≡ m.world.mem Clock) n.made_is (record_clock layout (path ++ item ∷ []) n.valid)
 
-clock_same : (layout : Layout) (path : List Item) (i clock : ℕ) → Next layout path (Steps i) → done_in (told_in (world_of layout path) i) ≡ false → (world_of layout path).mem Clock ≡ clock → (step (world_of layout path) i).mem Clock ≡ clock
+clock_same : (layout : Layout) (path : List Item) (i clock : ℕ) → Next layout path (Steps i) → ahead_in (told_in (world_of layout path) i) ≡ false → (world_of layout path).mem Clock ≡ clock → (step (world_of layout path) i).mem Clock ≡ clock
 clock_same layout path i clock n h e =
     let w : World = world_of layout path in
     sym (clock_after layout path (Steps i) n) ∙ clock_still i (told_in w i) (record_of layout path) h ∙ record_clock layout path n.valid ∙ e
@@ -347,7 +347,7 @@ serves_of : (layout : Layout) (k : ℕ) (x : Place) (made : Made) (h : History) 
 serves_of layout k x made h g = let a = g.full.answers.seats k in subst (λ (call : Call). Serves call (made.world.seat k).phase) g.call_is (a.serves g.busy)
 
 -- a step of the seat's own
-pub own_busy : (layout : Layout) (path : List Item) (k : ℕ) → is_valid layout ≡ true → is_busy (world_of layout path) k ≡ true → done_in (told_in (world_of layout path) k) ≡ false → is_busy (step (world_of layout path) k) k ≡ true
+pub own_busy : (layout : Layout) (path : List Item) (k : ℕ) → is_valid layout ≡ true → is_busy (world_of layout path) k ≡ true → ahead_in (told_in (world_of layout path) k) ≡ false → is_busy (step (world_of layout path) k) k ≡ true
 own_busy layout path k d b h =
     let w : World = world_of layout path in
     let t : CallTurn = turn (offered w k) (finds w k) in
@@ -380,10 +380,10 @@ turns_own k h es = rw (same_number k) refl
 pub turns_other : (k i : ℕ) (h : History) (es : List Event) → (k == i) ≡ false → turns_by k (Turns h i es) ≡ turns_by k h
 turns_other k i h es e = rw e refl
 
-next_spare : (c : Config) (x : Place) (i : ℕ) (es : List Event) (p : Past) → done_in es ≡ false → x.spare ≡ spare_for c x.call x.before (moves_of c (Some x.call) p) → x.spare ≡ spare_for c x.call x.before (moves_of c (Some x.call) (tells_of p i es))
+next_spare : (c : Config) (x : Place) (i : ℕ) (es : List Event) (p : Past) → ahead_in es ≡ false → x.spare ≡ spare_for c x.call x.before (moves_of c (Some x.call) p) → x.spare ≡ spare_for c x.call x.before (moves_of c (Some x.call) (tells_of p i es))
 next_spare c x i es p h e = e ∙ ap (λ (n : ℕ). spare_for c x.call x.before n) (sym (moves_still c x.call i es p h))
 
-pub own_state : (layout : Layout) (path : List Item) (k : ℕ) (x : Place) → Next layout path (Steps k) → k < (world_of layout path).layout.config.seats → done_in (told_in (world_of layout path) k) ≡ false → State layout k x (made_of layout path) (heard_of layout path)
+pub own_state : (layout : Layout) (path : List Item) (k : ℕ) (x : Place) → Next layout path (Steps k) → k < (world_of layout path).layout.config.seats → ahead_in (told_in (world_of layout path) k) ≡ false → State layout k x (made_of layout path) (heard_of layout path)
     → State layout k x (done (made_of layout path) (Steps k)) (Turns (heard_of layout path) k (told_in (world_of layout path) k))
 own_state layout path k x n b h g =
     let made : Made = made_of layout path in
@@ -431,7 +431,7 @@ seen_same w i k e c = ap (λ (l : Local). phase_seen l.phase (span_seen ((step w
 paid_same : (x : Place) (turns later seen next : ℕ) (old new : Local) → later ≡ turns → next ≡ seen → new ≡ old → Paid x turns seen old → Paid x later next new
 paid_same x turns later seen next old new t s l p = rw (t, s, l) p
 
-pub other_state : (layout : Layout) (path : List Item) (i k : ℕ) (x : Place) → (k == i) ≡ false → Next layout path (Steps i) → i < (world_of layout path).layout.config.seats → is_busy (world_of layout path) i ≡ true → done_in (told_in (world_of layout path) i) ≡ false
+pub other_state : (layout : Layout) (path : List Item) (i k : ℕ) (x : Place) → (k == i) ≡ false → Next layout path (Steps i) → i < (world_of layout path).layout.config.seats → is_busy (world_of layout path) i ≡ true → ahead_in (told_in (world_of layout path) i) ≡ false
     → State layout k x (made_of layout path) (heard_of layout path) → State layout k x (done (made_of layout path) (Steps i)) (Turns (heard_of layout path) i (told_in (world_of layout path) i))
 other_state layout path i k x e n b y h g =
     let made : Made = made_of layout path in

@@ -1,18 +1,22 @@
--- So never are more turns taken since something was done; and a history in which one more is taken is refused.
+-- So never are more turns taken since something was done; and histories in which one more is taken are refused.
 use Rattle.std.proofs.Common.{ℕ, zero, suc, ◌≡◌, ◌≤◌, ◌<◌, ◌+◌, ◌*◌, Bool, true, false, List, [], ◌∷◌, ◌++◌, refl, sym, ap, ◌∙◌, subst, arith}
 use Rattle.std.proofs.lemmas.Bool.Decides.{nat_tests}
 use Rattle.std.specs.Prelude.{nat_lt}
 use Rattle.law_held.specs.inv.history.Heard.{heard_of, heard_if}
 use Rattle.law_held.specs.inv.history.History.{Item, Begins, Steps, Made, done_if, fits, made_of, record_of, world_of}
-use Rattle.law_held.specs.inv.history.Turns.{CountsTurns, History, is_busy}
+use Rattle.law_held.specs.inv.history.Turns.{CountsTurns, History, begins_none, ends_with, is_busy, tells_end, turns_of}
 use Rattle.law_held.specs.inv.model.World.{World, told_in}
 use Rattle.law_held.specs.inv.model.defs.declared.call.Call.{Call}
+use Rattle.law_held.specs.inv.model.defs.declared.event.Event.{Event}
+use Rattle.law_held.specs.inv.model.defs.declared.event.Event.TheVariants as events
+use Rattle.law_held.specs.inv.model.defs.declared.event.Root.TheVariants as roots
 use Rattle.law_held.specs.inv.model.words.declared.layout.Layout.{Layout}
 use Rattle.law_held.specs.laws.StateAt.{told}
 use Rattle.law_bounds.specs.Free.{HistoriesGetOn, all_turns, done_in, free_most, idle_turns, is_done}
-use Rattle.law_bounds.specs.WrongSteps.{IdleRefused, silent}
+use Rattle.law_bounds.specs.WrongSteps.{IdleRefused, goes_round}
 use Rattle.law_bounds.proofs.Free.Told.{done_same}
-use Rattle.law_bounds.proofs.Free.Whole.{ended, joined, lock_free, next_heard, next_made}
+use Rattle.law_bounds.proofs.Free.Ahead.{ended, joined, next_heard, next_made}
+use Rattle.law_bounds.proofs.Free.Whole.{lock_free}
 
 -- the last place of a history at which something was done, and what came since
 record Idle (layout : Layout) (path : List Item) (made : Made) (h : History) : Type 0 where
@@ -89,22 +93,34 @@ get_on layout items d = few_by (layout.config.seats * free_most layout.config) (
         grows : told is_done (record_of layout all.before) < told is_done (record_of layout (all.before ++ all.more)) → ⊥
         grows g = let s = all.same in let p = ap (λ (xs : List Item). told is_done (record_of layout xs)) all.path_is in omega (arith, s, p, g)
 
--- the wrong history
-silent_turns : (call : Call) (n : ℕ) → idle_turns (silent call n) ≡ n
-silent_turns call zero = refl
-silent_turns call (suc n) = let a = silent_turns call n in omega (arith, a)
+-- the wrong histories
+record Round (told : List Event) : Type 0 where
+  none : done_in told ≡ false
+  begins : begins_none told ≡ true
+  ends : (n : ℕ) → ends_with n told ≡ true
+  goes : tells_end told ≡ false
 
-silent_busy : (call : Call) (n : ℕ) → is_busy 0 (silent call n) ≡ true
-silent_busy call zero = refl
-silent_busy call (suc n) = silent_busy call n
+round_turns : (told : List Event) (call : Call) (n : ℕ) → Round told → idle_turns (goes_round call told n) ≡ n
+round_turns told call zero r = refl
+round_turns told call (suc n) r = let a = round_turns told call n r in rw r.none (omega (arith, a))
 
-silent_counts : (call : Call) (n : ℕ) → CountsTurns (silent call n)
-silent_counts call zero = (refl, tt)
-silent_counts call (suc n) = (rw (silent_busy call n) refl, silent_counts call n)
+round_busy : (told : List Event) (call : Call) (n : ℕ) → Round told → is_busy 0 (goes_round call told n) ≡ true
+round_busy told call zero r = refl
+round_busy told call (suc n) r = rw (r.goes) (round_busy told call n r)
 
-pub idle_refused : IdleRefused
-idle_refused = record {
-  refused = λ config call h. let a = silent_turns call (config.seats * free_most config + 1) in absurd (omega (arith, a, h));
-  taken = λ config call. let a = silent_turns call (config.seats * free_most config) in omega (arith, a);
-  counted = silent_counts;
+round_counts : (told : List Event) (call : Call) (n : ℕ) → Round told → CountsTurns (goes_round call told n)
+round_counts told call zero r = (refl, tt)
+round_counts told call (suc n) r = (rw (round_busy told call n r, r.begins, r.ends (turns_of 0 (goes_round call told n) + 1)) refl, round_counts told call n r)
+
+round_refused : (told : List Event) → Round told → IdleRefused told
+round_refused told r = record {
+  refused = λ config call h. let a = round_turns told call (config.seats * free_most config + 1) r in absurd (omega (arith, a, h));
+  taken = λ config call. let a = round_turns told call (config.seats * free_most config) r in omega (arith, a);
+  counted = λ call turns. round_counts told call turns r;
 }
+
+pub idle_refused : IdleRefused []
+idle_refused = round_refused [] (record { none = refl; begins = refl; ends = λ n. refl; goes = refl })
+
+pub swings_refused : IdleRefused (events.Link roots.Tail 1 ∷ [])
+swings_refused = round_refused (events.Link roots.Tail 1 ∷ []) (record { none = refl; begins = refl; ends = λ n. refl; goes = refl })

@@ -35,10 +35,10 @@ use Rattle.law_held.specs.inv.shapes.Frame.{phase_left as stands_at}
 use Rattle.law_held.proofs.Roots.Leads.{leads_of}
 use Rattle.law_reasons.proofs.Eras.EraLaw.Keeps.{record_clock}
 use Rattle.law_scans.proofs.Ordering.Ordered.{word_of}
-use Rattle.law_bounds.specs.Free.{done_in, turns_by}
+use Rattle.law_bounds.specs.Free.{turns_by}
 use Rattle.law_bounds.proofs.Changes.Keeps.{step_call}
 use Rattle.law_bounds.proofs.Free.Goes.{own_busy, reads_rows, turns_other, turns_own}
-use Rattle.law_bounds.proofs.Free.Told.{clock_still, goes_still, root_still}
+use Rattle.law_bounds.proofs.Free.Told.{ahead_in, clock_still, goes_still, root_still}
 use Rattle.law_bounds.proofs.Gets.Ahead.{Costs, base_ahead, costs_of, late, protect_ahead}
 use Rattle.law_bounds.proofs.Gets.Calls.{Facts, Out, call_at, first_most, get_at, get_out, hold_at, hold_out}
 use Rattle.law_bounds.proofs.Gets.Keeps.{Paced, facts_of, paced, paced_by, place_of}
@@ -167,10 +167,10 @@ own_reads layout path k n (calls.Hold key) d f t r h =
     hold_out layout.config (clock_of p) root key (w.seat k).phase (counted (w.seat k).post) (offered w k).desk (finds w k) n (n + 1) (read_most layout.config) a f h refl
 own_reads layout path k n call d f t r h = absurd (cc)
 
-costs_still : (rows : Bool) (b i : ℕ) (es : List Event) (p : Past) → done_in es ≡ false → costs_at rows b (tells_of p i es) ≡ costs_at rows b p
+costs_still : (rows : Bool) (b i : ℕ) (es : List Event) (p : Past) → ahead_in es ≡ false → costs_at rows b (tells_of p i es) ≡ costs_at rows b p
 costs_still rows b i es p h = rw (clock_still i es p h, root_still b i es p h) refl
 
-pub reading_own : (layout : Layout) (path : List Item) (k first : ℕ) → is_valid layout ≡ true → publishes_rows layout.config.scheme ≡ true → done_in (told_in (world_of layout path) k) ≡ false → Reading layout k first (made_of layout path) (heard_of layout path)
+pub reading_own : (layout : Layout) (path : List Item) (k first : ℕ) → is_valid layout ≡ true → publishes_rows layout.config.scheme ≡ true → ahead_in (told_in (world_of layout path) k) ≡ false → Reading layout k first (made_of layout path) (heard_of layout path)
     → Reading layout k first (done (made_of layout path) (Steps k)) (Turns (heard_of layout path) k (told_in (world_of layout path) k))
 reading_own layout path k first d f h g =
     let w : World = world_of layout path in
@@ -197,7 +197,7 @@ reading_own layout path k first d f h g =
     }
 
 -- a step of another seat, and its beginning of a call
-pub reading_other : (layout : Layout) (path : List Item) (i k first : ℕ) → (k == i) ≡ false → done_in (told_in (world_of layout path) i) ≡ false → Reading layout k first (made_of layout path) (heard_of layout path)
+pub reading_other : (layout : Layout) (path : List Item) (i k first : ℕ) → (k == i) ≡ false → ahead_in (told_in (world_of layout path) i) ≡ false → Reading layout k first (made_of layout path) (heard_of layout path)
     → Reading layout k first (done (made_of layout path) (Steps i)) (Turns (heard_of layout path) i (told_in (world_of layout path) i))
 reading_other layout path i k first e h g =
     let w : World = world_of layout path in

@@ -1,0 +1,4 @@
+pub mod Counts
+pub mod Keeps
+pub mod Links
+pub mod Stands
