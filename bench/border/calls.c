@@ -27,15 +27,13 @@ static int named(const char *word, const char *const *names) {
     return -1;
 }
 
-static int get(wfe_seat *seat, uint64_t key) { return wfe_get(seat, key).code == WFE_OK; }
-static int put(wfe_seat *seat, uint64_t key, uint64_t value) { return wfe_put(seat, key, value).code == WFE_OK; }
-
-static int call(caller *me, uint64_t turn, uint64_t key) {
+/* The code of one call. */
+static uint32_t call(caller *me, uint64_t turn, uint64_t key) {
     switch (me->work) {
-    case READS: return get(&me->seat, key);
-    case MIXED: return turn % 10 ? get(&me->seat, key) : put(&me->seat, key, turn);
-    case PUTS: return put(&me->seat, key, turn);
-    default: return turn % 2 ? wfe_dequeue(&me->seat).code == WFE_OK : wfe_enqueue(&me->seat, turn).code == WFE_OK;
+    case READS: return wfe_get(&me->seat, key).code;
+    case MIXED: return turn % 10 ? wfe_get(&me->seat, key).code : wfe_put(&me->seat, key, turn).code;
+    case PUTS: return wfe_put(&me->seat, key, turn).code;
+    default: return turn % 2 ? wfe_dequeue(&me->seat).code : wfe_enqueue(&me->seat, turn).code;
     }
 }
 
@@ -44,7 +42,7 @@ static void *work(void *its) {
     uint64_t random = wfe_about(&me->seat).number + 1;
     for (uint64_t turn = 0; turn < me->calls; turn++) {
         random = random * UINT64_C(6364136223846793005) + UINT64_C(1442695040888963407);
-        if (!call(me, turn, (random >> 33) % KEYS)) me->refused++;
+        if (call(me, turn, (random >> 33) % KEYS) != WFE_OK) me->refused++;
     }
     return 0;
 }
@@ -60,7 +58,7 @@ int main(int words, char **word) {
     wfe_setting setting = { (uint32_t)scheme, threads, 3, 4096, 64, 4, 8, 4294967295u, UINT64_C(281474976710656), 6 };
     uint32_t code = wfe_open(setting, seats, threads);
     if (code) return fprintf(stderr, "%s\n", wfe_text(code)), 1;
-    for (uint64_t key = 0; key < KEYS; key++) put(&seats[0], key, key);
+    for (uint64_t key = 0; key < KEYS; key++) wfe_put(&seats[0], key, key);
     for (uint32_t it = 0; it < threads; it++) {
         wfe_move(&callers[it].seat, &seats[it]);
         callers[it].work = (enum work)kind;

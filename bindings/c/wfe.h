@@ -37,14 +37,19 @@ extern "C" {
 
 /* ---- what is passed ---------------------------------------------------------------------------------------------------------- */
 
-/* A seat: one thread's place at a table. It keeps the table, which lasts as long as one of its seats is there. */
+/* A seat: one thread's place at a table. It keeps the table, which lasts as long as one of its seats is there.
+ * It is 128 bytes long, and its two words lie in the middle: so they share no line of the cache, of 64 bytes, with another seat or with
+ * your own data beside them, and one thread's calls don't slow another's down. It is aligned as a pointer is: it may lie on the stack, in
+ * an array, in a struct of yours, or in what malloc gives. */
 typedef struct wfe_seat {
+    uint64_t before[7];
     uint32_t state;
     void *at;
+    uint64_t after[7];
 } wfe_seat;
 
-#define WFE_NO_SEAT { 0, 0 }
-#define WFE_NOBODY { 3, 0 } /* what stands for a null below; make none yourself */
+#define WFE_NO_SEAT { { 0 }, 0, 0, { 0 } }
+#define WFE_NOBODY { { 0 }, 3, 0, { 0 } } /* what stands for a null below; make none yourself */
 
 /* The schemes that say when a row may be used again. */
 enum wfe_scheme { WFE_HAZARD_ERAS = 0, WFE_2GE_INTERVALS = 1, WFE_WAIT_FREE_ERAS = 2, WFE_HAZARD_POINTERS = 3 };
@@ -245,18 +250,31 @@ static inline const char *wfe_text(uint32_t code);
 
 /* ---- the exports ------------------------------------------------------------------------------------------------------------- */
 /* What libwfe_c.a defines: the same, but that no pointer is null. In place of a null goes a handle whose state says so, which the
- * exports test as they test each state; and numbers come with how many there are. */
+ * exports test as they test each state; numbers come with how many there are; and the shortest calls answer their code, and the rest at a
+ * pointer. */
+
+typedef struct wfe_got {
+    uint64_t number;
+    uint64_t value;
+} wfe_got;
+
+typedef struct wfe_taken {
+    uint64_t number;
+    uint64_t value;
+    uint32_t clock;
+    uint32_t era;
+} wfe_taken;
 
 wfe_setting wfe_c_usual(uint32_t scheme, uint32_t threads, uint32_t keys);
 uint32_t wfe_c_open(wfe_setting setting, wfe_seat *seats, size_t count);
 wfe_answer wfe_c_leave(wfe_seat *seat);
 wfe_answer wfe_c_adopt(wfe_seat *seat, uint32_t place);
-wfe_answer wfe_c_get(wfe_seat *seat, uint64_t key);
+uint32_t wfe_c_get(wfe_seat *seat, uint64_t key, wfe_got *got);
 wfe_answer wfe_c_put(wfe_seat *seat, uint64_t key, uint64_t value);
 wfe_answer wfe_c_put_if(wfe_seat *seat, uint64_t key, uint64_t value, uint64_t version);
 wfe_answer wfe_c_remove(wfe_seat *seat, uint64_t key);
-wfe_answer wfe_c_enqueue(wfe_seat *seat, uint64_t value);
-wfe_answer wfe_c_dequeue(wfe_seat *seat);
+uint32_t wfe_c_enqueue(wfe_seat *seat, uint64_t value, uint64_t *number);
+uint32_t wfe_c_dequeue(wfe_seat *seat, wfe_taken *taken);
 wfe_answer wfe_c_hold(wfe_seat *seat, uint64_t key);
 wfe_answer wfe_c_release(wfe_seat *seat);
 wfe_answer wfe_c_copy(wfe_seat *seat, uint32_t from, uint32_t index);
@@ -291,8 +309,27 @@ static inline void wfe_move(wfe_seat *to, wfe_seat *from) {
     from->state = 0;
     from->at = 0;
 }
+/* these by their exports, as an answer */
+static inline wfe_answer wfe_by_get(wfe_seat *seat, uint64_t key) {
+    wfe_got got;
+    uint32_t code = wfe_c_get(seat, key, &got);
+    wfe_answer answer = { code, 0, 0, 0, got.number, got.value };
+    return answer;
+}
+static inline wfe_answer wfe_by_enqueue(wfe_seat *seat, uint64_t value) {
+    uint64_t number;
+    uint32_t code = wfe_c_enqueue(seat, value, &number);
+    wfe_answer answer = { code, 0, 0, 0, number, 0 };
+    return answer;
+}
+static inline wfe_answer wfe_by_dequeue(wfe_seat *seat) {
+    wfe_taken taken;
+    uint32_t code = wfe_c_dequeue(seat, &taken);
+    wfe_answer answer = { code, taken.clock, taken.era, 0, taken.number, taken.value };
+    return answer;
+}
 static inline wfe_answer wfe_get(wfe_seat *seat, uint64_t key) {
-    WFE_CALL(seat, wfe_c_get(seat, key), wfe_c_get(&nobody, key))
+    WFE_CALL(seat, wfe_by_get(seat, key), wfe_by_get(&nobody, key))
 }
 static inline wfe_answer wfe_put(wfe_seat *seat, uint64_t key, uint64_t value) {
     WFE_CALL(seat, wfe_c_put(seat, key, value), wfe_c_put(&nobody, key, value))
@@ -304,10 +341,10 @@ static inline wfe_answer wfe_remove(wfe_seat *seat, uint64_t key) {
     WFE_CALL(seat, wfe_c_remove(seat, key), wfe_c_remove(&nobody, key))
 }
 static inline wfe_answer wfe_enqueue(wfe_seat *seat, uint64_t value) {
-    WFE_CALL(seat, wfe_c_enqueue(seat, value), wfe_c_enqueue(&nobody, value))
+    WFE_CALL(seat, wfe_by_enqueue(seat, value), wfe_by_enqueue(&nobody, value))
 }
 static inline wfe_answer wfe_dequeue(wfe_seat *seat) {
-    WFE_CALL(seat, wfe_c_dequeue(seat), wfe_c_dequeue(&nobody))
+    WFE_CALL(seat, wfe_by_dequeue(seat), wfe_by_dequeue(&nobody))
 }
 static inline wfe_answer wfe_hold(wfe_seat *seat, uint64_t key) {
     WFE_CALL(seat, wfe_c_hold(seat, key), wfe_c_hold(&nobody, key))

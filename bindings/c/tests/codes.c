@@ -2,6 +2,7 @@
 #include "layout.h"
 #include <stdio.h>
 #include <stdlib.h>
+#include <string.h>
 
 static int count;
 
@@ -49,30 +50,31 @@ static void without_a_seat(wfe_seat *seat, uint32_t code) {
 }
 
 static void settings_out_of_range(void) {
+    static const struct {
+        uint32_t code;
+        size_t field, bytes;
+        uint64_t number;
+    } cases[] = {
+#define BAD(field, number, code) { code, offsetof(wfe_setting, field), sizeof((wfe_setting *)0)->field, number }
+        BAD(scheme, 4, WFE_BAD_SCHEME), BAD(scheme, 4294967295u, WFE_BAD_SCHEME),
+        BAD(seats, 65, WFE_BAD_SEATS),
+        BAD(indexes, 2, WFE_BAD_INDEXES), BAD(indexes, 9, WFE_BAD_INDEXES),
+        BAD(slots, 1, WFE_BAD_SLOTS), BAD(slots, 65537, WFE_BAD_SLOTS),
+        BAD(buckets, 0, WFE_BAD_BUCKETS), BAD(buckets, 1025, WFE_BAD_BUCKETS),
+        BAD(tries, 0, WFE_BAD_TRIES), BAD(tries, 65, WFE_BAD_TRIES),
+        BAD(every, 0, WFE_BAD_EVERY), BAD(every, 65537, WFE_BAD_EVERY),
+        BAD(last_era, 0, WFE_BAD_LAST_ERA),
+        BAD(last_version, 0, WFE_BAD_LAST_VERSION), BAD(last_version, UINT64_C(281474976710657), WFE_BAD_LAST_VERSION),
+        BAD(pairs, 7, WFE_BAD_PAIRS),
+    };
     wfe_seat seats[65] = { WFE_NO_SEAT };
-    wfe_setting good = setting(0, 2), bad;
-#define REFUSED(change, why)                             \
-    bad = good;                                          \
-    bad.change;                                          \
-    IS(wfe_open(bad, seats, bad.seats) == (uint32_t)why); \
-    IS(!seats[0].state && !seats[0].at && !seats[64].at)
-    REFUSED(scheme = 4, WFE_BAD_SCHEME);
-    REFUSED(scheme = 4294967295u, WFE_BAD_SCHEME);
-    REFUSED(seats = 65, WFE_BAD_SEATS);
-    REFUSED(indexes = 2, WFE_BAD_INDEXES);
-    REFUSED(indexes = 9, WFE_BAD_INDEXES);
-    REFUSED(slots = 1, WFE_BAD_SLOTS);
-    REFUSED(slots = 65537, WFE_BAD_SLOTS);
-    REFUSED(buckets = 0, WFE_BAD_BUCKETS);
-    REFUSED(buckets = 1025, WFE_BAD_BUCKETS);
-    REFUSED(tries = 0, WFE_BAD_TRIES);
-    REFUSED(tries = 65, WFE_BAD_TRIES);
-    REFUSED(every = 0, WFE_BAD_EVERY);
-    REFUSED(every = 65537, WFE_BAD_EVERY);
-    REFUSED(last_era = 0, WFE_BAD_LAST_ERA);
-    REFUSED(last_version = 0, WFE_BAD_LAST_VERSION);
-    REFUSED(last_version = UINT64_C(281474976710657), WFE_BAD_LAST_VERSION);
-    REFUSED(pairs = 7, WFE_BAD_PAIRS);
+    wfe_setting good = setting(0, 2);
+    for (size_t it = 0; it < sizeof cases / sizeof *cases; it++) {
+        wfe_setting bad = good;
+        memcpy((char *)&bad + cases[it].field, &cases[it].number, cases[it].bytes); /* (the low bytes come first) */
+        IS(wfe_open(bad, seats, bad.seats) == cases[it].code);
+        IS(!seats[0].state && !seats[0].at && !seats[64].at);
+    }
     IS(wfe_open(good, seats, 1) == WFE_BAD_COUNT && wfe_open(good, seats, 3) == WFE_BAD_COUNT);
     IS(wfe_open(good, 0, 2) == WFE_NULL && wfe_open(good, 0, 0) == WFE_NULL && wfe_open(good, seats, 0) == WFE_NULL);
     IS(wfe_open(wfe_usual((enum wfe_scheme)9, 2, 4), seats, 0) == WFE_BAD_SCHEME);

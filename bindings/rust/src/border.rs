@@ -7,8 +7,8 @@ mod cells;
 
 pub use cells::{Cells, Guard};
 
-use crate::setting::Setting;
-use std::mem::size_of;
+use crate::setting::{Scheme, Setting};
+use std::mem::{offset_of, size_of, MaybeUninit};
 
 /// The code of a number of seats that is out of range, the first number that is judged.
 const BAD_SEATS: u32 = 19;
@@ -23,6 +23,22 @@ pub(crate) struct Answer {
     pub slot: u32,
     pub number: u64,
     pub value: u64,
+}
+
+/// `wfe_got`.
+#[repr(C)]
+pub(crate) struct GotTold {
+    pub number: u64,
+    pub value: u64,
+}
+
+/// `wfe_taken`.
+#[repr(C)]
+pub(crate) struct TakenTold {
+    pub number: u64,
+    pub value: u64,
+    pub clock: u32,
+    pub era: u32,
 }
 
 /// `wfe_notes_told`.
@@ -45,44 +61,37 @@ pub(crate) struct AboutTold {
     pub code: u32,
     pub number: u32,
     pub listed: u64,
-    pub setting: SettingTold,
+    pub setting: Setting,
 }
 
-/// `wfe_setting`.
-#[repr(C)]
-#[derive(Clone, Copy, Debug)]
-pub(crate) struct SettingTold {
-    pub scheme: u32,
-    pub seats: u32,
-    pub indexes: u32,
-    pub slots: u32,
-    pub buckets: u32,
-    pub tries: u32,
-    pub every: u32,
-    pub last_era: u32,
-    pub last_version: u64,
-    pub pairs: u32,
-}
-
-/// `wfe_seat`. It is neither `Copy` nor `Clone`: the library wants one handle for a seat.
+/// `wfe_seat`. It is neither `Copy` nor `Clone`: the library wants one handle for a seat. What lies before and after the words keeps
+/// them off the lines of the cache that hold something else.
 #[repr(C)]
 pub(crate) struct Handle {
+    before: [u64; 7],
     state: u32,
     at: *mut u8,
+    after: [u64; 7],
 }
 
-// The exports of the crate `wfe_c`. No pointer is null.
+impl Handle {
+    /// All zeros: no seat.
+    const NONE: Handle = Handle { before: [0; 7], state: 0, at: std::ptr::null_mut(), after: [0; 7] };
+}
+
+// The exports of the crate `wfe_c`. No pointer is null. A setting's scheme is one of the four: the one asked for (the clause of
+// `wfe_c_usual`), a table's, or 0 (`setting_of` and `zeros` in the crate's `specs/Setting.antt`).
 extern "C" {
-    fn wfe_c_usual(scheme: u32, threads: u32, keys: u32) -> SettingTold;
-    fn wfe_c_open(setting: SettingTold, seats: *mut Handle, count: usize) -> u32;
+    fn wfe_c_usual(scheme: Scheme, threads: u32, keys: u32) -> Setting;
+    fn wfe_c_open(setting: Setting, seats: *mut Handle, count: usize) -> u32;
     fn wfe_c_leave(seat: *mut Handle) -> Answer;
     fn wfe_c_adopt(seat: *mut Handle, place: u32) -> Answer;
-    fn wfe_c_get(seat: *mut Handle, key: u64) -> Answer;
+    fn wfe_c_get(seat: *mut Handle, key: u64, got: *mut GotTold) -> u32;
     fn wfe_c_put(seat: *mut Handle, key: u64, value: u64) -> Answer;
     fn wfe_c_put_if(seat: *mut Handle, key: u64, value: u64, version: u64) -> Answer;
     fn wfe_c_remove(seat: *mut Handle, key: u64) -> Answer;
-    fn wfe_c_enqueue(seat: *mut Handle, value: u64) -> Answer;
-    fn wfe_c_dequeue(seat: *mut Handle) -> Answer;
+    fn wfe_c_enqueue(seat: *mut Handle, value: u64, number: *mut u64) -> u32;
+    fn wfe_c_dequeue(seat: *mut Handle, taken: *mut TakenTold) -> u32;
     fn wfe_c_hold(seat: *mut Handle, key: u64) -> Answer;
     fn wfe_c_release(seat: *mut Handle) -> Answer;
     fn wfe_c_copy(seat: *mut Handle, from: u32, index: u32) -> Answer;
@@ -100,20 +109,19 @@ extern "C" {
 // another thread in safe Rust is ordered by what takes it there. It is not `Sync`: nothing is to make two calls at once.
 unsafe impl Send for Handle {}
 
-pub(crate) fn usual(scheme: u32, threads: u32, keys: u32) -> SettingTold {
-    // SAFETY: numbers alone are passed, and the export requires nothing of them.
+pub(crate) fn usual(scheme: Scheme, threads: u32, keys: u32) -> Setting {
+    // SAFETY: numbers alone are passed, and the export requires nothing of them; the scheme comes back as it is.
     unsafe { wfe_c_usual(scheme, threads, keys) }
 }
 
 /// The handles of a new table's seats, or the code of why there is none.
 pub(crate) fn open(setting: &Setting) -> Result<Vec<Handle>, u32> {
-    let told = SettingTold::from(setting);
-    if !(1..=64).contains(&told.seats) {
+    if !(1..=64).contains(&setting.seats) {
         return Err(BAD_SEATS);
     }
-    let mut handles: Vec<Handle> = (0..told.seats).map(|_| Handle { state: 0, at: std::ptr::null_mut() }).collect();
+    let mut handles: Vec<Handle> = (0..setting.seats).map(|_| Handle::NONE).collect();
     // SAFETY: so many handles are at the pointer, and each is all zeros.
-    match unsafe { wfe_c_open(told, handles.as_mut_ptr(), handles.len()) } {
+    match unsafe { wfe_c_open(*setting, handles.as_mut_ptr(), handles.len()) } {
         0 => Ok(handles),
         code => Err(code),
     }
@@ -137,12 +145,9 @@ macro_rules! calls {
 calls! {
     wfe_c_leave leave() -> Answer;
     wfe_c_adopt adopt(place: u32) -> Answer;
-    wfe_c_get get(key: u64) -> Answer;
     wfe_c_put put(key: u64, value: u64) -> Answer;
     wfe_c_put_if put_if(key: u64, value: u64, version: u64) -> Answer;
     wfe_c_remove remove(key: u64) -> Answer;
-    wfe_c_enqueue enqueue(value: u64) -> Answer;
-    wfe_c_dequeue dequeue() -> Answer;
     wfe_c_hold hold(key: u64) -> Answer;
     wfe_c_release release() -> Answer;
     wfe_c_copy copy(from: u32, index: u32) -> Answer;
@@ -155,6 +160,28 @@ calls! {
     wfe_c_seen seen(bucket: u32) -> Answer;
 }
 
+macro_rules! told_calls {
+    ($($export:ident $name:ident($($argument:ident: $kind:ty),*) -> $told:ty;)*) => {
+        impl Handle {
+            $(
+                #[inline]
+                pub(crate) fn $name(&mut self, $($argument: $kind),*) -> (u32, $told) {
+                    let mut told = MaybeUninit::<$told>::uninit();
+                    // SAFETY: as of the calls above, and there is room at the pointer, which this call alone uses. The export writes all
+                    // of it, whatever it answers.
+                    unsafe { ($export(self, $($argument,)* told.as_mut_ptr()), told.assume_init()) }
+                }
+            )*
+        }
+    };
+}
+
+told_calls! {
+    wfe_c_get get(key: u64) -> GotTold;
+    wfe_c_enqueue enqueue(value: u64) -> u64;
+    wfe_c_dequeue dequeue() -> TakenTold;
+}
+
 impl Handle {
     /// Writes the slots that went back in the last call, as many as there is room for, and gives how many there were.
     pub(crate) fn backs(&mut self, slots: &mut [u32]) -> usize {
@@ -165,6 +192,7 @@ impl Handle {
 }
 
 const _: () = {
-    assert!(size_of::<Handle>() == 16 && size_of::<Answer>() == 32 && size_of::<NotesTold>() == 40);
-    assert!(size_of::<SettingTold>() == 48 && size_of::<AboutTold>() == 64);
+    assert!(size_of::<Handle>() == 128 && offset_of!(Handle, state) == 56 && offset_of!(Handle, at) == 64);
+    assert!(size_of::<Answer>() == 32 && size_of::<NotesTold>() == 40 && size_of::<GotTold>() == 16 && size_of::<TakenTold>() == 24);
+    assert!(size_of::<Setting>() == 48 && size_of::<AboutTold>() == 64);
 };

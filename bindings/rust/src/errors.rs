@@ -11,60 +11,63 @@ pub enum OpenError {
     NoMemory,
 }
 
-/// Why a put changed nothing.
-#[derive(Clone, Copy, Debug, PartialEq, Eq)]
-pub enum PutError {
-    /// No row was free, though the call has scanned.
-    Full,
+/// Why a change of a bucket was not made: reasons of its own, each at a version of the bucket and with its words, and those of all.
+macro_rules! refusals {
+    ($(#[$about:meta])* $name:ident: $($(#[$why:meta])* $reason:ident, $words:literal;)*) => {
+        $(#[$about])*
+        #[derive(Clone, Copy, Debug, PartialEq, Eq)]
+        pub enum $name {
+            $(
+                $(#[$why])*
+                $reason {
+                    /// The bucket's version.
+                    version: u64,
+                },
+            )*
+            /// No row was free, though the call has scanned.
+            Full,
+            /// The bucket is at the setting's last version.
+            Spent {
+                /// That version.
+                version: u64,
+            },
+        }
+
+        impl fmt::Display for $name {
+            fn fmt(&self, f: &mut fmt::Formatter<'_>) -> fmt::Result {
+                match *self {
+                    $($name::$reason { version } => write!(f, $words, version),)*
+                    $name::Full => f.write_str(FULL),
+                    $name::Spent { version } => write!(f, "the bucket is at its last version, {version}"),
+                }
+            }
+        }
+
+        impl Error for $name {}
+    };
+}
+
+refusals! {
+    /// Why a put changed nothing.
+    PutError:
     /// The bucket had no room for another key, at this version.
-    BucketFull {
-        /// The bucket's version.
-        version: u64,
-    },
-    /// The bucket is at the setting's last version.
-    Spent {
-        /// That version.
-        version: u64,
-    },
+    BucketFull, "the bucket had no room for another key, at version {}";
 }
 
-/// Why a put that names a version changed nothing.
-#[derive(Clone, Copy, Debug, PartialEq, Eq)]
-pub enum PutIfError {
+refusals! {
+    /// Why a put that names a version changed nothing. Where it is not stale, the bucket's version is the one named.
+    PutIfError:
     /// The bucket had this version, and another one was named.
-    Stale {
-        /// The bucket's version.
-        version: u64,
-    },
-    /// No row was free, though the call has scanned.
-    Full,
-    /// The bucket had no room for another key, at this version, which was named.
-    BucketFull {
-        /// The bucket's version.
-        version: u64,
-    },
-    /// The bucket is at the setting's last version, which was named.
-    Spent {
-        /// That version.
-        version: u64,
-    },
+    Stale, "another version was named than the bucket's, {}";
+    /// The bucket had no room for another key, at this version.
+    BucketFull, "the bucket had no room for another key, at version {}";
 }
 
-/// Why a remove changed nothing.
-#[derive(Clone, Copy, Debug, PartialEq, Eq)]
-pub enum RemoveError {
+refusals! {
+    /// Why a remove changed nothing. (It links a row without the key, where the key has a value.)
+    RemoveError:
     /// The key had no value, at this version.
-    Absent {
-        /// The bucket's version.
-        version: u64,
-    },
-    /// No row was free, though the call has scanned. (A remove links a row without the key.)
-    Full,
-    /// The bucket is at the setting's last version, and the key has a value.
-    Spent {
-        /// That version.
-        version: u64,
-    },
+    Absent, "the key had no value, at version {}";
 }
 
 /// Why nothing was queued.
@@ -126,50 +129,11 @@ impl<T> CellError<T> {
 
 const FULL: &str = "no row was free";
 
-fn bucket_full(f: &mut fmt::Formatter<'_>, version: u64) -> fmt::Result {
-    write!(f, "the bucket had no room for another key, at version {version}")
-}
-
-fn spent(f: &mut fmt::Formatter<'_>, version: u64) -> fmt::Result {
-    write!(f, "the bucket is at its last version, {version}")
-}
-
 impl fmt::Display for OpenError {
     fn fmt(&self, f: &mut fmt::Formatter<'_>) -> fmt::Result {
         match self {
             OpenError::BadSetting(field) => write!(f, "the setting's {}", field.range()),
             OpenError::NoMemory => f.write_str("memory ran out"),
-        }
-    }
-}
-
-impl fmt::Display for PutError {
-    fn fmt(&self, f: &mut fmt::Formatter<'_>) -> fmt::Result {
-        match *self {
-            PutError::Full => f.write_str(FULL),
-            PutError::BucketFull { version } => bucket_full(f, version),
-            PutError::Spent { version } => spent(f, version),
-        }
-    }
-}
-
-impl fmt::Display for PutIfError {
-    fn fmt(&self, f: &mut fmt::Formatter<'_>) -> fmt::Result {
-        match *self {
-            PutIfError::Stale { version } => write!(f, "another version was named than the bucket's, {version}"),
-            PutIfError::Full => f.write_str(FULL),
-            PutIfError::BucketFull { version } => bucket_full(f, version),
-            PutIfError::Spent { version } => spent(f, version),
-        }
-    }
-}
-
-impl fmt::Display for RemoveError {
-    fn fmt(&self, f: &mut fmt::Formatter<'_>) -> fmt::Result {
-        match *self {
-            RemoveError::Absent { version } => write!(f, "the key had no value, at version {version}"),
-            RemoveError::Full => f.write_str(FULL),
-            RemoveError::Spent { version } => spent(f, version),
         }
     }
 }
@@ -221,9 +185,6 @@ impl<T> fmt::Debug for CellError<T> {
 
 impl<T> Error for CellError<T> {}
 impl Error for OpenError {}
-impl Error for PutError {}
-impl Error for PutIfError {}
-impl Error for RemoveError {}
 impl Error for EnqueueError {}
 impl Error for AdoptError {}
 impl Error for IndexError {}

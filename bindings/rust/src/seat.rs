@@ -124,17 +124,17 @@ impl fmt::Debug for Seat {
     }
 }
 
-fn clock_of(answer: &Answer) -> ClockMove {
-    match answer.clock {
-        1 => ClockMove::Moved(answer.era),
-        2 => ClockMove::Other(answer.era),
-        3 => ClockMove::Spent(answer.era),
+fn clock_of(clock: u32, era: u32) -> ClockMove {
+    match clock {
+        1 => ClockMove::Moved(era),
+        2 => ClockMove::Other(era),
+        3 => ClockMove::Spent(era),
         _ => ClockMove::Still,
     }
 }
 
 fn done(answer: &Answer) -> Done {
-    Done { version: answer.number, clock: clock_of(answer) }
+    Done { version: answer.number, clock: clock_of(answer.clock, answer.era) }
 }
 
 fn slot_of(slot: u32) -> Option<u32> {
@@ -159,8 +159,8 @@ impl Seat {
     /// `3 * tries + 18 + pairs` steps.
     #[inline]
     pub fn get(&mut self, key: u64) -> Got {
-        let answer = self.handle.get(key);
-        Got { version: answer.number, value: (answer.code == OK).then_some(answer.value) }
+        let (code, told) = self.handle.get(key);
+        Got { version: told.number, value: (code == OK).then_some(told.value) }
     }
 
     /// Gives the key this value.
@@ -191,6 +191,7 @@ impl Seat {
     }
 
     /// Takes the key's value away.
+    #[inline]
     pub fn remove(&mut self, key: u64) -> Result<Done, RemoveError> {
         let answer = self.handle.remove(key);
         match answer.code {
@@ -203,20 +204,22 @@ impl Seat {
     }
 
     /// Puts a value at the queue's end.
+    #[inline]
     pub fn enqueue(&mut self, value: u64) -> Result<Queued, EnqueueError> {
-        let answer = self.handle.enqueue(value);
-        match answer.code {
-            OK => Ok(Queued { number: answer.number }),
+        let (code, number) = self.handle.enqueue(value);
+        match code {
+            OK => Ok(Queued { number }),
             FULL => Err(EnqueueError::Full),
-            SPENT => Err(EnqueueError::Spent { number: answer.number }),
+            SPENT => Err(EnqueueError::Spent { number }),
             code => unreachable!("code {code} of an enqueue"),
         }
     }
 
     /// Takes the value at the queue's front, or none where it was empty.
+    #[inline]
     pub fn dequeue(&mut self) -> Option<Taken> {
-        let answer = self.handle.dequeue();
-        (answer.code == OK).then(|| Taken { number: answer.number, value: answer.value, clock: clock_of(&answer) })
+        let (code, told) = self.handle.dequeue();
+        (code == OK).then(|| Taken { number: told.number, value: told.value, clock: clock_of(told.clock, told.era) })
     }
 
     /// Takes values from the queue's front until it was empty.
@@ -236,17 +239,20 @@ impl Seat {
 
     /// Lets the row of the key's bucket stand at index 2, where it stays as it is until the next hold or release: its slot, or none
     /// where the bucket was never changed. Under Wait-Free Eras it takes at most `3 * tries + 16` steps.
+    #[inline]
     pub fn hold(&mut self, key: u64) -> Option<u32> {
         let answer = self.handle.hold(key);
         (answer.code == OK).then_some(answer.slot)
     }
 
     /// Lets go of what stands at index 2.
+    #[inline]
     pub fn release(&mut self) {
         self.handle.release();
     }
 
     /// Lets the row that stands at one index, from 2 on, stand at a higher one too: its slot, or none where nothing stands there.
+    #[inline]
     pub fn copy(&mut self, from: u32, index: u32) -> Result<Option<u32>, IndexError> {
         let answer = self.handle.copy(from, index);
         match answer.code {
@@ -256,6 +262,7 @@ impl Seat {
     }
 
     /// What the row that stands at an index, from 2 on, shows of the key; or none where nothing stands there.
+    #[inline]
     pub fn look(&mut self, index: u32, key: u64) -> Result<Option<Looked>, IndexError> {
         let answer = self.handle.look(index, key);
         let looked = |value| Looked { slot: answer.slot, version: answer.number, value };
@@ -268,6 +275,7 @@ impl Seat {
     }
 
     /// Lets go of what stands at an index, from 2 on.
+    #[inline]
     pub fn drop_index(&mut self, index: u32) -> Result<(), IndexError> {
         match self.handle.drop_index(index).code {
             BAD_INDEX => Err(IndexError),
@@ -277,7 +285,8 @@ impl Seat {
 
     /// Tries once to move the clock.
     pub fn advance(&mut self) -> ClockMove {
-        clock_of(&self.handle.advance())
+        let answer = self.handle.advance();
+        clock_of(answer.clock, answer.era)
     }
 
     /// Reads all guards, and gives back the rows of the seat's list that none of them covers.

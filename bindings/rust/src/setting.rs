@@ -1,6 +1,7 @@
-use crate::border::{self, SettingTold};
+use crate::border;
 
 /// The scheme that says when a row may be used again.
+#[repr(u32)]
 #[derive(Clone, Copy, Debug, PartialEq, Eq, Hash)]
 pub enum Scheme {
     /// Hazard Eras (Ramalhete and Correia 2017).
@@ -21,6 +22,8 @@ pub enum Scheme {
 /// let setting = Setting { slots: 65_536, ..Setting::usual(Scheme::HazardPointers, 4, 1_000) };
 /// assert_eq!((setting.seats, setting.buckets), (4, 1_000));
 /// ```
+// It crosses to C as it is, as `wfe_setting`.
+#[repr(C)]
 #[derive(Clone, Copy, Debug, PartialEq, Eq, Hash)]
 pub struct Setting {
     /// When a row may be used again.
@@ -49,39 +52,7 @@ impl Setting {
     /// A setting for so many threads, with a seat each, and for so many keys that lie evenly in the buckets. It is good for 1 to 64
     /// threads and up to 14,336 keys.
     pub fn usual(scheme: Scheme, threads: u32, keys: u32) -> Setting {
-        Setting::of(scheme, border::usual(scheme as u32, threads, keys))
-    }
-
-    pub(crate) fn of(scheme: Scheme, told: SettingTold) -> Setting {
-        Setting {
-            scheme,
-            seats: told.seats,
-            indexes: told.indexes,
-            slots: told.slots,
-            buckets: told.buckets,
-            tries: told.tries,
-            every: told.every,
-            last_era: told.last_era,
-            last_version: told.last_version,
-            pairs: told.pairs,
-        }
-    }
-}
-
-impl From<&Setting> for SettingTold {
-    fn from(it: &Setting) -> SettingTold {
-        SettingTold {
-            scheme: it.scheme as u32,
-            seats: it.seats,
-            indexes: it.indexes,
-            slots: it.slots,
-            buckets: it.buckets,
-            tries: it.tries,
-            every: it.every,
-            last_era: it.last_era,
-            last_version: it.last_version,
-            pairs: it.pairs,
-        }
+        border::usual(scheme, threads, keys)
     }
 }
 

@@ -1,5 +1,5 @@
 -- What C is told of a seat and its table.
-use Rattle.std.specs.Prelude.{MatchOption, None, Option, Some, if◌then◌else◌, length, nat_lt, ℕ, ◌≡◌}
+use Rattle.std.specs.Prelude.{MatchOption, Some, if◌then◌else◌, length, nat_lt, ℕ, ◌≡◌}
 use Rattle.wfe_table.specs.logs.Versions.{seen_in}
 use Rattle.wfe_table.specs.rule.Views.{seat_of}
 use Rattle.wfe_c.specs.Called.{Lacks}

@@ -2,6 +2,7 @@ pub mod About
 pub mod Called
 pub mod Handle
 pub mod Joined
+pub mod Lent
 pub mod Notes
 pub mod Opened
 pub mod Place

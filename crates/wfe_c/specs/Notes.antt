@@ -1,5 +1,5 @@
 -- What C is told of a seat's last call.
-use Rattle.std.specs.Prelude.{Bool, List, MatchOption, None, Option, Some, false, true, if◌then◌else◌, length, min, nat_le, take, ℕ, ◌≡◌}
+use Rattle.std.specs.Prelude.{List, MatchOption, None, Option, Some, if◌then◌else◌, length, min, nat_le, take, ℕ, ◌≡◌}
 use Rattle.wfe_core.specs.Desks.{Notes}
 use Rattle.wfe_core.specs.defs.declared.lifetime.Lifetime.{Lifetime}
 use Rattle.wfe_c.specs.Called.{Lacks}

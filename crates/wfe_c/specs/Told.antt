@@ -5,6 +5,8 @@ use Rattle.wfe_table.specs.history.defs.declared.call.Answer.TheVariants as answ
 use Rattle.wfe_table.specs.history.defs.declared.call.ClockMove.{ClockMove}
 use Rattle.wfe_table.specs.history.defs.declared.call.ClockMove.TheVariants as moves
 use Rattle.wfe_c.specs.declared.answer.CAnswer.{CAnswer}
+use Rattle.wfe_c.specs.declared.answer.CGot.{CGot}
+use Rattle.wfe_c.specs.declared.answer.CTaken.{CTaken}
 
 -- a code alone; and with a version or a number
 abbrev pub says : ℕ → CAnswer
@@ -12,6 +14,17 @@ says code = record { code = code; clock = 0; era = 0; slot = 0; number = 0; valu
 
 abbrev pub says_at : ℕ → ℕ → CAnswer
 says_at code number = record (says code) { number = number }
+
+-- of a get, in two parts
+abbrev pub answer_of : ℕ → CGot → CAnswer
+answer_of code got = record { code = code; clock = 0; era = 0; slot = 0; number = got.number; value = got.value }
+
+-- and of a dequeue
+abbrev pub answer_with : ℕ → CTaken → CAnswer
+answer_with code taken = record { code = code; clock = taken.clock; era = taken.era; slot = 0; number = taken.number; value = taken.value }
+
+abbrev pub nothing_taken : CTaken
+nothing_taken = record { number = 0; value = 0; clock = 0; era = 0 }
 
 abbrev pub clock_kind : ClockMove → ℕ
 clock_kind moves.Still = 0

@@ -6,8 +6,8 @@ use crate::answer::{CAnswer, says, says_at};
 use crate::codes::{BAD_INDEX, OK};
 use crate::handle::SeatHandle;
 use crate::joined::Joined;
+use crate::refusing::{lack, refused};
 use crate::setting::CSetting;
-use std::alloc::Global;
 
 /// The seat's number, how many rows are on its list, and its table's setting.
 #[repr(C)]
@@ -55,30 +55,24 @@ impl Joined {
 
 /// The seat's number, how many rows are on its list, and its table's setting.
 #[unsafe(no_mangle)]
-pub extern "C" fn wfe_c_about(alloc: Global, seat: &mut SeatHandle) -> CAbout
+pub extern "C" fn wfe_c_about(seat: &mut SeatHandle) -> CAbout
     ensures { IsAbout seat.old seat.new result }
 {
-    match seat.take(alloc) {
-        Ok(joined) => {
-            let told = joined.about();
-            *seat = SeatHandle::of(joined);
-            told
-        }
-        Err(code) => no_seat(code),
+    if !seat.has_seat() {
+        return no_seat(lack(seat));
     }
+    let joined = seat.place.seat();
+    joined.about()
 }
 
 /// The greatest version that a call of the seat, but no look, told of the bucket.
 #[unsafe(no_mangle)]
-pub extern "C" fn wfe_c_seen(alloc: Global, seat: &mut SeatHandle, bucket: u32) -> CAnswer
+pub extern "C" fn wfe_c_seen(seat: &mut SeatHandle, bucket: u32) -> CAnswer
     ensures { IsSeen seat.old seat.new bucket result }
 {
-    match seat.take(alloc) {
-        Ok(joined) => {
-            let told = joined.seen(bucket);
-            *seat = SeatHandle::of(joined);
-            told
-        }
-        Err(code) => says(code),
+    if !seat.has_seat() {
+        return refused(seat);
     }
+    let joined = seat.place.seat();
+    joined.seen(bucket)
 }

@@ -1,9 +1,9 @@
 // What a call tells C: a code, and what goes with it.
 ghost use Rattle.std.specs.Prelude.{◌≡◌};
-ghost use Rattle.wfe_c.specs.Told.{clock_era, clock_kind, says, says_at, told_of};
+ghost use Rattle.wfe_c.specs.Told.{clock_era, clock_kind, nothing_taken, says, says_at, told_of};
 
 use crate::codes::*;
-use wfe_table::{Answer, ClockMove};
+use wfe_table::{Answer, Call, ClockMove};
 
 // Each field that the code gives no meaning is 0.
 #[repr(C)]
@@ -43,7 +43,7 @@ pub(crate) fn says_at(code: u32, number: u64) -> CAnswer
 }
 
 #[inline(always)]
-fn clock_kind(clock: ClockMove) -> u32
+pub(crate) fn clock_kind(clock: ClockMove) -> u32
     ensures { result ≡ clock_kind clock }
 {
     match clock {
@@ -55,7 +55,7 @@ fn clock_kind(clock: ClockMove) -> u32
 }
 
 #[inline(always)]
-fn clock_era(clock: ClockMove) -> u32
+pub(crate) fn clock_era(clock: ClockMove) -> u32
     ensures { result ≡ clock_era clock }
 {
     match clock {
@@ -65,9 +65,39 @@ fn clock_era(clock: ClockMove) -> u32
     }
 }
 
-// A call's answer as C is told it.
+// What a get tells beside its code: a version, and the key's value, each 0 where the code gives it no meaning.
+#[repr(C)]
+#[derive(Clone, Copy)]
+pub struct CGot {
+    pub number: u64,
+    pub value: u64,
+}
+
+// And a dequeue: the value and its number, and what came of the clock.
+#[repr(C)]
+#[derive(Clone, Copy)]
+pub struct CTaken {
+    pub number: u64,
+    pub value: u64,
+    pub clock: u32,
+    pub era: u32,
+}
+
 #[inline(always)]
-pub(crate) fn told(answer: Answer) -> CAnswer
+pub(crate) fn nothing_taken() -> CTaken
+    ensures { result ≡ nothing_taken }
+{
+    CTaken {
+        number: 0,
+        value: 0,
+        clock: 0,
+        era: 0,
+    }
+}
+
+// An answer as C is told it.
+#[inline(always)]
+fn told(answer: Answer) -> CAnswer
     ensures { result ≡ told_of answer }
 {
     match answer {
@@ -136,5 +166,63 @@ pub(crate) fn told(answer: Answer) -> CAnswer
         Answer::Left { count } | Answer::Adopted { count } => says_at(OK, count as u64),
         Answer::NotLeft => says(NOT_LEFT),
         Answer::AdoptedBefore => says(ADOPTED_BEFORE),
+    }
+}
+
+#[cold]
+#[inline(never)]
+fn told_apart(answer: Answer) -> CAnswer
+    ensures { result ≡ told_of answer }
+{
+    told(answer)
+}
+
+// What a call seldom answers is told by code that its export does not hold.
+#[inline(always)]
+fn apart(answer: Answer) -> CAnswer
+    ensures { result ≡ told_of answer }
+{
+    let told = told_apart(answer);
+    CAnswer {
+        code: told.code,
+        clock: told.clock,
+        era: told.era,
+        slot: told.slot,
+        number: told.number,
+        value: told.value,
+    }
+}
+
+// The answer of a change of a bucket.
+#[inline(always)]
+fn told_of_change(answer: Answer) -> CAnswer
+    ensures { result ≡ told_of answer }
+{
+    match answer {
+        Answer::Done { version, clock } => CAnswer {
+            clock: clock_kind(clock),
+            era: clock_era(clock),
+            ..says_at(OK, version)
+        },
+        _ => apart(answer),
+    }
+}
+
+// The answer of a call, which is named, so that only what it answers mostly is told in its export.
+#[inline(always)]
+pub(crate) fn told_by(call: Call, answer: Answer) -> CAnswer
+    ensures { result ≡ told_of answer }
+{
+    match call {
+        Call::Put { .. } | Call::PutIf { .. } | Call::Remove { .. } => told_of_change(answer),
+        Call::Hold { .. } => match answer {
+            Answer::Holding { slot } => CAnswer { slot, ..says(OK) },
+            _ => apart(answer),
+        },
+        Call::Release => match answer {
+            Answer::Released => says(OK),
+            _ => apart(answer),
+        },
+        _ => apart(answer),
     }
 }

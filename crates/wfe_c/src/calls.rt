@@ -1,69 +1,80 @@
 // The calls on a seat.
 ghost use Rattle.std.specs.Prelude.{◌≡◌, true};
 ghost use Rattle.wfe_c.specs.Called.{IsCalled, tell};
+ghost use Rattle.wfe_c.specs.Told.{answer_of, answer_with, says_at};
 ghost use Rattle.wfe_core.specs.Locals.{stays};
 ghost use Rattle.wfe_table.specs.history.defs.declared.call.Call.TheVariants as calls;
 
-use crate::answer::{CAnswer, says, told};
-use crate::codes::BAD_INDEX;
+use crate::answer::{CAnswer, CGot, CTaken, clock_era, clock_kind, nothing_taken, says, told_by};
+use crate::codes::{ABSENT, BAD_INDEX, EMPTY, FULL, OK, SPENT};
 use crate::handle::SeatHandle;
-use std::alloc::Global;
-use wfe_table::{Answer, Call};
+use crate::refusing::{lack, refused};
+use wfe_table::{Answer, Call, EnqueueRefusal};
 
 #[inline(always)]
-fn tell(answer: Option<Answer>) -> CAnswer
+fn tell(call: Call, answer: Option<Answer>) -> CAnswer
     ensures { result ≡ tell answer }
 {
     match answer {
-        Some(answer) => told(answer),
+        Some(answer) => told_by(call, answer),
         None => says(BAD_INDEX),
     }
 }
 
 #[inline(always)]
-fn make(alloc: Global, seat: &mut SeatHandle, call: Call) -> CAnswer
+fn make(seat: &mut SeatHandle, call: Call) -> CAnswer
     requires stays { stays call ≡ true }
     ensures { IsCalled seat.old seat.new call result }
 {
-    match seat.take(alloc) {
-        Ok(mut joined) => {
-            let answer = joined.make(call);
-            *seat = SeatHandle::of(joined);
-            tell(answer)
-        }
-        Err(code) => says(code),
+    if !seat.has_seat() {
+        return refused(seat);
     }
+    let joined = seat.place.seat();
+    let answer = joined.make(call);
+    tell(call, answer)
 }
 
-/// The key's value, at a version that its bucket had during the call.
+/// The key's value, at a version that its bucket had during the call: the code, and the rest where it is to go.
 #[unsafe(no_mangle)]
-pub extern "C" fn wfe_c_get(alloc: Global, seat: &mut SeatHandle, key: u64) -> CAnswer
-    ensures { IsCalled seat.old seat.new (calls.Get key) result }
+pub extern "C" fn wfe_c_get(seat: &mut SeatHandle, key: u64, got: &mut CGot) -> u32
+    ensures { IsCalled seat.old seat.new (calls.Get key) (answer_of result got.new) }
 {
-    make(alloc, seat, Call::Get { key })
+    if !seat.has_seat() {
+        *got = CGot {
+            number: 0,
+            value: 0,
+        };
+        return lack(seat);
+    }
+    let joined = seat.place.seat();
+    let read = joined.get(key);
+    got.number = read.version;
+    match read.value {
+        Some(value) => {
+            got.value = value;
+            OK
+        }
+        None => {
+            got.value = 0;
+            ABSENT
+        }
+    }
 }
 
 /// Gives the key this value.
 #[unsafe(no_mangle)]
-pub extern "C" fn wfe_c_put(alloc: Global, seat: &mut SeatHandle, key: u64, value: u64) -> CAnswer
+pub extern "C" fn wfe_c_put(seat: &mut SeatHandle, key: u64, value: u64) -> CAnswer
     ensures { IsCalled seat.old seat.new (calls.Put key value) result }
 {
-    make(alloc, seat, Call::Put { key, value })
+    make(seat, Call::Put { key, value })
 }
 
 /// Gives the key this value where its bucket is at this version.
 #[unsafe(no_mangle)]
-pub extern "C" fn wfe_c_put_if(
-    alloc: Global,
-    seat: &mut SeatHandle,
-    key: u64,
-    value: u64,
-    version: u64,
-) -> CAnswer
+pub extern "C" fn wfe_c_put_if(seat: &mut SeatHandle, key: u64, value: u64, version: u64) -> CAnswer
     ensures { IsCalled seat.old seat.new (calls.PutIf key value version) result }
 {
     make(
-        alloc,
         seat,
         Call::PutIf {
             key,
@@ -75,95 +86,128 @@ pub extern "C" fn wfe_c_put_if(
 
 /// Takes the key's value away.
 #[unsafe(no_mangle)]
-pub extern "C" fn wfe_c_remove(alloc: Global, seat: &mut SeatHandle, key: u64) -> CAnswer
+pub extern "C" fn wfe_c_remove(seat: &mut SeatHandle, key: u64) -> CAnswer
     ensures { IsCalled seat.old seat.new (calls.Remove key) result }
 {
-    make(alloc, seat, Call::Remove { key })
+    make(seat, Call::Remove { key })
 }
 
-/// Puts a value at the queue's end.
+/// Puts a value at the queue's end: the code, and the value's number where it is to go.
 #[unsafe(no_mangle)]
-pub extern "C" fn wfe_c_enqueue(alloc: Global, seat: &mut SeatHandle, value: u64) -> CAnswer
-    ensures { IsCalled seat.old seat.new (calls.Enqueue value) result }
+pub extern "C" fn wfe_c_enqueue(seat: &mut SeatHandle, value: u64, number: &mut u64) -> u32
+    ensures { IsCalled seat.old seat.new (calls.Enqueue value) (says_at result number.new) }
 {
-    make(alloc, seat, Call::Enqueue { value })
+    if !seat.has_seat() {
+        *number = 0;
+        return lack(seat);
+    }
+    let joined = seat.place.seat();
+    match joined.enqueue(value) {
+        Ok(queued) => {
+            *number = queued.number;
+            OK
+        }
+        Err(EnqueueRefusal::Full) => {
+            *number = 0;
+            FULL
+        }
+        Err(EnqueueRefusal::Spent { number: last }) => {
+            *number = last;
+            SPENT
+        }
+    }
 }
 
-/// Takes the value at the queue's front.
+/// Takes the value at the queue's front: the code, and the rest where it is to go.
 #[unsafe(no_mangle)]
-pub extern "C" fn wfe_c_dequeue(alloc: Global, seat: &mut SeatHandle) -> CAnswer
-    ensures { IsCalled seat.old seat.new calls.Dequeue result }
+pub extern "C" fn wfe_c_dequeue(seat: &mut SeatHandle, told: &mut CTaken) -> u32
+    ensures { IsCalled seat.old seat.new calls.Dequeue (answer_with result told.new) }
 {
-    make(alloc, seat, Call::Dequeue)
+    if !seat.has_seat() {
+        *told = nothing_taken();
+        return lack(seat);
+    }
+    let joined = seat.place.seat();
+    match joined.dequeue() {
+        Ok(taken) => {
+            told.number = taken.number;
+            told.value = taken.value;
+            told.clock = clock_kind(taken.clock);
+            told.era = clock_era(taken.clock);
+            OK
+        }
+        Err(_) => {
+            *told = nothing_taken();
+            EMPTY
+        }
+    }
 }
 
 /// Protects the row of the key's bucket at index 2.
 #[unsafe(no_mangle)]
-pub extern "C" fn wfe_c_hold(alloc: Global, seat: &mut SeatHandle, key: u64) -> CAnswer
+pub extern "C" fn wfe_c_hold(seat: &mut SeatHandle, key: u64) -> CAnswer
     ensures { IsCalled seat.old seat.new (calls.Hold key) result }
 {
-    make(alloc, seat, Call::Hold { key })
+    make(seat, Call::Hold { key })
 }
 
 /// Lets go of what stands at index 2.
 #[unsafe(no_mangle)]
-pub extern "C" fn wfe_c_release(alloc: Global, seat: &mut SeatHandle) -> CAnswer
+pub extern "C" fn wfe_c_release(seat: &mut SeatHandle) -> CAnswer
     ensures { IsCalled seat.old seat.new calls.Release result }
 {
-    make(alloc, seat, Call::Release)
+    make(seat, Call::Release)
 }
 
 /// Protects the row that stands at one index at a higher one too.
 #[unsafe(no_mangle)]
-pub extern "C" fn wfe_c_copy(alloc: Global, seat: &mut SeatHandle, from: u32, index: u32) -> CAnswer
+pub extern "C" fn wfe_c_copy(seat: &mut SeatHandle, from: u32, index: u32) -> CAnswer
     ensures { IsCalled seat.old seat.new (calls.Copy from index) result }
 {
-    make(alloc, seat, Call::Copy { from, index })
+    make(seat, Call::Copy { from, index })
 }
 
 /// What the row that stands at an index shows of the key.
 #[unsafe(no_mangle)]
-pub extern "C" fn wfe_c_look(alloc: Global, seat: &mut SeatHandle, index: u32, key: u64) -> CAnswer
+pub extern "C" fn wfe_c_look(seat: &mut SeatHandle, index: u32, key: u64) -> CAnswer
     ensures { IsCalled seat.old seat.new (calls.Look index key) result }
 {
-    make(alloc, seat, Call::Look { index, key })
+    make(seat, Call::Look { index, key })
 }
 
 /// Lets go of what stands at an index.
 #[unsafe(no_mangle)]
-pub extern "C" fn wfe_c_drop_index(alloc: Global, seat: &mut SeatHandle, index: u32) -> CAnswer
+pub extern "C" fn wfe_c_drop_index(seat: &mut SeatHandle, index: u32) -> CAnswer
     ensures { IsCalled seat.old seat.new (calls.DropIndex index) result }
 {
-    make(alloc, seat, Call::DropIndex { index })
+    make(seat, Call::DropIndex { index })
 }
 
 /// Tries once to move the clock.
 #[unsafe(no_mangle)]
-pub extern "C" fn wfe_c_advance(alloc: Global, seat: &mut SeatHandle) -> CAnswer
+pub extern "C" fn wfe_c_advance(seat: &mut SeatHandle) -> CAnswer
     ensures { IsCalled seat.old seat.new calls.Advance result }
 {
-    make(alloc, seat, Call::Advance)
+    make(seat, Call::Advance)
 }
 
 /// Reads all guards, and gives back the retired rows that none of them covers.
 #[unsafe(no_mangle)]
-pub extern "C" fn wfe_c_scan(alloc: Global, seat: &mut SeatHandle) -> CAnswer
+pub extern "C" fn wfe_c_scan(seat: &mut SeatHandle) -> CAnswer
     ensures { IsCalled seat.old seat.new calls.Scan result }
 {
-    make(alloc, seat, Call::Scan)
+    make(seat, Call::Scan)
 }
 
 /// Takes over the list of retired rows that the seat of this number has left.
 #[unsafe(no_mangle)]
-pub extern "C" fn wfe_c_adopt(alloc: Global, seat: &mut SeatHandle, place: u32) -> CAnswer
+pub extern "C" fn wfe_c_adopt(seat: &mut SeatHandle, place: u32) -> CAnswer
     ensures { IsCalled seat.old seat.new (calls.Adopt place) result }
 {
-    match seat.take(alloc) {
-        Ok(mut joined) => {
-            let answer = joined.adopt(place);
-            *seat = SeatHandle::of(joined);
-            tell(answer)
-        }
-        Err(code) => says(code),
+    if !seat.has_seat() {
+        return refused(seat);
     }
+    let joined = seat.place.seat();
+    let answer = joined.adopt(place);
+    tell(Call::Adopt { place }, answer)
 }

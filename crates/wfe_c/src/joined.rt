@@ -7,11 +7,12 @@ use std::alloc::Global;
 use std::sync::Arc;
 use wfe_table::{Seat, Shared};
 
-// The table is shared by its seats, and its memory goes with the last of them.
+// The table is shared by its seats, and its memory goes with the last of them. The seat comes first, so that it lies where the pointer
+// to both points.
 #[derive(Drop)]
 pub struct Joined {
-    pub(crate) shared: Arc<Shared, Global>,
     pub(crate) seat: Seat,
+    pub(crate) shared: Arc<Shared, Global>,
     ghost of: { IsOf seat (arc_value shared) },
 }
 
@@ -21,6 +22,6 @@ impl Joined {
         ensures shared { result.shared ≡ shared }
         ensures seat { result.seat ≡ seat }
     {
-        Joined { shared, seat }
+        Joined { seat, shared }
     }
 }

@@ -1,5 +1,5 @@
 //! Exports for C: each call on a seat (`calls.rt`), opening and leaving (`opening.rt`, `leaving.rt`), notes (`notes.rt`, `about.rt`), by handles
-//! that keep their table (`handle.rt`, `taking.rt`). What a caller in C could get wrong is tested, and answered by a code (`answer.rt`). C's
+//! that keep their table (`handle.rt`). What a caller in C could get wrong is tested, and answered by a code (`answer.rt`). C's
 //! side is `bindings/c/wfe.h`.
 #![tactic(auto)]
 
@@ -15,5 +15,5 @@ mod notes;
 mod opening;
 mod place;
 mod pointed;
+mod refusing;
 mod setting;
-mod taking;

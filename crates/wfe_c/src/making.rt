@@ -1,11 +1,15 @@
 // Calls on a seat that is with its table.
-ghost use Rattle.std.specs.Prelude.{◌≡◌, MatchOption, true};
+ghost use Rattle.std.specs.Prelude.{◌≡◌, MatchOption, MatchResult, true};
 ghost use Rattle.wfe_c.specs.Joined.{IsLeft, IsRefused, Makes, table_of};
 ghost use Rattle.wfe_core.specs.Locals.{may_begin, stays};
+ghost use Rattle.wfe_table.specs.Calls.{enqueue_answer};
+ghost use Rattle.wfe_table.specs.history.defs.declared.call.Answer.TheVariants as answers;
 ghost use Rattle.wfe_table.specs.history.defs.declared.call.Call.TheVariants as calls;
 
 use crate::joined::Joined;
-use wfe_table::{AdoptEnd, Answer, Call, Config, adopt, leave};
+use wfe_table::{
+    AdoptEnd, Answer, Call, Config, Empty, EnqueueRefusal, Got, Queued, Taken, adopt, leave,
+};
 
 impl Joined {
     pub(crate) fn config(&self) -> Config
@@ -39,26 +43,33 @@ impl Joined {
         if !self.may(call) {
             return None;
         }
-        Some(self.any(call))
+        Some(self.shared.call(&mut self.seat, call))
     }
 
-    // A get has code of its own.
+    // A get, which has code of its own.
     #[inline(always)]
-    fn any(&mut self, call: Call) -> Answer
-        requires may { may_begin (table_of self.old).layout.config call ≡ true }
-        requires stays { stays call ≡ true }
-        ensures { Makes self.old self.new call result }
+    pub(crate) fn get(&mut self, key: u64) -> Got
+        ensures { Makes self.old self.new (calls.Get key) (answers.Got result.version result.value) }
     {
-        match call {
-            Call::Get { key } => {
-                let got = self.shared.get(&mut self.seat, key);
-                Answer::Got {
-                    version: got.version,
-                    value: got.value,
-                }
-            }
-            _ => self.shared.call(&mut self.seat, call),
-        }
+        self.shared.get(&mut self.seat, key)
+    }
+
+    #[inline(always)]
+    pub(crate) fn enqueue(&mut self, value: u64) -> Result<Queued, EnqueueRefusal>
+        ensures { MatchResult result
+            (λ queued. Makes self.old self.new (calls.Enqueue value) (answers.Queued queued.number))
+            (λ refusal. Makes self.old self.new (calls.Enqueue value) (enqueue_answer refusal)) }
+    {
+        self.shared.enqueue(&mut self.seat, value)
+    }
+
+    #[inline(always)]
+    pub(crate) fn dequeue(&mut self) -> Result<Taken, Empty>
+        ensures { MatchResult result
+            (λ taken. Makes self.old self.new calls.Dequeue (answers.Taken taken.number taken.value taken.clock))
+            (λ _. Makes self.old self.new calls.Dequeue answers.Empty) }
+    {
+        self.shared.dequeue(&mut self.seat)
     }
 
     // Takes over the list that the seat of this number has left, if the table has that seat.
@@ -79,7 +90,7 @@ impl Joined {
     pub(crate) fn leave(self) -> usize
         ensures { IsLeft self result }
     {
-        let Joined { shared, seat } = self;
+        let Joined { seat, shared } = self;
         let count = seat.list().len();
         drop(leave(&shared, seat));
         drop(shared);

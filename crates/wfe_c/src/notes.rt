@@ -2,11 +2,11 @@
 ghost use Rattle.std.specs.Prelude.{◌≡◌, length};
 ghost use Rattle.wfe_c.specs.Notes.{IsNoted, IsWritten, TellsBacks, backs_told, given_slot, last_notes, no_notes_for, noted, retired_slot};
 
-use crate::answer::{CAnswer, says, says_at};
+use crate::answer::{CAnswer, says_at};
 use crate::codes::{OK, SHORT};
 use crate::handle::SeatHandle;
 use crate::joined::Joined;
-use std::alloc::Global;
+use crate::refusing::{lack, refused};
 use wfe_table::Lifetime;
 
 // No slot.
@@ -98,30 +98,24 @@ fn backs_told(count: usize, room: usize) -> CAnswer
 
 /// What the seat's last call did.
 #[unsafe(no_mangle)]
-pub extern "C" fn wfe_c_notes(alloc: Global, seat: &mut SeatHandle) -> CNotes
+pub extern "C" fn wfe_c_notes(seat: &mut SeatHandle) -> CNotes
     ensures { IsNoted seat.old seat.new result }
 {
-    match seat.take(alloc) {
-        Ok(joined) => {
-            let notes = joined.noted();
-            *seat = SeatHandle::of(joined);
-            notes
-        }
-        Err(code) => no_notes(code),
+    if !seat.has_seat() {
+        return no_notes(lack(seat));
     }
+    let joined = seat.place.seat();
+    joined.noted()
 }
 
 /// Writes the slots that went back in the seat's last call, as many as there is room for, and tells how many there were.
 #[unsafe(no_mangle)]
-pub extern "C" fn wfe_c_backs(alloc: Global, seat: &mut SeatHandle, slots: &mut [u32]) -> CAnswer
+pub extern "C" fn wfe_c_backs(seat: &mut SeatHandle, slots: &mut [u32]) -> CAnswer
     ensures { TellsBacks seat.old seat.new slots.old slots.new result }
 {
-    match seat.take(alloc) {
-        Ok(joined) => {
-            let told = joined.write_backs(slots);
-            *seat = SeatHandle::of(joined);
-            told
-        }
-        Err(code) => says(code),
+    if !seat.has_seat() {
+        return refused(seat);
     }
+    let joined = seat.place.seat();
+    joined.write_backs(slots)
 }

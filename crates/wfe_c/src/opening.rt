@@ -2,11 +2,11 @@
 ghost use Rattle.std.specs.Arc.{arc_value};
 ghost use Rattle.std.specs.Prelude.{◌≡◌, ◌≢◌, All, IfOk, IfSome, None, length};
 ghost use Rattle.wfe_c.specs.Opened.{IsSeated, IsSet, IsWith};
-ghost use Rattle.wfe_c.specs.Setting.{config_of, scheme_of};
+ghost use Rattle.wfe_c.specs.Setting.{config_of, scheme_number, scheme_of};
 ghost use Rattle.wfe_table.specs.Public.{IsOf};
 
 use crate::codes::{BAD_COUNT, BAD_SCHEME, IN_USE, NULL, OK};
-use crate::handle::{SEAT, SeatHandle};
+use crate::handle::SeatHandle;
 use crate::joined::Joined;
 use crate::setting::{CSetting, refusal, scheme_of};
 use std::alloc::{AllocError, Global};
@@ -52,7 +52,7 @@ fn opened(alloc: Global, config: Config) -> Result<Vec<Box<Joined>>, MakeError>
 // Whether one of the handles has a seat.
 fn in_use(seats: &[SeatHandle]) -> bool {
     for seat in seats {
-        if seat.state == SEAT {
+        if seat.has_seat() {
             return true;
         }
     }
@@ -103,9 +103,11 @@ pub extern "C" fn wfe_c_open(alloc: Global, setting: CSetting, seats: &mut [Seat
     }
 }
 
-/// A setting for so many threads, each with one seat, and for so many keys. No table is made of an unknown scheme.
+/// A setting for so many threads, each with one seat, and for so many keys, by this scheme. No table is made of an unknown one.
 #[unsafe(no_mangle)]
-pub extern "C" fn wfe_c_usual(scheme: u32, threads: u32, keys: u32) -> CSetting {
+pub extern "C" fn wfe_c_usual(scheme: u32, threads: u32, keys: u32) -> CSetting
+    ensures { IfSome (scheme_of scheme) (λ known. result.scheme ≡ scheme_number known) }
+{
     match scheme_of(scheme) {
         Some(scheme) => CSetting::of(usual(scheme, threads, keys)),
         None => CSetting {

@@ -1,4 +1,5 @@
 // Where a seat lies that C keeps, if one does.
+ghost use Rattle.std.specs.Borrow.{sem};
 ghost use Rattle.std.specs.Prelude.{◌≡◌, ◌≢◌, None, Option, Some};
 ghost use Rattle.wfe_c.specs.Place.{joined_coded, place_owns};
 ghost use Rattle.wfe_c.specs.declared.joined.Joined.{Joined};
@@ -22,6 +23,8 @@ impl Model for Place {
 }
 
 impl Place {
+    ghost use Rattle.wfe_c.specs.Lent.{LendsSeat};
+
     pub(crate) fn of(pointed: Pointed<Joined, Global>) -> Place
         ensures { result.inside ≡ Some pointed.value }
     {
@@ -39,6 +42,16 @@ impl Place {
             at: std::ptr::null_mut::<u8>(),
             alloc,
         }
+    }
+
+    // The seat where it lies.
+    #[inline(always)]
+    pub(crate) fn seat(&mut self) -> &mut Joined
+        requires { self.old.inside ≢ None }
+        ensures* writes_back { sem 𝓛 (LendsSeat self.entry result) }
+        ensures value { self.old.inside ≡ Some result.now }
+    {
+        unsafe { &mut *(self.at as *mut Joined) }
     }
 
     pub(crate) fn into_pointed(self) -> Pointed<Joined, Global>

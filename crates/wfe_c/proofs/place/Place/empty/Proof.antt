@@ -2,7 +2,7 @@
 use mathlib.Core.Path.{refl, sym, subst}
 use mathlib.Core.List.{List, [], ◌∷◌, ◌++◌}
 use seplogic.Ra.Ura.{Ura}
-use Rattle.std.specs.Prelude.{None, ℕ}
+use Rattle.std.specs.Prelude.{None}
 use mir.Syntax.{w64}
 use lib.Dec.{lit<}
 use mir.Val.{Val, has_ty, vint, vstruct, vcons, vnil}
@@ -17,7 +17,7 @@ use contract.Running.{tables, tables_of}
 use sound.WpLaws.{WpFn-mono}
 use types.Kit.{Item, ‵, raw, ◌⊛◌, ◌$◌, ◌∵◌, !, qed, by, move, drop, use1, join, split, fsplit, fjoin, fpack, feq_i, suffices, done}
 use types.Part.{agg}
-use types.Run.{no_more, and_then, of_opd, lit, returns, enter}
+use types.Run.{no_more, and_then, lit, returns, enter}
 use types.ByLocal.{alloc_all, pass_all, free_all, look_at, get, sets}
 use denote.Exit.{yes}
 use denote.Param.{layout}

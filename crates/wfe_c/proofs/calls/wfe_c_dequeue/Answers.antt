@@ -1,0 +1,25 @@
+use Rattle.std.proofs.Common.{Some, ap, refl}
+use Rattle.wfe_table.specs.history.defs.declared.call.Answer.TheVariants as answers
+use Rattle.wfe_c.specs.Told.{answer_with}
+use Rattle.wfe_c.proofs.Handles.{by_some}
+use Rattle.wfe_c.proofs.calls.wfe_c_dequeue.Goals as goal
+
+pub returns-in-Ok : goal.returns-in-Ok
+returns-in-Ok c =
+    by_some _ _ c.args.seat.now.place.inside _ c.seat-joined.ensures.value (record {
+      new = _;
+      is = refl;
+      answer = Some (answers.Taken c.in-Ok.taken.number c.in-Ok.taken.value c.in-Ok.taken.clock);
+      came = c.in-Ok.ensures;
+      tells = λ i. answer_with 0 (record { number = c.in-Ok.taken.number; value = c.in-Ok.taken.value; clock = c.clock_kind-told.ensures i; era = c.clock_era-told.ensures i });
+    })
+
+pub returns-in-Err : goal.returns-in-Err
+returns-in-Err c =
+    by_some _ _ c.args.seat.now.place.inside _ c.seat-joined.ensures.value (record {
+      new = _;
+      is = refl;
+      answer = Some answers.Empty;
+      came = c.in-Err.ensures;
+      tells = ap (answer_with 10) c.nothing_taken-in-Err.ensures;
+    })
