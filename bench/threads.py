@@ -44,31 +44,30 @@ TOP = os.path.dirname(os.path.dirname(os.path.realpath(__file__)))
 PROVED = f"{TOP}/crates/wfe_bench/out/wfe_bench"
 ARCHIVE = f"{TOP}/crates/wfe_c/out/libwfe_c.a"
 REGISTRY = "/usr/share/cargo/registry"
-MANIFEST = f"""[package]
-name = "plain"
-version = "0.0.0"
-edition = "2024"
-[[bin]]
-name = "plain"
-path = {json.dumps(f"{TOP}/bench/plain/main.rs")}
-[features]
+
+
+def manifest_of(name, edition, path, rest):
+    """What cargo is told of a program with one file."""
+    program = f'[[bin]]\nname = "{name}"\npath = {json.dumps(f"{TOP}/{path}")}\n'
+    return f'[package]\nname = "{name}"\nversion = "0.0.0"\nedition = "{edition}"\n{program}{rest}'
+
+
+PLAIN = manifest_of(
+    "plain",
+    "2024",
+    "bench/plain/main.rs",
+    """[features]
 crossbeam = []
 [dependencies]
 crossbeam-epoch = "0.9"
 crossbeam-utils = "0.8"
 [lints.rust]
 unexpected_cfgs = "allow"
-"""
-BORDER = f"""[package]
-name = "calls"
-version = "0.0.0"
-edition = "2021"
-[[bin]]
-name = "calls"
-path = {json.dumps(f"{TOP}/bench/border/calls.rs")}
-[dependencies]
-wfe = {{ path = {json.dumps(f"{TOP}/bindings/rust")} }}
-"""
+""",
+)
+BORDER = manifest_of(
+    "calls", "2021", "bench/border/calls.rs", f"[dependencies]\nwfe = {{ path = {json.dumps(f'{TOP}/bindings/rust')} }}\n"
+)
 
 
 def built_plain(folder, *choices):
@@ -88,7 +87,7 @@ def built_crossbeam(folder):
         return None, "there is no cargo"
     os.mkdir(f"{folder}/crossbeam")
     with open(f"{folder}/crossbeam/Cargo.toml", "w", encoding="utf-8") as manifest:
-        manifest.write(MANIFEST)
+        manifest.write(PLAIN)
     made = subprocess.run(["cargo", "build", "--quiet", "--release", "--offline", "--features", "crossbeam", "--target-dir", "target",
                            "--config", 'source.crates-io.replace-with="debian"',
                            "--config", f"source.debian.directory={json.dumps(REGISTRY)}"],

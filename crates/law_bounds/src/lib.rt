@@ -1,7 +1,7 @@
-//! Which rows are taken (`Rows.antt`) and wait (`Scans.antt`, `Hazards.antt`), which a guard keeps that stands still (`Eras.antt`), how
-//! many (`Kept.antt`); how many steps calls take by what others do (`Gets.antt`, `Changes.antt`), and a leave (`Leaves.antt`);
-//! lock-freedom (`Free.antt`), and how far the queue's tail is behind (`Tails.antt`).
+//! Which rows are taken (`Rows.antt`), wait (`Scans.antt`, `Hazards.antt`), are kept (`Eras.antt`, `Kept.antt`); how many steps calls
+//! take by what others do (`Gets.antt`, `Changes.antt`); lock-freedom (`Free.antt`).
 //!
+//! How far the queue's tail is behind is in `Tails.antt`, the steps of a leave in `Leaves.antt`.
 //! They are of the record of each history, and follow from what histories keep; what callers are told of rows is in `Waits.antt`, all
 //! bounds of rows together are in `Whole.antt`, those of steps in `Paces.antt`. Each function here does nothing, and carries a theorem.
 #![tactic(auto)]

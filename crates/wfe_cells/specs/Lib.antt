@@ -1,3 +1,4 @@
 pub use Rattle.wfe_table.specs as table
 pub mod Calls
 pub mod Stores
+pub mod Wide

@@ -1,12 +1,15 @@
-//! Cells for objects of your own, which lie outside the table and go by numbers: any thread reads a cell while others replace its
-//! object (`user.rt`), and an object that was replaced may be dropped once the row that named it is back (`store.rt`).
+//! Cells for objects of one's own: their numbers, given back once no thread holds them (`user.rt`, `store.rt`), or their words
+//! (`wide.rt`).
 #![tactic(auto)]
 
+mod blocks;
 mod cells;
 mod store;
 mod user;
+mod wide;
 
 pub use cells::Cells;
 pub use store::none_is_lost;
 pub use user::{Loaded, Swapped, User};
 pub use wfe_table::{MakeError, PutIfRefusal, SchemeKind};
+pub use wide::{Seen, SwapRefusal, WideCells, versions_agree};

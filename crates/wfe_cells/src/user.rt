@@ -5,6 +5,7 @@ ghost use Rattle.wfe_core.specs.defs.declared.call.Answer.TheVariants as answers
 ghost use Rattle.wfe_core.specs.defs.declared.call.Call.TheVariants as calls;
 ghost use Rattle.wfe_table.specs.Calls.{IsMade};
 ghost use Rattle.wfe_table.specs.Public.{IsOf, TableNow};
+ghost use Rattle.wfe_table.specs.rule.Views.{seat_of};
 ghost use Rattle.wfe_cells.specs.Calls.{IsLoaded, IsTried, UserNow, store_by};
 
 use crate::store::Store;
@@ -54,6 +55,13 @@ impl User {
         let places = shared.layout().config().slots as usize + 1;
         let store = Store::new(alloc, places)?;
         Ok(User { seat, store })
+    }
+
+    /// The number of its seat, from 0.
+    pub fn number(&self) -> u32
+        ensures { result ≡ seat_of self.now.seat.track }
+    {
+        self.seat.number()
     }
 
     // What went back in the last call may be dropped; nothing was replaced.

@@ -1,2 +1,4 @@
 pub mod Command
 pub mod Headline
+pub mod Jobs
+pub mod Words

@@ -1,9 +1,10 @@
-//! The command as a call: words, source, sink in, status out (`command.rt`). What it promises is in `Headline.antt` and
-//! `Command.antt`.
+//! The command as a call: words, source, sink in, status out (`command.rt`), by the job that the words ask for (`job.rt`). What it
+//! promises is in `Headline.antt` and `Command.antt`.
 #![tactic(auto)]
 
 mod command;
+mod job;
 
 pub use command::{exit_number, main_call};
-pub use wfe_cli_job::{Job, job_of};
+pub use job::{Job, job_of};
 pub use wfe_server::{Gate, OpenGate, RunRecord, run, run_threads};

@@ -90,6 +90,24 @@ fn work<R: Threads + Sync>(
     }
 }
 
+// A worker's seat after a last scan, what it counted, and the rows that are retired still.
+fn scan_last(shared: &Shared, worker: Worker) -> (Seat, Tally, u64)
+    requires works { WorksOn worker shared.now }
+    ensures of { IsOf result.0 shared.now }
+{
+    let Worker {
+        mut seat,
+        mut boxes,
+        mut tally,
+        ..
+    } = worker;
+    shared.scan(&mut seat);
+    boxes.follow(&seat);
+    tally.add_boxes(&boxes);
+    let retired = seat.list().len() as u64;
+    (seat, tally, retired)
+}
+
 // The seats, each after a last scan, with what all workers counted, and the rows that are retired still.
 fn hand_back(
     alloc: Global,
@@ -103,22 +121,45 @@ fn hand_back(
     let mut tally = Tally::none();
     let mut retired = 0u64;
     while let Some(worker) = workers.pop() {
-        let Worker {
-            mut seat,
-            mut boxes,
-            tally: counted,
-            ..
-        } = worker;
-        shared.scan(&mut seat);
-        boxes.follow(&seat);
+        let (seat, counted, more) = scan_last(shared, worker);
         tally.add(&counted);
-        tally.add_boxes(&boxes);
-        retired = retired.saturating_add(seat.list().len() as u64);
+        retired = retired.saturating_add(more);
         if seats.push(seat).is_err() {
             return Err(NO_MEMORY);
         }
     }
     Ok((seats, tally, retired))
+}
+
+// A table with so many seats, which have an index for a version that is kept.
+fn open(alloc: Global, scheme: SchemeKind, count: u32) -> Result<(Shared, Vec<Seat>), &'static str>
+    ensures of { IfOk result (λ r. All (λ seat. IsOf seat r.0) r.1.items) }
+    ensures indexes { IfOk result (λ r. 3 < r.0.layout.config.indexes) }
+{
+    let Ok((shared, seats)) = Shared::new(alloc, setting(scheme, count)) else {
+        return Err("no table was made");
+    };
+    if shared.layout().config().indexes <= KEPT {
+        return Err("the table has too few indexes");
+    }
+    Ok((shared, seats))
+}
+
+// All calls of a table's workers: what came of them, and the table once it is closed.
+fn work_through<R: Threads + Sync>(
+    rt: &R,
+    alloc: Global,
+    shared: Shared,
+    workers: Vec<Worker>,
+) -> Result<Ended, &'static str>
+    requires works { All (λ worker. WorksOn worker shared) workers.items }
+{
+    let workers = work(rt, &shared, workers)?;
+    let (seats, tally, retired) = hand_back(alloc, &shared, workers)?;
+    let Ok(closed) = shared.close(alloc, seats) else {
+        return Err("the table was not closed");
+    };
+    Ok(Ended::new(tally, retired, &closed))
 }
 
 // A table with so many seats, from its making to its end.
@@ -128,20 +169,9 @@ fn run<R: Threads + Sync + Print + AllocGlobal>(
     count: u32,
 ) -> Result<(), &'static str> {
     let alloc = rt.alloc();
-    let Ok((shared, seats)) = Shared::new(alloc, setting(scheme, count)) else {
-        return Err("no table was made");
-    };
-    if shared.layout().config().indexes <= KEPT {
-        return Err("the table has too few indexes");
-    }
-    let bounded = scheme == SchemeKind::Wfe;
-    let workers = hire(alloc, &shared, seats, bounded)?;
-    let workers = work(rt, &shared, workers)?;
-    let (seats, tally, retired) = hand_back(alloc, &shared, workers)?;
-    let Ok(closed) = shared.close(alloc, seats) else {
-        return Err("the table was not closed");
-    };
-    let ended = Ended::new(tally, retired, &closed);
+    let (shared, seats) = open(alloc, scheme, count)?;
+    let workers = hire(alloc, &shared, seats, scheme == SchemeKind::Wfe)?;
+    let ended = work_through(rt, alloc, shared, workers)?;
     if print_report(rt, scheme, count, &ended).is_err() {
         return Err("standard output failed");
     }

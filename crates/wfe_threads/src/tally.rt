@@ -167,6 +167,8 @@ impl Tally {
         self.refused = self.refused.saturating_add(other.refused);
         self.counted = self.counted.saturating_add(other.counted);
         self.long = self.long.saturating_add(other.long);
+        self.made = self.made.saturating_add(other.made);
+        self.freed = self.freed.saturating_add(other.freed);
     }
 
     /// Adds the boxes of a worker.

@@ -1,16 +1,13 @@
-//! Small programs on the table that threads share, each with what it comes to as a clause of a function: a put that another thread is told
-//! of (`handover.rt`), a counter (`counter.rt`), a pipeline (`pipeline.rt`), two versions of a bucket in hand (`snapshot.rt`), and a cache
-//! of buffers in cells (`cache.rt`).
+//! Programs on the table that threads share, each with what it comes to as a clause of a function: a put that another thread is told of
+//! (`handover.rt`), a counter, a pipeline, and two versions of a bucket in hand (`snapshot.rt`).
 #![tactic(auto)]
 
-mod cache;
 mod counter;
 mod handover;
 mod pipeline;
 mod snapshot;
 
 use anyhow::Result;
-use cache::cache;
 use counter::count;
 use handover::hand_over;
 use pipeline::hand_on;
@@ -73,22 +70,11 @@ fn print_views<R: Print>(rt: &R, alloc: Global) -> Result<()> {
     Ok(())
 }
 
-fn print_cache<R: Threads + Sync + Print>(rt: &R, alloc: Global) -> Result<()> {
-    if let Some(found) = cache(rt, alloc, 4) {
-        println!(rt;
-            "cache: {} buffers are there, {} loads were torn",
-            found.buffers, found.torn
-        )?;
-    }
-    Ok(())
-}
-
 fn main(rt: HostRuntime) -> Result<()> {
     let alloc = rt.alloc();
     print_handed(&rt, alloc)?;
     print_count(&rt, alloc)?;
     print_flow(&rt, alloc)?;
     print_views(&rt, alloc)?;
-    print_cache(&rt, alloc)?;
     Ok(())
 }

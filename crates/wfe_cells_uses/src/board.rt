@@ -1,0 +1,229 @@
+// Boards: records of eight words in cells, which threads read and write whole. What one thread has written another reads at that version,
+// or a later one, once it was told.
+ghost use Rattle.std.specs.Prelude.{◌≡◌, ◌≢◌, ◌<◌, All, IfSome, length};
+ghost use Rattle.wfe_table.specs.Public.{IsOf};
+ghost use Rattle.wfe_cells_uses.specs.Boards.{IsTold, IsWhole};
+
+use std::alloc::Global;
+use std::thread;
+use std::thread::Threads;
+use wfe_cells::{SchemeKind, Seen, WideCells};
+use wfe_table::{News, Seat};
+
+const CELLS: u32 = 4;
+
+const WIDTH: usize = 8;
+
+const TURNS: u64 = 2_000;
+
+const ATTEMPTS: u64 = 1_000_000;
+
+/// A board that was written: its version, and how far the seat knew the table's history then.
+#[derive(Drop)]
+pub(crate) struct Told {
+    pub(crate) seen: Seen,
+    pub(crate) news: News,
+}
+
+// Writes the board, and says how far the seat knows the table's history then.
+fn write_and_tell(
+    cells: &WideCells,
+    seat: &mut Seat,
+    cell: u64,
+    seen: Seen,
+    words: &[u64],
+) -> Option<Told>
+    requires of { IsOf seat.old cells.now.table }
+    requires cell { cell < cells.now.cells }
+    requires width { length words.now ≡ cells.now.width }
+    ensures of { IsOf seat.new cells.now.table }
+    ensures some { IfSome result (λ told. told.seen.object ≢ 0) }
+    ensures told { IfSome result (IsTold cells.now cell words.now) }
+{
+    match cells.compare_swap(seat, cell, seen, words) {
+        Ok(seen) => Some(Told {
+            seen,
+            news: cells.shared().news(seat),
+        }),
+        Err(_) => None,
+    }
+}
+
+/// Reads the board, once the seat has heard of what was written.
+pub(crate) fn hear_and_read(
+    cells: &WideCells,
+    seat: &mut Seat,
+    told: Told,
+    cell: u64,
+    _words: &[u64],
+    read: &mut [u64],
+) -> Option<Seen>
+    requires of { IsOf seat.old cells.now.table }
+    requires cell { cell < cells.now.cells }
+    requires width { length read.old ≡ cells.now.width }
+    requires same { length _words.now ≡ cells.now.width }
+    requires some { told.seen.object ≢ 0 }
+    requires told { IsTold cells.now cell _words.now told }
+    ensures of { IsOf seat.new cells.now.table }
+    ensures whole { IfSome result (λ seen. IsWhole told.seen.version _words.now seen read.new) }
+{
+    cells.shared().hear(seat, told.news);
+    match cells.load(seat, cell, read, ATTEMPTS) {
+        Some(seen) => Some(seen),
+        None => None,
+    }
+}
+
+/// A thread's part, and what it has found.
+#[derive(Drop)]
+pub(crate) struct Writer {
+    seat: Seat,
+    tried: u64,
+    torn: u64,
+}
+
+// Numbers in a row.
+fn row(first: u64) -> [u64; WIDTH] {
+    let mut words = [0u64; WIDTH];
+    for place in 0..WIDTH {
+        words[place] = first.wrapping_add(place as u64);
+    }
+    words
+}
+
+fn is_row(words: &[u64; WIDTH]) -> bool {
+    let first = words[0];
+    for place in 0..WIDTH {
+        if words[place] != first.wrapping_add(place as u64) {
+            return false;
+        }
+    }
+    true
+}
+
+// Reads a board, and writes it where no other thread comes between.
+fn turn(cells: &WideCells, writer: &mut Writer, cell: u64, first: u64)
+    requires of { IsOf writer.old.seat cells.now.table }
+    requires cell { cell < cells.now.cells }
+    requires width { cells.now.width ≡ 8 }
+    ensures of { IsOf writer.new.seat cells.now.table }
+{
+    let mut words = [0u64; WIDTH];
+    let Some(seen) = cells.load(&mut writer.seat, cell, &mut words, ATTEMPTS) else {
+        return;
+    };
+    if seen.is_some() && !is_row(&words) {
+        writer.torn = writer.torn.saturating_add(1);
+    }
+    let _ = cells.compare_swap(&mut writer.seat, cell, seen, &row(first));
+    writer.tried = writer.tried.saturating_add(1);
+}
+
+fn work(cells: &WideCells, mut writer: Writer) -> Writer
+    requires of { IsOf writer.seat cells.now.table }
+    requires width { cells.now.width ≡ 8 }
+    ensures of { IsOf result.seat cells.now.table }
+{
+    let count = cells.count();
+    if count == 0 {
+        return writer;
+    }
+    for number in 0..TURNS {
+        turn(cells, &mut writer, number % count, number);
+    }
+    writer
+}
+
+// Each writer's work, by a thread of its own.
+fn work_all<R: Threads + Sync>(
+    rt: &R,
+    cells: &WideCells,
+    writers: Vec<Writer>,
+) -> Option<Vec<Writer>>
+    requires of { All (λ writer. IsOf writer.seat cells.now.table) writers.items }
+    requires width { cells.now.width ≡ 8 }
+    ensures of { IfSome result (λ writers. All (λ writer. IsOf writer.seat cells.now.table) writers.items) }
+{
+    let done = thread::map_vec(
+        rt,
+        writers,
+        &|writer: Writer| -> Writer
+            requires { IsOf writer.seat cells.now.table × (cells.now.width ≡ 8) }
+            ensures { IsOf result.seat cells.entry.now.table }
+        { work(cells, writer) },
+    );
+    match done {
+        Ok(writers) => Some(writers),
+        Err(_) => None,
+    }
+}
+
+// A writer for each seat.
+fn writers(alloc: Global, _cells: &WideCells, mut seats: Vec<Seat>) -> Option<Vec<Writer>>
+    requires of { All (λ seat. IsOf seat _cells.now.table) seats.items }
+    ensures of { IfSome result (λ writers. All (λ writer. IsOf writer.seat _cells.now.table) writers.items) }
+{
+    let mut writers = Vec::new(alloc);
+    while let Some(seat) = seats.pop() {
+        let writer = Writer {
+            seat,
+            tried: 0,
+            torn: 0,
+        };
+        if writers.push(writer).is_err() {
+            return None;
+        }
+    }
+    Some(writers)
+}
+
+/// How many changes were tried, and how many reads were torn.
+#[derive(Clone, Copy)]
+pub(crate) struct Board {
+    pub(crate) tried: u64,
+    pub(crate) torn: u64,
+}
+
+/// Has so many threads read and write boards.
+pub(crate) fn write_boards<R: Threads + Sync>(
+    rt: &R,
+    alloc: Global,
+    threads: u32,
+) -> Option<Board> {
+    let Ok((cells, seats)) = WideCells::new(alloc, SchemeKind::Wfe, threads, CELLS, WIDTH as u32)
+    else {
+        return None;
+    };
+    let all = writers(alloc, &cells, seats)?;
+    let all = work_all(rt, &cells, all)?;
+    let mut board = Board { tried: 0, torn: 0 };
+    for writer in &all {
+        board.tried = board.tried.saturating_add(writer.tried);
+        board.torn = board.torn.saturating_add(writer.torn);
+    }
+    Some(board)
+}
+
+/// Writes a board with one seat, and has another one that was told of it read it: the version at which it was written, and what was read.
+pub(crate) fn tell_and_read(
+    alloc: Global,
+    words: &[u64; WIDTH],
+    read: &mut [u64; WIDTH],
+) -> Option<(u64, Seen)>
+    ensures whole { IfSome result (λ r. IsWhole r.0 words.now r.1 read.new) }
+{
+    let Ok((cells, mut seats)) = WideCells::new(alloc, SchemeKind::Wfe, 2, CELLS, WIDTH as u32)
+    else {
+        return None;
+    };
+    let mut writer = seats.pop()?;
+    let mut reader = seats.pop()?;
+    if cells.count() == 0 {
+        return None;
+    }
+    let seen = cells.load(&mut writer, 0, read, ATTEMPTS)?;
+    let told = write_and_tell(&cells, &mut writer, 0, seen, words)?;
+    let version = told.seen.version;
+    let seen = hear_and_read(&cells, &mut reader, told, 0, words, read)?;
+    Some((version, seen))
+}
