@@ -124,7 +124,8 @@ impl<S: Scheme> CallMachine for CopyIndex<S> {
         }
     }
 
-    #[inline(always)]
+    // It stands apart, so that which call it is is asked once a step.
+    #[inline(never)]
     fn take(
         &mut self,
         post: &mut Post,

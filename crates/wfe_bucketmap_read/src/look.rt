@@ -105,7 +105,8 @@ impl<S: Scheme> CallMachine for Look<S> {
         }
     }
 
-    #[inline(always)]
+    // It stands apart, so that which call it is is asked once a step.
+    #[inline(never)]
     fn take(
         &mut self,
         post: &mut Post,

@@ -18,6 +18,7 @@ impl<S: Scheme> CallMachine for Changing<S> {
 
     ghost phase = { changing_phase ⟦<Put<S> as CallMachine>⟧.phase ⟦<PutIf<S> as CallMachine>⟧.phase ⟦<Remove<S> as CallMachine>⟧.phase };
 
+    #[inline(always)]
     fn next_op(&self, post: &Post, desk: &Desk) -> Op {
         match self {
             Changing::Puts(machine) => machine.next_op(post, desk),
@@ -26,6 +27,7 @@ impl<S: Scheme> CallMachine for Changing<S> {
         }
     }
 
+    #[inline(always)]
     fn take(
         &mut self,
         post: &mut Post,

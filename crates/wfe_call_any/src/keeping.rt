@@ -20,6 +20,7 @@ impl<S: Scheme> CallMachine for Keeping<S> {
 
     ghost phase = { keeping_phase ⟦<Hold<S> as CallMachine>⟧.phase ⟦<Release<S> as CallMachine>⟧.phase ⟦<CopyIndex<S> as CallMachine>⟧.phase ⟦<Look<S> as CallMachine>⟧.phase ⟦<DropIndex<S> as CallMachine>⟧.phase };
 
+    #[inline(always)]
     fn next_op(&self, post: &Post, desk: &Desk) -> Op {
         match self {
             Keeping::Holds(machine) => machine.next_op(post, desk),
@@ -30,6 +31,7 @@ impl<S: Scheme> CallMachine for Keeping<S> {
         }
     }
 
+    #[inline(always)]
     fn take(
         &mut self,
         post: &mut Post,

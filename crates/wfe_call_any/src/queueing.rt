@@ -18,6 +18,7 @@ impl<S: Scheme> CallMachine for Queueing<S> {
 
     ghost phase = { queueing_phase ⟦<Enqueue<S> as CallMachine>⟧.phase ⟦<Dequeue<S> as CallMachine>⟧.phase };
 
+    #[inline(always)]
     fn next_op(&self, post: &Post, desk: &Desk) -> Op {
         match self {
             Queueing::Enqueues(machine) => machine.next_op(post, desk),
@@ -25,6 +26,7 @@ impl<S: Scheme> CallMachine for Queueing<S> {
         }
     }
 
+    #[inline(always)]
     fn take(
         &mut self,
         post: &mut Post,

@@ -31,6 +31,7 @@ impl<S: Scheme> CallMachine for Running<S> {
 
     ghost phase = { running_phase ⟦<Get<S> as CallMachine>⟧.phase ⟦<Changing<S> as CallMachine>⟧.phase ⟦<Queueing<S> as CallMachine>⟧.phase ⟦<Keeping<S> as CallMachine>⟧.phase ⟦<Advance<S> as CallMachine>⟧.phase ⟦<Scan as CallMachine>⟧.phase };
 
+    #[inline(always)]
     fn next_op(&self, post: &Post, desk: &Desk) -> Op {
         match self {
             Running::Gets(machine) => machine.next_op(post, desk),
@@ -42,6 +43,7 @@ impl<S: Scheme> CallMachine for Running<S> {
         }
     }
 
+    #[inline(always)]
     fn take(
         &mut self,
         post: &mut Post,

@@ -33,10 +33,12 @@ impl CallMachine for HeCall {
 
     ghost phase = { λ m post. ⟦<Running<He> as CallMachine>⟧.phase m.call post };
 
+    #[inline(always)]
     fn next_op(&self, post: &Post, desk: &Desk) -> Op {
         self.call.next_op(post, desk)
     }
 
+    #[inline(always)]
     fn take(
         &mut self,
         post: &mut Post,
@@ -72,10 +74,12 @@ impl CallMachine for IbrCall {
 
     ghost phase = { λ m post. ⟦<Running<Ibr> as CallMachine>⟧.phase m.call post };
 
+    #[inline(always)]
     fn next_op(&self, post: &Post, desk: &Desk) -> Op {
         self.call.next_op(post, desk)
     }
 
+    #[inline(always)]
     fn take(
         &mut self,
         post: &mut Post,
@@ -111,10 +115,12 @@ impl CallMachine for WfeCall {
 
     ghost phase = { λ m post. ⟦<Running<Wfe> as CallMachine>⟧.phase m.call post };
 
+    #[inline(always)]
     fn next_op(&self, post: &Post, desk: &Desk) -> Op {
         self.call.next_op(post, desk)
     }
 
+    #[inline(always)]
     fn take(
         &mut self,
         post: &mut Post,
@@ -150,10 +156,12 @@ impl CallMachine for HpCall {
 
     ghost phase = { λ m post. ⟦<Running<Hp> as CallMachine>⟧.phase m.call post };
 
+    #[inline(always)]
     fn next_op(&self, post: &Post, desk: &Desk) -> Op {
         self.call.next_op(post, desk)
     }
 
+    #[inline(always)]
     fn take(
         &mut self,
         post: &mut Post,

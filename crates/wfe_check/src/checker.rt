@@ -1,8 +1,11 @@
 // The checker: all that is kept of a record's entries, part by part.
-ghost use Rattle.std.specs.Prelude.{◌≡◌, ℕ, IfOk, None};
+ghost use Rattle.std.specs.Prelude.{◌≡◌, ℕ, IfOk, None, OnOk, true};
+ghost use Rattle.laws.specs.Fits.{Fits};
+ghost use Rattle.laws.specs.QueueLaw.{queue_ok};
+ghost use Rattle.laws.specs.ScanLaw.{scan_ok};
 ghost use Rattle.laws.specs.records.Record.{Past};
-ghost use Rattle.laws.specs.records.Record.Past.{Start};
-ghost use Rattle.wfe_check.specs.Checked.{IsChecked, MayCome};
+ghost use Rattle.laws.specs.records.Record.Past.{Start, Then};
+ghost use Rattle.wfe_check.specs.Checked.{IsChecked, MayCome, Shows};
 ghost use Rattle.wfe_check_lines.specs.Judged.{Judged};
 ghost use Rattle.wfe_words.specs.Config.{bad_field};
 ghost use Rattle.wfe_words.specs.declared.config.Config.{Config as Setting};
@@ -52,36 +55,61 @@ impl Checker {
 
     /// Whether the record is good with one entry more, and then stands for it. After an entry that is
     /// answered with false, and after NoMemory, it stands for none.
+    #[inline(always)]
     pub fn entry(&mut self, seat: u32, event: &Event) -> Result<bool, NoMemory>
         requires { MayCome self.old seat event.now }
         ensures { IfOk result (λ answer. (version : ℕ) (config : Setting) (p : Past) → IsChecked version config self.old p
             → Judged IsChecked version config p seat event.now answer self.new) }
     {
-        // Each of the kinds that come most often has code of its own, so that no part asks again which it is.
-        // For this the parts' functions that are handed the event are inlined.
+        if !self.fits_kind(seat, event) {
+            return Ok(false);
+        }
+        self.note_kind(seat, event)?;
+        Ok(true)
+    }
+
+    // Whether the record is good with one entry more. Each of the kinds that come most often has code of its own, so
+    // that no part asks again which it is. For this the parts' functions that are handed the event are inlined, and what
+    // an entry fits stands apart from what is noted of it: both in one are more than is inlined.
+    #[inline(never)]
+    fn fits_kind(&self, seat: u32, event: &Event) -> bool
+        requires may { MayCome self.now seat event.now }
+        ensures there { (version : ℕ) (config : Setting) (p : Past) → IsChecked version config self.now p → result ≡ true → Fits version config p seat event.now }
+        ensures back { (version : ℕ) (config : Setting) (p : Past) → IsChecked version config self.now p → Fits version config p seat event.now → result ≡ true }
+    {
         let event = *event;
         match event {
-            Event::Begin { .. } => self.judged(seat, &event),
-            Event::End { .. } => self.judged(seat, &event),
-            Event::Reserve { .. } => self.judged(seat, &event),
-            Event::Read { .. } => self.judged(seat, &event),
-            Event::Held { .. } => self.judged(seat, &event),
-            Event::Clear { .. } => self.judged(seat, &event),
-            Event::Link { .. } => self.judged(seat, &event),
-            _ => self.judged(seat, &event),
+            Event::Begin { .. } => self.fits(seat, &event),
+            Event::End { .. } => self.fits(seat, &event),
+            Event::Reserve { .. } => self.fits(seat, &event),
+            Event::Read { .. } => self.fits(seat, &event),
+            Event::Held { .. } => self.fits(seat, &event),
+            Event::Clear { .. } => self.fits(seat, &event),
+            Event::Link { .. } => self.fits(seat, &event),
+            Event::Give { .. } => self.fits(seat, &event),
+            _ => self.fits(seat, &event),
         }
     }
 
-    #[inline(always)]
-    fn judged(&mut self, seat: u32, event: &Event) -> Result<bool, NoMemory>
-        requires { MayCome self.old seat event.now }
-        ensures { IfOk result (λ answer. (version : ℕ) (config : Setting) (p : Past) → IsChecked version config self.old p
-            → Judged IsChecked version config p seat event.now answer self.new) }
+    // Takes an entry that keeps the laws, each of those kinds by code of its own.
+    #[inline(never)]
+    fn note_kind(&mut self, seat: u32, event: &Event) -> Result<(), NoMemory>
+        requires may { MayCome self.old seat event.now }
+        ensures version { self.new.version ≡ self.old.version }
+        ensures told { OnOk result ((config : Setting) (p : Past) → Shows config self.old p → queue_ok p seat event.now ≡ true → scan_ok config p seat event.now ≡ true
+            → Shows config self.new (Then p seat event.now)) }
     {
-        if !self.fits(seat, event) {
-            return Ok(false);
+        let event = *event;
+        match event {
+            Event::Begin { .. } => self.note(seat, &event),
+            Event::End { .. } => self.note(seat, &event),
+            Event::Reserve { .. } => self.note(seat, &event),
+            Event::Read { .. } => self.note(seat, &event),
+            Event::Held { .. } => self.note(seat, &event),
+            Event::Clear { .. } => self.note(seat, &event),
+            Event::Link { .. } => self.note(seat, &event),
+            Event::Give { .. } => self.note(seat, &event),
+            _ => self.note(seat, &event),
         }
-        self.note(seat, event)?;
-        Ok(true)
     }
 }

@@ -18,6 +18,7 @@ impl Judge for Checker {
         Checker::new(alloc, version, config)
     }
 
+    #[inline(always)]
     fn entry(&mut self, seat: u32, event: &Event) -> Result<bool, NoMemory> {
         Checker::entry(self, seat, event)
     }

@@ -109,19 +109,21 @@ impl Steps {
         }
     }
 
-    // Whether the entry fits the rows that its index word has published.
+    // Whether the entry fits the rows that its index word has published. A word is asked of a copy: what only the
+    // caller has the compiler knows for good, and so asks the event's kind once.
     #[inline(always)]
     fn hazards_fit(&self, seat: u32, event: &Event) -> bool
         requires range { EntryIn self.now.config seat event.now }
         ensures { (config : Config) (p : Past) → IsSteps config self.now p → result ≡ hazards_ok p seat event.now }
     {
+        let copy = *event;
         match *event {
-            Event::Held { index, .. } => self.word(seat, index).hazards_fit(event),
-            Event::Null { index, .. } => self.word(seat, index).hazards_fit(event),
+            Event::Held { index, .. } => self.word(seat, index).hazards_fit(&copy),
+            Event::Null { index, .. } => self.word(seat, index).hazards_fit(&copy),
             Event::Hazard {
                 guard: Guard::Index { seat, index },
                 ..
-            } => self.word(seat, index).hazards_fit(event),
+            } => self.word(seat, index).hazards_fit(&copy),
             _ => true,
         }
     }

@@ -318,8 +318,8 @@ unfolding kind_by
 numbered version config w n rest all is fits =
     rw (not_name w (codes "table") n is fits refl, not_name w (codes "watch") n is fits refl, not_name w (codes "done") n is fits refl, not_name w (codes "bad") n is fits refl) refl
 
-seated-first : (version : ℕ) (config : Config) → Small config → (ws : List (List ℕ)) (x : ℕ × Event) → entry_in version config ws ≡ Some x → kind_in version config ws ≡ Some (kinds.Entry x.0 x.1)
-seated-first version config small ws x h =
+pub seated_first : (version : ℕ) (config : Config) → Small config → (ws : List (List ℕ)) (x : ℕ × Event) → entry_in version config ws ≡ Some x → kind_in version config ws ≡ Some (kinds.Entry x.0 x.1)
+seated_first version config small ws x h =
     word_then (number_below config.seats) ws _ (x, []) (λ v. entry_in version config v ≡ Some x → kind_in version config v ≡ Some (kinds.Entry x.0 x.1)) (whole_is _ x h)
     (λ w n vs e h1 g.
     let (text, less) = below-word config.seats w n e in
@@ -327,7 +327,7 @@ seated-first version config small ws x h =
     numbered version config w n vs (w ∷ vs) text (omega arith) ∙ ap entry_kind g) h
 
 event-known : (version : ℕ) (config : Config) → Small config → (bytes : List ℕ) (seat : ℕ) (event : Event) → IsEntry version config bytes seat event → kind_in version config (words bytes) ≡ Some (kinds.Entry seat event)
-event-known version config small bytes seat event is = seated-first version config small (words bytes) (seat, event) (entry_known version config small bytes seat event is)
+event-known version config small bytes seat event is = seated_first version config small (words bytes) (seat, event) (entry_known version config small bytes seat event is)
 
 -- Lines of each kind.
 

@@ -1,7 +1,10 @@
 // The kinds of lines that follow a record's first one, and how they are read.
-ghost use Rattle.std.specs.Prelude.{◌≡◌, IfSome, None, Some, if◌then◌else◌, option_map};
+ghost use Rattle.std.specs.Prelude.{◌≡◌, ℕ, IfSome, List, None, Some, if◌then◌else◌, option_map};
+ghost use Rattle.wfe_record.specs.Reader.{entry_in};
+ghost use Rattle.wfe_record.specs.record_words.Within.{Small};
 ghost use Rattle.wfe_record.specs.record_words.Reader.{is_over};
 ghost use Rattle.wfe_trace.specs.Words.{words};
+ghost use Rattle.wfe_words.specs.declared.config.Config.{Config as Setting};
 ghost use Rattle.wfe_check_lines.specs.Kinds.{KindIn, counted_in, counts as counts_of, kind_by, kind_in, reason_in, refusal as refusal_of, row as row_of};
 
 use wfe_defs::Event;
@@ -96,17 +99,11 @@ fn whole(line: &Words<'_>, kind: Kind) -> Option<Kind>
     if line.is_over() { Some(kind) } else { None }
 }
 
-// The kind of a line with this first word.
-#[tactic(auto, using(crate::proofs::Within::entry_in_range), unfolding(crate::specs::Kinds::kind_by))]
-fn named(
-    name: &[u8],
-    line: &mut Words<'_>,
-    bytes: &[u8],
-    version: u32,
-    config: &Config,
-) -> Option<Kind>
-    ensures kind { result ≡ kind_by version config.now name.now line.old (words bytes.now) }
-    ensures within { IfSome result (λ kind. KindIn config.now kind) }
+// The kind of a line with this first word that tells no event.
+#[tactic(auto, unfolding(crate::specs::Kinds::kind_by))]
+fn named(name: &[u8], line: &mut Words<'_>) -> Option<Kind>
+    ensures kind { (version : ℕ) (config : Setting) (all : List (List ℕ)) → entry_in version config all ≡ None → result ≡ kind_by version config name.now line.old all }
+    ensures within { (config : Setting) → IfSome result (λ kind. KindIn config kind) }
 {
     if name == b"table".as_slice() {
         let kind = counts(line)?;
@@ -120,18 +117,28 @@ fn named(
         let kind = refusal(line)?;
         whole(line, kind)
     } else {
-        let (seat, event) = read_event(bytes, version, config)?;
-        Some(Kind::Entry { seat, event })
+        None
     }
 }
 
+// The numbers of a setting have 32 bits.
+fn setting_is_small(config: Config)
+    ensures { Small config }
+{}
+
 /// The kind of a line of a record of the version and with the setting, after its first line: of the
 /// line without its line feed. None where it is none of a record's.
+#[tactic(auto, using(crate::proofs::Within::entry_in_range, crate::proofs::Texts::seated_first))]
 pub fn read_kind(bytes: &[u8], version: u32, config: &Config) -> Option<Kind>
     ensures kind { result ≡ kind_in version config.now (words bytes.now) }
     ensures within { IfSome result (λ kind. KindIn config.now kind) }
 {
+    setting_is_small(*config);
+    // Nearly each line tells an event, and so is read as one first: its first word is cut once.
+    if let Some((seat, event)) = read_event(bytes, version, config) {
+        return Some(Kind::Entry { seat, event });
+    }
     let mut line = Words::of(bytes);
     let name = line.first()?;
-    named(name, &mut line, bytes, version, config)
+    named(name, &mut line)
 }

@@ -7,6 +7,7 @@ ghost use Rattle.wfe_record.specs.record_words.HeaderReader.{header_in};
 ghost use Rattle.wfe_check_lines.specs.Kinds.{kind_in};
 ghost use Rattle.wfe_check_lines.specs.Reading.{Stage, Told, told_after, with_header, with_kind};
 ghost use Rattle.wfe_check_lines.specs.Progress.{IsAt, Opens, Tells};
+ghost use Rattle.wfe_check_lines.specs.declared.progress.Progress.TheVariants.{Over};
 ghost use Rattle.wfe_words.specs.declared.config.Config.{Config as Setting};
 
 use crate::Judge;
@@ -61,6 +62,14 @@ impl<J: Judge> Progress<J> {
         Ok(false)
     }
 
+    // The last line came. It stands apart for the same reason.
+    #[inline(never)]
+    fn end(&mut self)
+        ensures { self.new ≡ Over }
+    {
+        *self = Progress::Over;
+    }
+
     /// Takes a whole line, without its line feed, and answers whether it is an entry.
     pub(crate) fn take(&mut self, alloc: Global, line: &[u8]) -> Result<bool, Refusal>
         requires some { (stage : Stage) × (entries : Past) × IsAt J.judges self.old stage entries }
@@ -80,7 +89,7 @@ impl<J: Judge> Progress<J> {
                 },
                 Some(Kind::Shown) => Ok(false),
                 Some(Kind::Last) => {
-                    *self = Progress::Over;
+                    self.end();
                     Ok(false)
                 }
                 None => Err(Refusal::Bad {

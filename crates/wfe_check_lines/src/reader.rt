@@ -7,6 +7,7 @@ use crate::Judge;
 use crate::progress::Progress;
 use crate::stops::{BadLine, Refusal, Stop};
 use arrayvec::ArrayVec;
+use memchr::memchr;
 use std::alloc::Global;
 use wfe_trace::RecordReason;
 
@@ -40,12 +41,10 @@ fn feed_at(bytes: &[u8]) -> usize
     ensures before { (k : ℕ) → k < result → slice_index bytes.now k ≢ 10 }
     ensures found { result < length bytes.now → slice_index bytes.now result ≡ 10 }
 {
-    for i in 0..bytes.len() {
-        if bytes[i] == b'\n' {
-            return i;
-        }
+    match memchr(b'\n', bytes) {
+        Some(at) => at,
+        None => bytes.len(),
     }
-    bytes.len()
 }
 
 impl<J: Judge> Reader<J> {

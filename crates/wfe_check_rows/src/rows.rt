@@ -291,12 +291,17 @@ fn clock_after(clock: u64, event: &Event) -> Result<u64, NoMemory>
     }
 }
 
+// A row is changed by a copy of the event: what only the caller has the compiler knows for good, and so asks the
+// event's kind once.
 #[inline(always)]
 fn change_rows(rows: &mut [Row], event: &Event)
     ensures { rows.new ≡ rows_after event.now rows.old }
 {
     match changed_row(event) {
-        Some(slot) => change_row(rows, slot, event),
+        Some(slot) => {
+            let copy = *event;
+            change_row(rows, slot, &copy);
+        }
         None => {}
     }
 }

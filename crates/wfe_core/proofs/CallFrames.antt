@@ -9,8 +9,6 @@ use Rattle.wfe_defs.specs.declared.event.Event.TheVariants as events
 use Rattle.wfe_defs.specs.declared.event.Root.TheVariants as roots
 use Rattle.wfe_defs.specs.declared.event.Event.{Event}
 use Rattle.wfe_defs.specs.declared.event.Guard.{Guard}
-use Rattle.wfe_defs.specs.declared.lifetime.Interval.{Interval}
-use Rattle.wfe_defs.specs.Shown.{shown}
 use Rattle.wfe_core.specs.Guards.{guards, guard_at, published}
 use Rattle.wfe_words.specs.Schemes.{publishes_rows}
 use Rattle.wfe_core.specs.declared.ends.AllocateEnd.{AllocateEnd}

@@ -1,5 +1,6 @@
 -- Retire lists: no row is in one twice, so a list has room for one row more.
-use Rattle.std.proofs.Common.{ℕ, zero, suc, ◌≡◌, ◌≤◌, ◌<◌, ◌+◌, Bool, true, false, ◌||◌, List, [], ◌∷◌, ◌++◌, length, refl, ap, sym, arith, ◌∙◌}
+use Rattle.std.proofs.Common.{ℕ, zero, suc, ◌≡◌, ◌≤◌, ◌<◌, ◌+◌, ◌-◌, Bool, true, false, ◌||◌, List, [], ◌∷◌, ◌++◌, length, take, slice_set, slice_index_or, refl, ap, sym, arith, ◌∙◌}
+use Rattle.std.proofs.Math.Seq.{take-append_seam}
 use Rattle.std.proofs.lemmas.Bool.Decides.{nat_tests}
 use Rattle.std.proofs.lemmas.Grind.{common_steps}
 use Rattle.std.proofs.lemmas.List.Folds.{list_any-append}
@@ -98,3 +99,25 @@ fits_remove lives i slots capacity h = record {
   below = λ slot q. h.below slot (any_remove slot (slots_of lives) i (sym (ap (list_any (◌==◌ slot)) (slots_remove lives i)) ∙ q));
   room = h.room;
 }
+
+-- a life that is moved one place down leaves its place for the gap
+gap_after : (xs : List Lifetime) (i : ℕ) (d : Lifetime) → suc i < length xs → remove (slice_set xs i (slice_index_or xs (suc i) d)) (suc i) ≡ remove xs i
+gap_after [] i d h = absurd (omega arith)
+gap_after (x ∷ []) zero d h = absurd (omega arith)
+gap_after (x ∷ y ∷ xs) zero d h = refl
+gap_after (x ∷ xs) (suc i) d h = ap (λ (zs : List Lifetime). x ∷ zs) (gap_after xs i d (omega arith))
+
+pub gap_moved : (xs : List Lifetime) (i : ℕ) (d : Lifetime) → i + 1 < length xs → remove (slice_set xs i (slice_index_or xs (i + 1) d)) (i + 1) ≡ remove xs i
+gap_moved xs i d h =
+    let next : i + 1 ≡ suc i = omega arith in
+    rw next (gap_after xs i d (omega arith))
+
+pub last_removed : (xs : List Lifetime) (i : ℕ) → i + 1 ≡ length xs → remove xs i ≡ take i xs
+last_removed [] i h = absurd (omega arith)
+last_removed (x ∷ []) zero h = refl
+last_removed (x ∷ y ∷ xs) zero h = absurd (omega arith)
+last_removed (x ∷ xs) (suc i) h = ap (λ (zs : List Lifetime). x ∷ zs) (last_removed xs i (omega arith))
+
+-- what stands behind the lives of a list is not read where its last life goes
+pub last_out : (n : ℕ) (xs ys : List Lifetime) → length xs ≡ n → take (n - 1) (take n (xs ++ ys)) ≡ take (n - 1) xs
+last_out n xs ys h = ap (λ (zs : List Lifetime). take (n - 1) zs) (rw (← h) (take-append_seam xs ys))

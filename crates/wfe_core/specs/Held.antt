@@ -1,8 +1,6 @@
 -- A seat's lists as contracts see them: what they hold, and the room that was reserved for more.
 use Rattle.std.specs.Prelude.{ℕ, ◌≡◌, ◌≤◌, ◌<◌, ◌+◌, ◌==◌, Bool, true, List, Option}
 use Rattle.std.specs.List.{IsDistinct, list_any}
-use Rattle.wfe_defs.specs.declared.event.Guard.{Guard}
-use Rattle.wfe_defs.specs.declared.lifetime.Interval.{Interval}
 use Rattle.wfe_defs.specs.declared.lifetime.Lifetime.{Lifetime}
 use Rattle.wfe_defs.specs.Shown.{Seen}
 use Rattle.wfe_core.specs.CallReady.{slots_of}

@@ -1,6 +1,6 @@
 // What a seat keeps beside its post. All of it is reserved when it is made, so that no step takes
 // memory.
-ghost use Rattle.std.specs.Prelude.{◌≡◌, ◌<◌, ◌≤◌, ◌+◌, ◌*◌, [], ◌∷◌, ◌++◌, ◌^◌, length, slice_get, Some, true, IfOk};
+ghost use Rattle.std.specs.Prelude.{◌≡◌, ◌<◌, ◌≤◌, ◌+◌, ◌-◌, ◌*◌, [], ◌∷◌, ◌++◌, ◌^◌, length, take, slice_get, Some, true, IfOk};
 ghost use Rattle.std.specs.List.{remove};
 ghost use Rattle.wfe_core.specs.CallReady.{NotListed};
 ghost use Rattle.wfe_core.specs.Desks.{noted, noted_all, noting, no_report, no_notes, new_desk};
@@ -80,12 +80,29 @@ impl RetireList {
         ensures lives { self.new.lives ≡ remove self.old.lives place }
         ensures slots { self.new.slots ≡ self.old.slots }
     {
-        self.entries.remove(place)
+        let life = self.entries[place];
+        close_gap(&mut self.entries, place);
+        let _ = self.entries.pop();
+        life
+    }
+}
+
+// Moves each life after a place one place down, so that the last stands twice. A loop, as lists are
+// short: a call that moves memory costs more than what it moves.
+fn close_gap(lives: &mut [Lifetime], place: usize)
+    requires { place < length lives.old }
+    ensures long { length lives.new ≡ length lives.old }
+    ensures moved { take (length lives.old - 1) lives.new ≡ remove lives.old place }
+{
+    let mut at = place;
+    while at + 1 < lives.len() {
+        lives[at] = lives[at + 1];
+        at += 1;
     }
 }
 
 /// What a seat's last scan read and did. Before the first scan it is empty.
-#[derive(Drop)]
+#[derive(Debug, Drop)]
 pub struct ScanReport {
     /// Each guard with what it published, in the order of the reads.
     pub read: Vec<(Guard, Shown)>,

@@ -111,6 +111,7 @@ impl<C: Cells> Rig<C> {
     /// the model, with the place words as they are and with each of them 0. It takes over no list. Its
     /// events are told, and the answer is Some where the call ended. It takes no memory, and leaves a
     /// call that goes on fewer units.
+    #[inline(always)]
     pub fn unit(&mut self, seat: u32, told: &mut Told) -> Option<Answer>
         requires seat { seat < self.old.layout.config.seats }
         requires busy { busy_in (seat_at self.old seat).phase ≡ true }

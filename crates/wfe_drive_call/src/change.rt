@@ -16,9 +16,9 @@ use crate::opening::begin_round;
 use wfe_core::{Answer, Change, Desk, Post};
 use wfe_drive_runs::{RoundEnd, Words};
 
-// Makes a round, up to where the index is to be cleared.
-#[inline(always)]
-fn make_round<W: Words>(
+// Makes a round, up to where the index is to be cleared. (It has no hint: with one it would count as a part of its caller, which
+// is compiled into its own only while it is small.)
+fn make_round<W: Words, C>(
     words: &mut W,
     post: &mut Post,
     desk: &mut Desk,
@@ -38,7 +38,7 @@ fn make_round<W: Words>(
     ensures leads { Leads (W.at words.old) (W.at words.new) (W.stands words.old) (W.stands words.new)
         (at_phase (round (Changes (kept_of kept.old)) post.old) post.old desk.old) (clears_at (kept_of kept.new) (next_of result) post.new (desk_of desk.new)) }
 {
-    begin_round(words, post, desk, kept);
+    begin_round::<W, C>(words, post, desk, kept);
     match kept.refused(post) {
         Some(answer) => RoundEnd::Answers(answer),
         None => fill_row(words, post, desk, kept),
@@ -46,9 +46,10 @@ fn make_round<W: Words>(
 }
 
 /// Makes a put or a remove from its first step to its answer, and a put that names a version. Under 2GE
-/// its seat keeps no row.
+/// its seat keeps no row. The type names the code that it is part of, which has a copy of its own: too large a
+/// function is compiled into its caller only where it has no other.
 #[inline(always)]
-pub fn change_bucket<W: Words>(
+pub fn change_bucket<W: Words, C>(
     words: &mut W,
     post: &mut Post,
     desk: &mut Desk,
@@ -67,7 +68,7 @@ pub fn change_bucket<W: Words>(
 {
     let mut kept = Kept::new(change, wanted);
     loop {
-        let ending = make_round(words, post, desk, &mut kept);
+        let ending = make_round::<W, C>(words, post, desk, &mut kept);
         match end_round(words, post, desk, kept.taken, ending) {
             Some(answer) => return answer,
             None => {}

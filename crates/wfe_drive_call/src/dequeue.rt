@@ -17,9 +17,10 @@ use wfe_drive_runs::{
     RoundEnd, Words, close_next, follow_next, open_round, read_end, swing_tail, take,
 };
 
-/// Makes a dequeue from its first step to its answer. Under 2GE its seat keeps no row.
+/// Makes a dequeue from its first step to its answer. Under 2GE its seat keeps no row. The type names the
+/// code that it is part of, as of a change.
 #[inline(always)]
-pub fn dequeue_item<W: Words>(words: &mut W, post: &mut Post, desk: &mut Desk) -> Answer
+pub fn dequeue_item<W: Words, C>(words: &mut W, post: &mut Post, desk: &mut Desk) -> Answer
     requires valid { W.valid words.old }
     requires free { IsFree post.old }
     requires here { Here (W.at words.old) (at_phase (first_phase DequeueCall post.old) post.old desk.old) }
@@ -31,7 +32,7 @@ pub fn dequeue_item<W: Words>(words: &mut W, post: &mut Post, desk: &mut Desk) -
         (at_phase (first_phase DequeueCall post.old) post.old desk.old) (at_phase Idle post.new desk.new) }
 {
     loop {
-        let ending = take_item(words, post, desk);
+        let ending = take_item::<W, C>(words, post, desk);
         match end_round(words, post, desk, None, ending) {
             Some(answer) => return answer,
             None => {}
@@ -39,9 +40,8 @@ pub fn dequeue_item<W: Words>(words: &mut W, post: &mut Post, desk: &mut Desk) -
     }
 }
 
-// A round up to its end.
-#[inline(always)]
-fn take_item<W: Words>(words: &mut W, post: &mut Post, desk: &mut Desk) -> RoundEnd
+// A round up to its end. (It has no hint, as a round of a change.)
+fn take_item<W: Words, C>(words: &mut W, post: &mut Post, desk: &mut Desk) -> RoundEnd
     requires valid { W.valid words.old }
     requires free { IsFree post.old }
     requires here { Here (W.at words.old) (at_phase (round Dequeues post.old) post.old desk.old) }
@@ -56,9 +56,9 @@ fn take_item<W: Words>(words: &mut W, post: &mut Post, desk: &mut Desk) -> Round
     ensures leads { Leads (W.at words.old) (W.at words.new) (W.stands words.old) (W.stands words.new)
         (at_phase (round Dequeues post.old) post.old desk.old) (clearing_at Dequeues (next_of result) post.new (desk_of desk.new)) }
 {
-    match open_round(words, post, desk, Root::Head) {
+    match open_round::<W, C>(words, post, desk, Root::Head) {
         Some(head) => {
-            let ending = take_next(words, post, desk, head);
+            let ending = take_next::<W, C>(words, post, desk, head);
             close_next(words, post);
             ending
         }
@@ -68,7 +68,7 @@ fn take_item<W: Words>(words: &mut W, post: &mut Post, desk: &mut Desk) -> Round
 
 // The head's row is held.
 #[inline(always)]
-fn take_next<W: Words>(words: &mut W, post: &mut Post, desk: &mut Desk, head: u32) -> RoundEnd
+fn take_next<W: Words, C>(words: &mut W, post: &mut Post, desk: &mut Desk, head: u32) -> RoundEnd
     requires valid { W.valid words.old }
     requires later { W.later words.old }
     requires free { IsFree post.old }
@@ -86,7 +86,7 @@ fn take_next<W: Words>(words: &mut W, post: &mut Post, desk: &mut Desk, head: u3
         (at_phase (Works (Dequeuing (LoadTail head))) post.old desk.old) (clearing_next_at (next_of result) post.new (desk_of desk.new)) }
 {
     let tail = read_end(words, post, head);
-    match follow_next(words, post, desk, head) {
+    match follow_next::<W, C>(words, post, desk, head) {
         FollowEnd::Followed { slot } => {
             if tail == head as u64 + 1 {
                 swing_tail(words, post, head, slot);

@@ -16,6 +16,8 @@ use wfe_drive_runs::{
 
 // No row was free: the clock is moved, where retirements move it, and the list scanned, and then another
 // round comes.
+#[cold]
+#[inline(never)]
 fn make_room<W: Words>(words: &mut W, post: &mut Post, desk: &mut Desk)
     requires valid { W.valid words.old }
     requires later { W.later words.old }

@@ -19,9 +19,15 @@ use wfe_drive_runs::{
     Item, RoundEnd, Words, append, fill_item, no_room, open_round, pass_tail, read_tail,
 };
 
-/// Makes an enqueue from its first step to its answer. Under 2GE its seat keeps no row.
+/// Makes an enqueue from its first step to its answer. Under 2GE its seat keeps no row. The type names the
+/// code that it is part of, as of a change.
 #[inline(always)]
-pub fn enqueue_item<W: Words>(words: &mut W, post: &mut Post, desk: &mut Desk, value: u64) -> Answer
+pub fn enqueue_item<W: Words, C>(
+    words: &mut W,
+    post: &mut Post,
+    desk: &mut Desk,
+    value: u64,
+) -> Answer
     requires valid { W.valid words.old }
     requires free { IsFree post.old }
     requires here { Here (W.at words.old) (at_phase (first_phase (EnqueueCall value) post.old) post.old desk.old) }
@@ -40,7 +46,7 @@ pub fn enqueue_item<W: Words>(words: &mut W, post: &mut Post, desk: &mut Desk, v
         number: 0,
     };
     loop {
-        let ending = link_item(words, post, desk, &mut item);
+        let ending = link_item::<W, C>(words, post, desk, &mut item);
         match end_round(words, post, desk, item.taken, ending) {
             Some(answer) => return answer,
             None => {}
@@ -48,9 +54,13 @@ pub fn enqueue_item<W: Words>(words: &mut W, post: &mut Post, desk: &mut Desk, v
     }
 }
 
-// A round up to its end.
-#[inline(always)]
-fn link_item<W: Words>(words: &mut W, post: &mut Post, desk: &mut Desk, item: &mut Item) -> RoundEnd
+// A round up to its end. (It has no hint, as a round of a change.)
+fn link_item<W: Words, C>(
+    words: &mut W,
+    post: &mut Post,
+    desk: &mut Desk,
+    item: &mut Item,
+) -> RoundEnd
     requires valid { W.valid words.old }
     requires free { IsFree post.old }
     requires here { Here (W.at words.old) (at_phase (round (Enqueues (kept_of item.old)) post.old) post.old desk.old) }
@@ -66,7 +76,7 @@ fn link_item<W: Words>(words: &mut W, post: &mut Post, desk: &mut Desk, item: &m
         (at_phase (round (Enqueues (kept_of item.old)) post.old) post.old desk.old)
         (clearing_at (Enqueues (kept_of item.new)) (next_of result) post.new (desk_of desk.new)) }
 {
-    match open_round(words, post, desk, Root::Tail) {
+    match open_round::<W, C>(words, post, desk, Root::Tail) {
         Some(tail) => item.tail = tail,
         None => return RoundEnd::Again,
     }

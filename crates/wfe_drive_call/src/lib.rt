@@ -4,6 +4,7 @@
 //! its row, and links an item or takes one. What is rare is handed to a machine in a loop of its own.
 #![tactic(auto)]
 
+mod alone;
 mod change;
 mod dequeue;
 mod drive;
@@ -11,11 +12,15 @@ mod ending;
 mod enqueue;
 mod exchange;
 mod fill;
+mod gets;
 mod kept;
 mod opening;
 mod read;
 mod under;
 mod write;
 
-pub use drive::{drive_call, drive_get};
+pub use alone::{Alone, DequeueCall, EnqueueCall, PutCall};
+pub use drive::{drive_alone, drive_call, drive_get};
+pub use gets::GetUnder;
+pub use wfe_call_any::{He, Hp, Ibr, Wfe};
 pub use wfe_drive_runs::{Located, Words, answers_leave_groups, bucket_for, histories_ready_seats};

@@ -37,9 +37,9 @@ fn read_held<W: Words>(words: &mut W, post: &mut Post, _desk: &Desk, kept: &mut 
     post.steps = steps;
 }
 
-// Begins a round.
+// Begins a round. The code is one that the type names.
 #[inline(always)]
-pub fn begin_round<W: Words>(words: &mut W, post: &mut Post, desk: &mut Desk, kept: &mut Kept)
+pub fn begin_round<W: Words, C>(words: &mut W, post: &mut Post, desk: &mut Desk, kept: &mut Kept)
     requires valid { W.valid words.old }
     requires free { IsFree post.old }
     requires room { HasRoom desk.old post.old.layout }
@@ -55,7 +55,7 @@ pub fn begin_round<W: Words>(words: &mut W, post: &mut Post, desk: &mut Desk, ke
         (at_phase (round (Changes (kept_of kept.old)) post.old) post.old desk.old) (read_at (kept_of kept.new) post.new (desk_of desk.new)) }
 {
     let root = kept.root(post);
-    match open_round(words, post, desk, root) {
+    match open_round::<W, C>(words, post, desk, root) {
         Some(slot) => read_held(words, post, desk, kept, slot),
         None => kept.protected(0),
     }

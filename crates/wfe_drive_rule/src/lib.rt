@@ -16,5 +16,5 @@ pub use handles::{give_slot, hear_news, split, take_in, take_slot, tell_news};
 pub use kept::Kept;
 pub use lists::{adopt_list, hand_list, mark_place};
 pub use rule::{Handle, HandleView, HistoryRule, Ledger, OwnedLedger};
-pub use steps::{begin, step};
+pub use steps::{begin, step, step_on};
 pub use table::{close, finish, open};

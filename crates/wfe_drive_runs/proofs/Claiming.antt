@@ -1,20 +1,22 @@
 -- An allocation without a walk: its three steps, where its first row is found free, and the turn from which it walks on.
-use Rattle.std.proofs.Common.{Bool, List, [], ap, arith, false, ℕ, ◌+◌, ◌∷◌, ◌≡◌, if◌then◌else◌}
+use Rattle.std.proofs.Common.{Bool, List, [], ap, arith, false, inl, inr, refl, subst, sym, ℕ, ◌+◌, ◌∷◌, ◌≡◌, ◌⊎◌, if◌then◌else◌}
 use Rattle.wfe_core.specs.Allocate.{after_claim_slot, is_claimed, next_slot, walk_from, walk_past, walking}
 use Rattle.wfe_core.specs.defs.declared.event.Event.TheVariants as events
 use Rattle.wfe_core.specs.Calls.{CallTurn, Runs, Why}
+use Rattle.wfe_core.specs.DeskHeld.{desk_of}
 use Rattle.wfe_core.specs.Desks.{Desk, noting}
 use Rattle.wfe_core.specs.Locals.{Local}
-use Rattle.wfe_core.specs.Phases.{Walk, goes}
+use Rattle.wfe_core.specs.Phases.{Ending, Walk, ends, goes}
 use Rattle.wfe_core.specs.Phases.AllocateAt.{ClaimSlot, LoadBirth, StoreLife}
 use Rattle.wfe_core.specs.Phases.Base.{Allocate}
 use Rattle.wfe_core.specs.Steps.{run_turn}
 use Rattle.wfe_core.specs.Valid.{IsValid}
+use Rattle.wfe_core.specs.declared.desk.Desk.{Desk as HeldDesk}
 use Rattle.wfe_core.specs.declared.op.Op.{Op}
 use Rattle.wfe_core.specs.declared.post.Post.{Post}
 use Rattle.wfe_drive_words.specs.drive_cells.Unit.{SeatView, kept_desk, seat_after}
 use Rattle.wfe_drive_words.specs.Path.{Leads, StepsOn, stepped}
-use Rattle.wfe_drive_runs.specs.Pieces.{TurnsTo, seat_of}
+use Rattle.wfe_drive_runs.specs.Pieces.{EndsSo, TurnsTo, claimed_at, claimed_by, seat_of}
 use Rattle.wfe_drive_words.proofs.Leading.{leads_as}
 use Rattle.wfe_drive_runs.proofs.Turning.{then_turns, turns_as, turns_once}
 
@@ -58,3 +60,15 @@ claim_gives why post desk birth found e x =
     let walk : Walk = walk_from post.layout.config.slots post.cursor in
     let left : Bool → SeatView = λ b. seat_after (run_turn why (kept_desk desk) (if b then walking birth p (walk_past post.layout.config.slots walk found) else goes (given_post why post desk) (events.Give post.cursor birth ∷ []) (Allocate (StoreLife birth post.cursor)))) in
     leads_as _ _ (ap left e) x.leads
+
+-- the row was taken: the walk was over in that step, or ended after steps of its own
+pub walk_ends : {V : Type 0} {at0 : Local → Type 0} {stands0 : List (Op × ℕ) → Type 0} {a : SeatView} (at : V → Local → Type 0) (stands : V → List (Op × ℕ) → Type 0) (why : Why) (birth found : ℕ) (ending : Ending) (old new : V) (post last : Post) (desk left : HeldDesk)
+    → TurnsTo at0 (at old) stands0 (stands old) a (run_turn why (desk_of desk) (claimed_by birth found post))
+    → ((new ≡ old) × (last ≡ post) × (left ≡ desk) × (claimed_by birth found post ≡ ends post [] ending)) ⊎ EndsSo (at old) (at new) (stands old) (stands new) (claimed_at why birth found post (desk_of desk)) why ending last left
+    → EndsSo at0 (at new) stands0 (stands new) a why ending last left
+walk_ends {at0 = at0} {stands0 = stands0} {a = a} at stands why birth found ending old new post last desk left t (inl (w, p, d, e)) =
+    let over : EndsSo at0 (at old) stands0 (stands old) a why ending post desk = record { before = desk_of desk; told = []; noted = refl; turns = turns_as _ _ (ap (run_turn why (desk_of desk)) e) t } in
+    subst (λ v. EndsSo at0 (at v) stands0 (stands v) a why ending last left) (sym w)
+    (subst (λ (q : Post). EndsSo at0 (at old) stands0 (stands old) a why ending q left) (sym p)
+    (subst (λ (h : HeldDesk). EndsSo at0 (at old) stands0 (stands old) a why ending post h) (sym d) over))
+walk_ends at stands why birth found ending old new post last desk left t (inr z) = record { before = z.before; told = z.told; noted = z.noted; turns = then_turns t.leads z.turns }

@@ -13,7 +13,7 @@ use Rattle.wfe_core.specs.Calls.{AfterScan, Again, Answering, Answers, CallTurn,
 use Rattle.wfe_core.specs.DeskHeld.{desk_of}
 use Rattle.wfe_core.specs.Desks.{Desk, noting}
 use Rattle.wfe_core.specs.Locals.{Local}
-use Rattle.wfe_core.specs.Phases.{Alone, Base, Endless, Ending}
+use Rattle.wfe_core.specs.Phases.{Alone, Base, Endless, Ending, Turn}
 use Rattle.wfe_core.specs.Phases.Base.{Allocate, Move}
 use Rattle.wfe_core.specs.Posts.{with_row}
 use Rattle.wfe_core.specs.Rounds.{clearing, clearing_next, index_of, kept_row, root_of}
@@ -109,9 +109,13 @@ IsSpanned post = has_one_interval post.layout.config.scheme ≡ true → IsSome 
 abbrev pub Protects : Task → Root → Post → Type 0
 Protects task root post = (index_of task ≡ 0) × (root_of task post ≡ root)
 
--- an allocation has set a claim bit that it found in this word; it stood at the seat's cursor, and that step is counted
+-- an allocation has set a claim bit at the seat's cursor, and found this word; that step is counted
+abbrev pub claimed_by : (birth found : ℕ) → Post → Turn
+claimed_by birth found post = after_claim_slot birth (walk_from post.layout.config.slots post.cursor) post found
+
+-- the seat after that step
 abbrev pub claimed_at : Why → (birth found : ℕ) → Post → Desk → SeatView
-claimed_at why birth found post desk = seat_after (run_turn why desk (after_claim_slot birth (walk_from post.layout.config.slots post.cursor) post found))
+claimed_at why birth found post desk = seat_after (run_turn why desk (claimed_by birth found post))
 
 -- a walk over the rows, or a move of the clock, changes nothing of what stands
 abbrev pub IsWalk : Base → Type 0

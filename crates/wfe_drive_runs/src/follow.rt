@@ -27,9 +27,10 @@ use wfe_drive_words::{
 };
 
 /// Protects the next link of the head's row at index 1, under any scheme, and holds the row to which it
-/// leads where the head is still that row's. Under 2GE an interval stands.
+/// leads where the head is still that row's. Under 2GE an interval stands. The type names the code that it is part of, which has
+/// a copy of its own.
 #[inline(always)]
-pub fn follow_next<W: Words>(
+pub fn follow_next<W: Words, C>(
     words: &mut W,
     post: &mut Post,
     desk: &mut Desk,
@@ -53,13 +54,13 @@ pub fn follow_next<W: Words>(
 {
     match post.layout.config().scheme {
         SchemeKind::Ibr => follow_ibr(words, post, desk, parent),
-        _ => follow_by_index(words, post, desk, parent),
+        _ => follow_by_index::<W, C>(words, post, desk, parent),
     }
 }
 
 // Under a scheme that clears an index by a step. Where tries are used up it asks for help.
 #[inline(always)]
-fn follow_by_index<W: Words>(
+fn follow_by_index<W: Words, C>(
     words: &mut W,
     post: &mut Post,
     desk: &mut Desk,
@@ -174,6 +175,8 @@ fn follow_link<W: Words>(
 }
 
 // The tries are used up after so many steps.
+#[cold]
+#[inline(never)]
 fn ask<W: Words>(
     words: &mut W,
     post: &mut Post,

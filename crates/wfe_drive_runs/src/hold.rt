@@ -100,6 +100,8 @@ pub fn stand(post: &mut Post, index: u32, guarded: Guarded) -> Option<u32>
 }
 
 // The tries are used up after so many steps.
+#[cold]
+#[inline(never)]
 fn ask<W: Words>(
     words: &mut W,
     post: &mut Post,

@@ -37,6 +37,6 @@ pub use tail::{append, pass_tail, read_tail};
 pub use tidy_run::tidy;
 pub use wfe_call_rounds::{RoundEnd, no_room, with_clock};
 pub use wfe_drive_words::{
-    Located, Words, answers_leave_groups, bucket_for, drive_apart, drive_on, get_by_index,
+    Located, Words, answers_leave_groups, bucket_for, drive_apart, drive_on, get_guarded,
     get_ibr_in, histories_ready_seats, load_cell, note_steps, step,
 };

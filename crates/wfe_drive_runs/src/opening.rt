@@ -6,6 +6,7 @@ ghost use Rattle.wfe_core.specs.DeskHeld.{HasRoom};
 ghost use Rattle.wfe_core.specs.Phases.Ending.{Protected as ProtectedEnd};
 ghost use Rattle.wfe_core.specs.Ready.{SlotFits};
 ghost use Rattle.wfe_core.specs.Rounds.{round};
+ghost use Rattle.wfe_core.specs.words.declared.config.SchemeKind.TheVariants.{Ibr as IbrKind};
 ghost use Rattle.wfe_drive_words.specs.Called.{Here, at_phase};
 ghost use Rattle.wfe_drive_runs.specs.Pieces.{IsFree, IsSpanned, LeadsSo, Outer, Protects, end_of};
 
@@ -15,9 +16,10 @@ use wfe_core::{Desk, Post, Root, SchemeKind};
 use wfe_drive_words::Words;
 
 /// Begins a round that protects its root at index 0, under any scheme, and answers the row that it holds
-/// from then on.
+/// from then on. The type names the code that it is part of, which has a copy of its own: too large a function is compiled
+/// into its caller only where it has no other.
 #[inline(always)]
-pub fn open_round<W: Words>(
+pub fn open_round<W: Words, C>(
     words: &mut W,
     post: &mut Post,
     desk: &mut Desk,
@@ -41,10 +43,30 @@ pub fn open_round<W: Words>(
         × LeadsSo (W.at words.old) (W.at words.new) (W.stands words.old) (W.stands words.new) (at_phase (round task post.old) post.old desk.old) (Opens task) (ProtectedEnd (end_of result era)) post.new desk.new }
 {
     match post.layout.config().scheme {
-        SchemeKind::Ibr => {
-            let span = open_span(words, post, desk);
-            hold_ibr(words, post, desk, 0, root, span)
-        }
+        SchemeKind::Ibr => open_ibr(words, post, desk, root),
         _ => hold_by_index(words, post, desk, 0, root),
     }
+}
+
+// The same under 2GE.
+#[inline(always)]
+fn open_ibr<W: Words>(words: &mut W, post: &mut Post, desk: &Desk, root: Root) -> Option<u32>
+    requires valid { W.valid words.old }
+    requires scheme { post.old.layout.config.scheme ≡ IbrKind }
+    requires outer { Outer root }
+    requires free { IsFree post.old }
+    requires here { (task : Task) × Protects task root post.old × Here (W.at words.old) (at_phase (round task post.old) post.old desk.now) }
+    ensures valid { W.valid words.new }
+    ensures later { W.later words.new }
+    ensures same { W.same words.old words.new }
+    ensures rest { W.rest words.new < W.rest words.old }
+    ensures layout { post.new.layout ≡ post.old.layout }
+    ensures free { IsFree post.new }
+    ensures spanned { IsSpanned post.new }
+    ensures fits { IfSome result (λ slot. SlotFits post.new slot) }
+    ensures leads { (task : Task) → Protects task root post.old → Here (W.at words.old) (at_phase (round task post.old) post.old desk.now) → (era : ℕ)
+        × LeadsSo (W.at words.old) (W.at words.new) (W.stands words.old) (W.stands words.new) (at_phase (round task post.old) post.old desk.now) (Opens task) (ProtectedEnd (end_of result era)) post.new desk.now }
+{
+    let span = open_span(words, post, desk);
+    hold_ibr(words, post, desk, 0, root, span)
 }

@@ -1,7 +1,7 @@
 // A row is taken for a call, or given up before it was linked. One that is free at the first try is taken
 // without a walk.
-ghost use Rattle.std.specs.Prelude.{◌≡◌, ◌<◌, ◌≤◌, ◌+◌, ◌^◌, [], IfErr, IfOk, List, ℕ, Some, length, false, true};
-ghost use Rattle.wfe_core.specs.Allocate.{after_claim_slot, is_claimed, walk_from};
+ghost use Rattle.std.specs.Prelude.{◌≡◌, ◌<◌, ◌≤◌, ◌+◌, ◌^◌, ◌⊎◌, [], IfErr, IfOk, List, ℕ, Some, length, false, true};
+ghost use Rattle.wfe_core.specs.Allocate.{is_claimed};
 ghost use Rattle.wfe_core.specs.defs.declared.call.Answer.{Answer as ModelAnswer};
 ghost use Rattle.wfe_core.specs.Calls.{GivesUp, Idle, Runs, Why};
 ghost use Rattle.wfe_core.specs.DeskHeld.{HasRoom, desk_of};
@@ -23,7 +23,7 @@ ghost use Rattle.wfe_drive_words.specs.drive_cells.Unit.{SeatView};
 ghost use Rattle.wfe_drive_words.specs.Called.{Here, at_phase};
 ghost use Rattle.wfe_drive_words.specs.Path.{Closes};
 ghost use Rattle.wfe_slots.specs.Phases.{allocate_phase};
-ghost use Rattle.wfe_drive_runs.specs.Pieces.{EndsSo, IsWalk, TurnsTo, claimed_at};
+ghost use Rattle.wfe_drive_runs.specs.Pieces.{EndsSo, IsWalk, TurnsTo, claimed_at, claimed_by};
 
 use crate::base_run::run;
 use wfe_core::{AllocateEnd, Answer, Desk, Life, Machine, Op, Post, Told, life_word};
@@ -55,10 +55,7 @@ pub fn take_row<W: Words>(words: &mut W, post: &mut Post, desk: &mut Desk) -> Al
     let found = step(words, set_claim(&place, slot));
     post.steps += 2;
     if is_taken(found, slot) {
-        return match walk_past(post, birth, found) {
-            Ok(machine) => run(words, machine, post, desk),
-            Err(end) => end,
-        };
+        return walk_on(words, post, desk, birth, found);
     }
     step(words, store_birth(&place, slot, birth));
     post.steps += 1;
@@ -67,15 +64,50 @@ pub fn take_row<W: Words>(words: &mut W, post: &mut Post, desk: &mut Desk) -> Al
     AllocateEnd::Given { slot, birth }
 }
 
-// The walk once its first row was found taken: at the next one that it was not shown taken, or at its end.
+// The walk from the row that was found taken on. It has code of its own, since a call seldom walks and pays for what it
+// keeps in memory. It is over at once, without a step, or ends after steps of its own.
+#[cold]
 #[inline(never)]
+fn walk_on<W: Words>(
+    words: &mut W,
+    post: &mut Post,
+    desk: &mut Desk,
+    birth: u32,
+    found: u64,
+) -> AllocateEnd
+    requires valid { W.valid words.old }
+    requires later { W.later words.old }
+    requires own { IsValid post.old }
+    requires era { EraFits birth }
+    requires taken { is_claimed found post.old.cursor ≡ true }
+    requires here { (why : Why) × Here (W.at words.old) (claimed_at why birth found post.old (desk_of desk.old)) }
+    requires room { HasRoom desk.old post.old.layout }
+    ensures valid { W.valid words.new }
+    ensures later { W.later words.new }
+    ensures same { W.same words.old words.new }
+    ensures rest { W.rest words.new ≤ W.rest words.old }
+    ensures room { HasRoom desk.new post.new.layout }
+    ensures layout { post.new.layout ≡ post.old.layout }
+    ensures within { allocate_within result post.new }
+    ensures standing { post.new.standing ≡ post.old.standing }
+    ensures ends { (why : Why) → Here (W.at words.old) (claimed_at why birth found post.old (desk_of desk.old))
+        → ((words.new ≡ words.old) × (post.new ≡ post.old) × (desk.new ≡ desk.old) × (claimed_by birth found post.old ≡ turn_ends post.old [] (Allocated result)))
+        ⊎ EndsSo (W.at words.old) (W.at words.new) (W.stands words.old) (W.stands words.new) (claimed_at why birth found post.old (desk_of desk.old)) why (Allocated result) post.new desk.new }
+{
+    match walk_past(post, birth, found) {
+        Ok(machine) => run(words, machine, post, desk),
+        Err(end) => end,
+    }
+}
+
+// The walk once its first row was found taken: at the next one that it was not shown taken, or at its end.
 fn walk_past(post: &mut Post, birth: u32, found: u64) -> Result<Allocate, AllocateEnd>
     requires own { IsValid post.old }
     requires era { EraFits birth }
     requires taken { is_claimed found post.old.cursor ≡ true }
     ensures post { post.new ≡ post.old }
-    ensures goes { IfOk result (λ machine. (after_claim_slot birth (walk_from post.old.layout.config.slots post.old.cursor) post.old found ≡ turn_goes post.old [] (allocate_phase machine)) × IsWalk (allocate_phase machine)) }
-    ensures ends { IfErr result (λ end. (after_claim_slot birth (walk_from post.old.layout.config.slots post.old.cursor) post.old found ≡ turn_ends post.old [] (Allocated end)) × allocate_within end post.new) }
+    ensures goes { IfOk result (λ machine. (claimed_by birth found post.old ≡ turn_goes post.old [] (allocate_phase machine)) × IsWalk (allocate_phase machine)) }
+    ensures ends { IfErr result (λ end. (claimed_by birth found post.old ≡ turn_ends post.old [] (Allocated end)) × allocate_within end post.new) }
 {
     let mut machine = Allocate::new(post);
     let mut told = Told::new();
@@ -121,6 +153,8 @@ fn store_birth(post: &Post, slot: u32, birth: u32) -> Located
 }
 
 /// Gives up a row that was not linked, and then the call is answered.
+#[cold]
+#[inline(never)]
 pub fn give_up<W: Words>(
     words: &mut W,
     post: &mut Post,

@@ -5,7 +5,7 @@ ghost use Rattle.wfe_drive_cells.specs.Operations.{answered, performed, word_in}
 ghost use Rattle.wfe_drive_cells.specs.Unit.{Leaves, SeatView, answer_in, asked, fresh_seat, seat_after, turned};
 ghost use Rattle.wfe_core.specs.CallReady.{IsCallPlausible, IsCallReady, NotListed, NotesFit};
 ghost use Rattle.wfe_core.specs.Calls.{GoesOn, Idle, Phase};
-ghost use Rattle.wfe_core.specs.DeskHeld.{HasRoom, Took, desk_of};
+ghost use Rattle.wfe_core.specs.DeskHeld.{HasRoom, desk_of};
 ghost use Rattle.wfe_core.specs.Desks.{no_notes, with_life};
 ghost use Rattle.wfe_core.specs.Locals.{begun_post, busy_in, told_by};
 ghost use Rattle.wfe_core.specs.Posts.{counted};
@@ -19,7 +19,7 @@ use crate::letting::let_next;
 use std::alloc::Global;
 use std::marker::Model;
 use wfe_core::{
-    Answer, CallMachine, Desk, Event, Layout, Lifetime, NoMemory, Op, Post, RetireList, Told,
+    Answer, CallMachine, Desk, Event, Layout, Lifetime, NoMemory, Post, RetireList, Told,
 };
 use wfe_drive_cells::Cells;
 
@@ -100,6 +100,7 @@ impl<H: CallMachine, I: CallMachine, W: CallMachine, P: CallMachine> SeatState<H
 
     /// Makes one step of the seat's call on the cells, tells its events, and answers where the call
     /// ended. It takes no memory.
+    #[inline(always)]
     pub fn unit<C: Cells>(&mut self, cells: &mut C, told: &mut Told) -> Option<Answer>
         requires busy { busy_in self.old.phase ≡ true }
         requires there { word_in (asked self.old) < length (C.words cells.old) }
@@ -214,6 +215,7 @@ fn empty(list: &mut RetireList)
 
 impl<H: CallMachine, I: CallMachine, W: CallMachine, P: CallMachine> Engaged<H, I, W, P> {
     /// Makes one step of the call, under whichever scheme it is.
+    #[inline(always)]
     fn unit<C: Cells>(
         &mut self,
         cells: &mut C,
@@ -237,9 +239,13 @@ impl<H: CallMachine, I: CallMachine, W: CallMachine, P: CallMachine> Engaged<H, 
         ensures words { C.words cells.new ≡ performed (C.words cells.old) (call_op (engaged_phase H.phase I.phase W.phase P.phase self.old post.old) post.old) }
         ensures leaves { Leaves (phase_turn (engaged_phase H.phase I.phase W.phase P.phase self.old post.old) (counted post.old) (desk_of desk.old) (answered (C.words cells.old) (call_op (engaged_phase H.phase I.phase W.phase P.phase self.old post.old) post.old))) post.new desk.new told.new result (engaged_phase H.phase I.phase W.phase P.phase self.new post.new) }
     {
-        let op = self.next_op(post, desk);
-        let found = cells.perform(post.seat, op);
-        self.take(post, desk, found, told)
+        match self {
+            Engaged::Free => unreachable!(),
+            Engaged::He(machine) => step(machine, cells, post, desk, told),
+            Engaged::Ibr(machine) => step(machine, cells, post, desk, told),
+            Engaged::Wfe(machine) => step(machine, cells, post, desk, told),
+            Engaged::Hp(machine) => step(machine, cells, post, desk, told),
+        }
     }
 
     // No call is under way. It stands apart, so that a step that ends no call makes no room for this.
@@ -249,55 +255,35 @@ impl<H: CallMachine, I: CallMachine, W: CallMachine, P: CallMachine> Engaged<H, 
     {
         *self = Engaged::Free;
     }
+}
 
-    // The operation that the call asks for.
-    #[inline(always)]
-    fn next_op(&self, post: &Post, desk: &Desk) -> Op
-        requires engaged { is_engaged self.now ≡ true }
-        requires valid { IsValid post.now }
-        requires suits { Suits H.suits I.suits W.suits P.suits self.now post.now.layout.config.scheme }
-        requires ready { IsCallReady (engaged_phase H.phase I.phase W.phase P.phase self.now post.now) post.now (desk_of desk.now) }
-        ensures { result ≡ call_op (engaged_phase H.phase I.phase W.phase P.phase self.now post.now) post.now }
-    {
-        match self {
-            Engaged::Free => unreachable!(),
-            Engaged::He(machine) => machine.next_op(post, desk),
-            Engaged::Ibr(machine) => machine.next_op(post, desk),
-            Engaged::Wfe(machine) => machine.next_op(post, desk),
-            Engaged::Hp(machine) => machine.next_op(post, desk),
-        }
-    }
-
-    // Takes what that operation found, and tells its events. The answer is Some where the call ended.
-    fn take(
-        &mut self,
-        post: &mut Post,
-        desk: &mut Desk,
-        found: u64,
-        told: &mut Told,
-    ) -> Option<Answer>
-        requires engaged { is_engaged self.old ≡ true }
-        requires valid { IsValid post.old }
-        requires suits { Suits H.suits I.suits W.suits P.suits self.old post.old.layout.config.scheme }
-        requires room { HasRoom desk.old post.old.layout }
-        requires ready { IsCallReady (engaged_phase H.phase I.phase W.phase P.phase self.old post.old) post.old (desk_of desk.old) }
-        requires noted { NotesFit post.old (desk_of desk.old) }
-        requires plausible { IsCallPlausible (engaged_phase H.phase I.phase W.phase P.phase self.old post.old) post.old found }
-        requires empty { told.old ≡ [] }
-        ensures engaged { is_engaged self.new ≡ true }
-        ensures suits { Suits H.suits I.suits W.suits P.suits self.new post.new.layout.config.scheme }
-        ensures layout { post.new.layout ≡ post.old.layout }
-        ensures room { HasRoom desk.new post.new.layout }
-        ensures took { Took (phase_turn (engaged_phase H.phase I.phase W.phase P.phase self.old post.old) (counted post.old) (desk_of desk.old) found) post.new desk.new told.new result (engaged_phase H.phase I.phase W.phase P.phase self.new post.new) }
-    {
-        match self {
-            Engaged::Free => unreachable!(),
-            Engaged::He(machine) => machine.take(post, desk, found, told),
-            Engaged::Ibr(machine) => machine.take(post, desk, found, told),
-            Engaged::Wfe(machine) => machine.take(post, desk, found, told),
-            Engaged::Hp(machine) => machine.take(post, desk, found, told),
-        }
-    }
+// One step of a machine: its operation, and what the machine takes of what that found. Under each scheme it has
+// code of its own, in which the machine's own code stands.
+#[inline(never)]
+fn step<M: CallMachine, C: Cells>(
+    machine: &mut M,
+    cells: &mut C,
+    post: &mut Post,
+    desk: &mut Desk,
+    told: &mut Told,
+) -> Option<Answer>
+    requires there { word_in (call_op (M.phase machine.old post.old) post.old) < length (C.words cells.old) }
+    requires valid { IsValid post.old }
+    requires suits { M.suits post.old.layout.config.scheme }
+    requires room { HasRoom desk.old post.old.layout }
+    requires ready { IsCallReady (M.phase machine.old post.old) post.old (desk_of desk.old) }
+    requires noted { NotesFit post.old (desk_of desk.old) }
+    requires plausible { IsCallPlausible (M.phase machine.old post.old) post.old (answered (C.words cells.old) (call_op (M.phase machine.old post.old) post.old)) }
+    requires empty { told.old ≡ [] }
+    ensures suits { M.suits post.new.layout.config.scheme }
+    ensures layout { post.new.layout ≡ post.old.layout }
+    ensures room { HasRoom desk.new post.new.layout }
+    ensures words { C.words cells.new ≡ performed (C.words cells.old) (call_op (M.phase machine.old post.old) post.old) }
+    ensures leaves { Leaves (phase_turn (M.phase machine.old post.old) (counted post.old) (desk_of desk.old) (answered (C.words cells.old) (call_op (M.phase machine.old post.old) post.old))) post.new desk.new told.new result (M.phase machine.new post.new) }
+{
+    let op = machine.next_op(post, desk);
+    let found = cells.perform(post.seat, op);
+    machine.take(post, desk, found, told)
 }
 
 /// The list of one seat goes to the end of another's, and the notes of the latter are cleared. It takes no

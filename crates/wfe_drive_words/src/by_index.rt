@@ -1,6 +1,7 @@
 // A protection under a scheme that clears an index by a step. It serves each call that protects a link,
 // whatever comes after it.
-ghost use Rattle.std.specs.Prelude.{◌≡◌, ◌<◌, ◌+◌, ◌^◌, ℕ};
+ghost use Rattle.std.specs.Prelude.{◌≡◌, ◌<◌, ◌+◌, ◌^◌, ℕ, Bool, false, refl, true};
+ghost use Rattle.wfe_core.specs.words.Schemes.{publishes_rows as shows_rows};
 ghost use Rattle.wfe_core.specs.Ready.{IndexFits, RootFits};
 ghost use Rattle.wfe_core.specs.Valid.{IsValid};
 ghost use Rattle.wfe_core.specs.words.declared.config.SchemeKind.{SchemeKind as Kind};
@@ -19,6 +20,13 @@ use wfe_core::{Post, Root};
 pub trait ByIndex {
     /// The scheme.
     ghost kind: { Kind };
+
+    ghost ROWS: { Bool };
+
+    /// Whether its index words publish rows, and no eras.
+    const ROWS: bool;
+
+    ghost rows: { ROWS ≡ shows_rows kind };
 
     /// A protection at an index, whose state is before its first step.
     fn protect<W: Words>(words: &mut W, post: &Post, index: u32, root: Root) -> Bounded
@@ -43,6 +51,12 @@ impl ByIndex for He {
 
     ghost kind = { HeKind };
 
+    ghost ROWS = { false };
+
+    const ROWS: bool = false;
+
+    ghost rows = { refl };
+
     #[inline(always)]
     fn protect<W: Words>(words: &mut W, post: &Post, index: u32, root: Root) -> Bounded {
         Bounded::Within(protect_he(words, post, index, root))
@@ -54,6 +68,12 @@ impl ByIndex for Wfe {
 
     ghost kind = { WfeKind };
 
+    ghost ROWS = { false };
+
+    const ROWS: bool = false;
+
+    ghost rows = { refl };
+
     #[inline(always)]
     fn protect<W: Words>(words: &mut W, post: &Post, index: u32, root: Root) -> Bounded {
         protect_wfe(words, post, index, root)
@@ -64,6 +84,12 @@ impl ByIndex for Hp {
     ghost use Rattle.wfe_core.specs.words.declared.config.SchemeKind.TheVariants.{Hp as HpKind};
 
     ghost kind = { HpKind };
+
+    ghost ROWS = { true };
+
+    const ROWS: bool = true;
+
+    ghost rows = { refl };
 
     #[inline(always)]
     fn protect<W: Words>(words: &mut W, post: &Post, index: u32, root: Root) -> Bounded {

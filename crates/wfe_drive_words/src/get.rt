@@ -22,44 +22,15 @@ use crate::apart::drive_apart;
 use crate::asking::Bounded;
 use crate::by_index::ByIndex;
 use crate::found::{Found, find};
-use crate::path::{publish_as, publishes_rows, step};
-use wfe_bucketmap_read::{Get, He, Hp, Wfe};
-use wfe_core::{Answer, Desk, Layout, Post, Root, SchemeKind};
+use crate::path::{publish_as, step};
+use wfe_bucketmap_read::{Get, Wfe};
+use wfe_core::{Answer, Desk, Layout, Post, Root};
 use wfe_fast::WfeProtect;
 
-/// Makes a get under a scheme that clears an index by a step, of a key whose bucket is known, from its first
-/// step to its answer.
+/// Makes a get under a scheme that clears an index by a step and that a type names, of a key whose bucket is known,
+/// from its first step to its answer.
 #[inline(always)]
-pub fn get_by_index<W: Words>(
-    words: &mut W,
-    post: &mut Post,
-    desk: &mut Desk,
-    key: u64,
-    bucket: u32,
-) -> Answer
-    requires valid { W.valid words.old }
-    requires clears { has_one_interval post.old.layout.config.scheme ≡ false }
-    requires here { Here (W.at words.old) (at_phase (first_phase (GetCall key) post.old) post.old desk.old) }
-    requires bucket { bucket ≡ bucket_of post.old key }
-    requires there { bucket < post.old.layout.config.buckets }
-    requires room { HasRoom desk.old post.old.layout }
-    ensures valid { W.valid words.new }
-    ensures same { W.same words.old words.new }
-    ensures room { HasRoom desk.new post.new.layout }
-    ensures made { Closes result (W.at words.old) (W.at words.new) (W.stands words.old) (W.stands words.new)
-        (at_phase (first_phase (GetCall key) post.old) post.old desk.old) (at_phase Idle post.new desk.new) }
-{
-    match post.layout.config().scheme {
-        SchemeKind::He => get_guarded::<W, He>(words, post, desk, key, bucket),
-        SchemeKind::Wfe => get_guarded::<W, Wfe>(words, post, desk, key, bucket),
-        SchemeKind::Hp => get_guarded::<W, Hp>(words, post, desk, key, bucket),
-        SchemeKind::Ibr => unreachable!(),
-    }
-}
-
-// The same under a scheme that a type names.
-#[inline(always)]
-fn get_guarded<W: Words, P: ByIndex>(
+pub fn get_guarded<W: Words, P: ByIndex>(
     words: &mut W,
     post: &mut Post,
     desk: &mut Desk,
@@ -85,7 +56,7 @@ fn get_guarded<W: Words, P: ByIndex>(
     match P::protect(words, &place, 0, root) {
         Bounded::Within(guarded) => {
             let found = find_held(words, &place, key, guarded.link);
-            close_get(words, &place, post, desk, found, guarded.steps)
+            close_get::<W, P>(words, &place, post, desk, found, guarded.steps)
         }
         Bounded::Used { steps } => ask(words, post, desk, key, root, steps),
     }
@@ -172,7 +143,7 @@ fn find_held<W: Words>(words: &mut W, post: &Post, key: u64, link: u32) -> Found
 
 // Clears the index, which publishes rows or eras, and answers.
 #[inline(always)]
-fn close_get<W: Words>(
+fn close_get<W: Words, P: ByIndex>(
     words: &mut W,
     place: &Post,
     post: &mut Post,
@@ -184,6 +155,7 @@ fn close_get<W: Words>(
     requires later { W.later words.old }
     requires own { IsValid post.old }
     requires place { place.now ≡ post.old }
+    requires scheme { post.old.layout.config.scheme ≡ P.kind }
     requires clears { has_one_interval post.old.layout.config.scheme ≡ false }
     requires room { HasRoom desk.old post.old.layout }
     requires here { (key : ℕ) × (bucket : ℕ) × (link : ℕ)
@@ -197,7 +169,7 @@ fn close_get<W: Words>(
         (closing_at key (held_reader post.old bucket link (desk_of desk.old) (post.old.steps + before)) found)
         (at_phase Idle post.new desk.new) }
 {
-    step(words, publish_as(publishes_rows(place), place, 0, 0));
+    step(words, publish_as(P::ROWS, place, 0, 0));
     post.standing[0] = None;
     post.steps = post.steps + before + found.steps + 1;
     note_steps(desk, post.steps);

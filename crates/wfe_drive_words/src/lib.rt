@@ -20,7 +20,7 @@ pub use apart::drive_apart;
 pub use asking::{Bounded, try_within};
 pub use by_index::ByIndex;
 pub use facts::{answers_leave_groups, histories_ready_seats};
-pub use get::{bucket_for, get_by_index, note_steps, root_for};
+pub use get::{bucket_for, get_guarded, note_steps, root_for};
 pub use get_span::{begin_span, get_ibr_in, store_none};
 pub use machine::drive_on;
 pub use path::{

@@ -66,6 +66,7 @@ impl<C: Cells> LeaveRig<C> {
     }
 
     /// Whether a call of the seat is under way.
+    #[inline(always)]
     pub fn busy(&self, seat: u32) -> bool
         requires { seat < self.now.layout.config.seats }
         ensures { result ≡ busy_in (seat_at self.now seat).phase }
@@ -110,10 +111,8 @@ impl<C: Cells> LeaveRig<C> {
         ensures unit { IsUnit self.old self.new seat told.new result }
         ensures falls { units_left self.new seat < units_left self.old seat }
     {
-        let part = self.parts[seat as usize];
-        let made = make_unit(&mut self.rig, self.layout, seat, part, told);
-        self.parts[seat as usize] = made.part;
-        made.answer
+        let part = &mut self.parts[seat as usize];
+        make_unit(&mut self.rig, &self.layout, seat, part, told)
     }
 }
 
@@ -132,6 +131,7 @@ impl<C: MakeCells> Engine for LeaveRig<C> {
         true
     }
 
+    #[inline(always)]
     fn busy(&self, seat: u32) -> bool {
         LeaveRig::busy(self, seat)
     }

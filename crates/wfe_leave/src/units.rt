@@ -48,27 +48,64 @@ pub fn start_call<C: Cells>(rig: &mut Rig<C>, seat: u32, call: Call) -> Part
     part
 }
 
-/// One unit of a seat's call.
+// What a unit leaves of the seat's part is kept.
+fn keep(part: &mut Part, made: Made) -> Option<Answer>
+    ensures part { part.new ≡ made.part }
+    ensures answer { result ≡ made.answer }
+{
+    *part = made.part;
+    made.answer
+}
+
+/// One unit of a seat's call. Nearly all are the rig's: those of the others stand apart, so that it makes no
+/// room for what they leave.
+#[inline(always)]
 pub fn make_unit<C: Cells>(
+    rig: &mut Rig<C>,
+    layout: &Layout,
+    seat: u32,
+    part: &mut Part,
+    told: &mut Told,
+) -> Option<Answer>
+    requires valid { is_valid layout.now ≡ true }
+    requires layout { layout.now ≡ rig.old.layout }
+    requires words { length rig.old.words ≡ words rig.old.layout }
+    requires seat { seat < rig.old.layout.config.seats }
+    requires empty { told.old ≡ [] }
+    requires may { MayMake rig.old seat part.old }
+    ensures { MadeUnit rig.old rig.new seat part.old part.new told.new result }
+{
+    match *part {
+        Part::Stays => rig.unit(seat, told),
+        _ => other_unit(rig, *layout, seat, part, told),
+    }
+}
+
+// One unit of a call, by the seat's part.
+#[inline(never)]
+fn other_unit<C: Cells>(
     rig: &mut Rig<C>,
     layout: Layout,
     seat: u32,
-    part: Part,
+    part: &mut Part,
     told: &mut Told,
-) -> Made
+) -> Option<Answer>
     requires valid { is_valid layout ≡ true }
     requires layout { layout ≡ rig.old.layout }
     requires words { length rig.old.words ≡ words rig.old.layout }
     requires seat { seat < rig.old.layout.config.seats }
     requires empty { told.old ≡ [] }
-    requires may { MayMake rig.old seat part }
-    ensures { MadeUnit rig.old rig.new seat part result.part told.new result.answer }
+    requires may { MayMake rig.old seat part.old }
+    ensures { MadeUnit rig.old rig.new seat part.old part.new told.new result }
 {
-    match part {
-        Part::Stays | Part::Over { .. } => call_unit(rig, seat, told),
-        Part::Parts { steps } => part_unit(rig, layout, seat, steps, told),
-        Part::Takes { place } => take_unit(rig, layout, seat, place, told),
-        Part::Marks { place, count } => mark_unit(rig, layout, seat, place, count, told),
+    match *part {
+        Part::Stays | Part::Over { .. } => keep(part, call_unit(rig, seat, told)),
+        Part::Parts { steps } => keep(part, part_unit(rig, layout, seat, steps, told)),
+        Part::Takes { place } => keep(part, take_unit(rig, layout, seat, place, told)),
+        Part::Marks { place, count } => keep(
+            part,
+            mark_unit(rig, layout, seat, place, count, told),
+        ),
     }
 }
 

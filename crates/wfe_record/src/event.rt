@@ -105,6 +105,7 @@ fn hazard_event(name: &[u8], line: &mut Words<'_>, version: u32, config: &Config
 }
 
 // An event of a call, of the clock or of a guard, or one of those that follow.
+#[inline(always)]
 #[tactic(auto, unfolding(crate::specs::Reader::event_by))]
 fn call_event(name: &[u8], line: &mut Words<'_>, version: u32, config: &Config) -> Option<Event>
     ensures { option_map (λ event. (event, line.new)) result ≡ event_by version config.now name.now line.old }

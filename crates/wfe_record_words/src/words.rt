@@ -25,6 +25,7 @@ impl<'a> Model for Words<'a> {
 }
 
 // The index of the first such byte, or the length where there is none.
+#[inline(always)]
 fn byte_at(bytes: &[u8], wanted: u8) -> usize
     ensures within { result ≤ length bytes.now }
     ensures before { (k : ℕ) → k < result → slice_index bytes.now k ≢ wanted }
@@ -39,6 +40,7 @@ fn byte_at(bytes: &[u8], wanted: u8) -> usize
 }
 
 // What stands before the first such byte, and what stands after it.
+#[inline(always)]
 fn cut(bytes: &[u8], at: u8) -> (&[u8], Option<&[u8]>)
     ensures { cut_at at bytes.now ≡ (result.0.now, option_map (λ rest. rest.now) result.1) }
 {
@@ -51,6 +53,7 @@ fn cut(bytes: &[u8], at: u8) -> (&[u8], Option<&[u8]>)
 }
 
 /// The number that the word writes, where it is below the limit, which is 4,294,967,296 at most.
+#[inline(always)]
 #[tactic(auto, unfolding(crate::specs::Reader::number_below))]
 pub fn number_below(word: &[u8], limit: u64) -> Option<u32>
     requires { limit ≤ 4294967296 }
@@ -72,6 +75,7 @@ pub fn since(first: u32, version: u32) -> Option<()>
 }
 
 // The index word that a guard's word names after its letter.
+#[inline(always)]
 fn index_guard(word: &[u8], config: &Config) -> Option<Guard>
     ensures { result ≡ index_guard_by config.now (cut_at 46 word.now) }
 {
@@ -83,6 +87,7 @@ fn index_guard(word: &[u8], config: &Config) -> Option<Guard>
     })
 }
 
+#[inline(always)]
 #[tactic(auto, unfolding(crate::specs::Reader::guard_in))]
 fn guard_in(word: &[u8], config: &Config) -> Option<Guard>
     ensures { result ≡ guard_by config.now word.now }
@@ -99,6 +104,7 @@ fn guard_in(word: &[u8], config: &Config) -> Option<Guard>
     }
 }
 
+#[inline(always)]
 fn numbered_root(word: &[u8], config: &Config) -> Option<Root>
     ensures { result ≡ numbered_root_by config.now word.now }
 {
@@ -109,6 +115,7 @@ fn numbered_root(word: &[u8], config: &Config) -> Option<Root>
     }
 }
 
+#[inline(always)]
 #[tactic(auto, unfolding(crate::specs::Reader::root_in))]
 fn root_in(word: &[u8], config: &Config) -> Option<Root>
     ensures { result ≡ root_by config.now word.now }
@@ -122,6 +129,7 @@ fn root_in(word: &[u8], config: &Config) -> Option<Root>
     }
 }
 
+#[inline(always)]
 #[tactic(auto, unfolding(crate::specs::Reader::value_in))]
 fn value_in(word: &[u8]) -> Option<Option<u64>>
     ensures { result ≡ value_by word.now }
@@ -133,6 +141,7 @@ fn value_in(word: &[u8]) -> Option<Option<u64>>
     }
 }
 
+#[inline(always)]
 #[tactic(auto, unfolding(crate::specs::Reader::shown_in))]
 fn shown_in(word: &[u8], config: &Config) -> Option<Option<u32>>
     ensures { result ≡ shown_by config.now word.now }
@@ -153,6 +162,7 @@ impl<'a> Words<'a> {
     }
 
     /// Takes the next word.
+    #[inline(always)]
     #[tactic(auto, using(crate::proofs::Cuts::word_steps))]
     pub fn first(&mut self) -> Option<&'a [u8]>
         ensures { option_map (λ word. (word.now, self.new)) result ≡ first_of self.old }
@@ -174,6 +184,7 @@ impl<'a> Words<'a> {
     }
 
     /// A number of 64 bits.
+    #[inline(always)]
     #[tactic(auto, unfolding(crate::specs::Reader::any_number))]
     pub fn long(&mut self) -> Option<u64>
         ensures { option_map (λ number. (number, self.new)) result ≡ long_of self.old }
@@ -181,6 +192,7 @@ impl<'a> Words<'a> {
         number_of(self.first()?)
     }
 
+    #[inline(always)]
     fn below(&mut self, limit: u64) -> Option<u32>
         requires { limit ≤ 4294967296 }
         ensures { option_map (λ number. (number, self.new)) result ≡ below_of limit self.old }
@@ -189,6 +201,7 @@ impl<'a> Words<'a> {
     }
 
     /// A number of 32 bits.
+    #[inline(always)]
     pub fn short(&mut self) -> Option<u32>
         ensures { option_map (λ number. (number, self.new)) result ≡ short_of self.old }
     {
@@ -196,6 +209,7 @@ impl<'a> Words<'a> {
     }
 
     /// One of the seats.
+    #[inline(always)]
     pub fn seat(&mut self, config: &Config) -> Option<u32>
         ensures { option_map (λ seat. (seat, self.new)) result ≡ seat_of config.now self.old }
     {
@@ -203,6 +217,7 @@ impl<'a> Words<'a> {
     }
 
     /// One of a seat's indexes.
+    #[inline(always)]
     pub fn index(&mut self, config: &Config) -> Option<u32>
         ensures { option_map (λ index. (index, self.new)) result ≡ index_of config.now self.old }
     {
@@ -210,6 +225,7 @@ impl<'a> Words<'a> {
     }
 
     /// A row, the queue's first one included.
+    #[inline(always)]
     pub fn slot(&mut self, config: &Config) -> Option<u32>
         ensures { option_map (λ slot. (slot, self.new)) result ≡ slot_of config.now self.old }
     {
@@ -217,6 +233,7 @@ impl<'a> Words<'a> {
     }
 
     /// One of the buckets.
+    #[inline(always)]
     pub fn bucket(&mut self, config: &Config) -> Option<u32>
         ensures { option_map (λ bucket. (bucket, self.new)) result ≡ bucket_of config.now self.old }
     {
@@ -224,6 +241,7 @@ impl<'a> Words<'a> {
     }
 
     /// A number of 64 bits, or `none`.
+    #[inline(always)]
     pub fn value(&mut self) -> Option<Option<u64>>
         ensures { option_map (λ value. (value, self.new)) result ≡ value_of self.old }
     {
@@ -231,12 +249,14 @@ impl<'a> Words<'a> {
     }
 
     /// A row that a guard publishes, or `none`.
+    #[inline(always)]
     pub fn shown(&mut self, config: &Config) -> Option<Option<u32>>
         ensures { option_map (λ slot. (slot, self.new)) result ≡ shown_of config.now self.old }
     {
         shown_in(self.first()?, config)
     }
 
+    #[inline(always)]
     fn span_from(&mut self, word: &[u8]) -> Option<Option<Interval>>
         ensures { option_map (λ span. (span, self.new)) result ≡ span_after word.now self.old }
     {
@@ -246,6 +266,7 @@ impl<'a> Words<'a> {
     }
 
     /// An interval, or `none`.
+    #[inline(always)]
     pub fn span(&mut self) -> Option<Option<Interval>>
         ensures { option_map (λ span. (span, self.new)) result ≡ span_of self.old }
     {
@@ -257,6 +278,7 @@ impl<'a> Words<'a> {
     }
 
     /// A guard: the helper word, an index word or the interval word of a seat.
+    #[inline(always)]
     pub fn guard(&mut self, config: &Config) -> Option<Guard>
         ensures { option_map (λ guard. (guard, self.new)) result ≡ guard_of config.now self.old }
     {
@@ -264,6 +286,7 @@ impl<'a> Words<'a> {
     }
 
     /// A word that links a row.
+    #[inline(always)]
     pub fn root(&mut self, config: &Config) -> Option<Root>
         ensures { option_map (λ root. (root, self.new)) result ≡ root_of config.now self.old }
     {

@@ -41,6 +41,7 @@ fn tell_watchers(
 }
 
 // Writes the line of an event.
+#[inline(always)]
 fn put_event<K: Sink>(sink: &mut K, line: &mut Line, seat: u32, event: &Event) -> Result<(), Failed>
     ensures { Writes K.written K.faults K.may_stand result sink.old sink.new (text_of (told_piece (entry seat event.now) ∷ [])) }
 {
@@ -51,6 +52,7 @@ fn put_event<K: Sink>(sink: &mut K, line: &mut Line, seat: u32, event: &Event) -
 /// Tells each watcher the event, in order, and then writes its line, which is made in the line that is
 /// given. Where writing fails, each watcher has heard the event; where a watcher has no memory, nothing
 /// of the line is written.
+#[inline(always)]
 pub fn tell<K: Sink>(
     sink: &mut K,
     line: &mut Line,
@@ -70,6 +72,7 @@ pub fn tell<K: Sink>(
 }
 
 /// Tells the events of one step of a seat, each before the next.
+#[inline(always)]
 pub fn tell_all<K: Sink>(
     sink: &mut K,
     line: &mut Line,

@@ -1,7 +1,7 @@
 -- What bytes in a row give, from what each gives.
 use Rattle.wfe_server_out.specs.Heard.{Seen}
-use Rattle.std.proofs.Common.{Bool, true, false, Option, None, ◌==◌, ℕ, ◌≡◌, ◌+◌, ◌<◌, List, [], ◌∷◌, ◌++◌, length, take, drop, get_or, Result, Ok, Err, refl, sym, ap, ◌∙◌, subst, append_assoc, append-nil, take-append-drop}
-use Rattle.std.proofs.lemmas.List.{take_more}
+use Rattle.std.proofs.Common.{Bool, true, false, Option, None, ◌==◌, ℕ, ◌≡◌, ◌+◌, ◌<◌, List, [], ◌∷◌, ◌++◌, length, take, drop, get_or, Result, Ok, Err, refl, sym, ap, ◌∙◌, subst, append_assoc, append-nil, take-add, take-append-drop, ◌-◌}
+use Rattle.std.proofs.lemmas.List.{take_more, take_rest}
 use Rattle.wfe_trace.specs.declared.reason.BadLine.{BadLine}
 use Rattle.wfe_server_replay.specs.declared.stop.Stop.{Stop}
 use Rattle.wfe_server_replay.specs.declared.stop.Stop.TheVariants as stops
@@ -89,6 +89,44 @@ pub puts-at : {S W : Type 0} (seen : Seen W) (E : Engine S) (p q : Progress S) (
 puts-at seen E p q bs i a b c within before wrote here =
     subst (Puts seen a c) (sym (ap (bytes_output E (Ok p)) (take_more bs i 0 within) ∙ bytes_output-more E p q (take i bs) (get_or bs i 0) before))
     (puts_trans seen a b c _ _ wrote here)
+
+-- what the bytes before gave, and the rest
+output_then : {S : Type 0} (E : Engine S) (p q : Progress S) (xs ys : List ℕ) → after_bytes E (Ok p) xs ≡ Ok q → bytes_output E (Ok p) (xs ++ ys) ≡ bytes_output E (Ok p) xs ++ bytes_output E (Ok q) ys
+output_then E p q xs ys before = bytes_output-append E (Ok p) xs ys ∙ ap (λ t. bytes_output E (Ok p) xs ++ bytes_output E t ys) before
+
+after_then : {S : Type 0} (E : Engine S) (p q : Progress S) (xs ys : List ℕ) → after_bytes E (Ok p) xs ≡ Ok q → after_bytes E (Ok p) (xs ++ ys) ≡ after_bytes E (Ok q) ys
+after_then E p q xs ys before = after_bytes-append E (Ok p) xs ys ∙ ap (λ t. after_bytes E t ys) before
+
+StopsAt-then : (makes : Call → Bool) {W : Type 0} (seen : Seen W) (stop : Stop) (p q : Progress Played) (xs ys : List ℕ) (a b c : Outside W) →
+    after_bytes (player makes) (Ok p) xs ≡ Ok q → Puts seen a b (bytes_output (player makes) (Ok p) xs) → StopsAt seen stop (after_bytes (player makes) (Ok q) ys) b c (bytes_output (player makes) (Ok q) ys) →
+    StopsAt seen stop (after_bytes (player makes) (Ok p) (xs ++ ys)) a c (bytes_output (player makes) (Ok p) (xs ++ ys))
+StopsAt-then makes seen (stops.Bad bad) p q xs ys a b c before wrote (here, more) =
+    (after_then (player makes) p q xs ys before ∙ here, subst (Puts seen a c) (sym (output_then (player makes) p q xs ys before)) (puts_trans seen a b c _ _ wrote more))
+StopsAt-then makes seen (stops.Fault fault) p q xs ys a b c before wrote some = subst (PutsPart seen a c) (sym (output_then (player makes) p q xs ys before)) (part_then seen a b c _ _ wrote some)
+
+-- so many bytes from a place on are taken
+pub after_bytes-from : {S : Type 0} (E : Engine S) (p q r : Progress S) (bs : List ℕ) (i n : ℕ) →
+    after_bytes E (Ok p) (take i bs) ≡ Ok q → after_bytes E (Ok q) (take n (take (length bs - i) (drop i bs))) ≡ Ok r → after_bytes E (Ok p) (take (i + n) bs) ≡ Ok r
+after_bytes-from E p q r bs i n before here =
+    ap (after_bytes E (Ok p)) (take-add i n bs) ∙ after_then E p q (take i bs) (take n (drop i bs)) before ∙ ap (λ (xs : List ℕ). after_bytes E (Ok q) (take n xs)) (sym (take_rest bs i)) ∙ here
+
+pub puts-from : {S W : Type 0} (seen : Seen W) (E : Engine S) (p q : Progress S) (bs : List ℕ) (i n : ℕ) (a b c : Outside W) →
+    after_bytes E (Ok p) (take i bs) ≡ Ok q → Puts seen a b (bytes_output E (Ok p) (take i bs)) → Puts seen b c (bytes_output E (Ok q) (take n (take (length bs - i) (drop i bs)))) →
+    Puts seen a c (bytes_output E (Ok p) (take (i + n) bs))
+puts-from seen E p q bs i n a b c before wrote here =
+    subst (Puts seen a c)
+    (sym (ap (bytes_output E (Ok p)) (take-add i n bs) ∙ output_then E p q (take i bs) (take n (drop i bs)) before ∙ ap (λ (xs : List ℕ). bytes_output E (Ok p) (take i bs) ++ bytes_output E (Ok q) (take n xs)) (sym (take_rest bs i))))
+    (puts_trans seen a b c _ _ wrote here)
+
+-- the work stops in the bytes from a place on
+pub StopsAt-from : (makes : Call → Bool) {W : Type 0} (seen : Seen W) (stop : Stop) (p q : Progress Played) (bs : List ℕ) (i : ℕ) (a b c : Outside W) →
+    after_bytes (player makes) (Ok p) (take i bs) ≡ Ok q → Puts seen a b (bytes_output (player makes) (Ok p) (take i bs)) →
+    StopsAt seen stop (after_bytes (player makes) (Ok q) (take (length bs - i) (drop i bs))) b c (bytes_output (player makes) (Ok q) (take (length bs - i) (drop i bs))) →
+    StopsAt seen stop (after_bytes (player makes) (Ok p) bs) a c (bytes_output (player makes) (Ok p) bs)
+StopsAt-from makes seen stop p q bs i a b c before wrote here =
+    subst (λ (xs : List ℕ). StopsAt seen stop (after_bytes (player makes) (Ok p) xs) a c (bytes_output (player makes) (Ok p) xs)) (take-append-drop i bs)
+    (StopsAt-then makes seen stop p q (take i bs) (drop i bs) a b c before wrote
+    (subst (λ (xs : List ℕ). StopsAt seen stop (after_bytes (player makes) (Ok q) xs) b c (bytes_output (player makes) (Ok q) xs)) (take_rest bs i) here))
 
 -- a line feed gives what its line gives
 pub record IsFed {S : Type 0} (E : Engine S) (p m : Progress S) (b : ℕ) : Type 0 where

@@ -9,6 +9,7 @@ pub mod Items
 pub mod Lines
 pub mod Outs
 pub mod Parts
+pub mod Plain
 pub mod Plays
 pub mod Runs
 pub mod Says

@@ -19,6 +19,10 @@ use Rattle.wfe_outside.specs.defs.declared.call.Call.{Call}
 pub puts_nil : {W : Type 0} (seen : Seen W) (a : Outside W) → Puts seen a a []
 puts_nil seen a = puts_none seen a.written a.watchers
 
+-- the same by another name of nothing
+pub puts_same : {W : Type 0} (seen : Seen W) (a : Outside W) (xs : List Piece) → xs ≡ [] → Puts seen a a xs
+puts_same seen a xs e = subst (Puts seen a a) (sym e) (puts_nil seen a)
+
 pub puts_trans : {W : Type 0} (seen : Seen W) (a b c : Outside W) (xs ys : List Piece) → Puts seen a b xs → Puts seen b c ys → Puts seen a c (xs ++ ys)
 puts_trans seen a b c xs ys p q = puts_along seen a.written b.written c.written a.watchers b.watchers c.watchers xs ys p q
 

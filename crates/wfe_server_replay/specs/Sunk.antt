@@ -1,6 +1,6 @@
 -- What a piece of work put out: to a sink, and to watchers.
 use Rattle.wfe_server_out.specs.Heard.{Hears, Seen}
-use Rattle.std.specs.Prelude.{Bool, Err, IfErr, List, Ok, Option, Result, ℕ, ◌++◌, ◌≡◌, ◌≤◌, ◌⊎◌}
+use Rattle.std.specs.Prelude.{Bool, Err, IfErr, List, Ok, Option, Result, take, ℕ, ◌++◌, ◌≡◌, ◌≤◌, ◌⊎◌}
 use Rattle.wfe_outside.specs.Faults.{Rose}
 use Rattle.wfe_server_out.specs.declared.fault.Fault.TheVariants as fault_kinds
 use Rattle.wfe_server_out.specs.Pieces.{Piece, heard_of}
@@ -41,6 +41,11 @@ pub record Takes {K W T : Type 0} (seen : Seen W) (written : K → Option (List 
   pub took : Took seen result verdict now (outside (written old) before) (outside (written new) after) out
   pub later : faults old ≤ faults new
   pub cause : IfErr result (λ stop. stop ≡ stops.Fault fault_kinds.Write → Rose may_stand (faults old) (faults new))
+
+-- the first of these bytes, so many as were taken, or all of them where the work stopped in them
+abbrev pub some_of : Result ℕ Stop → List ℕ → List ℕ
+some_of (Ok count) bytes = take count bytes
+some_of (Err stop) bytes = bytes
 
 -- All lines of a trace were put out, and the work stopped in the lines after them: the first bad byte or the end had been read, and each watcher has heard the whole record.
 pub record StopsAfter {W : Type 0} (seen : Seen W) (found : Type 0) (lines last : List Piece) (old new : Outside W) : Type 0 where

@@ -1,5 +1,5 @@
 -- A trace as its bytes come, judged byte by byte, over any engine that takes its lines.
-use Rattle.std.specs.Prelude.{ℕ, ◌+◌, ◌==◌, ◌++◌, nat_le, if◌then◌else◌, Bool, true, false, List, [], ◌∷◌, length, Option, Some, None, Result, Ok, Err, codes}
+use Rattle.std.specs.Prelude.{ℕ, ◌+◌, ◌==◌, ◌++◌, ◌≡◌, ◌≢◌, ◌<◌, ◌≤◌, nat_le, if◌then◌else◌, Bool, true, false, List, [], ◌∷◌, length, slice_index, Option, Some, None, Result, Ok, Err, codes}
 use Rattle.wfe_trace.specs.words.declared.config.Config.{Config}
 use Rattle.wfe_outside.specs.defs.declared.call.Call.{Call}
 use Rattle.wfe_outside.specs.defs.declared.command.Command.{Command}
@@ -141,6 +141,18 @@ counted p = record p { count = p.count + 1 }
 abbrev pub byte_taken : {S : Type 0} → Progress S → ℕ → (ends : Bool) → Progress S
 byte_taken p b true = counted p
 byte_taken p b false = record (counted p) { line = p.line ++ b ∷ [] }
+
+-- these bytes go to the line under way
+abbrev pub more_bytes : {S : Type 0} → Progress S → List ℕ → Progress S
+more_bytes p bytes = record p { line = p.line ++ bytes; count = p.count + length bytes }
+
+-- the first n of these bytes are not bad, and none of them is a line feed: there is room for them in the line under way and in the trace, and where there is one the line `end` has not come
+pub record ArePlain {S : Type 0} (p : Progress S) (bytes : List ℕ) (n : ℕ) : Type 0 where
+  pub within : n ≤ length bytes
+  pub none : (k : ℕ) → k < n → slice_index bytes k ≢ 10
+  pub short : length p.line + n ≤ 200
+  pub few : p.count + n ≤ 16777216
+  pub going : 0 < n → p.ended ≡ false
 
 abbrev pub after_good_byte : {S : Type 0} → Engine S → Progress S → ℕ → Option Reason → Result (Progress S) BadLine
 after_good_byte E p b (Some reason) = Err (bad_line p reason)

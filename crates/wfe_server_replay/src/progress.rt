@@ -1,10 +1,10 @@
 // The table that takes a trace's lines as its bytes come.
 ghost use Rattle.wfe_server_out.specs.Emits.{Emits};
 ghost use Rattle.wfe_server_out.specs.Heard.{boxed};
-ghost use Rattle.std.specs.Prelude.{◌≡◌, OnOk, IfOk, None, Some, Ok, Err, [], ◌∷◌, true};
+ghost use Rattle.std.specs.Prelude.{◌≡◌, ◌<◌, ◌≤◌, OnOk, IfOk, None, Some, Ok, Err, [], ◌∷◌, length, take, true};
 ghost use Rattle.wfe_server_replay.specs.Opening.{FitsTable, ItemFits, MayPlay, MayTake};
 ghost use Rattle.wfe_server_replay.specs.Playing.{player};
-ghost use Rattle.wfe_server_replay.specs.Sunk.{Takes};
+ghost use Rattle.wfe_server_replay.specs.Sunk.{Takes, some_of};
 ghost use Rattle.wfe_server_replay.specs.Trace.{progress_start, refused_in, command_taken, out_in, item_taken, out_by, refused_by, line_item, line_read, after_line, line_output, after_byte, byte_output, after_bytes, bytes_output, after_last, last_output, finished};
 ghost use Rattle.wfe_server_out.specs.Pieces.{Text};
 ghost use Rattle.wfe_trace.specs.Good.{is_body};
@@ -170,8 +170,8 @@ impl<E: Engine> Work<E> {
         }
     }
 
-    /// Takes one byte of the trace.
-    pub fn take_byte<K: Sink>(
+    // Takes one byte of the trace.
+    fn take_byte<K: Sink>(
         &mut self,
         alloc: Global,
         byte: u8,
@@ -188,6 +188,39 @@ impl<E: Engine> Work<E> {
         }
     }
 
+    // Takes the bytes before the first line feed at once, where none of those is bad, and answers how many
+    // it took. They put nothing out.
+    fn take_plain(&mut self, bytes: &[u8]) -> usize
+        ensures within { result ≤ length bytes.now }
+        ensures after { after_bytes (player E.taken) (Ok self.old) (take result bytes.now) ≡ Ok self.new }
+        ensures output { bytes_output (player E.taken) (Ok self.old) (take result bytes.now) ≡ [] }
+    {
+        self.bytes.push_plain(bytes)
+    }
+
+    // Takes the first of these bytes: up to the first line feed, or one of them. Answers how many it took.
+    fn take_some<K: Sink>(
+        &mut self,
+        alloc: Global,
+        bytes: &[u8],
+        sink: &mut K,
+        watchers: &mut [Box<dyn Watcher>],
+    ) -> Result<usize, Stop>
+        requires { 0 < length bytes.now }
+        ensures within { IfOk result (λ count. (0 < count) × (count ≤ length bytes.now)) }
+        ensures takes { Takes (boxed stands) K.written K.faults K.may_stand result sink.old sink.new watchers.old watchers.new
+            (after_bytes (player E.taken) (Ok self.old) (some_of result bytes.now)) self.new (bytes_output (player E.taken) (Ok self.old) (some_of result bytes.now)) }
+    {
+        let count = self.take_plain(bytes);
+        if count >= bytes.len() {
+            return Ok(count);
+        }
+        match self.take_byte(alloc, bytes[count], sink, watchers) {
+            Ok(()) => Ok(count + 1),
+            Err(stop) => Err(stop),
+        }
+    }
+
     /// Takes the next bytes of the trace, up to the first that is bad.
     pub fn take_bytes<K: Sink>(
         &mut self,
@@ -199,9 +232,10 @@ impl<E: Engine> Work<E> {
         ensures { Takes (boxed stands) K.written K.faults K.may_stand result sink.old sink.new watchers.old watchers.new
             (after_bytes (player E.taken) (Ok self.old) bytes.now) self.new (bytes_output (player E.taken) (Ok self.old) bytes.now) }
     {
-        for byte in bytes {
-            match self.take_byte(alloc, *byte, sink, watchers) {
-                Ok(()) => {}
+        let mut at = 0;
+        while at < bytes.len() {
+            match self.take_some(alloc, &bytes[at..], sink, watchers) {
+                Ok(count) => at += count,
                 Err(stop) => return Err(stop),
             }
         }

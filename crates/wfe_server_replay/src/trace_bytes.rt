@@ -1,10 +1,11 @@
 // A trace's bytes as they come, whatever takes its lines.
-ghost use Rattle.std.specs.Prelude.{◌≡◌, ◌==◌, length, IfOk, IfErr, MatchResult, None, Some, Ok, Err, true, false};
-ghost use Rattle.wfe_server_replay.specs.Trace.{progress_start, bad_line, byte_refused, byte_taken, is_end, line_read};
+ghost use Rattle.std.specs.Prelude.{◌≡◌, ◌≢◌, ◌<◌, ◌≤◌, ◌+◌, ◌==◌, ℕ, length, slice_index, take, IfOk, IfErr, MatchResult, None, Some, Ok, Err, true, false};
+ghost use Rattle.wfe_server_replay.specs.Trace.{ArePlain, progress_start, bad_line, byte_refused, byte_taken, is_end, line_read, more_bytes};
 ghost use Rattle.wfe_trace.specs.Reading.{IsItemWithin, judged, line_after};
 ghost use Rattle.wfe_trace.specs.declared.reason.Reason.TheVariants.{NoEnd};
 
 use arrayvec::ArrayVec;
+use memchr::memchr;
 use std::marker::Model;
 use wfe_outside::Command;
 use wfe_trace::{BadLine, Item, Mode, Reason, TraceState, read_line};
@@ -27,6 +28,17 @@ impl Model for TraceBytes {
     ghost view = { λ b. record { reading = b.state; line = b.line.items; count = b.count; ended = b.ended; engine = None } };
 
     ghost invariant = { λ b. b.count ≤ 16777216 };
+}
+
+// The index of the first line feed, or the length where there is none.
+fn feed_at(bytes: &[u8]) -> usize
+    ensures within { result ≤ length bytes.now }
+    ensures before { (k : ℕ) → k < result → slice_index bytes.now k ≢ 10 }
+{
+    match memchr(b'\n', bytes) {
+        Some(at) => at,
+        None => bytes.len(),
+    }
 }
 
 impl TraceBytes {
@@ -83,6 +95,41 @@ impl TraceBytes {
         }
         self.line.push(byte);
         Ok(false)
+    }
+
+    // How many bytes stand before the first line feed, where none of those is bad; and else 0.
+    fn plain(&self, bytes: &[u8]) -> usize
+        ensures { ArePlain self.now bytes.now result }
+    {
+        let room = self.line.remaining_capacity();
+        let count = feed_at(bytes);
+        if self.ended || count > room || count > 16_777_216 - self.count as usize {
+            return 0;
+        }
+        count
+    }
+
+    // Adds bytes to the line under way, for which it has room, as the trace has.
+    fn append(&mut self, bytes: &[u8])
+        requires short { length self.old.line + length bytes.now ≤ 200 }
+        requires few { self.old.count + length bytes.now ≤ 16777216 }
+        ensures { self.new ≡ more_bytes self.old bytes.now }
+    {
+        let Ok(()) = self.line.try_extend_from_slice(bytes) else {
+            unreachable!()
+        };
+        self.count += bytes.len() as u32;
+    }
+
+    /// Takes the bytes before the first line feed at once, where none of those is bad, and answers how many
+    /// it took. Where one of them is bad it takes none.
+    pub fn push_plain(&mut self, bytes: &[u8]) -> usize
+        ensures plain { ArePlain self.old bytes.now result }
+        ensures taken { self.new ≡ more_bytes self.old (take result bytes.now) }
+    {
+        let count = self.plain(bytes);
+        self.append(&bytes[..count]);
+        count
     }
 
     /// Reads the line under way, which is whole.

@@ -11,6 +11,7 @@ ghost use Rattle.wfe_table.specs.Public.{IsOf, stands_at, steps_of};
 use crate::seat::Seat;
 use crate::shared::Shared;
 use wfe_core::{Answer, Call, ClockMove};
+use wfe_drive_call::{DequeueCall, EnqueueCall, PutCall};
 use wfe_table_end::{
     Done, Empty, EnqueueRefusal, Got, Looked, PutIfRefusal, PutRefusal, Queued, RemoveRefusal,
     Scanned, Taken,
@@ -38,7 +39,7 @@ impl Shared {
             (λ done. IsMade self.now.layout seat.old seat.new (calls.Put key value) (answers.Done done.version done.clock))
             (λ refusal. IsMade self.now.layout seat.old seat.new (calls.Put key value) (put_answer refusal)) }
     {
-        match self.call(seat, Call::Put { key, value }) {
+        match seat.make_alone(&self.ledger.shared, PutCall { key, value }) {
             Answer::Done { version, clock } => Ok(Done { version, clock }),
             Answer::Full => Err(PutRefusal::Full),
             Answer::BucketFull { version } => Err(PutRefusal::BucketFull { version }),
@@ -103,7 +104,7 @@ impl Shared {
             (λ queued. IsMade self.now.layout seat.old seat.new (calls.Enqueue value) (answers.Queued queued.number))
             (λ refusal. IsMade self.now.layout seat.old seat.new (calls.Enqueue value) (enqueue_answer refusal)) }
     {
-        match self.call(seat, Call::Enqueue { value }) {
+        match seat.make_alone(&self.ledger.shared, EnqueueCall { value }) {
             Answer::Queued { number } => Ok(Queued { number }),
             Answer::Spent { number } => Err(EnqueueRefusal::Spent { number }),
             Answer::Full => Err(EnqueueRefusal::Full),
@@ -120,7 +121,7 @@ impl Shared {
             (λ taken. IsMade self.now.layout seat.old seat.new calls.Dequeue (answers.Taken taken.number taken.value taken.clock))
             (λ _. IsMade self.now.layout seat.old seat.new calls.Dequeue answers.Empty) }
     {
-        match self.call(seat, Call::Dequeue) {
+        match seat.make_alone(&self.ledger.shared, DequeueCall) {
             Answer::Taken {
                 number,
                 value,

@@ -20,8 +20,12 @@ use crate::take::take_list;
 use crate::words::TableWords;
 use std::alloc::Global;
 use std::marker::Model;
-use wfe_core::{Answer, Call, Desk, Layout, NoMemory, Notes, Post, RetireList, ScanReport};
-use wfe_drive_call::{bucket_for, drive_call, drive_get};
+use wfe_core::{
+    Answer, Call, Desk, Layout, NoMemory, Notes, Post, RetireList, ScanReport, SchemeKind,
+};
+use wfe_drive_call::{
+    Alone, GetUnder, He, Hp, Ibr, Wfe, bucket_for, drive_alone, drive_call, drive_get,
+};
 use wfe_drive_rule::{Handle, Ledger, give_slot, hear_news, tell_news};
 use wfe_table_end::Got;
 
@@ -73,9 +77,28 @@ impl Seat {
         })
     }
 
-    // Makes a get on the table that the seat is of, in code of its own.
+    // Makes a get on the table that the seat is of, in code of its own for each scheme.
     #[inline(always)]
     pub(crate) fn get(&mut self, ledger: &Ledger, key: u64) -> Got
+        requires table { self.old.table ≡ ledger.now.table_id }
+        requires layout { self.old.track.local.post.layout ≡ ledger.now.key }
+        requires sized { IsSized ledger.now.table_id ledger.now.key }
+        ensures table { self.new.table ≡ self.old.table }
+        ensures layout { self.new.track.local.post.layout ≡ self.old.track.local.post.layout }
+        ensures made { IsMade ledger.now.key self.old self.new (GetCall key) (GotAnswer result.version result.value) }
+    {
+        match self.post.layout.config().scheme {
+            SchemeKind::He => self.get_under::<He>(ledger, key),
+            SchemeKind::Ibr => self.get_under::<Ibr>(ledger, key),
+            SchemeKind::Wfe => self.get_under::<Wfe>(ledger, key),
+            SchemeKind::Hp => self.get_under::<Hp>(ledger, key),
+        }
+    }
+
+    // The same under a scheme that a type names. It is a function of its own, which saves no more than its own steps need.
+    #[inline(never)]
+    fn get_under<G: GetUnder>(&mut self, ledger: &Ledger, key: u64) -> Got
+        requires scheme { self.old.track.local.post.layout.config.scheme ≡ G.kind }
         requires table { self.old.table ≡ ledger.now.table_id }
         requires layout { self.old.track.local.post.layout ≡ ledger.now.key }
         requires sized { IsSized ledger.now.table_id ledger.now.key }
@@ -93,7 +116,7 @@ impl Seat {
                 seat,
                 first: true,
             };
-            drive_get(&mut words, &mut self.post, &mut self.desk, key, bucket)
+            drive_get::<TableWords, G>(&mut words, &mut self.post, &mut self.desk, key, bucket)
         };
         match answer {
             Answer::Got { version, value } => {
@@ -109,6 +132,31 @@ impl Seat {
             }
             _ => unreachable!(),
         }
+    }
+
+    // Makes a call that has code of its own, all of which is compiled into the caller.
+    #[inline(always)]
+    pub(crate) fn make_alone<C: Alone>(&mut self, ledger: &Ledger, made: C) -> Answer
+        requires table { self.old.table ≡ ledger.now.table_id }
+        requires layout { self.old.track.local.post.layout ≡ ledger.now.key }
+        requires sized { IsSized ledger.now.table_id ledger.now.key }
+        ensures table { self.new.table ≡ self.old.table }
+        ensures layout { self.new.track.local.post.layout ≡ self.old.track.local.post.layout }
+        ensures made { IsMade ledger.now.key self.old self.new (C.named made) result }
+    {
+        let answer = {
+            let seat = self.post.seat;
+            let handle = &mut self.handle;
+            let mut words = TableWords {
+                ledger,
+                handle,
+                seat,
+                first: true,
+            };
+            drive_alone(&mut words, &mut self.post, &mut self.desk, made)
+        };
+        meet(&mut self.seen, self.post.layout, made.call(), answer);
+        answer
     }
 
     // Makes a whole call of a seat that stays, on the table that it is of. A get is compiled apart from the others.

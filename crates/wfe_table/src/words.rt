@@ -1,7 +1,7 @@
 // One seat's words on the shared table, for one call.
 use wfe_core::Call;
 use wfe_drive_call::{Located, Words};
-use wfe_drive_rule::{Handle, Ledger, begin, step};
+use wfe_drive_rule::{Handle, Ledger, begin, step, step_on};
 
 /// The table with a seat's handle on it. It lives for one call.
 #[derive(Drop)]
@@ -44,15 +44,13 @@ impl<'a> Words for TableWords<'a> {
 
     #[inline(always)]
     fn perform(&mut self, op: Located) -> u64 {
-        if self.first {
-            self.first = false;
-            return step(self.ledger, self.handle, self.seat, op.op, op.spot, true);
-        }
-        step(self.ledger, self.handle, self.seat, op.op, op.spot, false)
+        let first = self.first;
+        self.first = false;
+        step(self.ledger, self.handle, self.seat, op.op, op.spot, first)
     }
 
     #[inline(always)]
     fn perform_on(&mut self, op: Located) -> u64 {
-        step(self.ledger, self.handle, self.seat, op.op, op.spot, false)
+        step_on(self.ledger, self.handle, self.seat, &op.op, op.spot)
     }
 }

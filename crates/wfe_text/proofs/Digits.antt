@@ -19,3 +19,6 @@ two_digits n more less = rw (decimal_step n more (omega arith), decimal_digit (n
 
 -- how numbers of one digit and of two are written, and how long others are
 pub ruleset digit_steps = (decimal_digit, two_digits, twenty_digits, common_steps)
+
+-- how a number is written whose tenth is
+pub ruleset tenth_steps = (decimal_step, length_step, common_steps)

@@ -1,7 +1,8 @@
 -- How the number of a word is found digit by digit.
-use Rattle.std.proofs.Common.{◌≡◌, ◌≤◌, ◌+◌, ◌-◌, ◌*◌, ◌&&◌, ℕ, List, [], ◌∷◌, Bool, true, false, refl, arith, if◌then◌else◌, Option, Some, None, fold, nat_lt}
+use Rattle.std.proofs.Common.{◌≡◌, ◌≤◌, ◌<◌, drop, get_or, length, ◌+◌, ◌-◌, ◌*◌, ◌&&◌, ℕ, List, [], ◌∷◌, Bool, true, false, refl, arith, if◌then◌else◌, Option, Some, None, fold, nat_lt}
 use Rattle.std.specs.List.{list_all}
 use Rattle.std.proofs.lemmas.Bool.Decides.{nat_tests}
+use Rattle.std.proofs.lemmas.List.{drop_more}
 use Rattle.wfe_text.specs.Words.{is_digit}
 
 -- the number that more digits make of n
@@ -42,3 +43,8 @@ digit_step false n cs later = refl
 pub number_from-digits : (n : ℕ) (cs : List ℕ) → nat_lt n 18446744073709551616 ≡ true → number_from n cs ≡ fitting (list_all is_digit cs) (value_from n cs)
 number_from-digits n [] fits = rw fits refl
 number_from-digits n (c ∷ cs) fits = digit_step (is_digit c) (10 * n + (c - 48)) cs (number_from-digits (10 * n + (c - 48)) cs)
+
+-- a digit more, where the number has 64 bits with it
+pub number_more : (n i : ℕ) (word : List ℕ) → i < length word → is_digit (get_or word i 0) ≡ true → nat_lt (10 * n + (get_or word i 0 - 48)) 18446744073709551616 ≡ true
+    → number_from (10 * n + (get_or word i 0 - 48)) (drop (i + 1) word) ≡ number_from n (drop i word)
+number_more n i word within digit fits = rw (drop_more word i 0 within, digit, fits) refl

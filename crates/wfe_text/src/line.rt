@@ -64,17 +64,60 @@ impl Line {
         self.len = end;
     }
 
+    // Appends a number of one digit or two.
+    #[inline(always)]
+    #[tactic(auto, using(crate::proofs::Digits::digit_steps))]
+    fn two_digits(&mut self, number: u64)
+        requires few { number < 100 }
+        requires room { length self.old + length (decimal number) ≤ 1024 }
+        ensures { self.new ≡ self.old ++ decimal number }
+    {
+        if number < 10 {
+            self.push(b'0' + number as u8);
+        } else {
+            self.push(b'0' + (number / 10) as u8);
+            self.push(b'0' + (number % 10) as u8);
+        }
+    }
+
+    // Appends a number of three digits.
+    #[inline(always)]
+    #[tactic(auto, using(crate::proofs::Digits::tenth_steps))]
+    fn three_digits(&mut self, number: u64)
+        requires more { 100 ≤ number }
+        requires few { number < 1000 }
+        requires room { length self.old + length (decimal number) ≤ 1024 }
+        ensures { self.new ≡ self.old ++ decimal number }
+    {
+        self.two_digits(number / 10);
+        self.push(b'0' + (number % 10) as u8);
+    }
+
+    // Appends a number of four digits.
+    #[inline(always)]
+    #[tactic(auto, using(crate::proofs::Digits::tenth_steps))]
+    fn four_digits(&mut self, number: u64)
+        requires more { 1000 ≤ number }
+        requires few { number < 10000 }
+        requires room { length self.old + length (decimal number) ≤ 1024 }
+        ensures { self.new ≡ self.old ++ decimal number }
+    {
+        self.three_digits(number / 10);
+        self.push(b'0' + (number % 10) as u8);
+    }
+
     /// Appends the number in decimal, without leading zeros.
     #[tactic(auto, using(crate::proofs::Digits::digit_steps))]
     pub fn number(&mut self, number: u64)
         requires { length self.old + length (decimal number) ≤ 1024 }
         ensures { self.new ≡ self.old ++ decimal number }
     {
-        if number < 10 {
-            self.push(b'0' + number as u8);
-        } else if number < 100 {
-            self.push(b'0' + (number / 10) as u8);
-            self.push(b'0' + (number % 10) as u8);
+        if number < 100 {
+            self.two_digits(number);
+        } else if number < 1000 {
+            self.three_digits(number);
+        } else if number < 10_000 {
+            self.four_digits(number);
         } else {
             let mut digits = [0; 20];
             let start = write_digits(number, &mut digits);

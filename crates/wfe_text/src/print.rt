@@ -216,13 +216,89 @@ fn print_event_tail(line: &mut Line, event: Event)
     }
 }
 
-fn print_event_words(line: &mut Line, event: Event)
+// Of any event.
+fn print_any(line: &mut Line, event: Event)
     requires { length line.old ≤ 400 }
     ensures text { line.new ≡ line.old ++ spaced (event_words event) }
     ensures room { length line.new ≤ length line.old + 315 }
 {
     print_phrase(line, event_phrase(event));
     print_event_tail(line, event);
+}
+
+// What a guard publishes or found.
+#[inline(always)]
+fn print_guarded(line: &mut Line, name: &[u8], guard: Guard, span: Option<Interval>)
+    requires room { length line.old ≤ 400 }
+    requires short { length name.now ≤ 20 }
+    ensures text { line.new ≡ line.old ++ spaced (name.now ∷ guard_word guard ∷ span_words span) }
+    ensures room { length line.new ≤ length line.old + 150 }
+{
+    word(line, name);
+    print_guard(line, guard);
+    print_span(line, span);
+}
+
+// The kinds that come most often are printed with no phrase, so that their words are not copied by length.
+#[inline(always)]
+fn print_event_words(line: &mut Line, event: Event)
+    requires { length line.old ≤ 400 }
+    ensures text { line.new ≡ line.old ++ spaced (event_words event) }
+    ensures room { length line.new ≤ length line.old + 315 }
+{
+    match event {
+        Event::Reserve { guard, span } => print_guarded(line, b"reserve", guard, span),
+        Event::Read { guard, span } => print_guarded(line, b"read", guard, span),
+        Event::Begin { call } => {
+            word(line, b"begin");
+            print_phrase(line, call_phrase(call));
+        }
+        Event::End { steps, answer } => {
+            word(line, b"end");
+            number(line, steps);
+            print_answer(line, answer);
+        }
+        Event::Held { index, slot, steps } => {
+            word(line, b"held");
+            number(line, index as u64);
+            number(line, slot as u64);
+            number(line, steps);
+        }
+        Event::Clear { index, slot } => {
+            word(line, b"clear");
+            number(line, index as u64);
+            number(line, slot as u64);
+        }
+        Event::Give { slot, birth } => {
+            word(line, b"give");
+            number(line, slot as u64);
+            number(line, birth as u64);
+        }
+        Event::Link { root, slot } => {
+            word(line, b"link");
+            print_root(line, root);
+            number(line, slot as u64);
+        }
+        Event::Cut { slot } => {
+            word(line, b"cut");
+            number(line, slot as u64);
+        }
+        Event::Retire {
+            slot,
+            birth,
+            retire,
+        } => {
+            word(line, b"retire");
+            number(line, slot as u64);
+            number(line, birth as u64);
+            number(line, retire as u64);
+        }
+        Event::Back { slot } => {
+            word(line, b"back");
+            number(line, slot as u64);
+        }
+        _ => print_any(line, event),
+    }
 }
 
 /// Sets the line to the line of the event of the seat.

@@ -78,7 +78,8 @@ fn with_digit(number: u64, byte: u8) -> Option<u64>
     }
 }
 
-fn digits_of(word: &[u8]) -> Option<u64>
+// The number of a word of any length.
+fn long_digits(word: &[u8]) -> Option<u64>
     ensures { result ≡ digits_in word.now }
 {
     let mut number: u64 = 0;
@@ -91,12 +92,40 @@ fn digits_of(word: &[u8]) -> Option<u64>
     Some(number)
 }
 
+// The number of a word of so few digits that it has 64 bits whatever they are.
+fn few_digits(word: &[u8]) -> Option<u64>
+    requires { length word.now ≤ 19 }
+    ensures { result ≡ digits_in word.now }
+{
+    let mut number: u64 = 0;
+    for byte in word {
+        if !byte.is_ascii_digit() {
+            return None;
+        }
+        number = 10 * number + (*byte - b'0') as u64;
+    }
+    Some(number)
+}
+
+// The number of a word of digits.
+fn digits_of(word: &[u8]) -> Option<u64>
+    ensures { result ≡ digits_in word.now }
+{
+    if word.len() <= 19 {
+        few_digits(word)
+    } else {
+        long_digits(word)
+    }
+}
+
 /// The number that a word writes: decimal digits without a leading zero, below 2^64.
+#[inline(always)]
 pub fn number_of(word: &[u8]) -> Option<u64>
     ensures { result ≡ number_in word.now }
 {
     match word {
         [] | [b'0', _, ..] => None,
+        [digit] => with_digit(0, *digit),
         _ => digits_of(word),
     }
 }

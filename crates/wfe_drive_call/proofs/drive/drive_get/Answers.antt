@@ -6,63 +6,33 @@ use Rattle.wfe_core.specs.DeskHeld.{desk_of}
 use Rattle.wfe_core.specs.Desks.{Desk, Notes, no_notes}
 use Rattle.wfe_core.specs.declared.desk.Desk.{Desk as HeldDesk}
 use Rattle.wfe_drive_runs.specs.drive_words.Called.{at_phase}
-use Rattle.wfe_drive_runs.proofs.drive_words.Beginnings.{clears_else}
 use Rattle.wfe_drive_runs.proofs.drive_words.Makes.{Over, called_by, here_begun, over_by, starts_at}
 use Rattle.wfe_drive_call.proofs.drive.drive_get.Goals as goal
 
 pub start-requires-clause-idle : goal.start-requires-clause-idle
 start-requires-clause-idle g c = starts_at (g.W.Words.at c.args.words.now) c.args.post.now c.args.desk.now (calls.Get c.args.key) c.requires.here refl
 
-pub get_free-requires-clause-here : goal.get_free-requires-clause-here
-get_free-requires-clause-here g c =
+pub get-requires-clause-here : goal.get-requires-clause-here
+get-requires-clause-here g c =
     let desk : HeldDesk = record c.args.desk.now { notes = c.clear.new.self } in
     let cleared : desk_of desk ≡ record (desk_of c.args.desk.now) { notes = no_notes } = ap (λ (notes : Notes). let held : Desk = record (desk_of c.args.desk.now) { notes = notes } in held) c.clear.ensures.empty in
     here_begun (g.W.Words.at c.args.words.now) (g.W.Words.at c.start.new.self) (calls.Get c.args.key) c.args.post.now c.args.desk.now desk _ c.requires.here c.start.ensures.at refl refl refl cleared
 
-pub returns-in-Ibr : goal.returns-in-Ibr
-returns-in-Ibr g c =
+pub returns : goal.returns
+returns g c =
     let words = g.W.Words in
     let desk : HeldDesk = record c.args.desk.now { notes = c.clear.new.self } in
     let cleared : desk_of desk ≡ record (desk_of c.args.desk.now) { notes = no_notes } = ap (λ (notes : Notes). let held : Desk = record (desk_of c.args.desk.now) { notes = notes } in held) c.clear.ensures.empty in
     let called =
-    called_by (words.at c.args.words.now) (words.at c.start.new.self) (words.at c.get_free.new.words) (words.stands c.args.words.now) (words.stands c.start.new.self) (words.stands c.get_free.new.words) (calls.Get c.args.key) c.get_free.result c.args.post.now c.args.desk.now desk _
-    (at_phase Idle c.get_free.new.post c.get_free.new.desk) c.start.ensures.at refl c.start.ensures.stands refl cleared c.get_free.ensures.made in
-    let over : Over (words.at c.get_free.new.words) (calls.Get c.args.key) c.get_free.result c.args.post.now c.get_free.new.post c.get_free.new.desk =
-    over_by (words.at c.args.words.now) (words.at c.get_free.new.words) (words.stands c.args.words.now) (words.stands c.get_free.new.words) (calls.Get c.args.key) c.get_free.result c.args.post.now c.args.desk.now c.get_free.new.post c.get_free.new.desk refl c.requires.here called in
+    called_by (words.at c.args.words.now) (words.at c.start.new.self) (words.at c.get.new.words) (words.stands c.args.words.now) (words.stands c.start.new.self) (words.stands c.get.new.words) (calls.Get c.args.key) c.get.result c.args.post.now c.args.desk.now desk _
+    (at_phase Idle c.get.new.post c.get.new.desk) c.start.ensures.at refl c.start.ensures.stands refl cleared c.get.ensures.made in
+    let over : Over (words.at c.get.new.words) (calls.Get c.args.key) c.get.result c.args.post.now c.get.new.post c.get.new.desk =
+    over_by (words.at c.args.words.now) (words.at c.get.new.words) (words.stands c.args.words.now) (words.stands c.get.new.words) (calls.Get c.args.key) c.get.result c.args.post.now c.args.desk.now c.get.new.post c.get.new.desk refl c.requires.here called in
     record {
-      valid = c.get_free.ensures.valid;
-      same = words.same_on _ _ _ c.start.ensures.same c.get_free.ensures.same;
+      valid = c.get.ensures.valid;
+      same = words.same_on _ _ _ c.start.ensures.same c.get.ensures.same;
       here = over.here;
-      room = c.get_free.ensures.room;
-      place = over.place;
-      suits = over.suits;
-      called = called;
-    }
-
-pub get_by_index-requires-clause-clears : goal.get_by_index-requires-clause-clears
-get_by_index-requires-clause-clears g c = clears_else c.args.post.now.layout.config c.config.result (sym c.config.ensures) c.in_default.not-Ibr
-
-pub get_by_index-requires-clause-here : goal.get_by_index-requires-clause-here
-get_by_index-requires-clause-here g c =
-    let desk : HeldDesk = record c.args.desk.now { notes = c.clear.new.self } in
-    let cleared : desk_of desk ≡ record (desk_of c.args.desk.now) { notes = no_notes } = ap (λ (notes : Notes). let held : Desk = record (desk_of c.args.desk.now) { notes = notes } in held) c.clear.ensures.empty in
-    here_begun (g.W.Words.at c.args.words.now) (g.W.Words.at c.start.new.self) (calls.Get c.args.key) c.args.post.now c.args.desk.now desk _ c.requires.here c.start.ensures.at refl refl refl cleared
-
-pub returns-in_default : goal.returns-in_default
-returns-in_default g c =
-    let words = g.W.Words in
-    let desk : HeldDesk = record c.args.desk.now { notes = c.clear.new.self } in
-    let cleared : desk_of desk ≡ record (desk_of c.args.desk.now) { notes = no_notes } = ap (λ (notes : Notes). let held : Desk = record (desk_of c.args.desk.now) { notes = notes } in held) c.clear.ensures.empty in
-    let called =
-    called_by (words.at c.args.words.now) (words.at c.start.new.self) (words.at c.get_by_index.new.words) (words.stands c.args.words.now) (words.stands c.start.new.self) (words.stands c.get_by_index.new.words) (calls.Get c.args.key) c.get_by_index.result c.args.post.now c.args.desk.now desk _
-    (at_phase Idle c.get_by_index.new.post c.get_by_index.new.desk) c.start.ensures.at refl c.start.ensures.stands refl cleared c.get_by_index.ensures.made in
-    let over : Over (words.at c.get_by_index.new.words) (calls.Get c.args.key) c.get_by_index.result c.args.post.now c.get_by_index.new.post c.get_by_index.new.desk =
-    over_by (words.at c.args.words.now) (words.at c.get_by_index.new.words) (words.stands c.args.words.now) (words.stands c.get_by_index.new.words) (calls.Get c.args.key) c.get_by_index.result c.args.post.now c.args.desk.now c.get_by_index.new.post c.get_by_index.new.desk refl c.requires.here called in
-    record {
-      valid = c.get_by_index.ensures.valid;
-      same = words.same_on _ _ _ c.start.ensures.same c.get_by_index.ensures.same;
-      here = over.here;
-      room = c.get_by_index.ensures.room;
+      room = c.get.ensures.room;
       place = over.place;
       suits = over.suits;
       called = called;

@@ -12,16 +12,16 @@ use Rattle.wfe_drive_rule.specs.Views.{call_in, slot_of, standing}
 use Rattle.wfe_drive_rule.proofs.Seated.{first_slot, put_slot, seated_on, stands_on}
 use Rattle.wfe_drive_rule.proofs.steps.step.Goals as goal
 
-pub exchange-requires : goal.exchange-requires
-exchange-requires c = (
-  c.perform-found.ensures.ids.0 ∙ c.requires.ids,
-  first_slot c.perform-found.new.handle.me.1 (slot_at c.args.seat) _ _ (c.perform-found.ensures.slots ∙ c.requires.seated.slots),
-)
+pub empty-requires-clause-ids : goal.empty-requires-clause-ids
+empty-requires-clause-ids c = c.perform-found.ensures.ids.0 ∙ c.requires.ids
 
-pub returns-after-exchange-clause-seated : goal.returns-after-exchange-clause-seated
-returns-after-exchange-clause-seated c =
+pub empty-requires-clause-there : goal.empty-requires-clause-there
+empty-requires-clause-there c = first_slot c.perform-found.new.handle.me.1 (slot_at c.args.seat) _ _ (c.perform-found.ensures.slots ∙ c.requires.seated.slots)
+
+pub returns-then-first-clause-seated : goal.returns-then-first-clause-seated
+returns-then-first-clause-seated c =
     let after = c.perform-found.new.handle.me in
-    subst (IsSeated c.args.table.now.key c.args.seat) (sym c.exchange.ensures.3)
+    subst (IsSeated c.args.table.now.key c.args.seat) (sym c.empty.ensures.me)
     (seated_on c.args.table.now.key c.args.seat c.perform-found.result c.args.handle.now.me (after.0, (slot_at c.args.seat, None) ∷ rest after.1) c.requires.seated c.requires.busy c.perform-found.ensures.told
     (put_slot after.1 (slot_at c.args.seat) _ None _ (c.perform-found.ensures.slots ∙ c.requires.seated.slots)))
 
@@ -30,11 +30,11 @@ returns-else-first-clause-seated c =
     let slots = c.perform-found.ensures.slots ∙ c.requires.seated.slots ∙ ap (λ (call : Option Call). (slot_at c.args.seat, slot_of call) ∷ []) (c.requires.later c.if-first.false) in
     seated_on c.args.table.now.key c.args.seat c.perform-found.result c.args.handle.now.me c.perform-found.new.handle.me c.requires.seated c.requires.busy c.perform-found.ensures.told slots
 
-pub returns-after-exchange-clause-stands : goal.returns-after-exchange-clause-stands
-returns-after-exchange-clause-stands c =
+pub returns-then-first-clause-stands : goal.returns-then-first-clause-stands
+returns-then-first-clause-stands c =
     let before = c.args.handle.now.me in
     let after = c.perform-found.new.handle.me in
-    subst (λ me. may_adopt (standing before).phase ≡ false → standing me ≡ after_step (keeping (standing before)) c.perform-found.result) (sym c.exchange.ensures.3)
+    subst (λ me. may_adopt (standing before).phase ≡ false → standing me ≡ after_step (keeping (standing before)) c.perform-found.result) (sym c.empty.ensures.me)
     (stands_on c.args.table.now.key before (after.0, (slot_at c.args.seat, None) ∷ rest after.1) c.perform-found.result c.perform-found.ensures.told refl)
 
 pub returns-else-first-clause-stands : goal.returns-else-first-clause-stands

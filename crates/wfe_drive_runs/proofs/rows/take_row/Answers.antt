@@ -1,21 +1,17 @@
--- The first two steps, and then the third, or the walk of the machine.
+-- The first two steps, and then the third, or the walk.
 use Rattle.std.proofs.Common.{[], ap, arith, refl, sym, ◌+◌, ◌<◌, ◌^◌, ◌∙◌, ◌≡◌, ℕ}
-use Rattle.wfe_core.specs.Calls.{Runs}
 use Rattle.wfe_core.specs.DeskHeld.{desk_of}
 use Rattle.wfe_core.specs.Desks.{Desk}
 use Rattle.wfe_core.specs.words.declared.config.Config.{Config}
 use Rattle.wfe_core.specs.Allocate.{next_slot}
-use Rattle.wfe_core.specs.Phases.{Base, Ending, Turn}
+use Rattle.wfe_core.specs.Phases.{Ending}
 use Rattle.wfe_core.specs.Phases.Ending.{Allocated}
 use Rattle.wfe_core.specs.Ready.{EraFits}
-use Rattle.wfe_core.specs.Steps.{resume, run_turn}
+use Rattle.wfe_core.specs.Steps.{resume}
 use Rattle.wfe_core.specs.declared.ends.AllocateEnd.TheVariants as allocate_ends
 use Rattle.wfe_core.specs.declared.post.Post.{Post}
-use Rattle.wfe_drive_words.specs.drive_cells.Unit.{seat_after}
-use Rattle.wfe_drive_runs.specs.Pieces.{seat_of}
-use Rattle.wfe_slots.specs.Phases.{allocate_phase}
-use Rattle.wfe_drive_words.proofs.Leading.{few_here, here_on, leads_as}
-use Rattle.wfe_drive_runs.proofs.Claiming.{births, claim_gives, claim_turns, claims, given_desk, gives, valid_counted}
+use Rattle.wfe_drive_words.proofs.Leading.{few_here, here_on}
+use Rattle.wfe_drive_runs.proofs.Claiming.{births, claim_gives, claim_turns, claims, given_desk, gives, valid_counted, walk_ends}
 use Rattle.wfe_drive_runs.proofs.Turning.{asks_seat, may_here, then_turns, turns_as, turns_once}
 use Rattle.wfe_drive_runs.proofs.rows.take_row.Goals as goal
 
@@ -49,57 +45,38 @@ overflow_add-post g c =
     let few : c.args.post.now.steps < 2 ^ 62 = few_here (g.W.Words.comes c.args.words.now) c.requires.valid h refl in
     omega (arith, few)
 
-pub walk_past-requires-clause-own : goal.walk_past-requires-clause-own
-walk_past-requires-clause-own g c =
+pub walk_on-requires-clause-own : goal.walk_on-requires-clause-own
+walk_on-requires-clause-own g c =
     let (why, h) = c.requires.here in
     valid_counted c.args.post.now _ (may_here (g.W.Words.comes c.args.words.now) c.requires.valid h).valid
 
-pub walk_past-requires-clause-era : goal.walk_past-requires-clause-era
-walk_past-requires-clause-era g c =
+pub walk_on-requires-clause-era : goal.walk_on-requires-clause-era
+walk_on-requires-clause-era g c =
     let (why, h) = c.requires.here in
     let x0 = c.step-birth.ensures.steps _ (asks_seat (births why c.args.post.now (desk_of c.args.desk.now)) h refl c.load_clock.ensures) in
     x0.take.plausible
 
-pub run-requires-clause-here : goal.run-requires-clause-here
-run-requires-clause-here g c =
+pub walk_on-requires-clause-here : goal.walk_on-requires-clause-here
+walk_on-requires-clause-here g c =
     let (why, h) = c.requires.here in
     let post : Post = c.args.post.now in
     let desk : Desk = desk_of c.args.desk.now in
     let x0 = c.step-birth.ensures.steps _ (asks_seat (births why post desk) h refl c.load_clock.ensures) in
     let x1 = c.step-found.ensures.steps _ (asks_seat (claims why post desk c.step-birth.result) (here_on h x0.leads) refl c.set_claim.ensures) in
-    let t = claim_turns why post desk c.step-birth.result c.step-found.result x0.leads x1 in
-    let base : Base = allocate_phase c.in-Ok.machine in
-    let is = ap (λ (u : Turn). seat_after (run_turn why desk u)) c.in-Ok.ensures.goes.0 ∙ ap (λ (p : Post). seat_of (Runs why base) p desk) (sym c.walk_past.ensures.post) in
-    (why, here_on h (leads_as _ _ is t.leads))
+    (why, here_on h (claim_turns why post desk c.step-birth.result c.step-found.result x0.leads x1).leads)
 
-pub returns-in-Ok-clause-same : goal.returns-in-Ok-clause-same
-returns-in-Ok-clause-same g c = g.W.Words.same_on _ _ _ (g.W.Words.same_on _ _ _ c.step-birth.ensures.same c.step-found.ensures.same) c.run.ensures.same
+pub returns-then-is_taken-clause-same : goal.returns-then-is_taken-clause-same
+returns-then-is_taken-clause-same g c = g.W.Words.same_on _ _ _ (g.W.Words.same_on _ _ _ c.step-birth.ensures.same c.step-found.ensures.same) c.walk_on.ensures.same
 
-pub returns-in-Ok-clause-standing : goal.returns-in-Ok-clause-standing
-returns-in-Ok-clause-standing g c = c.run.ensures.walks c.in-Ok.ensures.goes.1 ∙ ap (λ (p : Post). p.standing) c.walk_past.ensures.post
-
-pub returns-in-Ok-clause-ends : goal.returns-in-Ok-clause-ends
-returns-in-Ok-clause-ends g c = λ why h.
+pub returns-then-is_taken-clause-ends : goal.returns-then-is_taken-clause-ends
+returns-then-is_taken-clause-ends g c = λ why h.
     let post : Post = c.args.post.now in
     let desk : Desk = desk_of c.args.desk.now in
     let x0 = c.step-birth.ensures.steps _ (asks_seat (births why post desk) h refl c.load_clock.ensures) in
     let x1 = c.step-found.ensures.steps _ (asks_seat (claims why post desk c.step-birth.result) (here_on h x0.leads) refl c.set_claim.ensures) in
     let t = claim_turns why post desk c.step-birth.result c.step-found.result x0.leads x1 in
-    let base : Base = allocate_phase c.in-Ok.machine in
-    let is = ap (λ (u : Turn). seat_after (run_turn why desk u)) c.in-Ok.ensures.goes.0 ∙ ap (λ (p : Post). seat_of (Runs why base) p desk) (sym c.walk_past.ensures.post) in
-    let y = leads_as _ _ is t.leads in
-    let z = c.run.ensures.ends why (here_on h y) in
-    record { before = z.before; told = z.told; noted = z.noted; turns = then_turns y z.turns }
-
-pub returns-in-Err-clause-ends : goal.returns-in-Err-clause-ends
-returns-in-Err-clause-ends g c = λ why h.
-    let post : Post = c.args.post.now in
-    let desk : Desk = desk_of c.args.desk.now in
-    let x0 = c.step-birth.ensures.steps _ (asks_seat (births why post desk) h refl c.load_clock.ensures) in
-    let x1 = c.step-found.ensures.steps _ (asks_seat (claims why post desk c.step-birth.result) (here_on h x0.leads) refl c.set_claim.ensures) in
-    let t = claim_turns why post desk c.step-birth.result c.step-found.result x0.leads x1 in
-    let is = ap (run_turn why desk) c.in-Err.ensures.ends.0 ∙ ap (λ (p : Post). resume why (Allocated c.in-Err.end) p desk []) (sym c.walk_past.ensures.post) in
-    record { before = desk; told = []; noted = refl; turns = turns_as _ _ is t }
+    let counted : Post = record post { steps = post.steps + 2 } in
+    walk_ends g.W.Words.at g.W.Words.stands why c.step-birth.result c.step-found.result (Allocated c.walk_on.result) c.step-found.new.words c.walk_on.new.words counted c.walk_on.new.post c.args.desk.now c.walk_on.new.desk t (c.walk_on.ensures.ends why (here_on h t.leads))
 
 pub store_birth-requires-clause-valid : goal.store_birth-requires-clause-valid
 store_birth-requires-clause-valid g c =

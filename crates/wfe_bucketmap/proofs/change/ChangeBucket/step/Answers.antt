@@ -13,7 +13,7 @@ pub returns-in-None-clause-kept : goal.returns-in-None-clause-kept
 returns-in-None-clause-kept g c = keeps_more _ _ _ _ _ 3 4 c.run.ensures.kept (omega arith)
 
 pub returns-in-Some-Goes-clause-steps : goal.returns-in-Some-Goes-clause-steps
-returns-in-Some-Goes-clause-steps g c = rw (c.stand.ensures.at, c.stand.ensures.kept) (goes_steps _ _ _ _ _ (c.in-Some-Goes.ensures.turn ∙ ap (λ (s : Changed). led (kept_of c.run.new.self.kept) s c.run.new.post (desk_of c.run.new.desk) c.run.new.told) c.in-Some-Goes.field-0-is))
+returns-in-Some-Goes-clause-steps g c = rw (c.works.ensures.at, c.works.ensures.kept) (goes_steps _ _ _ _ _ (c.in-Some-Goes.ensures.turn ∙ ap (λ (s : Changed). led (kept_of c.run.new.self.kept) s c.run.new.post (desk_of c.run.new.desk) c.run.new.told) c.in-Some-Goes.field-0-is))
 
 pub returns-in-Some-Goes-clause-kept : goal.returns-in-Some-Goes-clause-kept
 returns-in-Some-Goes-clause-kept g c = keeps_more _ _ _ _ _ 3 4 c.run.ensures.kept (omega arith)

@@ -37,4 +37,4 @@ pub returns-in-Some-Last : goal.returns-in-Some-Last
 returns-in-Some-Last g c told is =
     let here = bodied_at g.J.Judge.judges c.args.self.now c.in-Body.version c.in-Body.config c.in-Body.judge told.stage told.entries c.in-Body.is is in
     let x : Told = record told { stage = Over c.in-Body.version c.in-Body.config } in
-    (x, body_line told c.args.line.now c.in-Body.version c.in-Body.config (Some kinds.Last) here.0 (ap Some (sym c.in-Some-Last.field-0-is) ∙ sym c.in-Some-Last.is ∙ c.read_kind.ensures.kind), g.J.Judge.good _ _ _ _ here.1, refl)
+    (x, body_line told c.args.line.now c.in-Body.version c.in-Body.config (Some kinds.Last) here.0 (ap Some (sym c.in-Some-Last.field-0-is) ∙ sym c.in-Some-Last.is ∙ c.read_kind.ensures.kind), rw c.end.ensures (g.J.Judge.good _ _ _ _ here.1), refl)

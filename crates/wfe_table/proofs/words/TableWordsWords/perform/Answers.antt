@@ -6,25 +6,15 @@ use Rattle.wfe_table.proofs.TableWords.{moves_none, spot_standing, step_made}
 use Rattle.wfe_drive_rule.specs.drive_cells.declared.located.Located.{Located}
 use Rattle.wfe_table.proofs.words.TableWordsWords.perform.Goals as goal
 
-pub returns-then-self-clause-at : goal.returns-then-self-clause-at
-returns-then-self-clause-at c = λ l e b o.
-    let t = step_made _ _ c.step.result c.args.self.now.handle.now.me c.step.new.handle.me c.requires.valid.seated (ap (λ (k : Local). busy_in k.phase) e ∙ b) c.step.ensures.told c.step.ensures.slot in
-    subst (λ (k : Local). (g : Given k c.step.result) × (standing c.step.new.handle.me ≡ after (lent g) c.step.result)) e (t.given, t.next)
-
-pub returns-then-self-clause-rest : goal.returns-then-self-clause-rest
-returns-then-self-clause-rest c =
-    let busy = ap (λ (k : Local). busy_in k.phase) c.requires.asks.1 ∙ c.requires.asks.2 in
-    (step_made _ _ c.step.result c.args.self.now.handle.now.me c.step.new.handle.me c.requires.valid.seated busy c.step.ensures.told c.step.ensures.slot).falls
-
 pub returns-clause-at : goal.returns-clause-at
 returns-clause-at c = λ l e b o.
-    let t = step_made _ _ c.step-2.result c.args.self.now.handle.now.me c.step-2.new.handle.me c.requires.valid.seated (ap (λ (k : Local). busy_in k.phase) e ∙ b) c.step-2.ensures.told c.step-2.ensures.slot in
-    subst (λ (k : Local). (g : Given k c.step-2.result) × (standing c.step-2.new.handle.me ≡ after (lent g) c.step-2.result)) e (t.given, t.next)
+    let t = step_made _ _ c.step.result c.args.self.now.handle.now.me c.step.new.handle.me c.requires.valid.seated (ap (λ (k : Local). busy_in k.phase) e ∙ b) c.step.ensures.told c.step.ensures.slot in
+    subst (λ (k : Local). (g : Given k c.step.result) × (standing c.step.new.handle.me ≡ after (lent g) c.step.result)) e (t.given, t.next)
 
 pub returns-clause-rest : goal.returns-clause-rest
 returns-clause-rest c =
     let busy = ap (λ (k : Local). busy_in k.phase) c.requires.asks.1 ∙ c.requires.asks.2 in
-    (step_made _ _ c.step-2.result c.args.self.now.handle.now.me c.step-2.new.handle.me c.requires.valid.seated busy c.step-2.ensures.told c.step-2.ensures.slot).falls
+    (step_made _ _ c.step.result c.args.self.now.handle.now.me c.step.new.handle.me c.requires.valid.seated busy c.step.ensures.told c.step.ensures.slot).falls
 
 pub step-requires-clause-asks : goal.step-requires-clause-asks
 step-requires-clause-asks c = ap (λ (at : Located). at.op) c.requires.asks.3 ∙ ap asks (sym c.requires.asks.1)
@@ -32,14 +22,8 @@ step-requires-clause-asks c = ap (λ (at : Located). at.op) c.requires.asks.3 �
 pub step-requires-clause-spot : goal.step-requires-clause-spot
 step-requires-clause-spot c = spot_standing _ _ _ c.requires.asks.0 c.args.op c.requires.valid.seated c.requires.asks.1 c.requires.asks.3
 
-pub step-requires-2-clause-asks : goal.step-requires-2-clause-asks
-step-requires-2-clause-asks c = ap (λ (at : Located). at.op) c.requires.asks.3 ∙ ap asks (sym c.requires.asks.1)
-
-pub step-requires-2-clause-spot : goal.step-requires-2-clause-spot
-step-requires-2-clause-spot c = spot_standing _ _ _ c.requires.asks.0 c.args.op c.requires.valid.seated c.requires.asks.1 c.requires.asks.3
-
 pub step-requires-clause-moves : goal.step-requires-clause-moves
 step-requires-clause-moves c = moves_none _ _ _ c.requires.asks.0 c.requires.valid.seated c.requires.asks.1 c.requires.asks.2 c.requires.asks.4
 
-pub step-requires-2-clause-moves : goal.step-requires-2-clause-moves
-step-requires-2-clause-moves c = moves_none _ _ _ c.requires.asks.0 c.requires.valid.seated c.requires.asks.1 c.requires.asks.2 c.requires.asks.4
+pub step-requires-clause-later : goal.step-requires-clause-later
+step-requires-clause-later c = c.requires.valid.later

@@ -1,6 +1,0 @@
-use Rattle.std.proofs.Common.{refl}
-use Rattle.wfe_text.proofs.Numerals.{number_from-digits}
-use Rattle.wfe_text.proofs.words.digits_of.Goals as goal
-
-pub loop-byte-init : goal.loop-byte-init
-loop-byte-init c = number_from-digits 0 c.args.word.now refl
