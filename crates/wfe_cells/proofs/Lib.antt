@@ -1,2 +1,6 @@
+pub mod Among
+pub mod Kept
+pub mod New
+pub mod Refusals
 pub mod Stores
 pub mod Words

@@ -23,7 +23,7 @@ use Rattle.wfe_table.specs.all.Logs.Versions.{counts_of}
 use Rattle.wfe_table.specs.all.laws.StructuresAt.{bucket_of, count_of, pairs_at, value_at}
 use Rattle.wfe_table.specs.history.History.{Item, record_of}
 use Rattle.wfe_table.specs.history.Record.{Past}
-use Rattle.wfe_cells.specs.Wide.{HasWord, HasWords, IsIn, IsName, IsShown, VersionsAgree, block_of, key_of, made_at, named}
+use Rattle.wfe_cells.specs.Wide.{HasWord, HasWords, IsIn, IsName, IsNamed, IsNext, IsPlaced, IsShown, IsWritten, VersionsAgree, block_of, key_of, made_at, named}
 use Rattle.wfe_cells.specs.declared.wide.Seen.{Seen}
 
 -- what an option names
@@ -52,6 +52,7 @@ words_stay p q buckets block version words first g h = λ word l. word_stays p q
 
 pub cell_stays : (p q : Past) (cell : ℕ) (seen : Seen) → Grows p q → IsIn p cell seen → IsIn q cell seen
 cell_stays p q cell seen g h = record {
+  of = h.of;
   had = let m : count_of cell p ≤ count_of cell q = more_count cell p q g in omega (arith, h.had, m);
   names = ap named (same_value cell seen.version cell p q g h.had) ∙ h.names;
 }
@@ -89,15 +90,22 @@ more_words p buckets block version words word value l h w other m = by (other ==
 
 -- a cell that was read
 pub got_cell : (layout : Layout) (old new : SeatNow) (cell version object : ℕ) (value : Option ℕ) → cell < layout.config.buckets → object ≡ named value → IsMade layout old new (calls.Get cell) (answers.Got version value)
-    → IsIn (record_of layout new.track.past) cell (record { version = version; object = object })
+    → IsIn (record_of layout new.track.past) cell (record { cell = cell; version = version; object = object })
 got_cell layout old new cell version object value h e made =
     let b = in_cell layout.config.buckets cell h in
     let p : Past = record_of layout new.track.past in
-    subst (λ (n : ℕ). IsIn p cell (record { version = version; object = n })) (sym e)
+    subst (λ (n : ℕ). IsIn p cell (record { cell = cell; version = version; object = n })) (sym e)
     (record {
+      of = refl;
       had = subst (λ (n : ℕ). version ≤ count_of n p) b made.known.met.until;
       names = ap named (sym (made.known.value_is ∙ ap (λ (n : ℕ). value_at n version cell p) b));
     })
+
+-- at the version that was seen
+pub got_now : (layout : Layout) (old new : SeatNow) (seen : Seen) (version object : ℕ) (value : Option ℕ) → seen.cell < layout.config.buckets → object ≡ named value → version ≡ seen.version → IsMade layout old new (calls.Get seen.cell) (answers.Got version value)
+    → IsNamed layout new.track.past seen object
+got_now layout old new seen version object value h e same made =
+    subst (λ (n : ℕ). IsIn (record_of layout new.track.past) seen.cell (record { cell = seen.cell; version = n; object = object })) same (got_cell layout old new seen.cell version object value h e made)
 
 pub met_cell : (layout : Layout) (old new : SeatNow) (cell version : ℕ) (value : Option ℕ) → cell < layout.config.buckets → IsMade layout old new (calls.Get cell) (answers.Got version value)
     → IsMet (counts_of (record_of layout old.track.past)) (record_of layout new.track.past) cell version
@@ -199,26 +207,32 @@ read_word layout old mid new block key version got word value found words l k v 
 
 -- what a cell shows that was read: none, or an object whose words were read then
 pub shows_none : (layout : Layout) (old new : SeatNow) (cell version object : ℕ) (value : Option ℕ) (words : List ℕ) → cell < layout.config.buckets → object ≡ named value → object ≡ 0 → IsMade layout old new (calls.Get cell) (answers.Got version value)
-    → IsShown layout new.track.past cell (record { version = version; object = object }) words
+    → IsShown layout new.track.past cell (record { cell = cell; version = version; object = object }) words
 shows_none layout old new cell version object value words l e z made = record { within = got_cell layout old new cell version object value l e made; object = λ some. absurd (some z) }
 
 pub shows_words : (layout : Layout) (old mid new : SeatNow) (more : List Item) (cell version object : ℕ) (value : Option ℕ) (words : List ℕ) → cell < layout.config.buckets → object ≡ named value → IsMade layout old mid (calls.Get cell) (answers.Got version value) → new.track.past ≡ mid.track.past ++ more
-    → HasWords layout.config.buckets (block_of object) (made_at object) words (length words) (record_of layout new.track.past) → IsShown layout new.track.past cell (record { version = version; object = object }) words
+    → HasWords layout.config.buckets (block_of object) (made_at object) words (length words) (record_of layout new.track.past) → IsShown layout new.track.past cell (record { cell = cell; version = version; object = object }) words
 shows_words layout old mid new more cell version object value words l e made grows h = record {
-  within = cell_stays (record_of layout mid.track.past) (record_of layout new.track.past) cell (record { version = version; object = object }) (grown layout mid.track.past new.track.past more grows) (got_cell layout old mid cell version object value l e made);
+  within = cell_stays (record_of layout mid.track.past) (record_of layout new.track.past) cell (record { cell = cell; version = version; object = object }) (grown layout mid.track.past new.track.past more grows) (got_cell layout old mid cell version object value l e made);
   object = λ some. h;
 }
 
 -- a cell that was changed
 pub done_cell : (layout : Layout) (old new : SeatNow) (cell wanted version object : ℕ) (clock : ClockMove) → cell < layout.config.buckets → IsMade layout old new (calls.PutIf cell object wanted) (answers.Done version clock)
-    → IsIn (record_of layout new.track.past) cell (record { version = version; object = object })
+    → IsIn (record_of layout new.track.past) cell (record { cell = cell; version = version; object = object })
 done_cell layout old new cell wanted version object clock l made =
     let b = in_cell layout.config.buckets cell l in
     let p : Past = record_of layout new.track.past in
     record {
+      of = refl;
       had = subst (λ (n : ℕ). version ≤ count_of n p) b made.known.done.met.until;
       names = ap named (subst (λ (n : ℕ). value_at n version cell p ≡ Some object) b made.known.done.value_is);
     }
+
+-- from the version that was seen
+pub done_next : (layout : Layout) (old new : SeatNow) (seen : Seen) (version object : ℕ) (clock : ClockMove) → seen.cell < layout.config.buckets → IsMade layout old new (calls.PutIf seen.cell object seen.version) (answers.Done version clock)
+    → IsNext layout new.track.past seen object (record { cell = seen.cell; version = version; object = object })
+done_next layout old new seen version object clock l made = record { within = done_cell layout old new seen.cell seen.version version object clock l made; object_is = refl; next = made.known.next }
 
 -- and shows the words that were put before
 pub shows_put : (layout : Layout) (old mid new : SeatNow) (more : List Item) (cell : ℕ) (seen : Seen) (object : ℕ) (words : List ℕ) → seen.object ≡ object → new.track.past ≡ mid.track.past ++ more → IsIn (record_of layout new.track.past) cell seen
@@ -235,3 +249,13 @@ shows_put layout old mid new more cell seen object words e grows within h =
 pub named_words : (p : Past) (buckets block version object : ℕ) (words : List ℕ) → IsName block version object → HasWords buckets block version words (length words) p → HasWords buckets (block_of object) (made_at object) words (length words) p
 named_words p buckets block version object words n h =
     subst (λ (b : ℕ). HasWords buckets b (made_at object) words (length words) p) (sym n.block_is) (subst (λ (v : ℕ). HasWords buckets block v words (length words) p) (sym n.version_is) h)
+
+-- the cell that names them
+pub placed : (layout : Layout) (old mid new : SeatNow) (more : List Item) (seen : Seen) (block object : ℕ) (words : List ℕ) (now : Seen) → IsWritten layout mid.track.past block words object → new.track.past ≡ mid.track.past ++ more → IsNext layout new.track.past seen object now
+    → IsPlaced layout new.track.past seen block words now
+placed layout old mid new more seen block object words now w grows n = record {
+  shown = shows_put layout old mid new more seen.cell now object words n.object_is grows n.within w.words_are;
+  some = λ z. w.some (sym n.object_is ∙ z);
+  block_is = ap block_of n.object_is ∙ w.block_is;
+  next = n.next;
+}

@@ -1,4 +1,6 @@
 pub use Rattle.wfe_table.specs as table
 pub mod Calls
+pub mod Making
+pub mod Reasons
 pub mod Stores
 pub mod Wide

@@ -46,8 +46,9 @@ abbrev pub HasWords : (buckets block version : ℕ) (words : List ℕ) (first : 
 HasWords buckets block version words first p =
     (word : ℕ) → word < first → HasWord p block version (key_of buckets block word) (slice_index_or words word 0)
 
--- by this record a cell had this version, and at it this object, or none
+-- what was seen is this cell's: by this record it had this version, and at it this object, or none
 pub record IsIn (p : Past) (cell : ℕ) (seen : Seen) : Type 0 where
+  pub of : seen.cell ≡ cell
   pub had : seen.version ≤ count_of cell p
   pub names : named (value_at cell seen.version cell p) ≡ seen.object
 
@@ -55,6 +56,29 @@ pub record IsIn (p : Past) (cell : ℕ) (seen : Seen) : Type 0 where
 pub record IsShown (layout : Layout) (past : List Item) (cell : ℕ) (seen : Seen) (words : List ℕ) : Type 0 where
   pub within : IsIn (record_of layout past) cell seen
   pub object : seen.object ≢ 0 → HasWords layout.config.buckets (block_of seen.object) (made_at seen.object) words (length words) (record_of layout past)
+
+-- the cell named this object, or none, at the version that was seen
+abbrev pub IsNamed : Layout → List Item → Seen → (object : ℕ) → Type 0
+IsNamed layout past seen object = IsIn (record_of layout past) seen.cell (record { cell = seen.cell; version = seen.version; object = object })
+
+-- the object names a version of this bucket, at which it has these words
+pub record IsWritten (layout : Layout) (past : List Item) (block : ℕ) (words : List ℕ) (object : ℕ) : Type 0 where
+  pub some : object ≢ 0
+  pub block_is : block_of object ≡ block
+  pub words_are : HasWords layout.config.buckets (block_of object) (made_at object) words (length words) (record_of layout past)
+
+-- the cell was changed at the version that was seen, and names this object now
+pub record IsNext (layout : Layout) (past : List Item) (seen : Seen) (object : ℕ) (now : Seen) : Type 0 where
+  pub within : IsIn (record_of layout past) seen.cell now
+  pub object_is : now.object ≡ object
+  pub next : now.version ≡ seen.version + 1
+
+-- and its words are these, in this bucket
+pub record IsPlaced (layout : Layout) (past : List Item) (seen : Seen) (block : ℕ) (words : List ℕ) (now : Seen) : Type 0 where
+  pub shown : IsShown layout past seen.cell now words
+  pub some : now.object ≢ 0
+  pub block_is : block_of now.object ≡ block
+  pub next : now.version ≡ seen.version + 1
 
 -- What was seen of a cell at a version is the same for all: the object, and its words.
 abbrev pub VersionsAgree : Type 0

@@ -1,8 +1,10 @@
 // Cells that threads share, and the calls on them.
-ghost use Rattle.std.specs.Prelude.{◌≡◌, ◌<◌, ◌+◌, ◌^◌, All, IfOk, IfSome, MatchResult, None};
+ghost use Rattle.std.specs.Prelude.{◌≡◌, ◌<◌, ◌+◌, ◌^◌, All, IfErr, IfOk, IfSome, MatchResult, None, Ok};
 ghost use Rattle.wfe_core.specs.defs.declared.call.Answer.TheVariants as answers;
 ghost use Rattle.wfe_core.specs.defs.declared.call.Call.TheVariants as calls;
+ghost use Rattle.wfe_core.specs.words.Place.{layout_of};
 ghost use Rattle.wfe_table.specs.Calls.{IsMade};
+ghost use Rattle.wfe_table.specs.Making.{IsRefused as IsNotMade};
 ghost use Rattle.wfe_table.specs.Public.{IsOf, TableNow};
 ghost use Rattle.wfe_cells.specs.Calls.{IsLoaded, IsReplaced, IsTried, store_by};
 
@@ -44,9 +46,12 @@ fn users(alloc: Global, shared: &Shared, mut seats: Vec<Seat>) -> Option<Vec<Use
 }
 
 impl Cells {
-    /// As many cells as the setting has buckets, all without an object, and a part for each thread.
+    /// As many cells as the setting has buckets, all without an object, and a part for each thread. A number outside its range is
+    /// refused, as by `Shared::new`; `NoMemory` is answered to a good setting.
     pub fn new(alloc: Global, config: Config) -> Result<(Cells, Vec<User>), MakeError>
-        ensures { IfOk result (λ r. All (λ user. IsOf user.seat r.0) r.1.items) }
+        ensures of { IfOk result (λ r. All (λ user. IsOf user.seat r.0) r.1.items) }
+        ensures made { IfOk result (λ r. layout_of config ≡ Ok r.0.layout) }
+        ensures refused { IfErr result (IsNotMade config) }
     {
         let (shared, seats) = Shared::new(alloc, config)?;
         match users(alloc, &shared, seats) {

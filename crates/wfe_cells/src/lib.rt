@@ -5,11 +5,12 @@
 mod blocks;
 mod cells;
 mod store;
+mod swaps;
 mod user;
 mod wide;
 
 pub use cells::Cells;
 pub use store::none_is_lost;
 pub use user::{Loaded, Swapped, User};
-pub use wfe_table::{MakeError, PutIfRefusal, SchemeKind};
-pub use wide::{Seen, SwapRefusal, WideCells, versions_agree};
+pub use wfe_table::{EnqueueRefusal, MakeError, PutIfRefusal, SchemeKind};
+pub use wide::{Seen, SwapRefusal, WideCells, WideUser, versions_agree};

@@ -7,7 +7,7 @@ ghost use Rattle.wfe_cells_uses.specs.Boards.{IsTold, IsWhole};
 use std::alloc::Global;
 use std::thread;
 use std::thread::Threads;
-use wfe_cells::{SchemeKind, Seen, WideCells};
+use wfe_cells::{SchemeKind, Seen, WideCells, WideUser};
 use wfe_table::{News, Seat};
 
 const CELLS: u32 = 4;
@@ -26,24 +26,18 @@ pub(crate) struct Told {
 }
 
 // Writes the board, and says how far the seat knows the table's history then.
-fn write_and_tell(
-    cells: &WideCells,
-    seat: &mut Seat,
-    cell: u64,
-    seen: Seen,
-    words: &[u64],
-) -> Option<Told>
-    requires of { IsOf seat.old cells.now.table }
-    requires cell { cell < cells.now.cells }
+fn write_and_tell(cells: &WideCells, user: &mut WideUser, seen: Seen, words: &[u64]) -> Option<Told>
+    requires of { IsOf user.old.seat cells.now.table }
+    requires cell { seen.cell < cells.now.cells }
     requires width { length words.now ≡ cells.now.width }
-    ensures of { IsOf seat.new cells.now.table }
+    ensures of { IsOf user.new.seat cells.now.table }
     ensures some { IfSome result (λ told. told.seen.object ≢ 0) }
-    ensures told { IfSome result (IsTold cells.now cell words.now) }
+    ensures told { IfSome result (IsTold cells.now seen.cell words.now) }
 {
-    match cells.compare_swap(seat, cell, seen, words) {
+    match cells.compare_swap(user, seen, words) {
         Ok(seen) => Some(Told {
             seen,
-            news: cells.shared().news(seat),
+            news: cells.shared().news(&mut user.seat),
         }),
         Err(_) => None,
     }
@@ -77,7 +71,7 @@ pub(crate) fn hear_and_read(
 /// A thread's part, and what it has found.
 #[derive(Drop)]
 pub(crate) struct Writer {
-    seat: Seat,
+    user: WideUser,
     tried: u64,
     torn: u64,
 }
@@ -103,26 +97,26 @@ fn is_row(words: &[u64; WIDTH]) -> bool {
 
 // Reads a board, and writes it where no other thread comes between.
 fn turn(cells: &WideCells, writer: &mut Writer, cell: u64, first: u64)
-    requires of { IsOf writer.old.seat cells.now.table }
+    requires of { IsOf writer.old.user.seat cells.now.table }
     requires cell { cell < cells.now.cells }
     requires width { cells.now.width ≡ 8 }
-    ensures of { IsOf writer.new.seat cells.now.table }
+    ensures of { IsOf writer.new.user.seat cells.now.table }
 {
     let mut words = [0u64; WIDTH];
-    let Some(seen) = cells.load(&mut writer.seat, cell, &mut words, ATTEMPTS) else {
+    let Some(seen) = cells.load(&mut writer.user.seat, cell, &mut words, ATTEMPTS) else {
         return;
     };
     if seen.is_some() && !is_row(&words) {
         writer.torn = writer.torn.saturating_add(1);
     }
-    let _ = cells.compare_swap(&mut writer.seat, cell, seen, &row(first));
+    let _ = cells.compare_swap(&mut writer.user, seen, &row(first));
     writer.tried = writer.tried.saturating_add(1);
 }
 
 fn work(cells: &WideCells, mut writer: Writer) -> Writer
-    requires of { IsOf writer.seat cells.now.table }
+    requires of { IsOf writer.user.seat cells.now.table }
     requires width { cells.now.width ≡ 8 }
-    ensures of { IsOf result.seat cells.now.table }
+    ensures of { IsOf result.user.seat cells.now.table }
 {
     let count = cells.count();
     if count == 0 {
@@ -140,16 +134,16 @@ fn work_all<R: Threads + Sync>(
     cells: &WideCells,
     writers: Vec<Writer>,
 ) -> Option<Vec<Writer>>
-    requires of { All (λ writer. IsOf writer.seat cells.now.table) writers.items }
+    requires of { All (λ writer. IsOf writer.user.seat cells.now.table) writers.items }
     requires width { cells.now.width ≡ 8 }
-    ensures of { IfSome result (λ writers. All (λ writer. IsOf writer.seat cells.now.table) writers.items) }
+    ensures of { IfSome result (λ writers. All (λ writer. IsOf writer.user.seat cells.now.table) writers.items) }
 {
     let done = thread::map_vec(
         rt,
         writers,
         &|writer: Writer| -> Writer
-            requires { IsOf writer.seat cells.now.table × (cells.now.width ≡ 8) }
-            ensures { IsOf result.seat cells.entry.now.table }
+            requires { IsOf writer.user.seat cells.now.table × (cells.now.width ≡ 8) }
+            ensures { IsOf result.user.seat cells.entry.now.table }
         { work(cells, writer) },
     );
     match done {
@@ -158,15 +152,15 @@ fn work_all<R: Threads + Sync>(
     }
 }
 
-// A writer for each seat.
-fn writers(alloc: Global, _cells: &WideCells, mut seats: Vec<Seat>) -> Option<Vec<Writer>>
-    requires of { All (λ seat. IsOf seat _cells.now.table) seats.items }
-    ensures of { IfSome result (λ writers. All (λ writer. IsOf writer.seat _cells.now.table) writers.items) }
+// A writer for each user.
+fn writers(alloc: Global, _cells: &WideCells, mut users: Vec<WideUser>) -> Option<Vec<Writer>>
+    requires of { All (λ user. IsOf user.seat _cells.now.table) users.items }
+    ensures of { IfSome result (λ writers. All (λ writer. IsOf writer.user.seat _cells.now.table) writers.items) }
 {
     let mut writers = Vec::new(alloc);
-    while let Some(seat) = seats.pop() {
+    while let Some(user) = users.pop() {
         let writer = Writer {
-            seat,
+            user,
             tried: 0,
             torn: 0,
         };
@@ -190,11 +184,11 @@ pub(crate) fn write_boards<R: Threads + Sync>(
     alloc: Global,
     threads: u32,
 ) -> Option<Board> {
-    let Ok((cells, seats)) = WideCells::new(alloc, SchemeKind::Wfe, threads, CELLS, WIDTH as u32)
+    let Ok((cells, users)) = WideCells::new(alloc, SchemeKind::Wfe, threads, CELLS, WIDTH as u32)
     else {
         return None;
     };
-    let all = writers(alloc, &cells, seats)?;
+    let all = writers(alloc, &cells, users)?;
     let all = work_all(rt, &cells, all)?;
     let mut board = Board { tried: 0, torn: 0 };
     for writer in &all {
@@ -212,18 +206,18 @@ pub(crate) fn tell_and_read(
 ) -> Option<(u64, Seen)>
     ensures whole { IfSome result (λ r. IsWhole r.0 words.now r.1 read.new) }
 {
-    let Ok((cells, mut seats)) = WideCells::new(alloc, SchemeKind::Wfe, 2, CELLS, WIDTH as u32)
+    let Ok((cells, mut users)) = WideCells::new(alloc, SchemeKind::Wfe, 2, CELLS, WIDTH as u32)
     else {
         return None;
     };
-    let mut writer = seats.pop()?;
-    let mut reader = seats.pop()?;
+    let mut writer = users.pop()?;
+    let mut reader = users.pop()?;
     if cells.count() == 0 {
         return None;
     }
-    let seen = cells.load(&mut writer, 0, read, ATTEMPTS)?;
-    let told = write_and_tell(&cells, &mut writer, 0, seen, words)?;
-    let version = told.seen.version;
-    let seen = hear_and_read(&cells, &mut reader, told, 0, words, read)?;
+    let seen = cells.load(&mut writer.seat, 0, read, ATTEMPTS)?;
+    let told = write_and_tell(&cells, &mut writer, seen, words)?;
+    let version = told.seen.version();
+    let seen = hear_and_read(&cells, &mut reader.seat, told, 0, words, read)?;
     Some((version, seen))
 }

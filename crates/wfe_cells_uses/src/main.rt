@@ -25,7 +25,8 @@ fn print_boards<R: Threads + Sync + Print>(rt: &R, alloc: Global) -> Result<()> 
     if let Some((version, seen)) = tell_and_read(alloc, &[1, 2, 3, 4, 5, 6, 7, 8], &mut read) {
         println!(rt;
             "board: written at version {version}, read at version {}: {:?}",
-            seen.version, read
+            seen.version(),
+            read
         )?;
     }
     if let Some(board) = write_boards(rt, alloc, 4) {

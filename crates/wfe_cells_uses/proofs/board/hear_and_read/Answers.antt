@@ -12,4 +12,4 @@ returns-in-Some-clause-whole c =
     let layout = cells.table.layout in
     let found = c.in-Some.ensures in
     let aware : IsAware layout c.args.seat.now c.hear.new.seat told.news.past = subst (λ (table : TableNow). IsAware table.layout c.args.seat.now c.hear.new.seat told.news.past) c.shared.ensures c.hear.ensures.aware in
-    whole layout c.args.seat.now c.hear.new.seat c.load.new.seat told.news.past found.grows.0 c.args.cell told.seen c.in-Some.seen c.args._words.now c.load.new.words c.requires.some c.requires.told.shown aware found.grows.1 found.shown found.current (c.requires.same ∙ sym found.length)
+    whole layout c.args.seat.now c.hear.new.seat c.load.new.seat told.news.past found.quiet.later.past.0 c.args.cell told.seen c.in-Some.seen c.args._words.now c.load.new.words c.requires.some c.requires.told.shown aware found.quiet.later.past.1 found.shown found.current (c.requires.same ∙ sym found.length)

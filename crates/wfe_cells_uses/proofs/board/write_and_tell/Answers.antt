@@ -11,5 +11,5 @@ returns-in-Ok-clause-told c =
     let news = c.news.ensures.news in
     record {
       table = news.0 ∙ ap (λ (shared : TableNow). shared.table) c.shared.ensures;
-      shown = subst (λ (past : List Item). IsShown cells.table.layout past c.args.cell c.in-Ok.seen c.args.words.now) (sym news.1) c.in-Ok.ensures.shown;
+      shown = subst (λ (past : List Item). IsShown cells.table.layout past c.args.seen.cell c.in-Ok.seen c.args.words.now) (sym news.1) c.in-Ok.ensures.shown;
     }

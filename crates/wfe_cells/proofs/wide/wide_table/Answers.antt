@@ -1,0 +1,5 @@
+use Rattle.wfe_cells.proofs.New.{all_new}
+use Rattle.wfe_cells.proofs.wide.wide_table.Goals as goal
+
+pub returns-in-Ok-clause-fresh : goal.returns-in-Ok-clause-fresh
+returns-in-Ok-clause-fresh c = all_new c.in-Ok.made.0 c.in-Ok.made.1.items c.in-Ok.ensures.made.1
