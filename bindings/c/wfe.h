@@ -10,6 +10,7 @@
  *     wfe_answer put = wfe_put(&seats[0], 7, 70);      put.code is WFE_OK, put.number the version of the bucket
  *     wfe_answer got = wfe_get(&seats[1], 7);          got.code is WFE_OK, got.value 70
  *     wfe_leave(&seats[0]); wfe_leave(&seats[1]);      the last one frees the table
+ *     (or the last one closes it, wfe_close(&seats[1]), and reads all that it held)
  *
  * WHAT YOU OWE. Nothing checks these five; all else is tested by the call, and answered by a code.
  *  1. A wfe_seat is all zeros (WFE_NO_SEAT) or what the library left in it: don't write in it, and don't copy it; wfe_move moves it.
@@ -19,9 +20,10 @@
  *  4. malloc, realloc and free are of one allocator, whose blocks are aligned to 16.
  *  5. No call is made in a signal handler, or in the child of a fork of a process that has threads.
  *
- * THREADS. Seats of one table are used at once by as many threads. No call takes a lock, waits or takes memory, but for wfe_open, and
- * for wfe_leave, which gives memory back. All atomic steps are sequentially consistent: what a thread wrote before a put is seen by a
- * thread that got the value. A thread that stops, even in the middle of a call, holds up no other; what its seat protects stays so.
+ * THREADS. Seats of one table are used at once by as many threads. No call takes a lock, waits or takes memory, but for wfe_open and
+ * wfe_close, and for wfe_leave and wfe_end, which give memory back. All atomic steps are sequentially consistent: what a thread wrote
+ * before a put is seen by a thread that got the value. A thread that stops, even in the middle of a call, holds up no other; what its
+ * seat protects stays so.
  *
  * STEPS are atomic operations of the seat, whatever the other threads do; wfe_notes tells those of the last call. Where a call has no
  * bound below, it begins anew only where another thread has changed its bucket, or the queue, since it began. */
@@ -37,7 +39,8 @@ extern "C" {
 
 /* ---- what is passed ---------------------------------------------------------------------------------------------------------- */
 
-/* A seat: one thread's place at a table. It keeps the table, which lasts as long as one of its seats is there.
+/* A seat: one thread's place at a table. It keeps the table, which lasts as long as one of its seats is there; the seat that closes the
+ * table keeps what the table held.
  * It is 128 bytes long, and its two words lie in the middle: so they share no line of the cache, of 64 bytes, with another seat or with
  * your own data beside them, and one thread's calls don't slow another's down. It is aligned as a pointer is: it may lie on the stack, in
  * an array, in a struct of yours, or in what malloc gives. */
@@ -90,9 +93,9 @@ enum wfe_code {
     /* of wfe_backs: */
     WFE_SHORT = 14,         /* there were more slots than there was room for */
     /* of wfe_open, which made nothing: */
-    WFE_IN_USE = 15,        /* one of the handles has a seat */
+    WFE_IN_USE = 15,        /* one of the handles has a seat, or what a closed table held */
     WFE_BAD_COUNT = 16,     /* as many handles are needed as the setting has seats */
-    WFE_NO_MEMORY = 17,
+    WFE_NO_MEMORY = 17,     /* (of wfe_close too, where the table is gone then) */
     WFE_BAD_SCHEME = 18,
     WFE_BAD_SEATS = 19,     /* the first number of the setting that is out of its range */
     WFE_BAD_INDEXES = 20,
@@ -102,7 +105,12 @@ enum wfe_code {
     WFE_BAD_EVERY = 24,
     WFE_BAD_LAST_ERA = 25,
     WFE_BAD_LAST_VERSION = 26,
-    WFE_BAD_PAIRS = 27
+    WFE_BAD_PAIRS = 27,
+    /* of wfe_close, which did nothing: */
+    WFE_NOT_LAST = 28,      /* another seat of the table has not left */
+    /* the call is not for what the handle has, and nothing was done: */
+    WFE_CLOSED = 29,        /* the handle's table is closed: its seat makes no calls any more */
+    WFE_NOT_CLOSED = 30     /* the handle has a seat: its table is not closed */
 };
 
 /* What a call answers. A field to which neither the code nor the call gives a meaning is 0. */
@@ -111,7 +119,7 @@ typedef struct wfe_answer {
     uint32_t clock;  /* of enum wfe_clock: what came of the clock in this call */
     uint32_t era;    /* the era that goes with it */
     uint32_t slot;   /* of a row */
-    uint64_t number; /* the version of the key's bucket; of the queue, a value's number; rows that are kept, left or adopted */
+    uint64_t number; /* the version of the key's bucket; of the queue, a value's number; rows that are kept, left or adopted; a key */
     uint64_t value;
 } wfe_answer;
 
@@ -143,15 +151,24 @@ typedef struct wfe_about_told {
     wfe_setting setting;
 } wfe_about_told;
 
+/* What a closed table held, in numbers. */
+typedef struct wfe_closed_told {
+    uint32_t code;    /* WFE_OK, or WFE_BAD_SEAT, WFE_HAS_LEFT, WFE_NULL, WFE_NOT_CLOSED */
+    uint32_t clock;   /* the era clock, 1 to last_era */
+    uint64_t buckets; /* how many buckets: setting.buckets */
+    uint64_t queued;  /* how many values were in the queue */
+    uint64_t used;    /* how many rows were in use */
+} wfe_closed_told;
+
 /* ---- a table ----------------------------------------------------------------------------------------------------------------- */
 
 /* A setting for so many threads, with a seat each, and for so many keys that lie evenly in the buckets, as numbers in a row do. It is
  * good for 1 to 64 threads and up to 14,336 keys. */
 static inline wfe_setting wfe_usual(enum wfe_scheme scheme, uint32_t threads, uint32_t keys);
 
-/* Makes a table, and puts its seats at seats[0] to seats[count - 1], by number. count is setting.seats; none of the handles has a seat.
- * WFE_OK, or why nothing was made, and the handles are as they were. It takes all memory that the table will ever need: by the usual
- * setting 3 MB for two threads, 26 for 64. */
+/* Makes a table, and puts its seats at seats[0] to seats[count - 1], by number. count is setting.seats; none of the handles has a seat,
+ * or what a closed table held. WFE_OK, or why nothing was made, and the handles are as they were. It takes all memory that the table will
+ * ever need for its calls: by the usual setting 3 MB for two threads, 26 for 64. */
 static inline uint32_t wfe_open(wfe_setting setting, wfe_seat *seats, size_t count);
 
 /* The seat lets go of all that it protects and leaves; its list of retired rows, of `number` rows, stays for another seat to adopt.
@@ -164,7 +181,7 @@ static inline wfe_answer wfe_leave(wfe_seat *seat);
  * WFE_NOT_LEFT, WFE_ADOPTED_BEFORE, WFE_BAD_INDEX. Steps: 2, or 1 where there is none. */
 static inline wfe_answer wfe_adopt(wfe_seat *seat, uint32_t place);
 
-/* Moves a seat to another handle, which has none, and leaves none. */
+/* Moves a seat, or what a closed table held, to another handle, which has neither, and leaves neither. */
 static inline void wfe_move(wfe_seat *to, wfe_seat *from);
 
 /* ---- the map ----------------------------------------------------------------------------------------------------------------- */
@@ -248,6 +265,36 @@ static inline wfe_answer wfe_seen(wfe_seat *seat, uint32_t bucket);
 /* A code in words. */
 static inline const char *wfe_text(uint32_t code);
 
+/* ---- a table's end ----------------------------------------------------------------------------------------------------------- */
+/* The last seat of a table may close it in place of leaving: its handle then has all that the table held when no call was under way any
+ * more, to be read by index, from 0. On a handle whose table is closed all other calls answer WFE_CLOSED; on one that has a seat these
+ * answer WFE_NOT_CLOSED. They are no calls by the notes either. */
+
+/* Closes the table, if each other seat of it has left, by a wfe_leave that has returned: WFE_OK. WFE_NOT_LAST: one has not; nothing was
+ * done, and the seat may make calls, and close the table later. WFE_NO_MEMORY: the seat has left, and the table is freed, as by wfe_leave.
+ * A close takes somewhat more memory than the table has, and gives most of it back, with the table's. */
+static inline uint32_t wfe_close(wfe_seat *seat);
+
+/* The clock, and how many buckets, values and rows there are to be read. */
+static inline wfe_closed_told wfe_closed(wfe_seat *seat);
+
+/* A bucket: WFE_OK, its version `number`, which is how often it was changed, and how many keys it had, `value`. WFE_BAD_INDEX. */
+static inline wfe_answer wfe_closed_bucket(wfe_seat *seat, uint32_t bucket);
+
+/* A key of that bucket: WFE_OK, the key `number` and its `value`. They come in the order of the bucket's row. WFE_BAD_INDEX. */
+static inline wfe_answer wfe_closed_pair(wfe_seat *seat, uint32_t bucket, uint32_t pair);
+
+/* A value that was in the queue, those from the front first: WFE_OK, its number `number` and `value`. WFE_BAD_INDEX. */
+static inline wfe_answer wfe_closed_queued(wfe_seat *seat, uint32_t place);
+
+/* A row that was in use, by rising slots: WFE_OK and `slot`. In use are one row for each bucket that was changed, one for each value in
+ * the queue and its dummy, and those that were retired and are not back, on the lists of the seats, of those too that have left; no
+ * others. WFE_BAD_INDEX. */
+static inline wfe_answer wfe_closed_used(wfe_seat *seat, uint32_t place);
+
+/* Frees what the table held: WFE_OK. From here on the handle answers WFE_HAS_LEFT, and may be used for another table. */
+static inline uint32_t wfe_end(wfe_seat *seat);
+
 /* ---- the exports ------------------------------------------------------------------------------------------------------------- */
 /* What libwfe_c.a defines: the same, but that no pointer is null. In place of a null goes a handle whose state says so, which the
  * exports test as they test each state; numbers come with how many there are; and the shortest calls answer their code, and the rest at a
@@ -286,6 +333,13 @@ wfe_notes_told wfe_c_notes(wfe_seat *seat);
 wfe_answer wfe_c_backs(wfe_seat *seat, uint32_t *slots, size_t room);
 wfe_about_told wfe_c_about(wfe_seat *seat);
 wfe_answer wfe_c_seen(wfe_seat *seat, uint32_t bucket);
+uint32_t wfe_c_close(wfe_seat *seat);
+wfe_closed_told wfe_c_closed(wfe_seat *seat);
+wfe_answer wfe_c_closed_bucket(wfe_seat *seat, uint32_t bucket);
+wfe_answer wfe_c_closed_pair(wfe_seat *seat, uint32_t bucket, uint32_t pair);
+wfe_answer wfe_c_closed_queued(wfe_seat *seat, uint32_t place);
+wfe_answer wfe_c_closed_used(wfe_seat *seat, uint32_t place);
+uint32_t wfe_c_end(wfe_seat *seat);
 
 /* a call on the handle at the pointer, or on one that says that there is none */
 #define WFE_CALL(given, call, otherwise) \
@@ -382,6 +436,28 @@ static inline wfe_answer wfe_seen(wfe_seat *seat, uint32_t bucket) {
     WFE_CALL(seat, wfe_c_seen(seat, bucket), wfe_c_seen(&nobody, bucket))
 }
 
+static inline uint32_t wfe_close(wfe_seat *seat) {
+    WFE_CALL(seat, wfe_c_close(seat), wfe_c_close(&nobody))
+}
+static inline wfe_closed_told wfe_closed(wfe_seat *seat) {
+    WFE_CALL(seat, wfe_c_closed(seat), wfe_c_closed(&nobody))
+}
+static inline wfe_answer wfe_closed_bucket(wfe_seat *seat, uint32_t bucket) {
+    WFE_CALL(seat, wfe_c_closed_bucket(seat, bucket), wfe_c_closed_bucket(&nobody, bucket))
+}
+static inline wfe_answer wfe_closed_pair(wfe_seat *seat, uint32_t bucket, uint32_t pair) {
+    WFE_CALL(seat, wfe_c_closed_pair(seat, bucket, pair), wfe_c_closed_pair(&nobody, bucket, pair))
+}
+static inline wfe_answer wfe_closed_queued(wfe_seat *seat, uint32_t place) {
+    WFE_CALL(seat, wfe_c_closed_queued(seat, place), wfe_c_closed_queued(&nobody, place))
+}
+static inline wfe_answer wfe_closed_used(wfe_seat *seat, uint32_t place) {
+    WFE_CALL(seat, wfe_c_closed_used(seat, place), wfe_c_closed_used(&nobody, place))
+}
+static inline uint32_t wfe_end(wfe_seat *seat) {
+    WFE_CALL(seat, wfe_c_end(seat), wfe_c_end(&nobody))
+}
+
 static inline const char *wfe_text(uint32_t code) {
     switch (code) {
     case WFE_OK: return "it is done";
@@ -399,7 +475,7 @@ static inline const char *wfe_text(uint32_t code) {
     case WFE_NOT_LEFT: return "that seat had not left";
     case WFE_ADOPTED_BEFORE: return "that seat's list has been adopted";
     case WFE_SHORT: return "there were more slots than there was room for";
-    case WFE_IN_USE: return "a handle has a seat already";
+    case WFE_IN_USE: return "a handle has a seat already, or what a closed table held";
     case WFE_BAD_COUNT: return "as many handles are needed as the setting has seats";
     case WFE_NO_MEMORY: return "memory ran out";
     case WFE_BAD_SCHEME: return "there is no such scheme";
@@ -412,6 +488,9 @@ static inline const char *wfe_text(uint32_t code) {
     case WFE_BAD_LAST_ERA: return "the setting's last_era must be 1 to 4,294,967,295";
     case WFE_BAD_LAST_VERSION: return "the setting's last_version must be 1 to 281,474,976,710,656";
     case WFE_BAD_PAIRS: return "the setting's pairs must be 6 or 14";
+    case WFE_NOT_LAST: return "another seat of the table has not left";
+    case WFE_CLOSED: return "the table is closed";
+    case WFE_NOT_CLOSED: return "the table is not closed";
     default: return "there is no such code";
     }
 }

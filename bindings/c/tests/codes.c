@@ -46,6 +46,20 @@ static void without_a_seat(wfe_seat *seat, uint32_t code) {
     IS(wfe_backs(seat, slots, 2).code == code && slots[0] == 77 && slots[1] == 78);
     IS(wfe_about(seat).code == code && wfe_about(seat).setting.seats == 0);
     IS(wfe_seen(seat, 0).code == code);
+    IS(wfe_close(seat) == code);
+    if (seat) IS(seat->state == before.state && seat->at == before.at);
+}
+
+/* Each call that reads a closed table, with a handle that has none. */
+static void without_a_closed_table(wfe_seat *seat, uint32_t code) {
+    wfe_seat before = seat ? *seat : (wfe_seat)WFE_NO_SEAT;
+    wfe_closed_told told = wfe_closed(seat);
+    IS(told.code == code && !told.clock && !told.buckets && !told.queued && !told.used);
+    IS(wfe_closed_bucket(seat, 0).code == code);
+    IS(wfe_closed_pair(seat, 0, 0).code == code);
+    IS(wfe_closed_queued(seat, 0).code == code);
+    IS(wfe_closed_used(seat, 0).code == code);
+    IS(wfe_end(seat) == code);
     if (seat) IS(seat->state == before.state && seat->at == before.at);
 }
 
@@ -203,6 +217,68 @@ static void a_table(uint32_t scheme) {
     for (int it = 0; it < 3; it++) IS(wfe_leave(&seats[it]).code == WFE_OK);
 }
 
+/* A table that is closed by its last seat, and each index that it lacks. */
+static void closes(uint32_t scheme) {
+    wfe_seat seats[2] = { WFE_NO_SEAT }, moved = WFE_NO_SEAT;
+    wfe_answer it;
+    IS(wfe_open(setting(scheme, 2), seats, 2) == WFE_OK);
+    without_a_closed_table(&seats[0], WFE_NOT_CLOSED);
+    IS(wfe_put(&seats[0], 1, 10).code == WFE_OK && wfe_put(&seats[1], 5, 50).code == WFE_OK && wfe_put(&seats[0], 2, 20).code == WFE_OK);
+    IS(wfe_remove(&seats[0], 2).code == WFE_OK);
+    for (uint64_t value = 70; value < 73; value++) IS(wfe_enqueue(&seats[1], value).code == WFE_OK);
+    IS(wfe_dequeue(&seats[0]).value == 70);
+    IS(wfe_close(&seats[0]) == WFE_NOT_LAST && wfe_close(&seats[1]) == WFE_NOT_LAST);
+    IS(wfe_get(&seats[1], 1).value == 10 && wfe_about(&seats[0]).code == WFE_OK);
+    uint64_t listed = wfe_leave(&seats[1]).number + wfe_about(&seats[0]).listed;
+    IS(wfe_close(&seats[1]) == WFE_HAS_LEFT);
+    IS(wfe_close(&seats[0]) == WFE_OK);
+    without_a_seat(&seats[0], WFE_CLOSED);
+    IS(wfe_open(setting(scheme, 2), seats, 2) == WFE_IN_USE);
+    wfe_closed_told told = wfe_closed(&seats[0]);
+    /* in use are the rows of buckets 1 and 2, two values, the dummy, and the rows on the lists */
+    IS(told.code == WFE_OK && told.clock >= 1 && told.buckets == 4 && told.queued == 2 && told.used == 5 + listed);
+    it = wfe_closed_bucket(&seats[0], 0);
+    IS(it.code == WFE_OK && it.number == 0 && it.value == 0);
+    it = wfe_closed_bucket(&seats[0], 1);
+    IS(it.code == WFE_OK && it.number == 2 && it.value == 2);
+    it = wfe_closed_bucket(&seats[0], 2);
+    IS(it.code == WFE_OK && it.number == 2 && it.value == 0);
+    IS(wfe_closed_bucket(&seats[0], 4).code == WFE_BAD_INDEX && wfe_closed_bucket(&seats[0], 4294967295u).code == WFE_BAD_INDEX);
+    uint64_t sum = 0;
+    for (uint32_t pair = 0; pair < 2; pair++) {
+        it = wfe_closed_pair(&seats[0], 1, pair);
+        IS(it.code == WFE_OK && it.value == 10 * it.number);
+        sum += it.number;
+    }
+    IS(sum == 6);
+    IS(wfe_closed_pair(&seats[0], 1, 2).code == WFE_BAD_INDEX && wfe_closed_pair(&seats[0], 1, 4294967295u).code == WFE_BAD_INDEX);
+    IS(wfe_closed_pair(&seats[0], 2, 0).code == WFE_BAD_INDEX && wfe_closed_pair(&seats[0], 4, 0).code == WFE_BAD_INDEX);
+    for (uint32_t place = 0; place < 2; place++) {
+        it = wfe_closed_queued(&seats[0], place);
+        IS(it.code == WFE_OK && it.number == place + 2 && it.value == place + 71);
+    }
+    IS(wfe_closed_queued(&seats[0], 2).code == WFE_BAD_INDEX && wfe_closed_queued(&seats[0], 4294967295u).code == WFE_BAD_INDEX);
+    uint32_t last = 0;
+    for (uint32_t place = 0; place < told.used; place++) {
+        it = wfe_closed_used(&seats[0], place);
+        IS(it.code == WFE_OK && it.slot <= 16 && (!place || it.slot > last));
+        last = it.slot;
+    }
+    IS(wfe_closed_used(&seats[0], (uint32_t)told.used).code == WFE_BAD_INDEX && wfe_closed_used(&seats[0], 4294967295u).code == WFE_BAD_INDEX);
+    wfe_move(&moved, &seats[0]);
+    without_a_closed_table(&seats[0], WFE_BAD_SEAT);
+    IS(wfe_closed(&moved).used == told.used && wfe_closed_queued(&moved, 1).value == 72);
+    IS(wfe_end(&moved) == WFE_OK);
+    without_a_seat(&moved, WFE_HAS_LEFT);
+    without_a_closed_table(&moved, WFE_HAS_LEFT);
+    IS(wfe_open(setting(scheme, 2), seats, 2) == WFE_OK && wfe_leave(&seats[0]).code == WFE_OK && wfe_leave(&seats[1]).code == WFE_OK);
+    /* a table of one seat, which nobody has used */
+    IS(wfe_open(setting(scheme, 1), &moved, 1) == WFE_OK && wfe_close(&moved) == WFE_OK);
+    told = wfe_closed(&moved);
+    IS(told.clock == 1 && told.buckets == 4 && told.queued == 0 && told.used == 1 && wfe_closed_used(&moved, 0).slot == 16);
+    IS(wfe_end(&moved) == WFE_OK);
+}
+
 /* The last version of a bucket, and of the queue. */
 static void last_versions(void) {
     wfe_seat seat = WFE_NO_SEAT;
@@ -221,19 +297,22 @@ static void last_versions(void) {
 static void wrong_states(void) {
     wfe_seat none = WFE_NO_SEAT;
     without_a_seat(&none, WFE_BAD_SEAT);
-    none.state = 4;
+    without_a_closed_table(&none, WFE_BAD_SEAT);
+    none.state = 5;
     without_a_seat(&none, WFE_BAD_SEAT);
+    without_a_closed_table(&none, WFE_BAD_SEAT);
     none.state = 4294967295u;
     without_a_seat(&none, WFE_BAD_SEAT);
     without_a_seat(0, WFE_NULL);
+    without_a_closed_table(0, WFE_NULL);
 }
 
 int main(void) {
     settings_out_of_range();
     wrong_states();
-    for (uint32_t scheme = 0; scheme < 4; scheme++) a_table(scheme);
+    for (uint32_t scheme = 0; scheme < 4; scheme++) a_table(scheme), closes(scheme);
     last_versions();
-    for (uint32_t code = 0; code < 28; code++) IS(wfe_text(code)[0]);
+    for (uint32_t code = 0; code < 31; code++) IS(wfe_text(code)[0] && strcmp(wfe_text(code), wfe_text(31)));
     printf("%d answers are as they are due\n", count);
     return 0;
 }

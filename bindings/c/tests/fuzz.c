@@ -35,7 +35,7 @@ typedef struct {
     bucket buckets[BUCKETS];
     uint64_t queue[QUEUE], first, last;
     kept at[SEATS][INDEXES];
-    int left[SEATS], adopted[SEATS];
+    int left[SEATS], adopted[SEATS], closed[SEATS];
 } model;
 
 typedef struct {
@@ -67,10 +67,17 @@ static int is_missing(model *m, wfe_seat *seat, wfe_answer it, int who) {
         return 1;
     }
     if (m->left[who]) {
-        IS(it.code == WFE_HAS_LEFT);
+        IS(it.code == (m->closed[who] ? WFE_CLOSED : WFE_HAS_LEFT));
         return 1;
     }
     return 0;
+}
+
+/* The same of what reads a closed table. */
+static int is_unclosed(model *m, wfe_seat *seat, wfe_answer it, int who) {
+    if (seat && m->closed[who]) return 0;
+    IS(it.code == (!seat ? WFE_NULL : m->left[who] ? WFE_HAS_LEFT : WFE_NOT_CLOSED));
+    return 1;
 }
 
 static void put(model *m, wfe_answer it, uint64_t key, uint64_t value, const uint64_t *version) {
@@ -117,8 +124,80 @@ static void read_from(const bucket *in, wfe_answer it, uint64_t key) {
     else IS(it.code == WFE_OK && it.value == in->values[at]);
 }
 
+/* Closes the table where this is its last seat. */
+static void close_by(model *m, wfe_seat *seat, int who) {
+    wfe_answer it;
+    memset(&it, 0, sizeof it);
+    it.code = wfe_close(seat);
+    if (is_missing(m, seat, it, who)) return;
+    int others = 0;
+    for (int other = 0; other < SEATS; other++) others += other != who && !m->left[other];
+    IS(it.code == (others ? WFE_NOT_LAST : WFE_OK));
+    if (!others) m->left[who] = m->closed[who] = 1;
+}
+
+static void read_bucket(const model *m, wfe_seat *seat, uint32_t index) {
+    wfe_answer it = wfe_closed_bucket(seat, index);
+    if (index >= BUCKETS) IS(it.code == WFE_BAD_INDEX);
+    else IS(it.code == WFE_OK && it.number == m->buckets[index].version && it.value == m->buckets[index].count);
+}
+
+static void read_pair(const model *m, wfe_seat *seat, uint32_t index, uint32_t pair) {
+    wfe_answer it = wfe_closed_pair(seat, index, pair);
+    if (index >= BUCKETS || pair >= m->buckets[index].count) IS(it.code == WFE_BAD_INDEX);
+    else {
+        int at = found(&m->buckets[index], it.number);
+        IS(it.code == WFE_OK && at >= 0 && it.value == m->buckets[index].values[at]);
+    }
+}
+
+static void read_queued(const model *m, wfe_seat *seat, uint32_t index) {
+    wfe_answer it = wfe_closed_queued(seat, index);
+    if (index >= m->last - m->first) IS(it.code == WFE_BAD_INDEX);
+    else IS(it.code == WFE_OK && it.number == m->first + index + 1 && it.value == m->queue[(m->first + index) % QUEUE]);
+}
+
+static wfe_closed_told read_counts(const model *m, wfe_seat *seat) {
+    wfe_closed_told it = wfe_closed(seat);
+    IS(it.code == WFE_OK && it.clock && it.buckets == BUCKETS && it.queued == m->last - m->first && it.used > it.queued);
+    return it;
+}
+
+/* Reads something of a closed table, or frees it. */
+static void read_closed(model *m, wfe_seat *seat, bytes *from, int who) {
+    wfe_closed_told told = wfe_closed(seat);
+    uint32_t index = number(from, 8), pair = number(from, 8);
+    wfe_answer it;
+    memset(&it, 0, sizeof it);
+    it.code = told.code;
+    if (is_unclosed(m, seat, it, who)) {
+        is_unclosed(m, seat, wfe_closed_bucket(seat, index), who);
+        is_unclosed(m, seat, wfe_closed_pair(seat, index, pair), who);
+        is_unclosed(m, seat, wfe_closed_queued(seat, index), who);
+        is_unclosed(m, seat, wfe_closed_used(seat, index), who);
+        it.code = wfe_end(seat);
+        is_unclosed(m, seat, it, who);
+        return;
+    }
+    told = read_counts(m, seat);
+    switch (draw(from) % 5) {
+    case 0: read_bucket(m, seat, index); break;
+    case 1: read_pair(m, seat, index, pair); break;
+    case 2: read_queued(m, seat, index); break;
+    case 3:
+        it = wfe_closed_used(seat, index);
+        IS(it.code == (index < told.used ? WFE_OK : WFE_BAD_INDEX));
+        break;
+    default:
+        if (draw(from) % 4) break;
+        it.code = wfe_end(seat);
+        IS(it.code == WFE_OK);
+        m->closed[who] = 0;
+    }
+}
+
 static void one_call(model *m, wfe_seat *seats, bytes *from) {
-    uint32_t which = draw(from) % 20;
+    uint32_t which = draw(from) % 21;
     int who = (int)(draw(from) % SEATS);
     wfe_seat *seat = draw(from) % 16 ? &seats[who] : 0;
     uint64_t key = draw(from) % 16, value = draw(from);
@@ -238,8 +317,11 @@ static void one_call(model *m, wfe_seat *seats, bytes *from) {
         }
         break;
     }
+    case 19:
+        read_closed(m, seat, from, who);
+        break;
     default:
-        if (draw(from) % 8) {
+        if (draw(from) % 4) {
             wfe_about_told about = wfe_about(seat);
             it.code = about.code;
             if (!is_missing(m, seat, it, who)) IS(about.code == WFE_OK && about.number == (uint32_t)who && about.setting.seats == SEATS);
@@ -249,10 +331,44 @@ static void one_call(model *m, wfe_seat *seats, bytes *from) {
             if (!is_missing(m, seat, it, who)) IS(it.code == WFE_OK || it.code == WFE_BAD_INDEX);
             break;
         }
+        if (draw(from) % 2) {
+            close_by(m, seat, who);
+            break;
+        }
         it = wfe_leave(seat);
         if (is_missing(m, seat, it, who)) break;
         IS(it.code == WFE_OK);
         m->left[who] = 1;
+    }
+}
+
+/* At the end each seat leaves but the last one, which closes the table: all that it holds is what the model has. */
+static void end_all(model *m, wfe_seat *seats) {
+    for (int who = 0; who < SEATS; who++) {
+        wfe_seat *seat = &seats[who];
+        if (m->left[who] && !m->closed[who]) continue;
+        if (!m->closed[who]) close_by(m, seat, who);
+        if (!m->closed[who]) {
+            wfe_answer it = wfe_leave(seat);
+            IS(it.code == WFE_OK);
+            m->left[who] = 1;
+            continue;
+        }
+        wfe_closed_told it = read_counts(m, seat);
+        for (uint32_t index = 0; index <= BUCKETS; index++) {
+            read_bucket(m, seat, index);
+            for (uint32_t pair = 0; pair <= PAIRS; pair++) read_pair(m, seat, index, pair);
+        }
+        for (uint32_t index = 0; index <= it.queued; index++) read_queued(m, seat, index);
+        uint32_t last = 0;
+        for (uint32_t index = 0; index < it.used; index++) {
+            wfe_answer row = wfe_closed_used(seat, index);
+            IS(row.code == WFE_OK && (!index || row.slot > last));
+            last = row.slot;
+        }
+        it.code = wfe_end(seat);
+        IS(it.code == WFE_OK);
+        m->closed[who] = 0;
     }
 }
 
@@ -278,8 +394,7 @@ int LLVMFuzzerTestOneInput(const uint8_t *at, size_t left) {
     }
     if (wfe_open(setting, seats, SEATS) != WFE_OK) abort();
     while (from.left) one_call(&m, seats, &from);
-    for (int it = 0; it < SEATS; it++)
-        if (!m.left[it] && wfe_leave(&seats[it]).code != WFE_OK) abort();
+    end_all(&m, seats);
     return 0;
 }
 

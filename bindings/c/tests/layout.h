@@ -13,3 +13,4 @@ HAS(sizeof(wfe_got) == 16 && offsetof(wfe_got, value) == 8);
 HAS(sizeof(wfe_taken) == 24 && offsetof(wfe_taken, value) == 8 && offsetof(wfe_taken, clock) == 16 && offsetof(wfe_taken, era) == 20);
 HAS(sizeof(wfe_notes_told) == 40 && offsetof(wfe_notes_told, early) == 16 && offsetof(wfe_notes_told, backs) == 24 && offsetof(wfe_notes_told, steps) == 32);
 HAS(sizeof(wfe_about_told) == 64 && offsetof(wfe_about_told, listed) == 8 && offsetof(wfe_about_told, setting) == 16);
+HAS(sizeof(wfe_closed_told) == 32 && offsetof(wfe_closed_told, clock) == 4 && offsetof(wfe_closed_told, buckets) == 8 && offsetof(wfe_closed_told, queued) == 16 && offsetof(wfe_closed_told, used) == 24);

@@ -64,6 +64,17 @@ pub(crate) struct AboutTold {
     pub setting: Setting,
 }
 
+/// `wfe_closed_told`.
+#[repr(C)]
+#[derive(Clone, Copy, Debug)]
+pub(crate) struct ClosedTold {
+    pub code: u32,
+    pub clock: u32,
+    pub buckets: u64,
+    pub queued: u64,
+    pub used: u64,
+}
+
 /// `wfe_seat`. It is neither `Copy` nor `Clone`: the library wants one handle for a seat. What lies before and after the words keeps
 /// them off the lines of the cache that hold something else.
 #[repr(C)]
@@ -103,6 +114,13 @@ extern "C" {
     fn wfe_c_backs(seat: *mut Handle, slots: *mut u32, room: usize) -> Answer;
     fn wfe_c_about(seat: *mut Handle) -> AboutTold;
     fn wfe_c_seen(seat: *mut Handle, bucket: u32) -> Answer;
+    fn wfe_c_close(seat: *mut Handle) -> u32;
+    fn wfe_c_closed(seat: *mut Handle) -> ClosedTold;
+    fn wfe_c_closed_bucket(seat: *mut Handle, bucket: u32) -> Answer;
+    fn wfe_c_closed_pair(seat: *mut Handle, bucket: u32, pair: u32) -> Answer;
+    fn wfe_c_closed_queued(seat: *mut Handle, place: u32) -> Answer;
+    fn wfe_c_closed_used(seat: *mut Handle, place: u32) -> Answer;
+    fn wfe_c_end(seat: *mut Handle) -> u32;
 }
 
 // SAFETY: `Send` is proved of the handle's type in the crate `wfe_c` (`proofs/place/Place/TheSendSync`), and a handle that goes to
@@ -133,8 +151,8 @@ macro_rules! calls {
             $(
                 #[inline]
                 pub(crate) fn $name(&mut self, $($argument: $kind),*) -> $answer {
-                    // SAFETY: the handle is what `open` left in it, borrowed by this call alone, so that one call at a time is made
-                    // with it.
+                    // SAFETY: the handle is what `open`, or a call, left in it, borrowed by this call alone, so that one call at a time
+                    // is made with it.
                     unsafe { $export(self, $($argument),*) }
                 }
             )*
@@ -158,6 +176,13 @@ calls! {
     wfe_c_notes notes() -> NotesTold;
     wfe_c_about about() -> AboutTold;
     wfe_c_seen seen(bucket: u32) -> Answer;
+    wfe_c_close close() -> u32;
+    wfe_c_closed closed() -> ClosedTold;
+    wfe_c_closed_bucket closed_bucket(bucket: u32) -> Answer;
+    wfe_c_closed_pair closed_pair(bucket: u32, pair: u32) -> Answer;
+    wfe_c_closed_queued closed_queued(place: u32) -> Answer;
+    wfe_c_closed_used closed_used(place: u32) -> Answer;
+    wfe_c_end end() -> u32;
 }
 
 macro_rules! told_calls {
@@ -194,5 +219,5 @@ impl Handle {
 const _: () = {
     assert!(size_of::<Handle>() == 128 && offset_of!(Handle, state) == 56 && offset_of!(Handle, at) == 64);
     assert!(size_of::<Answer>() == 32 && size_of::<NotesTold>() == 40 && size_of::<GotTold>() == 16 && size_of::<TakenTold>() == 24);
-    assert!(size_of::<Setting>() == 48 && size_of::<AboutTold>() == 64);
+    assert!(size_of::<Setting>() == 48 && size_of::<AboutTold>() == 64 && size_of::<ClosedTold>() == 32);
 };

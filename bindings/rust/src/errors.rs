@@ -1,3 +1,4 @@
+use crate::seat::Seat;
 use crate::setting::Field;
 use std::error::Error;
 use std::fmt;
@@ -93,6 +94,25 @@ pub enum AdoptError {
     NoSuchSeat,
 }
 
+/// Why a table was not closed.
+#[derive(Debug)]
+pub enum CloseError {
+    /// Another seat of the table has not left. This is the seat that was to close it, as it was.
+    NotLast(Seat),
+    /// There was no memory to read the table into: it is gone, as where its last seat leaves.
+    NoMemory,
+}
+
+impl CloseError {
+    /// The seat that was to close the table, if it is there still.
+    pub fn into_seat(self) -> Option<Seat> {
+        match self {
+            CloseError::NotLast(seat) => Some(seat),
+            CloseError::NoMemory => None,
+        }
+    }
+}
+
 /// The table has no such index, or no row may be kept at it, or a copy does not go upwards.
 #[derive(Clone, Copy, Debug, PartialEq, Eq)]
 pub struct IndexError;
@@ -157,6 +177,15 @@ impl fmt::Display for AdoptError {
     }
 }
 
+impl fmt::Display for CloseError {
+    fn fmt(&self, f: &mut fmt::Formatter<'_>) -> fmt::Result {
+        f.write_str(match self {
+            CloseError::NotLast(_) => "another seat of the table has not left",
+            CloseError::NoMemory => "memory ran out",
+        })
+    }
+}
+
 impl fmt::Display for IndexError {
     fn fmt(&self, f: &mut fmt::Formatter<'_>) -> fmt::Result {
         f.write_str("the table has no such index, no row may be kept at it, or the copy does not go upwards")
@@ -187,4 +216,5 @@ impl<T> Error for CellError<T> {}
 impl Error for OpenError {}
 impl Error for EnqueueError {}
 impl Error for AdoptError {}
+impl Error for CloseError {}
 impl Error for IndexError {}

@@ -3,7 +3,8 @@
 //! tested.
 //!
 //! A [`Table`] is made of a [`Setting`], and hands out its [`Seat`]s. A seat makes one call at a time (`&mut self`), may go to another
-//! thread, and leaves the table when it is dropped; the table's memory goes with its last seat.
+//! thread, and leaves the table when it is dropped; the table's memory goes with its last seat, which may close the table in place of
+//! leaving ([`Seat::close`]) and gets all that it held.
 //!
 //! ```
 //! use wfe::{Scheme, Setting, Table};
@@ -49,13 +50,15 @@
 
 #[allow(unsafe_code)]
 mod border;
+mod closed;
 mod errors;
 mod seat;
 mod setting;
 mod table;
 
 pub use border::{Cells, Guard};
-pub use errors::{AdoptError, CellError, EnqueueError, IndexError, OpenError, PutError, PutIfError, RemoveError};
+pub use closed::{Bucket, Closed, QueuedValue};
+pub use errors::{AdoptError, CellError, CloseError, EnqueueError, IndexError, OpenError, PutError, PutIfError, RemoveError};
 pub use seat::{ClockMove, Done, Got, Looked, Notes, Queued, Scanned, Seat, Taken};
 pub use setting::{Field, Scheme, Setting};
 pub use table::Table;

@@ -1,5 +1,6 @@
 use crate::border::{Answer, Handle};
-use crate::errors::{AdoptError, EnqueueError, IndexError, PutError, PutIfError, RemoveError};
+use crate::closed::Closed;
+use crate::errors::{AdoptError, CloseError, EnqueueError, IndexError, PutError, PutIfError, RemoveError};
 use crate::setting::Setting;
 use std::fmt;
 
@@ -12,6 +13,7 @@ const STALE: u32 = 8;
 const ABSENT: u32 = 9;
 const NOT_LEFT: u32 = 12;
 const ADOPTED_BEFORE: u32 = 13;
+const NOT_LAST: u32 = 28;
 const NO_SLOT: u32 = u32::MAX;
 
 /// A key's value, or that it has none, at a version of its bucket. Version 0 is that of a bucket that was never changed.
@@ -323,6 +325,34 @@ impl Seat {
     /// Leaves the table, as a seat that is dropped does: how many rows were on its list, which another seat may adopt.
     pub fn leave(mut self) -> u64 {
         self.handle.leave().number
+    }
+
+    /// Closes the table, if each other seat of it has left: all that the table held. Where one has not, it hands the seat back.
+    ///
+    /// ```
+    /// use wfe::{CloseError, Scheme, Setting, Table};
+    ///
+    /// let mut seats: Vec<_> = Table::new(Setting::usual(Scheme::WaitFreeEras, 2, 10))?.collect();
+    /// let (mut other, mut seat) = (seats.pop().expect("there are two"), seats.pop().expect("there are two"));
+    /// seat.put(7, 70).expect("there is room");
+    /// other.enqueue(71).expect("there is room");
+    ///
+    /// let seat = match seat.close() {
+    ///     Err(CloseError::NotLast(seat)) => seat,
+    ///     _ => panic!("the other seat has not left"),
+    /// };
+    /// other.leave();
+    /// let closed = seat.close().expect("it is the last one");
+    /// assert_eq!(closed.pairs().collect::<Vec<_>>(), [(7, 70)]);
+    /// assert_eq!(closed.queue().map(|it| it.value).collect::<Vec<_>>(), [71]);
+    /// # Ok::<(), wfe::OpenError>(())
+    /// ```
+    pub fn close(mut self) -> Result<Closed, CloseError> {
+        match self.handle.close() {
+            OK => Ok(Closed::read(&mut self.handle)),
+            NOT_LAST => Err(CloseError::NotLast(self)),
+            _ => Err(CloseError::NoMemory),
+        }
     }
 
     /// What the seat's last call did. This, and the methods below, are no calls in its sense.

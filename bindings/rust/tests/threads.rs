@@ -1,6 +1,6 @@
 //! Threads with a seat each, and what they counted.
 use std::thread;
-use wfe::{AdoptError, Field, IndexError, OpenError, PutIfError, Scheme, Seat, Setting, Table};
+use wfe::{AdoptError, CloseError, Field, IndexError, OpenError, PutIfError, Scheme, Seat, Setting, Table};
 
 const SCHEMES: [Scheme; 4] = [Scheme::HazardEras, Scheme::Intervals, Scheme::WaitFreeEras, Scheme::HazardPointers];
 const KEY: u64 = 7;
@@ -44,6 +44,68 @@ fn four_threads_count_and_hand_values_on() {
         assert_eq!(seats[0].get(KEY).value, Some(4 * TURNS));
         assert_eq!(sent, came);
     }
+}
+
+/// Closes the table with this seat, once the other ones have left.
+fn close(mut seat: Seat) -> wfe::Closed {
+    loop {
+        match seat.close() {
+            Ok(closed) => return closed,
+            Err(CloseError::NotLast(back)) => seat = back,
+            Err(why) => panic!("{why}"),
+        }
+        seat.get(KEY);
+        thread::yield_now();
+    }
+}
+
+#[test]
+fn the_last_of_four_threads_closes() {
+    for scheme in SCHEMES {
+        let mut seats: Vec<_> = Table::new(Setting::usual(scheme, 4, 10)).unwrap().collect();
+        let mut last = seats.remove(0);
+        let threads: Vec<_> = seats
+            .into_iter()
+            .map(|mut seat| {
+                thread::spawn(move || {
+                    let ends = work(&mut seat);
+                    (ends, seat.leave())
+                })
+            })
+            .collect();
+        let (mut sent, mut came) = work(&mut last);
+        let closer = thread::spawn(move || (last.listed(), close(last)));
+        let mut listed = 0;
+        for it in threads {
+            let ((its_sent, its_came), its_listed) = it.join().unwrap();
+            (sent, came, listed) = (sent + its_sent, came + its_came, listed + its_listed);
+        }
+        let (last_listed, closed) = closer.join().unwrap();
+        assert_eq!(closed.pairs().collect::<Vec<_>>(), [(KEY, 4 * TURNS)]);
+        assert_eq!((closed.get(KEY), closed.get(KEY + 1)), (Some(4 * TURNS), None));
+        let versions: Vec<u64> = closed.buckets().map(|bucket| bucket.version()).collect();
+        assert_eq!((versions.len(), versions.iter().sum::<u64>()), (10, 4 * TURNS));
+        assert_eq!(closed.queue().map(|it| it.value).sum::<u64>(), sent - came);
+        assert!(closed.queue().zip(closed.queue().skip(1)).all(|(it, next)| next.number == it.number + 1));
+        assert_eq!(closed.rows().len() as u64, 1 + closed.queue().len() as u64 + 1 + listed + last_listed);
+        assert!(closed.rows().zip(closed.rows().skip(1)).all(|(slot, next)| slot < next));
+        assert!(closed.clock() >= 1);
+    }
+}
+
+#[test]
+fn a_table_is_not_closed_while_a_seat_is_there() {
+    let mut seats: Vec<_> = Table::new(Setting::usual(Scheme::HazardEras, 3, 10)).unwrap().collect();
+    let (mut last, other) = (seats.pop().unwrap(), seats.pop().unwrap());
+    last.put(KEY, 70).unwrap();
+    drop(other);
+    let why = last.close().unwrap_err();
+    assert_eq!(why.to_string(), "another seat of the table has not left");
+    let mut last = why.into_seat().unwrap();
+    assert_eq!((last.get(KEY).value, last.number()), (Some(70), 2));
+    drop(seats);
+    let closed = last.close().unwrap();
+    assert_eq!((closed.get(KEY), closed.pairs().count(), closed.buckets().len()), (Some(70), 1, 10));
 }
 
 #[test]

@@ -5,6 +5,7 @@ use Rattle.wfe_table.specs.rule.Views.{seat_of}
 use Rattle.wfe_c.specs.Called.{Lacks}
 use Rattle.wfe_c.specs.Handle.{lack}
 use Rattle.wfe_c.specs.Joined.{table_of}
+use Rattle.wfe_c.specs.Place.{seat_in}
 use Rattle.wfe_c.specs.Setting.{setting_of, zeros}
 use Rattle.wfe_c.specs.Told.{says, says_at}
 use Rattle.wfe_c.specs.declared.about.CAbout.{CAbout}
@@ -34,15 +35,15 @@ pub record LacksAbout (before after : SeatHandle) (told : CAbout) : Type 0 where
 
 -- the seat stays there, and is told of
 pub record HasAbout (old : Joined) (after : SeatHandle) (told : CAbout) : Type 0 where
-  pub is : after.place.inside ≡ Some old
+  pub is : seat_in after.place.inside ≡ Some old
   pub tells : told ≡ about_of old
 
 abbrev pub IsAbout : SeatHandle → SeatHandle → CAbout → Type 0
-IsAbout before after told = MatchOption before.place.inside (LacksAbout before after told) (λ old. HasAbout old after told)
+IsAbout before after told = MatchOption (seat_in before.place.inside) (LacksAbout before after told) (λ old. HasAbout old after told)
 
 pub record HasSeen (old : Joined) (after : SeatHandle) (bucket : ℕ) (told : CAnswer) : Type 0 where
-  pub is : after.place.inside ≡ Some old
+  pub is : seat_in after.place.inside ≡ Some old
   pub tells : told ≡ seen_of old bucket
 
 abbrev pub IsSeen : SeatHandle → SeatHandle → ℕ → CAnswer → Type 0
-IsSeen before after bucket told = MatchOption before.place.inside (Lacks before after told) (λ old. HasSeen old after bucket told)
+IsSeen before after bucket told = MatchOption (seat_in before.place.inside) (Lacks before after told) (λ old. HasSeen old after bucket told)

@@ -12,7 +12,7 @@ use Rattle.wfe_c.specs.declared.joined.Joined.{Joined}
 
 -- the table that the seat is with
 abbrev pub table_of : Joined → TableNow
-table_of joined = arc_value joined.shared
+table_of joined = (arc_value joined.common).shared
 
 -- the seat made this call on its table, and was answered so
 pub record Makes (old new : Joined) (call : Call) (answer : Answer) : Type 0 where

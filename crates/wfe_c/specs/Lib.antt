@@ -1,10 +1,12 @@
 pub mod About
 pub mod Called
+pub mod Closing
 pub mod Handle
 pub mod Joined
 pub mod Lent
 pub mod Notes
 pub mod Opened
 pub mod Place
+pub mod Reading
 pub mod Setting
 pub mod Told

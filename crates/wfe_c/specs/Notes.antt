@@ -4,6 +4,7 @@ use Rattle.wfe_core.specs.Desks.{Notes}
 use Rattle.wfe_core.specs.defs.declared.lifetime.Lifetime.{Lifetime}
 use Rattle.wfe_c.specs.Called.{Lacks}
 use Rattle.wfe_c.specs.Handle.{lack}
+use Rattle.wfe_c.specs.Place.{seat_in}
 use Rattle.wfe_c.specs.Told.{says_at}
 use Rattle.wfe_c.specs.declared.answer.CAnswer.{CAnswer}
 use Rattle.wfe_c.specs.declared.handle.SeatHandle.{SeatHandle}
@@ -43,11 +44,11 @@ pub record LacksNotes (before after : SeatHandle) (told : CNotes) : Type 0 where
 
 -- the seat stays there, and its notes are told
 pub record HasNotes (old : Joined) (after : SeatHandle) (told : CNotes) : Type 0 where
-  pub is : after.place.inside ≡ Some old
+  pub is : seat_in after.place.inside ≡ Some old
   pub tells : told ≡ noted (last_notes old)
 
 abbrev pub IsNoted : SeatHandle → SeatHandle → CNotes → Type 0
-IsNoted before after told = MatchOption before.place.inside (LacksNotes before after told) (λ old. HasNotes old after told)
+IsNoted before after told = MatchOption (seat_in before.place.inside) (LacksNotes before after told) (λ old. HasNotes old after told)
 
 -- how many there were, and whether there was room
 abbrev pub backs_told : ℕ → ℕ → CAnswer
@@ -60,10 +61,10 @@ IsWritten backs slots written = take (min (length backs) (length slots)) written
 -- the slots that went back are written, as many as there is room for, and how many there were is told; the code says where there
 -- was too little room
 pub record HasBacks (old : Joined) (after : SeatHandle) (slots written : List ℕ) (told : CAnswer) : Type 0 where
-  pub is : after.place.inside ≡ Some old
+  pub is : seat_in after.place.inside ≡ Some old
   pub tells : told ≡ backs_told (length (last_notes old).back) (length slots)
   pub room : length written ≡ length slots
   pub first : IsWritten (last_notes old).back slots written
 
 abbrev pub TellsBacks : SeatHandle → SeatHandle → List ℕ → List ℕ → CAnswer → Type 0
-TellsBacks before after slots written told = MatchOption before.place.inside (Lacks before after told) (λ old. HasBacks old after slots written told)
+TellsBacks before after slots written told = MatchOption (seat_in before.place.inside) (Lacks before after told) (λ old. HasBacks old after slots written told)

@@ -5,6 +5,7 @@ use Rattle.wfe_core.specs.words.Place.{layout_of}
 use Rattle.wfe_core.specs.words.declared.config.Config.{Config}
 use Rattle.wfe_table.specs.Public.{TableNow}
 use Rattle.wfe_c.specs.Joined.{table_of}
+use Rattle.wfe_c.specs.Place.{seat_in}
 use Rattle.wfe_c.specs.declared.handle.SeatHandle.{SeatHandle}
 use Rattle.wfe_c.specs.declared.joined.Joined.{Joined}
 
@@ -18,5 +19,5 @@ IsSet config boxed = layout_of config ≡ Ok (table_of boxed.value).layout
 -- the handle has a seat of a table of this setting
 pub record IsSeated (config : Config) (handle : SeatHandle) : Type 0 where
   pub joined : Joined
-  pub inside : handle.place.inside ≡ Some joined
+  pub inside : seat_in handle.place.inside ≡ Some joined
   pub set : layout_of config ≡ Ok (table_of joined).layout

@@ -55,3 +55,9 @@ pub(crate) const BAD_LAST_ERA: u32 = 25;
 pub(crate) const BAD_LAST_VERSION: u32 = 26;
 
 pub(crate) const BAD_PAIRS: u32 = 27;
+// Another seat is with the table, which was to be closed; the table of the handle is closed; it is not.
+pub(crate) const NOT_LAST: u32 = 28;
+
+pub(crate) const CLOSED: u32 = 29;
+
+pub(crate) const NOT_CLOSED: u32 = 30;

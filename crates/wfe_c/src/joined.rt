@@ -3,25 +3,25 @@ ghost use Rattle.std.specs.Arc.{arc_value};
 ghost use Rattle.std.specs.Prelude.{◌≡◌};
 ghost use Rattle.wfe_table.specs.Public.{IsOf};
 
+use crate::common::Common;
 use std::alloc::Global;
 use std::sync::Arc;
-use wfe_table::{Seat, Shared};
+use wfe_table::Seat;
 
-// The table is shared by its seats, and its memory goes with the last of them. The seat comes first, so that it lies where the pointer
-// to both points.
+// The table is shared by its seats, and its memory goes with the last of them.
 #[derive(Drop)]
 pub struct Joined {
     pub(crate) seat: Seat,
-    pub(crate) shared: Arc<Shared, Global>,
-    ghost of: { IsOf seat (arc_value shared) },
+    pub(crate) common: Arc<Common, Global>,
+    ghost of: { IsOf seat (arc_value common).shared },
 }
 
 impl Joined {
-    pub(crate) fn new(shared: Arc<Shared, Global>, seat: Seat) -> Joined
-        requires of { IsOf seat (arc_value shared) }
-        ensures shared { result.shared ≡ shared }
+    pub(crate) fn new(common: Arc<Common, Global>, seat: Seat) -> Joined
+        requires of { IsOf seat (arc_value common).shared }
+        ensures common { result.common ≡ common }
         ensures seat { result.seat ≡ seat }
     {
-        Joined { seat, shared }
+        Joined { seat, common }
     }
 }

@@ -1,5 +1,6 @@
 // Calls on a seat that is with its table.
-ghost use Rattle.std.specs.Prelude.{◌≡◌, MatchOption, MatchResult, true};
+ghost use Rattle.std.specs.Prelude.{◌≡◌, IfSome, MatchOption, MatchResult, true};
+ghost use Rattle.wfe_c.specs.Closing.{IsEnded};
 ghost use Rattle.wfe_c.specs.Joined.{IsLeft, IsRefused, Makes, table_of};
 ghost use Rattle.wfe_core.specs.Locals.{may_begin, stays};
 ghost use Rattle.wfe_table.specs.Calls.{enqueue_answer};
@@ -7,15 +8,17 @@ ghost use Rattle.wfe_table.specs.history.defs.declared.call.Answer.TheVariants a
 ghost use Rattle.wfe_table.specs.history.defs.declared.call.Call.TheVariants as calls;
 
 use crate::joined::Joined;
+use std::alloc::Global;
+use std::sync::Arc;
 use wfe_table::{
-    AdoptEnd, Answer, Call, Config, Empty, EnqueueRefusal, Got, Queued, Taken, adopt, leave,
+    AdoptEnd, Answer, Call, Closed, Config, Empty, EnqueueRefusal, Got, Queued, Taken, adopt, leave,
 };
 
 impl Joined {
     pub(crate) fn config(&self) -> Config
         ensures { result ≡ (table_of self.now).layout.config }
     {
-        self.shared.layout().config()
+        self.common.shared.layout().config()
     }
 
     // Whether the table has the indexes and the place that the call names, and a copy goes upwards.
@@ -43,7 +46,7 @@ impl Joined {
         if !self.may(call) {
             return None;
         }
-        Some(self.shared.call(&mut self.seat, call))
+        Some(self.common.shared.call(&mut self.seat, call))
     }
 
     // A get, which has code of its own.
@@ -51,7 +54,7 @@ impl Joined {
     pub(crate) fn get(&mut self, key: u64) -> Got
         ensures { Makes self.old self.new (calls.Get key) (answers.Got result.version result.value) }
     {
-        self.shared.get(&mut self.seat, key)
+        self.common.shared.get(&mut self.seat, key)
     }
 
     #[inline(always)]
@@ -60,7 +63,7 @@ impl Joined {
             (λ queued. Makes self.old self.new (calls.Enqueue value) (answers.Queued queued.number))
             (λ refusal. Makes self.old self.new (calls.Enqueue value) (enqueue_answer refusal)) }
     {
-        self.shared.enqueue(&mut self.seat, value)
+        self.common.shared.enqueue(&mut self.seat, value)
     }
 
     #[inline(always)]
@@ -69,7 +72,7 @@ impl Joined {
             (λ taken. Makes self.old self.new calls.Dequeue (answers.Taken taken.number taken.value taken.clock))
             (λ _. Makes self.old self.new calls.Dequeue answers.Empty) }
     {
-        self.shared.dequeue(&mut self.seat)
+        self.common.shared.dequeue(&mut self.seat)
     }
 
     // Takes over the list that the seat of this number has left, if the table has that seat.
@@ -79,21 +82,42 @@ impl Joined {
         if !self.may(Call::Adopt { place }) {
             return None;
         }
-        Some(match adopt(&self.shared, &mut self.seat, place) {
+        Some(match adopt(&self.common.shared, &mut self.seat, place) {
             AdoptEnd::Adopted { count } => Answer::Adopted { count },
             AdoptEnd::NotLeft => Answer::NotLeft,
             AdoptEnd::AdoptedBefore => Answer::AdoptedBefore,
         })
     }
 
-    // Leaves, with so many rows on its list, and lets go of the table.
+    // Leaves, with so many rows on its list, and lets go of the table, which keeps what a close wants of it.
     pub(crate) fn leave(self) -> usize
         ensures { IsLeft self result }
     {
-        let Joined { seat, shared } = self;
-        let count = seat.list().len();
-        drop(leave(&shared, seat));
-        drop(shared);
+        let Joined { seat, common } = self;
+        let (count, number) = (seat.list().len(), seat.number());
+        let gone = leave(&common.shared, seat);
+        common.keep(number, gone);
+        drop(common);
         count
+    }
+
+    // Whether no other seat is with the table.
+    pub(crate) fn is_last(&self) -> bool {
+        Arc::strong_count(&self.common) == 1
+    }
+
+    // Ends the table and says what it holds, if memory for that is there. (No other seat is with it.)
+    pub(crate) fn close(self, alloc: Global) -> Option<Box<Closed>>
+        ensures { IfSome result (λ boxed. IsEnded (table_of self) self.seat boxed.value) }
+    {
+        let Joined { seat, common } = self;
+        let Ok(common) = Arc::try_unwrap(common) else {
+            return None;
+        };
+        let closed = common.end(alloc, seat)?;
+        match Box::new(alloc, closed) {
+            Ok(boxed) => Some(boxed),
+            Err(_) => None,
+        }
     }
 }

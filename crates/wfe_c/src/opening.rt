@@ -6,6 +6,7 @@ ghost use Rattle.wfe_c.specs.Setting.{config_of, scheme_number, scheme_of};
 ghost use Rattle.wfe_table.specs.Public.{IsOf};
 
 use crate::codes::{BAD_COUNT, BAD_SCHEME, IN_USE, NULL, OK};
+use crate::common::Common;
 use crate::handle::SeatHandle;
 use crate::joined::Joined;
 use crate::setting::{CSetting, refusal, scheme_of};
@@ -13,18 +14,26 @@ use std::alloc::{AllocError, Global};
 use std::sync::Arc;
 use wfe_table::{Config, MakeError, Seat, Shared, usual};
 
+// The table, where each of its seats finds it.
+fn shared_by_all(alloc: Global, shared: Shared) -> Result<Arc<Common, Global>, AllocError>
+    ensures { IfOk result (λ common. (arc_value common).shared ≡ shared) }
+{
+    let common = Common::new(alloc, shared)?;
+    Ok(Arc::new(alloc, common)?)
+}
+
 // The seats, each with the table.
 fn joined(
     alloc: Global,
-    shared: Arc<Shared, Global>,
+    common: Arc<Common, Global>,
     seats: Vec<Seat>,
 ) -> Result<Vec<Box<Joined>>, AllocError>
-    requires of { All (λ seat. IsOf seat (arc_value shared)) seats.items }
-    ensures { IfOk result (λ made. All (IsWith (arc_value shared)) made.items) }
+    requires of { All (λ seat. IsOf seat (arc_value common).shared) seats.items }
+    ensures { IfOk result (λ made. All (IsWith (arc_value common).shared) made.items) }
 {
     let mut made = Vec::with_capacity(alloc, seats.len())?;
     for seat in seats {
-        let own = Arc::try_clone(&shared)?;
+        let own = Arc::try_clone(&common)?;
         let joined = Joined::new(own, seat);
         let boxed = Box::new(alloc, joined)?;
         made.push(boxed)?;
@@ -40,19 +49,19 @@ fn opened(alloc: Global, config: Config) -> Result<Vec<Box<Joined>>, MakeError>
         Ok(made) => made,
         Err(error) => return Err(error),
     };
-    let Ok(shared) = Arc::new(alloc, shared) else {
+    let Ok(common) = shared_by_all(alloc, shared) else {
         return Err(MakeError::NoMemory);
     };
-    match joined(alloc, shared, seats) {
+    match joined(alloc, common, seats) {
         Ok(made) => Ok(made),
         Err(_) => Err(MakeError::NoMemory),
     }
 }
 
-// Whether one of the handles has a seat.
+// Whether one of the handles has a seat, or what a closed table held.
 fn in_use(seats: &[SeatHandle]) -> bool {
     for seat in seats {
-        if seat.has_seat() {
+        if seat.has_seat() || seat.is_closed() {
             return true;
         }
     }
@@ -71,7 +80,7 @@ fn seat_all(seats: &mut [SeatHandle], mut made: Vec<Box<Joined>>, _config: Confi
 }
 
 /// Makes a table of this setting, and puts its seats at C's pointer, in number order: as many handles as the setting has seats, none of
-/// which has one.
+/// which has one, or what a closed table held.
 #[unsafe(no_mangle)]
 pub extern "C" fn wfe_c_open(alloc: Global, setting: CSetting, seats: &mut [SeatHandle]) -> u32
     ensures seated { result ≡ 0 → IfSome (scheme_of setting.scheme) (λ scheme. All (IsSeated (config_of setting scheme)) seats.new) }

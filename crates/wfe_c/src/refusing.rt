@@ -1,13 +1,13 @@
-// What a call is answered on a handle that has no seat.
+// What a call is answered on a handle that lacks what it wants.
 ghost use Rattle.std.specs.Prelude.{◌≡◌};
-ghost use Rattle.wfe_c.specs.Handle.{lack};
+ghost use Rattle.wfe_c.specs.Handle.{lack, unclosed};
 ghost use Rattle.wfe_c.specs.Told.{says};
 
 use crate::answer::{CAnswer, says};
-use crate::codes::{HAS_LEFT, NO_SEAT, NULL};
-use crate::handle::{GONE, NOBODY, SeatHandle};
+use crate::codes::{CLOSED, HAS_LEFT, NO_SEAT, NOT_CLOSED, NULL};
+use crate::handle::{ENDED, GONE, NOBODY, SEAT, SeatHandle};
 
-// The code, by the handle's state.
+// The code of a handle without a seat, by its state.
 #[cold]
 #[inline(never)]
 pub(crate) fn lack(seat: &SeatHandle) -> u32
@@ -17,6 +17,8 @@ pub(crate) fn lack(seat: &SeatHandle) -> u32
         HAS_LEFT
     } else if seat.state == NOBODY {
         NULL
+    } else if seat.state == ENDED {
+        CLOSED
     } else {
         NO_SEAT
     }
@@ -28,4 +30,17 @@ pub(crate) fn refused(seat: &SeatHandle) -> CAnswer
     ensures { result ≡ says (lack seat.now.state) }
 {
     says(lack(seat))
+}
+
+// The code of one that has nothing of a closed table.
+#[cold]
+#[inline(never)]
+pub(crate) fn unclosed(seat: &SeatHandle) -> u32
+    ensures { result ≡ unclosed seat.now.state }
+{
+    if seat.state == SEAT {
+        NOT_CLOSED
+    } else {
+        lack(seat)
+    }
 }

@@ -1,12 +1,13 @@
 use Rattle.std.proofs.Common.{Some, ap, refl}
 use Rattle.wfe_table.specs.history.defs.declared.call.Answer.TheVariants as answers
 use Rattle.wfe_c.specs.Told.{answer_with}
+use Rattle.wfe_c.specs.Place.{seat_in}
 use Rattle.wfe_c.proofs.Handles.{by_some}
 use Rattle.wfe_c.proofs.calls.wfe_c_dequeue.Goals as goal
 
 pub returns-in-Ok : goal.returns-in-Ok
 returns-in-Ok c =
-    by_some _ _ c.args.seat.now.place.inside _ c.seat-joined.ensures.value (record {
+    by_some _ _ (seat_in c.args.seat.now.place.inside) _ (ap seat_in c.seat-joined.ensures.value) (record {
       new = _;
       is = refl;
       answer = Some (answers.Taken c.in-Ok.taken.number c.in-Ok.taken.value c.in-Ok.taken.clock);
@@ -16,7 +17,7 @@ returns-in-Ok c =
 
 pub returns-in-Err : goal.returns-in-Err
 returns-in-Err c =
-    by_some _ _ c.args.seat.now.place.inside _ c.seat-joined.ensures.value (record {
+    by_some _ _ (seat_in c.args.seat.now.place.inside) _ (ap seat_in c.seat-joined.ensures.value) (record {
       new = _;
       is = refl;
       answer = Some answers.Empty;

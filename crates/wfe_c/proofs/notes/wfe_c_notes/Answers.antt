@@ -1,6 +1,7 @@
-use Rattle.std.proofs.Common.{refl}
+use Rattle.std.proofs.Common.{ap, refl}
+use Rattle.wfe_c.specs.Place.{seat_in}
 use Rattle.wfe_c.proofs.Handles.{by_some}
 use Rattle.wfe_c.proofs.notes.wfe_c_notes.Goals as goal
 
 pub returns : goal.returns
-returns c = by_some _ _ c.args.seat.now.place.inside _ c.seat-joined.ensures.value (record { is = refl; tells = c.noted.ensures })
+returns c = by_some _ _ (seat_in c.args.seat.now.place.inside) _ (ap seat_in c.seat-joined.ensures.value) (record { is = refl; tells = c.noted.ensures })

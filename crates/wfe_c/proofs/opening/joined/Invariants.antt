@@ -5,4 +5,4 @@ use Rattle.wfe_c.specs.Opened.{IsWith}
 use Rattle.wfe_c.proofs.opening.joined.Given as goal
 
 abbrev pub invariant-loop-seat : goal.invariant-loop-seat
-invariant-loop-seat l = All (IsWith (arc_value l.fn.shared)) l.made.items
+invariant-loop-seat l = All (IsWith (arc_value l.fn.common).shared) l.made.items

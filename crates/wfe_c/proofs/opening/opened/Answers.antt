@@ -13,4 +13,5 @@ set_by table = Ok table.layout
 
 pub returns-in-Ok-joined : goal.returns-in-Ok-joined
 returns-in-Ok-joined c =
-    All-weaker (IsWith (arc_value c.in-Ok-new.shared)) (IsSet c.args.config) (λ boxed with. c.in-Ok.ensures.made.0 ∙ ap set_by (sym (with ∙ c.in-Ok-new.ensures.ok))) c.in-Ok-joined.made.items c.in-Ok-joined.ensures
+    let table : TableNow = (arc_value c.in-Ok-shared_by_all.common).shared in
+    All-weaker (IsWith table) (IsSet c.args.config) (λ boxed with. c.in-Ok.ensures.made.0 ∙ ap set_by (sym (with ∙ c.in-Ok-shared_by_all.ensures))) c.in-Ok-joined.made.items c.in-Ok-joined.ensures

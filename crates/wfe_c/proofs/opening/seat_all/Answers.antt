@@ -2,6 +2,7 @@ use Rattle.std.proofs.Common.{Some, [], ap, arith, length, length-append, rules,
 use Rattle.std.proofs.lemmas.List.{length-set}
 use Rattle.std.proofs.lemmas.List.Elements.{All-pop}
 use Rattle.wfe_c.specs.Opened.{IsSeated, IsSet}
+use Rattle.wfe_c.specs.Place.{seat_in}
 use Rattle.wfe_c.proofs.Seating.{seated_more}
 use Rattle.wfe_c.proofs.opening.seat_all.Goals as goal
 
@@ -18,7 +19,7 @@ loop-boxed-preserved c =
       most = omega (arith, i.most, count, length-set c.loop-boxed.seats c.len.result c.of.result);
       set = p.0;
       seated = λ k d low high.
-          seated_more (IsSeated c.args._config) c.loop-boxed.seats c.len.result c.of.result (omega (arith, i.most, count, c.len.ensures)) (record { joined = c.in-Some.boxed.value; inside = c.of.ensures.inside; set = p.1 })
+          seated_more (IsSeated c.args._config) c.loop-boxed.seats c.len.result c.of.result (omega (arith, i.most, count, c.len.ensures)) (record { joined = c.in-Some.boxed.value; inside = ap seat_in c.of.ensures.inside; set = p.1 })
           (λ n e from to. i.seated n e (omega (arith, from, count, c.len.ensures)) to) k d (omega (arith, low, c.len.ensures)) high;
     }
 

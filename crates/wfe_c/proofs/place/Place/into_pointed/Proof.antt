@@ -2,7 +2,7 @@
 use mathlib.Core.Path.{refl, sym, subst}
 use mathlib.Core.List.{List, [], ◌∷◌, ◌++◌}
 use seplogic.Ra.Ura.{Ura}
-use Rattle.std.specs.Prelude.{None, Option, Some, ◌≡◌, ◌≢◌}
+use Rattle.std.specs.Prelude.{None, Option, ◌≢◌}
 use mir.Val.{Val}
 use base.Logic.{SProp, ent, id⊢}
 use base.Fml.{ftrue, fsep}
@@ -25,17 +25,14 @@ use denote.Triple.Table.{entered}
 use denote.Triple.Walked.{says, Stays, stay_dropped, walk_of, ends_at, Goes-dropped, walk_Meets}
 use Rattle.std_alloc.proofs.BoxSteps.Form.{D, word, box_typed}
 use Rattle.std_alloc.proofs.BoxSteps.Steps.{box_out, box_in}
-use Rattle.wfe_c.proofs.AsBox.{E, FromPlace as From}
+use Rattle.wfe_c.proofs.AsBox.{E, FromPlace as From, the_seat}
+use Rattle.wfe_c.specs.Place.{seat_in}
+use Rattle.wfe_c.specs.declared.kept.Kept.{Kept}
 use Rattle.wfe_c.specs.contracts.place.Place as Place
 use Rattle.wfe_c.specs.contracts.place.Place.into_pointed as F
 use Rattle.wfe_c.specs.contracts.place.Place.into_pointed.Key.{name as #self}
 use Rattle.wfe_c.proofs.place.Place.into_pointed.Statement as stated
 use Rattle.wfe_c.proofs.place.Place.into_pointed.Code as code
-
--- what is there, where it is not nothing
-the_inside : {X : Type 0} (inside : Option X) → inside ≢ None → (x : X) × (inside ≡ Some x)
-the_inside None there = absurd (there refl)
-the_inside (Some x) there = (x, refl)
 
 abbrev stayed : Stays (F.ended).signature.params (F.ended).kept
 stayed = (stay_dropped From yes, tt)
@@ -48,12 +45,12 @@ module _ {M : Type 1} {𝓤 : Ura M} (𝓛 : Logic 𝓤) (at_mem : Memory → SP
   walk z =
       let Post = (walk_of 𝓛 F.ended stayed (F.clauses 𝓛 at_mem run)).post z in
       let place = z.0.3.0 in
-      qed 𝓛 ((‵ ftrue ⊛ ‵ (fsep (Place.the_row.own_val place z.0.4.0) ftrue)) ∷ raw (fact 𝓤 (place.inside ≢ None)) ∷ []) ∵ move ! (1 ∷ []) $ heard ! (place.inside ≢ None) (λ there.
-      let found = the_inside place.inside there in
+      qed 𝓛 ((‵ ftrue ⊛ ‵ (fsep (Place.the_row.own_val place z.0.4.0) ftrue)) ∷ raw (fact 𝓤 (seat_in place.inside ≢ None)) ∷ []) ∵ move ! (1 ∷ []) $ heard ! (seat_in place.inside ≢ None) (λ there.
+      let found = the_seat place.inside there in
       let v : D E = record { ptr = place.at; alloc = place.alloc; value = found.0 } in
       let To = type_at (F.signature).result tt in
       let made : To.Denot = record { at = v.ptr; alloc = v.alloc; value = v.value } in
-      split ! $ drop ! $ fsplit ! $ rewrite ! 0 (λ (inside : Option E.row.Denot). ‵ (Place.the_row.own_val (record place { inside = inside }) z.0.4.0)) found.1 refl $
+      split ! $ drop ! $ fsplit ! $ rewrite ! 0 (λ (inside : Option Kept). ‵ (Place.the_row.own_val (record place { inside = inside }) z.0.4.0)) found.1 refl $
       box_out E ! v z.0.4.0 (λ b o hv e ws fa. box_in E ! v b o v.value e refl $ use1 𝓛 (‵ (To.own_val made (word E hv b o ∷ []))) (id⊢ 𝓤 _) $ move ! (1 ∷ 2 ∷ []) $ drop ! $ drop ! $
       let w = word E hv b o in
       let Γ : List (Item 𝓤) = ‵ (To.own_val made (w ∷ [])) ∷ [] in

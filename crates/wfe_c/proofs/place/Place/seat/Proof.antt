@@ -38,9 +38,12 @@ use denote.Triple.Walked.{says, needs, Stays, stay_dropped, walk_of, ends_at, wa
 use Rattle.core.proofs.alloc.Calls.{token}
 use Rattle.std_alloc.proofs.BoxSteps.Form.{D, τ, handle, word}
 use Rattle.std_alloc.proofs.BoxSteps.Steps.{box_out, box_in}
-use Rattle.wfe_c.proofs.AsBox.{E}
+use Rattle.wfe_c.proofs.AsBox.{E, the_seat}
 use Rattle.wfe_c.specs.Lent.{with_seat}
 use Rattle.wfe_c.specs.declared.joined.Joined.{Joined as Seat}
+use Rattle.wfe_c.specs.Place.{seat_in}
+use Rattle.wfe_c.specs.declared.kept.Kept.{Kept}
+use Rattle.wfe_c.specs.declared.kept.Kept.TheVariants as kepts
 use Rattle.wfe_c.specs.declared.place.Place.{Place as Spot}
 use Rattle.wfe_c.specs.contracts.joined.Joined as Joined
 use Rattle.wfe_c.specs.contracts.place.Place as Place
@@ -48,11 +51,6 @@ use Rattle.wfe_c.specs.contracts.place.Place.seat as F
 use Rattle.wfe_c.specs.contracts.place.Place.seat.Key.{name as #self}
 use Rattle.wfe_c.proofs.place.Place.seat.Statement as stated
 use Rattle.wfe_c.proofs.place.Place.seat.Code as code
-
--- what is there, where it is not nothing
-the_inside : {X : Type 0} (inside : Option X) → inside ≢ None → (x : X) × (inside ≡ Some x)
-the_inside None there = absurd (there refl)
-the_inside (Some x) there = (x, refl)
 
 abbrev From : Slot 1
 From = plain (λ _. Place.the_row)
@@ -103,21 +101,21 @@ module _ {M : Type 1} {𝓤 : Ura M} (𝓛 : Logic 𝓤) (at_mem : Memory → SP
           box_in E ! (as_box w) b o w at_b refl $ use1 𝓛 (‵ (P.own_val (with_seat place w) (word E hv b o ∷ []))) (id⊢ 𝓤 _) $ move ! (1 ∷ 0 ∷ []) $ fjoin ! $
           fpack ! (List Val) (λ us. fsep (cell_at full_share P.mir us rb ro) (P.own_val (with_seat place w) us)) (word E hv b o ∷ []) $ done !
 
-      exits : (x : Seat) → place.inside ≡ Some x → (γ' : GName)
+      exits : (x : Seat) → place.inside ≡ Some (kepts.Seated x) → (γ' : GName)
           → ent 𝓤 (sep 𝓤 (sem 𝓛 ((MutRef (named 0) κ J).own_val (record { ref_ptr = (b, o); ghost_name = γ'; now = x }) (vptr b o ∷ []))) (sep 𝓤 (A.lft κ q) (sem 𝓛 (follows P J γ γ' (with_seat place))))) (Post (vptr b o))
       exits x is γ' =
           qed 𝓛 (‵ ((MutRef (named 0) κ J).own_val (record { ref_ptr = (b, o); ghost_name = γ'; now = x }) (vptr b o ∷ [])) ∷ ‵ (flft κ q) ∷ ‵ (follows P J γ γ' (with_seat place)) ∷ []) ∵
           suffices ! _ (ends_at 𝓛 F.ended stayed held bound (vptr b o) (record { ref_ptr = (b, o); ghost_name = γ'; now = x }) (tt, tt) (tt, tt)) $
           nothing ! $ nothing ! $ fjoin ! $ join ! $ nothing ! $ move ! (2 ∷ 0 ∷ []) $ join ! $ join ! $ frame ! $ says ! is $ done !
 
-    module _ (C : Calls 𝓤 H) (Λ : Loops 𝓤 H) (x : Seat) (is : place.inside ≡ Some x) where
+    module _ (C : Calls 𝓤 H) (Λ : Loops 𝓤 H) (x : Seat) (is : place.inside ≡ Some (kepts.Seated x)) where
       walk : ent 𝓤 (on_entry 𝓛 F.signature (κ, tt) (q, tt) (self, tt) (vptr rb ro ∷ [], tt)) (WpFn 𝓤 H C Λ code.function (vptr rb ro ∷ []) Post)
       walk =
           qed 𝓛 ((‵ (flft κ q) ⊛ ‵ ftrue) ∷ ‵ (owns (MutRef (named 0) κ P ∷ []) (self, tt) (vptr rb ro ∷ [], tt)) ∷ []) ∵
           enter ! C Λ code.function (vptr rb ro ∷ []) _ $ alloc_all ! (λ l. pass_all ! refl ((tt, tt), tt) $
           let En : Env 𝓤 H = env code.function.locals l in
           move ! (1 ∷ []) $ fsplit ! $ fsplit3 ! $ drop ! $ move ! (3 ∷ []) $ split ! $ move ! (2 ∷ 3 ∷ 0 ∷ []) $
-          opens ! tt P {h = place} rb ro (λ vs. move ! (1 ∷ []) $ rewrite ! 0 (λ (inside : Option Seat). ‵ (P.own_val (record place { inside = inside }) vs)) is refl $
+          opens ! tt P {h = place} rb ro (λ vs. move ! (1 ∷ []) $ rewrite ! 0 (λ (inside : Option Kept). ‵ (P.own_val (record place { inside = inside }) vs)) is refl $
           box_out E ! (as_box x) vs (λ b o hv e ws fa. rewrite ! 3 (λ (us : List Val). ‵ (cell_at full_share P.mir us rb ro)) ws refl $
           -- [the seat; the token; the handle; the place; the open borrow; obs; auth]
           first ! $ blocks ! $ sets ! (of_opd ! (load ! (through ! refl (fld ! refl (stop !))) (look_in ! 3 (sub ! 0 refl (whole !))))) refl (tt, tt) $ sets ! (of_opd ! (get ! refl)) refl (tt, tt) $
@@ -135,5 +133,5 @@ seat_spec 𝓤 𝓛 𝓜 𝓡 wired =
     entered 𝓤 𝓛.H (triple_of 𝓛 F.signature (F.spec 𝓛 𝓜.mem 𝓡.returns)) 𝓣.C 𝓣.Λ #self code.function (code.unfolded 𝓤 𝓛.H 𝓜 𝓡 wired)
     (walk_Meets 𝓛 F.ended stayed (Goes-spent_ref 𝓛 1 (0 ∷ []) tt From, tt) c (WpFn 𝓤 𝓛.H 𝓣.C 𝓣.Λ code.function) (WpFn-mono 𝓤 𝓛.H 𝓛.laws 𝓣 code.function)
     (walked 𝓛 F.ended stayed c (WpFn 𝓤 𝓛.H 𝓣.C 𝓣.Λ code.function) (λ κs. (mut_vals, tt)) (λ κs. (mut_Tells (named 0) κs.0 P, tt))
-    (λ κs qs bounds a g are. needs 𝓤 (a.0.now.inside ≢ None) _ (λ there. let found = the_inside a.0.now.inside there in
+    (λ κs qs bounds a g are. needs 𝓤 (seat_in a.0.now.inside ≢ None) _ (λ there. let found = the_seat a.0.now.inside there in
     walk 𝓛 𝓜.mem 𝓡.returns κs.0 qs.0 a.0.ref_ptr.0 a.0.ref_ptr.1 a.0.ghost_name a.0.now 𝓣.C 𝓣.Λ found.0 found.1))))
