@@ -297,13 +297,13 @@ static inline uint32_t wfe_end(wfe_seat *seat);
 
 /* ---- the exports ------------------------------------------------------------------------------------------------------------- */
 /* What libwfe_c.a defines: the same, but that no pointer is null. In place of a null goes a handle whose state says so, which the
- * exports test as they test each state; numbers come with how many there are; and the shortest calls answer their code, and the rest at a
- * pointer. */
+ * exports test as they test each state; numbers come with how many there are; and the shortest calls answer their code with a word, a get's value or
+ * an enqueue's number, or alone, and the rest at a pointer. */
 
-typedef struct wfe_got {
-    uint64_t number;
-    uint64_t value;
-} wfe_got;
+typedef struct wfe_coded {
+    uint32_t code;
+    uint64_t word;
+} wfe_coded;
 
 typedef struct wfe_taken {
     uint64_t number;
@@ -316,11 +316,11 @@ wfe_setting wfe_c_usual(uint32_t scheme, uint32_t threads, uint32_t keys);
 uint32_t wfe_c_open(wfe_setting setting, wfe_seat *seats, size_t count);
 wfe_answer wfe_c_leave(wfe_seat *seat);
 wfe_answer wfe_c_adopt(wfe_seat *seat, uint32_t place);
-uint32_t wfe_c_get(wfe_seat *seat, uint64_t key, wfe_got *got);
+wfe_coded wfe_c_get(wfe_seat *seat, uint64_t key, uint64_t *number);
 wfe_answer wfe_c_put(wfe_seat *seat, uint64_t key, uint64_t value);
 wfe_answer wfe_c_put_if(wfe_seat *seat, uint64_t key, uint64_t value, uint64_t version);
 wfe_answer wfe_c_remove(wfe_seat *seat, uint64_t key);
-uint32_t wfe_c_enqueue(wfe_seat *seat, uint64_t value, uint64_t *number);
+wfe_coded wfe_c_enqueue(wfe_seat *seat, uint64_t value);
 uint32_t wfe_c_dequeue(wfe_seat *seat, wfe_taken *taken);
 wfe_answer wfe_c_hold(wfe_seat *seat, uint64_t key);
 wfe_answer wfe_c_release(wfe_seat *seat);
@@ -365,15 +365,14 @@ static inline void wfe_move(wfe_seat *to, wfe_seat *from) {
 }
 /* these by their exports, as an answer */
 static inline wfe_answer wfe_by_get(wfe_seat *seat, uint64_t key) {
-    wfe_got got;
-    uint32_t code = wfe_c_get(seat, key, &got);
-    wfe_answer answer = { code, 0, 0, 0, got.number, got.value };
+    uint64_t number;
+    wfe_coded told = wfe_c_get(seat, key, &number);
+    wfe_answer answer = { told.code, 0, 0, 0, number, told.word };
     return answer;
 }
 static inline wfe_answer wfe_by_enqueue(wfe_seat *seat, uint64_t value) {
-    uint64_t number;
-    uint32_t code = wfe_c_enqueue(seat, value, &number);
-    wfe_answer answer = { code, 0, 0, 0, number, 0 };
+    wfe_coded told = wfe_c_enqueue(seat, value);
+    wfe_answer answer = { told.code, 0, 0, 0, told.word, 0 };
     return answer;
 }
 static inline wfe_answer wfe_by_dequeue(wfe_seat *seat) {

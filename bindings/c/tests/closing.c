@@ -1,5 +1,7 @@
 /* Four threads on one table leave it, and the last one closes it: what it reads then is compared with what the threads have counted.
  *
+ * Before that seats leave one by one on one thread, which tries to close the table in between.
+ *
  * Each thread counts one key up with all others, by puts at the version read; puts keys of its own, and takes some away; and queues
  * numbers, of which it takes some. So each bucket's version and keys are known at the end, each value in the queue, and how many rows
  * are in use. */
@@ -200,8 +202,25 @@ static int run(uint32_t scheme) {
     return 0;
 }
 
+/* Seats leave one after another: a close is refused until the last of the others has left, and then is not. */
+static int one_by_one(uint32_t scheme, int count) {
+    wfe_seat seats[THREADS] = { WFE_NO_SEAT };
+    uint32_t code = wfe_open(wfe_usual((enum wfe_scheme)scheme, (uint32_t)count, BUCKETS), seats, (size_t)count);
+    int line = code ? __LINE__ : 0;
+    for (int left = 1; left < count && !line; left++) {
+        if (wfe_close(&seats[0]) != WFE_NOT_LAST || wfe_put(&seats[0], COUNTER, (uint64_t)left).number != (uint64_t)left) line = __LINE__;
+        if (wfe_close(&seats[left]) != WFE_NOT_LAST || wfe_leave(&seats[left]).code != WFE_OK) line = __LINE__;
+    }
+    if (!line && (wfe_close(&seats[0]) != WFE_OK || wfe_close(&seats[0]) != WFE_CLOSED || wfe_end(&seats[0]) != WFE_OK)) line = __LINE__;
+    if (line) return fprintf(stderr, "scheme %u, %d seats: line %d: not as it is due\n", scheme, count, line), 1;
+    return 0;
+}
+
 int main(void) {
     int bad = 0;
-    for (uint32_t scheme = 0; scheme < 4; scheme++) bad |= run(scheme);
+    for (uint32_t scheme = 0; scheme < 4; scheme++) {
+        for (int count = 1; count <= THREADS; count++) bad |= one_by_one(scheme, count);
+        bad |= run(scheme);
+    }
     return bad;
 }

@@ -25,11 +25,11 @@ pub(crate) struct Answer {
     pub value: u64,
 }
 
-/// `wfe_got`.
+/// `wfe_coded`.
 #[repr(C)]
-pub(crate) struct GotTold {
-    pub number: u64,
-    pub value: u64,
+pub(crate) struct Coded {
+    pub code: u32,
+    pub word: u64,
 }
 
 /// `wfe_taken`.
@@ -97,11 +97,11 @@ extern "C" {
     fn wfe_c_open(setting: Setting, seats: *mut Handle, count: usize) -> u32;
     fn wfe_c_leave(seat: *mut Handle) -> Answer;
     fn wfe_c_adopt(seat: *mut Handle, place: u32) -> Answer;
-    fn wfe_c_get(seat: *mut Handle, key: u64, got: *mut GotTold) -> u32;
+    fn wfe_c_get(seat: *mut Handle, key: u64, number: *mut u64) -> Coded;
     fn wfe_c_put(seat: *mut Handle, key: u64, value: u64) -> Answer;
     fn wfe_c_put_if(seat: *mut Handle, key: u64, value: u64, version: u64) -> Answer;
     fn wfe_c_remove(seat: *mut Handle, key: u64) -> Answer;
-    fn wfe_c_enqueue(seat: *mut Handle, value: u64, number: *mut u64) -> u32;
+    fn wfe_c_enqueue(seat: *mut Handle, value: u64) -> Coded;
     fn wfe_c_dequeue(seat: *mut Handle, taken: *mut TakenTold) -> u32;
     fn wfe_c_hold(seat: *mut Handle, key: u64) -> Answer;
     fn wfe_c_release(seat: *mut Handle) -> Answer;
@@ -166,6 +166,7 @@ calls! {
     wfe_c_put put(key: u64, value: u64) -> Answer;
     wfe_c_put_if put_if(key: u64, value: u64, version: u64) -> Answer;
     wfe_c_remove remove(key: u64) -> Answer;
+    wfe_c_enqueue enqueue(value: u64) -> Coded;
     wfe_c_hold hold(key: u64) -> Answer;
     wfe_c_release release() -> Answer;
     wfe_c_copy copy(from: u32, index: u32) -> Answer;
@@ -186,11 +187,11 @@ calls! {
 }
 
 macro_rules! told_calls {
-    ($($export:ident $name:ident($($argument:ident: $kind:ty),*) -> $told:ty;)*) => {
+    ($($export:ident $name:ident($($argument:ident: $kind:ty),*) -> $code:ty, $told:ty;)*) => {
         impl Handle {
             $(
                 #[inline]
-                pub(crate) fn $name(&mut self, $($argument: $kind),*) -> (u32, $told) {
+                pub(crate) fn $name(&mut self, $($argument: $kind),*) -> ($code, $told) {
                     let mut told = MaybeUninit::<$told>::uninit();
                     // SAFETY: as of the calls above, and there is room at the pointer, which this call alone uses. The export writes all
                     // of it, whatever it answers.
@@ -202,9 +203,8 @@ macro_rules! told_calls {
 }
 
 told_calls! {
-    wfe_c_get get(key: u64) -> GotTold;
-    wfe_c_enqueue enqueue(value: u64) -> u64;
-    wfe_c_dequeue dequeue() -> TakenTold;
+    wfe_c_get get(key: u64) -> Coded, u64;
+    wfe_c_dequeue dequeue() -> u32, TakenTold;
 }
 
 impl Handle {
@@ -218,6 +218,6 @@ impl Handle {
 
 const _: () = {
     assert!(size_of::<Handle>() == 128 && offset_of!(Handle, state) == 56 && offset_of!(Handle, at) == 64);
-    assert!(size_of::<Answer>() == 32 && size_of::<NotesTold>() == 40 && size_of::<GotTold>() == 16 && size_of::<TakenTold>() == 24);
+    assert!(size_of::<Answer>() == 32 && size_of::<NotesTold>() == 40 && size_of::<Coded>() == 16 && size_of::<TakenTold>() == 24);
     assert!(size_of::<Setting>() == 48 && size_of::<AboutTold>() == 64 && size_of::<ClosedTold>() == 32);
 };

@@ -161,8 +161,8 @@ impl Seat {
     /// `3 * tries + 18 + pairs` steps.
     #[inline]
     pub fn get(&mut self, key: u64) -> Got {
-        let (code, told) = self.handle.get(key);
-        Got { version: told.number, value: (code == OK).then_some(told.value) }
+        let (told, version) = self.handle.get(key);
+        Got { version, value: (told.code == OK).then_some(told.word) }
     }
 
     /// Gives the key this value.
@@ -208,11 +208,11 @@ impl Seat {
     /// Puts a value at the queue's end.
     #[inline]
     pub fn enqueue(&mut self, value: u64) -> Result<Queued, EnqueueError> {
-        let (code, number) = self.handle.enqueue(value);
-        match code {
-            OK => Ok(Queued { number }),
+        let told = self.handle.enqueue(value);
+        match told.code {
+            OK => Ok(Queued { number: told.word }),
             FULL => Err(EnqueueError::Full),
-            SPENT => Err(EnqueueError::Spent { number }),
+            SPENT => Err(EnqueueError::Spent { number: told.word }),
             code => unreachable!("code {code} of an enqueue"),
         }
     }

@@ -1,3 +1,4 @@
 mod AsBox
+mod Counting
 mod Handles
 mod Seating

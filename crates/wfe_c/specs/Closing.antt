@@ -1,5 +1,5 @@
 -- What becomes of a table that is to be closed, and of the handle of its seat.
-use Rattle.std.specs.Prelude.{Err, List, MatchOption, None, Ok, Option, Result, Some, map, ℕ, ◌∷◌, ◌≡◌}
+use Rattle.std.specs.Prelude.{Err, List, MatchOption, None, Ok, Option, Result, Some, map, ℕ, ◌-◌, ◌<◌, ◌∷◌, ◌≡◌}
 use Rattle.wfe_table.specs.Closing.{IsLeft, track_of}
 use Rattle.wfe_table.specs.Public.{SeatNow, TableNow}
 use Rattle.wfe_table_end.specs.declared.closed.Closed.{Closed}
@@ -14,6 +14,16 @@ pub record IsEnded (table : TableNow) (seat : SeatNow) (closed : Closed) : Type 
   pub gone : List SeatNow
   pub left : IsLeft table.layout (map track_of (seat ∷ gone)) closed
 
+-- how many other seats the table of this one has
+abbrev pub others_of : Joined → ℕ
+others_of joined = (table_of joined).layout.config.seats - 1
+
+-- the seat has looked, and found that so many were gone; all else of it is as it was
+pub record HasLooked (old new : Joined) (gone : ℕ) : Type 0 where
+  pub same : new ≡ record old { member = new.member }
+  pub tally : new.member.tally ≡ old.member.tally
+  pub found : new.member.looks.me.0 ≡ gone ∷ old.member.looks.me.0
+
 -- by the code: the table is closed, or another seat is with it, or memory ran out
 abbrev pub close_code : Result Closed (Option Joined) → ℕ
 close_code (Ok closed) = 0
@@ -25,10 +35,12 @@ pub record HasClosed (old : Joined) (after : SeatHandle) (closed : Closed) : Typ
   pub is : closed_in after.place.inside ≡ Some closed
   pub ended : IsEnded (table_of old) old.seat closed
 
--- the handle has the seat still
+-- the handle has the seat still, which has looked, and found fewer seats gone than there are others
 pub record HasStayed (old : Joined) (after : SeatHandle) (new : Joined) : Type 0 where
   pub is : seat_in after.place.inside ≡ Some new
-  pub same : new ≡ old
+  pub gone : ℕ
+  pub looked : HasLooked old new gone
+  pub others : gone < others_of old
 
 -- nothing is there any more, as after a leave
 pub record IsWithout (after : SeatHandle) : Type 0 where

@@ -9,4 +9,5 @@ pub mod Opened
 pub mod Place
 pub mod Reading
 pub mod Setting
+pub mod Tally
 pub mod Told

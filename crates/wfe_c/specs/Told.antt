@@ -4,8 +4,9 @@ use Rattle.wfe_table.specs.history.defs.declared.call.Answer.{Answer}
 use Rattle.wfe_table.specs.history.defs.declared.call.Answer.TheVariants as answers
 use Rattle.wfe_table.specs.history.defs.declared.call.ClockMove.{ClockMove}
 use Rattle.wfe_table.specs.history.defs.declared.call.ClockMove.TheVariants as moves
+use Rattle.wfe_table_end.specs.declared.answers.Taken.{Taken}
 use Rattle.wfe_c.specs.declared.answer.CAnswer.{CAnswer}
-use Rattle.wfe_c.specs.declared.answer.CGot.{CGot}
+use Rattle.wfe_c.specs.declared.answer.CCoded.{CCoded}
 use Rattle.wfe_c.specs.declared.answer.CTaken.{CTaken}
 
 -- a code alone; and with a version or a number
@@ -15,9 +16,13 @@ says code = record { code = code; clock = 0; era = 0; slot = 0; number = 0; valu
 abbrev pub says_at : ℕ → ℕ → CAnswer
 says_at code number = record (says code) { number = number }
 
--- of a get, in two parts
-abbrev pub answer_of : ℕ → CGot → CAnswer
-answer_of code got = record { code = code; clock = 0; era = 0; slot = 0; number = got.number; value = got.value }
+-- of a get, its code with the value, and the version
+abbrev pub answer_of : CCoded → ℕ → CAnswer
+answer_of told number = record { code = told.code; clock = 0; era = 0; slot = 0; number = number; value = told.word }
+
+-- of an enqueue, its code with the number
+abbrev pub answer_at : CCoded → CAnswer
+answer_at told = says_at told.code told.word
 
 -- and of a dequeue
 abbrev pub answer_with : ℕ → CTaken → CAnswer
@@ -37,6 +42,9 @@ clock_era moves.Still = 0
 clock_era (moves.Moved era) = era
 clock_era (moves.Other seen) = seen
 clock_era (moves.EraSpent era) = era
+
+abbrev pub taken_told : Taken → CTaken
+taken_told taken = record { number = taken.number; value = taken.value; clock = clock_kind taken.clock; era = clock_era taken.clock }
 
 abbrev pub told_of : Answer → CAnswer
 told_of (answers.Got version (Some value)) = record (says_at 0 version) { value = value }

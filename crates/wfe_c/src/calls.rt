@@ -1,15 +1,18 @@
 // The calls on a seat.
 ghost use Rattle.std.specs.Prelude.{◌≡◌, true};
 ghost use Rattle.wfe_c.specs.Called.{IsCalled, tell};
-ghost use Rattle.wfe_c.specs.Told.{answer_of, answer_with, says_at};
+ghost use Rattle.wfe_c.specs.Told.{answer_at, answer_of, answer_with};
 ghost use Rattle.wfe_core.specs.Locals.{stays};
 ghost use Rattle.wfe_table.specs.history.defs.declared.call.Call.TheVariants as calls;
 
-use crate::answer::{CAnswer, CGot, CTaken, clock_era, clock_kind, nothing_taken, says, told_by};
-use crate::codes::{ABSENT, BAD_INDEX, EMPTY, FULL, OK, SPENT};
+use crate::answer::{
+    CAnswer, CCoded, CTaken, absent, done_at, empty, enqueue_answer, nothing_taken, put_answer,
+    says, tell_taken, told_by,
+};
+use crate::codes::{BAD_INDEX, OK};
 use crate::handle::SeatHandle;
-use crate::refusing::{lack, refused};
-use wfe_table::{Answer, Call, EnqueueRefusal};
+use crate::refusing::{lack, lacking, refused};
+use wfe_table::{Answer, Call};
 
 #[inline(always)]
 fn tell(call: Call, answer: Option<Answer>) -> CAnswer
@@ -34,30 +37,26 @@ fn make(seat: &mut SeatHandle, call: Call) -> CAnswer
     tell(call, answer)
 }
 
-/// The key's value, at a version that its bucket had during the call: the code, and the rest where it is to go.
+/// The key's value, at a version that its bucket had during the call: the code with the value, and the version where it is to go.
 #[unsafe(no_mangle)]
-pub extern "C" fn wfe_c_get(seat: &mut SeatHandle, key: u64, got: &mut CGot) -> u32
-    ensures { IsCalled seat.old seat.new (calls.Get key) (answer_of result got.new) }
+pub extern "C" fn wfe_c_get(seat: &mut SeatHandle, key: u64, number: &mut u64) -> CCoded
+    ensures { IsCalled seat.old seat.new (calls.Get key) (answer_of result number.new) }
 {
     if !seat.has_seat() {
-        *got = CGot {
-            number: 0,
-            value: 0,
-        };
-        return lack(seat);
+        *number = 0;
+        return lacking(seat);
     }
     let joined = seat.place.seat();
     let read = joined.get(key);
-    got.number = read.version;
     match read.value {
         Some(value) => {
-            got.value = value;
-            OK
+            *number = read.version;
+            CCoded {
+                code: OK,
+                word: value,
+            }
         }
-        None => {
-            got.value = 0;
-            ABSENT
-        }
+        None => absent(read.version, number),
     }
 }
 
@@ -66,7 +65,14 @@ pub extern "C" fn wfe_c_get(seat: &mut SeatHandle, key: u64, got: &mut CGot) -> 
 pub extern "C" fn wfe_c_put(seat: &mut SeatHandle, key: u64, value: u64) -> CAnswer
     ensures { IsCalled seat.old seat.new (calls.Put key value) result }
 {
-    make(seat, Call::Put { key, value })
+    if !seat.has_seat() {
+        return refused(seat);
+    }
+    let joined = seat.place.seat();
+    match joined.put(key, value) {
+        Ok(done) => done_at(done.version, done.clock),
+        Err(refusal) => put_answer(refusal),
+    }
 }
 
 /// Gives the key this value where its bucket is at this version.
@@ -92,29 +98,21 @@ pub extern "C" fn wfe_c_remove(seat: &mut SeatHandle, key: u64) -> CAnswer
     make(seat, Call::Remove { key })
 }
 
-/// Puts a value at the queue's end: the code, and the value's number where it is to go.
+/// Puts a value at the queue's end: the code with the value's number.
 #[unsafe(no_mangle)]
-pub extern "C" fn wfe_c_enqueue(seat: &mut SeatHandle, value: u64, number: &mut u64) -> u32
-    ensures { IsCalled seat.old seat.new (calls.Enqueue value) (says_at result number.new) }
+pub extern "C" fn wfe_c_enqueue(seat: &mut SeatHandle, value: u64) -> CCoded
+    ensures { IsCalled seat.old seat.new (calls.Enqueue value) (answer_at result) }
 {
     if !seat.has_seat() {
-        *number = 0;
-        return lack(seat);
+        return lacking(seat);
     }
     let joined = seat.place.seat();
     match joined.enqueue(value) {
-        Ok(queued) => {
-            *number = queued.number;
-            OK
-        }
-        Err(EnqueueRefusal::Full) => {
-            *number = 0;
-            FULL
-        }
-        Err(EnqueueRefusal::Spent { number: last }) => {
-            *number = last;
-            SPENT
-        }
+        Ok(queued) => CCoded {
+            code: OK,
+            word: queued.number,
+        },
+        Err(refusal) => enqueue_answer(refusal),
     }
 }
 
@@ -130,16 +128,10 @@ pub extern "C" fn wfe_c_dequeue(seat: &mut SeatHandle, told: &mut CTaken) -> u32
     let joined = seat.place.seat();
     match joined.dequeue() {
         Ok(taken) => {
-            told.number = taken.number;
-            told.value = taken.value;
-            told.clock = clock_kind(taken.clock);
-            told.era = clock_era(taken.clock);
+            tell_taken(taken, told);
             OK
         }
-        Err(_) => {
-            *told = nothing_taken();
-            EMPTY
-        }
+        Err(_) => empty(told),
     }
 }
 

@@ -18,7 +18,9 @@ pub extern "C" fn wfe_c_close(alloc: Global, seat: &mut SeatHandle) -> u32
         return lack(seat);
     }
     let joined = seat.place.seat();
-    if !joined.is_last() {
+    let others = joined.others();
+    let gone = joined.look();
+    if gone < others {
         return NOT_LAST;
     }
     let left = replace(seat, SeatHandle::without(alloc, GONE));

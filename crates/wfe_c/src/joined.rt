@@ -4,6 +4,7 @@ ghost use Rattle.std.specs.Prelude.{◌≡◌};
 ghost use Rattle.wfe_table.specs.Public.{IsOf};
 
 use crate::common::Common;
+use crate::tally::Member;
 use std::alloc::Global;
 use std::sync::Arc;
 use wfe_table::Seat;
@@ -13,15 +14,20 @@ use wfe_table::Seat;
 pub struct Joined {
     pub(crate) seat: Seat,
     pub(crate) common: Arc<Common, Global>,
+    pub(crate) member: Member,
     ghost of: { IsOf seat (arc_value common).shared },
 }
 
 impl Joined {
-    pub(crate) fn new(common: Arc<Common, Global>, seat: Seat) -> Joined
+    pub(crate) fn new(common: Arc<Common, Global>, member: Member, seat: Seat) -> Joined
         requires of { IsOf seat (arc_value common).shared }
         ensures common { result.common ≡ common }
         ensures seat { result.seat ≡ seat }
     {
-        Joined { seat, common }
+        Joined {
+            seat,
+            common,
+            member,
+        }
     }
 }

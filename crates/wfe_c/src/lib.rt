@@ -22,3 +22,4 @@ mod pointed;
 mod reading;
 mod refusing;
 mod setting;
+mod tally;

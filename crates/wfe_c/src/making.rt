@@ -1,9 +1,9 @@
 // Calls on a seat that is with its table.
 ghost use Rattle.std.specs.Prelude.{◌≡◌, IfSome, MatchOption, MatchResult, true};
-ghost use Rattle.wfe_c.specs.Closing.{IsEnded};
+ghost use Rattle.wfe_c.specs.Closing.{HasLooked, IsEnded, others_of};
 ghost use Rattle.wfe_c.specs.Joined.{IsLeft, IsRefused, Makes, table_of};
 ghost use Rattle.wfe_core.specs.Locals.{may_begin, stays};
-ghost use Rattle.wfe_table.specs.Calls.{enqueue_answer};
+ghost use Rattle.wfe_table.specs.Calls.{enqueue_answer, put_answer};
 ghost use Rattle.wfe_table.specs.history.defs.declared.call.Answer.TheVariants as answers;
 ghost use Rattle.wfe_table.specs.history.defs.declared.call.Call.TheVariants as calls;
 
@@ -11,7 +11,8 @@ use crate::joined::Joined;
 use std::alloc::Global;
 use std::sync::Arc;
 use wfe_table::{
-    AdoptEnd, Answer, Call, Closed, Config, Empty, EnqueueRefusal, Got, Queued, Taken, adopt, leave,
+    AdoptEnd, Answer, Call, Closed, Config, Done, Empty, EnqueueRefusal, Got, PutRefusal, Queued,
+    Taken, adopt, leave,
 };
 
 impl Joined {
@@ -57,6 +58,16 @@ impl Joined {
         self.common.shared.get(&mut self.seat, key)
     }
 
+    // A put, an enqueue and a dequeue have code of their own too.
+    #[inline(always)]
+    pub(crate) fn put(&mut self, key: u64, value: u64) -> Result<Done, PutRefusal>
+        ensures { MatchResult result
+            (λ done. Makes self.old self.new (calls.Put key value) (answers.Done done.version done.clock))
+            (λ refusal. Makes self.old self.new (calls.Put key value) (put_answer refusal)) }
+    {
+        self.common.shared.put(&mut self.seat, key, value)
+    }
+
     #[inline(always)]
     pub(crate) fn enqueue(&mut self, value: u64) -> Result<Queued, EnqueueRefusal>
         ensures { MatchResult result
@@ -89,28 +100,47 @@ impl Joined {
         })
     }
 
-    // Leaves, with so many rows on its list, and lets go of the table, which keeps what a close wants of it.
+    // Leaves, with so many rows on its list, and lets go of the table, which keeps what a close wants of it. Then it is counted as gone.
     pub(crate) fn leave(self) -> usize
         ensures { IsLeft self result }
     {
-        let Joined { seat, common } = self;
+        let Joined {
+            seat,
+            common,
+            member,
+        } = self;
         let (count, number) = (seat.list().len(), seat.number());
         let gone = leave(&common.shared, seat);
         common.keep(number, gone);
         drop(common);
+        member.count();
         count
     }
 
-    // Whether no other seat is with the table.
-    pub(crate) fn is_last(&self) -> bool {
-        Arc::strong_count(&self.common) == 1
+    // How many other seats the table has.
+    pub(crate) fn others(&self) -> u64
+        ensures { result ≡ others_of self.now }
+    {
+        u64::from(self.config().seats.saturating_sub(1))
     }
 
-    // Ends the table and says what it holds, if memory for that is there. (No other seat is with it.)
+    // How many of them have let go of it.
+    pub(crate) fn look(&mut self) -> u64
+        ensures { HasLooked self.old self.new result }
+    {
+        self.member.look()
+    }
+
+    // Ends the table and says what it holds, if memory for that is there. All other seats have let go of the table, so the `Arc` has no
+    // other owner.
     pub(crate) fn close(self, alloc: Global) -> Option<Box<Closed>>
         ensures { IfSome result (λ boxed. IsEnded (table_of self) self.seat boxed.value) }
     {
-        let Joined { seat, common } = self;
+        let Joined {
+            seat,
+            common,
+            member: _,
+        } = self;
         let Ok(common) = Arc::try_unwrap(common) else {
             return None;
         };

@@ -10,6 +10,7 @@ use crate::common::Common;
 use crate::handle::SeatHandle;
 use crate::joined::Joined;
 use crate::setting::{CSetting, refusal, scheme_of};
+use crate::tally::Member;
 use std::alloc::{AllocError, Global};
 use std::sync::Arc;
 use wfe_table::{Config, MakeError, Seat, Shared, usual};
@@ -22,7 +23,7 @@ fn shared_by_all(alloc: Global, shared: Shared) -> Result<Arc<Common, Global>, A
     Ok(Arc::new(alloc, common)?)
 }
 
-// The seats, each with the table.
+// The seats, each with the table, and with a part in its tally.
 fn joined(
     alloc: Global,
     common: Arc<Common, Global>,
@@ -31,10 +32,12 @@ fn joined(
     requires of { All (λ seat. IsOf seat (arc_value common).shared) seats.items }
     ensures { IfOk result (λ made. All (IsWith (arc_value common).shared) made.items) }
 {
+    let first = Member::new(alloc)?;
     let mut made = Vec::with_capacity(alloc, seats.len())?;
     for seat in seats {
         let own = Arc::try_clone(&common)?;
-        let joined = Joined::new(own, seat);
+        let member = first.another()?;
+        let joined = Joined::new(own, member, seat);
         let boxed = Box::new(alloc, joined)?;
         made.push(boxed)?;
     }

@@ -3,7 +3,7 @@ ghost use Rattle.std.specs.Prelude.{◌≡◌};
 ghost use Rattle.wfe_c.specs.Handle.{lack, unclosed};
 ghost use Rattle.wfe_c.specs.Told.{says};
 
-use crate::answer::{CAnswer, says};
+use crate::answer::{CAnswer, CCoded, says};
 use crate::codes::{CLOSED, HAS_LEFT, NO_SEAT, NOT_CLOSED, NULL};
 use crate::handle::{ENDED, GONE, NOBODY, SEAT, SeatHandle};
 
@@ -21,6 +21,18 @@ pub(crate) fn lack(seat: &SeatHandle) -> u32
         CLOSED
     } else {
         NO_SEAT
+    }
+}
+
+// The same with a word, which is 0.
+#[cold]
+#[inline(never)]
+pub(crate) fn lacking(seat: &SeatHandle) -> CCoded
+    ensures { result ≡ record { code = lack seat.now.state; word = 0 } }
+{
+    CCoded {
+        code: lack(seat),
+        word: 0,
     }
 }
 

@@ -12,7 +12,7 @@ returns-in-Ok c =
       is = refl;
       answer = Some (answers.Taken c.in-Ok.taken.number c.in-Ok.taken.value c.in-Ok.taken.clock);
       came = c.in-Ok.ensures;
-      tells = λ i. answer_with 0 (record { number = c.in-Ok.taken.number; value = c.in-Ok.taken.value; clock = c.clock_kind-told.ensures i; era = c.clock_era-told.ensures i });
+      tells = ap (answer_with 0) c.tell_taken.ensures;
     })
 
 pub returns-in-Err : goal.returns-in-Err
@@ -22,5 +22,5 @@ returns-in-Err c =
       is = refl;
       answer = Some answers.Empty;
       came = c.in-Err.ensures;
-      tells = ap (answer_with 10) c.nothing_taken-in-Err.ensures;
+      tells = λ i. answer_with (c.empty.ensures.code i) (c.empty.ensures.told i);
     })
