@@ -8,8 +8,8 @@ use Rattle.wfe_core.specs.defs.declared.call.Call.TheVariants as calls
 use Rattle.wfe_core.specs.words.declared.layout.Layout.{Layout}
 use Rattle.wfe_table.specs.Calls.{IsMade}
 use Rattle.wfe_table.specs.Public.{SeatNow, TableNow}
-use Rattle.wfe_cells.proofs.Among.{queues_by}
-use Rattle.wfe_cells.specs.Reasons.{IsNew, IsQuiet, KeepsBlocks, block_named, queued_by, queues}
+use Rattle.wfe_cells.proofs.Among.{queues_by, takes_by}
+use Rattle.wfe_cells.specs.Reasons.{IsNew, IsQuiet, KeepsBlocks, block_named, queued_by, queues, taken_by, takes}
 use Rattle.wfe_cells.specs.Stores.{is_object}
 use Rattle.wfe_cells.specs.Wide.{block_of}
 use Rattle.wfe_cells.specs.declared.wide.WideUser.{WideUser}
@@ -64,6 +64,14 @@ queued_other layout old mid new block number other made left least =
     let none : is_object other (Some block) ≡ 0 = apart_zero other block (omega arith) in
     omega (arith, queues_by layout mid new (calls.Enqueue block) (answers.Queued number) other made, none, left other (omega arith))
 
+pub queued_before : (layout : Layout) (old mid new : SeatNow) (first block number other : ℕ) → IsMade layout mid new (calls.Enqueue block) (answers.Queued number) → ((b : ℕ) → b < first → queues b mid ≡ queues b old) → first ≤ block → other < first → queues other new ≡ queues other old
+queued_before layout old mid new first block number other made before least below =
+    let none : is_object other (Some block) ≡ 0 = apart_zero other block (omega arith) in
+    omega (arith, queues_by layout mid new (calls.Enqueue block) (answers.Queued number) other made, none, before other below)
+
+pub taken_none : (layout : Layout) (old mid new : SeatNow) (block number other : ℕ) → IsMade layout mid new (calls.Enqueue block) (answers.Queued number) → takes other mid ≡ takes other old → takes other new ≡ takes other old
+taken_none layout old mid new block number other made same = omega (arith, takes_by layout mid new (calls.Enqueue block) (answers.Queued number) other made, same)
+
 pub queued_more : (layout : Layout) (old mid new : SeatNow) (first block number other : ℕ) → IsMade layout mid new (calls.Enqueue block) (answers.Queued number) → ((b : ℕ) → first ≤ b → b < block → queues b mid ≡ queues b old + 1) → ((b : ℕ) → block ≤ b → queues b mid ≡ queues b old)
     → first ≤ other → other < block + 1 → queues other new ≡ queues other old + 1
 queued_more layout old mid new first block number other made done left least most = by (block == other) refl
@@ -81,3 +89,7 @@ queued_more layout old mid new first block number other made done left least mos
 -- a seat that has made no call has queued none
 pub new_queues : (shared : TableNow) (seat : SeatNow) (block : ℕ) → IsNew shared seat → queues block seat ≡ 0
 new_queues shared seat block new = ap (λ (log : List Group). sum_by (queued_by block) log) new.log
+
+-- nor taken one
+pub new_takes : (shared : TableNow) (seat : SeatNow) (block : ℕ) → IsNew shared seat → takes block seat ≡ 0
+new_takes shared seat block new = ap (λ (log : List Group). sum_by (taken_by block) log) new.log

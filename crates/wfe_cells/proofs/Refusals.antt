@@ -1,5 +1,5 @@
 -- Why a load shows nothing, and why a cell is not changed.
-use Rattle.std.proofs.Common.{List, None, Option, Some, [], ap, arith, length, refl, subst, sym, true, ℕ, ◌*◌, ◌+◌, ◌<◌, ◌∙◌, ◌≡◌, ◌≢◌, ◌≤◌, ◌⊎◌, inl, inr, mul_comm}
+use Rattle.std.proofs.Common.{List, None, Option, Some, [], ap, arith, length, refl, subst, sym, true, ℕ, ◌*◌, ◌+◌, ◌<◌, ◌∙◌, ◌∷◌, ◌≡◌, ◌≢◌, ◌≤◌, ◌⊎◌, inl, inr, mul_comm}
 use Rattle.std.proofs.lemmas.Nat.{mul-add-lt}
 use Rattle.std.specs.Prelude.{IfSome, slice_index_or, ◌==◌, ◌^◌}
 use Rattle.law_all.proofs.laws.records.defs.Facts.{false_by, number_is}
@@ -14,15 +14,15 @@ use Rattle.wfe_table.specs.Public.{SeatNow}
 use Rattle.wfe_table.specs.all.Logs.Answered.{IsMet, IsStale}
 use Rattle.wfe_table.specs.all.Logs.Versions.{counts_of}
 use Rattle.wfe_table.specs.all.laws.StructuresAt.{bucket_of}
-use Rattle.wfe_table.specs.history.History.{record_of}
+use Rattle.wfe_table.specs.history.History.{Item, record_of}
 use Rattle.wfe_table_end.specs.declared.refusals.EnqueueRefusal.{EnqueueRefusal}
 use Rattle.wfe_table_end.specs.declared.refusals.EnqueueRefusal.TheVariants as enqueues
 use Rattle.wfe_table_end.specs.declared.refusals.PutIfRefusal.{PutIfRefusal}
 use Rattle.wfe_table_end.specs.declared.refusals.PutIfRefusal.TheVariants as put_ifs
-use Rattle.wfe_cells.proofs.Among.{among_last, among_one, among_within, later_by, later_grows, later_self}
+use Rattle.wfe_cells.proofs.Among.{among_last, among_within, later_by, later_grows, later_on, later_self}
 use Rattle.wfe_cells.proofs.Words.{in_block, in_cell, met_cell, met_later, met_still}
-use Rattle.wfe_cells.specs.Reasons.{HasNoBlock, HasNone, IsCellRefused, IsDisturbed, IsLater, IsLost, IsNotQueued, IsRefused, IsRefusedAt, IsWordRefused, item_queued}
-use Rattle.wfe_cells.specs.Wide.{block_of, key_of, made_at, named}
+use Rattle.wfe_cells.specs.Reasons.{HasNoBlock, HasNone, IsCellRefused, IsDisturbed, IsLater, IsLost, IsMeant, IsNotGiven, IsNotQueued, IsRefused, IsRefusedAt, IsStaleAt, IsWordRefused, item_queued}
+use Rattle.wfe_cells.specs.Wide.{IsWritten, block_of, key_of, made_at, named}
 use Rattle.wfe_cells.specs.declared.wide.Seen.{Seen}
 use Rattle.wfe_cells.specs.declared.wide.SwapRefusal.{SwapRefusal}
 use Rattle.wfe_cells.specs.declared.wide.SwapRefusal.TheVariants as refusals
@@ -90,17 +90,37 @@ stale_within : (layout : Layout) (a b c d : SeatNow) (cell wanted version : ℕ)
     → IsStale (counts_of (record_of layout a.track.past)) (record_of layout d.track.past) cell wanted version
 stale_within layout a b c d cell wanted version since stale until = record { met = met_within layout a b c d cell version since stale.met until; other = stale.other }
 
--- a put of the cell was refused otherwise
-pub cell_refused : (layout : Layout) (old new : SeatNow) (seen : Seen) (object : ℕ) (words : List ℕ) (refusal : PutIfRefusal) → IsMade layout old new (calls.PutIf seen.cell object seen.version) (put_if_answer refusal)
-    → IsRefusedAt layout old new seen words (refusals.Refused refusal)
-cell_refused layout old new seen object words refusal made = inr (record { object = object; told = among_one layout old new (calls.PutIf seen.cell object seen.version) (put_if_answer refusal) made })
+-- the object that a cell was to have, of words that stand in a bucket
+meant_words : (layout : Layout) (past : List Item) (block object : ℕ) (words : List ℕ) → 1 ≤ length words → IsWritten layout past block words object → IsMeant layout past (Some block) words object
+meant_words layout past block object [] some w = let none : 1 ≤ 0 = some in absurd (omega arith)
+meant_words layout past block object (word ∷ words) some w = (ap Some (sym w.block_is), record { some = w.some; block_is = refl; words_are = w.words_are })
+
+pub some_words : (words : List ℕ) → 1 ≤ length words → words ≢ []
+some_words words some e = let none : 1 ≤ 0 = subst (λ (ws : List ℕ). 1 ≤ length ws) e some in omega arith
+
+-- a put of the cell's object was refused, once its words stood, or of none
+pub not_given : (layout : Layout) (old mid new : SeatNow) (seen : Seen) (block object : ℕ) (words : List ℕ) (refusal : SwapRefusal) → 1 ≤ length words → IsLater old mid → IsWritten layout mid.track.past block words object → IsNotGiven layout mid new seen object refusal
+    → IsRefusedAt layout old new seen (Some block) words refusal
+not_given layout old mid new seen block object words (refusals.Stale version) some since w r = stale_within layout old mid new new seen.cell seen.version version since r (later_self new)
+not_given layout old mid new seen block object words (refusals.Refused refusal) some since w r =
+    inr (record { object = object; told = record { before = mid; after = new; since = since; made = r; until = later_self new }; meant = meant_words layout mid.track.past block object words some w })
+not_given layout old mid new seen block object words refusals.NoBlock some since w r = absurd r
+not_given layout old mid new seen block object words (refusals.NotQueued refusal) some since w r = absurd r
+
+pub none_given : (layout : Layout) (old mid new : SeatNow) (seen : Seen) (kept : Option ℕ) (refusal : SwapRefusal) → IsLater old mid → IsNotGiven layout mid new seen 0 refusal → IsRefusedAt layout old new seen kept [] refusal
+none_given layout old mid new seen kept (refusals.Stale version) since r = stale_within layout old mid new new seen.cell seen.version version since r (later_self new)
+none_given layout old mid new seen kept (refusals.Refused refusal) since r = inr (record { object = 0; told = record { before = mid; after = new; since = since; made = r; until = later_self new }; meant = refl })
+none_given layout old mid new seen kept refusals.NoBlock since r = absurd r
+none_given layout old mid new seen kept (refusals.NotQueued refusal) since r = absurd r
 
 -- a put of a word was
-pub word_refused : (layout : Layout) (a b c : SeatNow) (block key word version : ℕ) (words : List ℕ) (refusal : PutIfRefusal) → key ≡ key_of layout.config.buckets block word → word < length words → IsLater a b
+pub word_refused : (layout : Layout) (a b c : SeatNow) (block key word version : ℕ) (words : List ℕ) (refusal : PutIfRefusal) → block < layout.config.buckets → key ≡ key_of layout.config.buckets block word → word < length words → IsLater a b
     → IsMet (counts_of (record_of layout a.track.past)) (record_of layout b.track.past) block version → IsMade layout b c (calls.PutIf key (slice_index_or words word 0) version) (put_if_answer refusal)
-    → IsWordRefused layout a c words refusal
-word_refused layout a b c block key word version words refusal e within since met made = record {
+    → IsWordRefused layout a c (Some block) words refusal
+word_refused layout a b c block key word version words refusal bucket e within since met made = record {
   block = block;
+  keeps = refl;
+  bucket = bucket;
   word = word;
   within = within;
   version = version;
@@ -141,9 +161,11 @@ none_within layout a b c since (inr r) =
     })
 
 -- a refusal of calls before, or among others
-word_within : (layout : Layout) (a b c d : SeatNow) (words : List ℕ) (refusal : PutIfRefusal) → IsLater a b → IsWordRefused layout b c words refusal → IsLater c d → IsWordRefused layout a d words refusal
-word_within layout a b c d words refusal since r until = record {
+word_within : (layout : Layout) (a b c d : SeatNow) (kept : Option ℕ) (words : List ℕ) (refusal : PutIfRefusal) → IsLater a b → IsWordRefused layout b c kept words refusal → IsLater c d → IsWordRefused layout a d kept words refusal
+word_within layout a b c d kept words refusal since r until = record {
   block = r.block;
+  keeps = r.keeps;
+  bucket = r.bucket;
   word = r.word;
   within = r.within;
   version = r.version;
@@ -151,31 +173,31 @@ word_within layout a b c d words refusal since r until = record {
   told = among_within layout a b c d (calls.PutIf (key_of layout.config.buckets r.block r.word) (slice_index_or words r.word 0) r.version) (put_if_answer refusal) since r.told until;
 }
 
-cell_within : (layout : Layout) (a b c d : SeatNow) (seen : Seen) (refusal : PutIfRefusal) → IsLater a b → IsCellRefused layout b c seen refusal → IsLater c d → IsCellRefused layout a d seen refusal
-cell_within layout a b c d seen refusal since r until = record { object = r.object; told = among_within layout a b c d (calls.PutIf seen.cell r.object seen.version) (put_if_answer refusal) since r.told until }
+cell_within : (layout : Layout) (a b c d : SeatNow) (seen : Seen) (kept : Option ℕ) (words : List ℕ) (refusal : PutIfRefusal) → IsLater a b → IsCellRefused layout b c seen kept words refusal → IsLater c d → IsCellRefused layout a d seen kept words refusal
+cell_within layout a b c d seen kept words refusal since r until = record {
+  object = r.object;
+  told = record { before = r.told.before; after = r.told.after; since = later_on a b r.told.before since r.told.since; made = r.told.made; until = later_on r.told.after c d r.told.until until };
+  meant = r.meant;
+}
 
-no_words : (layout : Layout) (old new : SeatNow) (refusal : PutIfRefusal) → IsWordRefused layout old new [] refusal → ⊥
-no_words layout old new refusal r = let none : r.word < 0 = r.within in omega arith
+refused_within : (layout : Layout) (a b c d : SeatNow) (seen : Seen) (kept : Option ℕ) (words : List ℕ) (refusal : SwapRefusal) → IsLater a b → IsRefusedAt layout b c seen kept words refusal → IsLater c d → IsRefusedAt layout a d seen kept words refusal
+refused_within layout a b c d seen kept words (refusals.Stale version) since r until = stale_within layout a b c d seen.cell seen.version version since r until
+refused_within layout a b c d seen kept words (refusals.Refused refusal) since (inl r) until = inl (word_within layout a b c d kept words refusal since r until)
+refused_within layout a b c d seen kept words (refusals.Refused refusal) since (inr r) until = inr (cell_within layout a b c d seen kept words refusal since r until)
+refused_within layout a b c d seen kept words refusals.NoBlock since r until = absurd r
+refused_within layout a b c d seen kept words (refusals.NotQueued refusal) since r until = absurd r
 
-pub refused_within : (layout : Layout) (a b c d : SeatNow) (seen : Seen) (words : List ℕ) (refusal : SwapRefusal) → IsLater a b → IsRefusedAt layout b c seen words refusal → IsLater c d → IsRefusedAt layout a d seen words refusal
-refused_within layout a b c d seen words (refusals.Stale version) since r until = stale_within layout a b c d seen.cell seen.version version since r until
-refused_within layout a b c d seen words (refusals.Refused refusal) since (inl r) until = inl (word_within layout a b c d words refusal since r until)
-refused_within layout a b c d seen words (refusals.Refused refusal) since (inr r) until = inr (cell_within layout a b c d seen refusal since r until)
-refused_within layout a b c d seen words refusals.NoBlock since r until = absurd r
-refused_within layout a b c d seen words (refusals.NotQueued refusal) since r until = absurd r
-
--- of a cell alone, whatever the words
-pub refused_words : (layout : Layout) (old new : SeatNow) (seen : Seen) (words : List ℕ) (refusal : SwapRefusal) → IsRefusedAt layout old new seen [] refusal → IsRefusedAt layout old new seen words refusal
-refused_words layout old new seen words (refusals.Stale version) r = r
-refused_words layout old new seen words (refusals.Refused refusal) (inl r) = absurd (no_words layout old new refusal r)
-refused_words layout old new seen words (refusals.Refused refusal) (inr r) = inr r
-refused_words layout old new seen words refusals.NoBlock r = absurd r
-refused_words layout old new seen words (refusals.NotQueued refusal) r = absurd r
+-- of a cell that had another version, whatever it was to have
+pub refused_stale : (layout : Layout) (old new : SeatNow) (seen : Seen) (kept : Option ℕ) (words : List ℕ) (refusal : SwapRefusal) → IsStaleAt layout old new seen refusal → IsRefusedAt layout old new seen kept words refusal
+refused_stale layout old new seen kept words (refusals.Stale version) r = r
+refused_stale layout old new seen kept words (refusals.Refused refusal) r = absurd r
+refused_stale layout old new seen kept words refusals.NoBlock r = absurd r
+refused_stale layout old new seen kept words (refusals.NotQueued refusal) r = absurd r
 
 -- and so of a thread
-pub refused_user : (layout : Layout) (old new : WideUser) (b c : SeatNow) (seen : Seen) (words : List ℕ) (refusal : SwapRefusal) → IsLater old.seat b → IsRefusedAt layout b c seen words refusal → IsLater c new.seat → IsRefused layout old new seen words refusal
-refused_user layout old new b c seen words (refusals.Stale version) since r until = refused_within layout old.seat b c new.seat seen words (refusals.Stale version) since r until
-refused_user layout old new b c seen words (refusals.Refused refusal) since r until = refused_within layout old.seat b c new.seat seen words (refusals.Refused refusal) since r until
+pub refused_user : (layout : Layout) (old new : WideUser) (b c : SeatNow) (seen : Seen) (words : List ℕ) (refusal : SwapRefusal) → IsLater old.seat b → IsRefusedAt layout b c seen new.spare words refusal → IsLater c new.seat → IsRefused layout old new seen words refusal
+refused_user layout old new b c seen words (refusals.Stale version) since r until = refused_within layout old.seat b c new.seat seen new.spare words (refusals.Stale version) since r until
+refused_user layout old new b c seen words (refusals.Refused refusal) since r until = refused_within layout old.seat b c new.seat seen new.spare words (refusals.Refused refusal) since r until
 refused_user layout old new b c seen words refusals.NoBlock since r until = absurd r
 refused_user layout old new b c seen words (refusals.NotQueued refusal) since r until = absurd r
 

@@ -1,12 +1,13 @@
 -- What calls on cells come to, by the calls of the table of which they are made.
-use Rattle.std.specs.Prelude.{Err, None, Ok, Option, Result, Some, suc, zero, ℕ, ◌+◌, ◌≡◌}
+use Rattle.std.specs.Prelude.{Bool, Err, None, Ok, Option, Result, Some, [], false, replicate, suc, true, zero, ℕ, ◌+◌, ◌-◌, ◌^◌, ◌≡◌, ◌≤◌}
 use Rattle.wfe_core.specs.defs.declared.call.Answer.TheVariants as answers
 use Rattle.wfe_core.specs.defs.declared.call.Call.TheVariants as calls
 use Rattle.wfe_table.specs.Calls.{IsMade, hold_answer, look_answer, put_if_answer}
-use Rattle.wfe_table.specs.Public.{SeatNow}
+use Rattle.wfe_table.specs.Public.{IsOf, SeatNow, TableNow}
 use Rattle.wfe_table_end.specs.declared.answers.Done.{Done}
 use Rattle.wfe_table_end.specs.declared.answers.Looked.{Looked}
 use Rattle.wfe_table_end.specs.declared.refusals.PutIfRefusal.{PutIfRefusal}
+use Rattle.wfe_table_end.specs.declared.refusals.PutIfRefusal.TheVariants as put_ifs
 use Rattle.wfe_core.specs.words.declared.layout.Layout.{Layout}
 use Rattle.wfe_cells.specs.Stores.{StoreNow, left_by, settled}
 use Rattle.wfe_cells.specs.declared.user.Loaded.{Loaded}
@@ -16,6 +17,14 @@ use Rattle.wfe_cells.specs.declared.user.Swapped.{Swapped}
 pub record UserNow : Type 0 where
   pub seat : SeatNow
   pub store : StoreNow
+
+-- a part of this table, of a seat that has made no call: nothing is replaced, and there is room for an object of each slot
+pub record IsFresh (shared : TableNow) (user : UserNow) : Type 0 where
+  pub of : IsOf user.seat shared
+  pub log : user.seat.track.local.log ≡ []
+  pub kept : user.store.kept ≡ replicate (shared.layout.config.slots + 1) None
+  pub free : user.store.free ≡ []
+  pub room : shared.layout.config.slots + 1 ≤ user.store.spare
 
 -- an object as a key's value, and none
 abbrev pub stored : Option ℕ → ℕ
@@ -65,9 +74,29 @@ abbrev pub IsTried : Layout → ℕ → UserNow → UserNow → Loaded → Optio
 IsTried layout cell old new seen object (Ok swapped) = IsSwapped layout cell old new seen object swapped
 IsTried layout cell old new seen object (Err refusal) = IsRefused layout cell old new seen object refusal
 
--- the last of some attempts, each of which read the cell and then tried to change it
-pub record IsReplaced (layout : Layout) (cell : ℕ) (new : UserNow) (object : Option ℕ) (seen : Loaded) (tried : Result Swapped PutIfRefusal) : Type 0 where
-  pub before : UserNow
+-- one attempt: the cell was read, and then it was to be changed where it was as it was read
+pub record IsAttempt (layout : Layout) (cell : ℕ) (old new : UserNow) (object : Option ℕ) (seen : Loaded) (tried : Result Swapped PutIfRefusal) : Type 0 where
   pub mid : UserNow
-  pub loaded : IsLoaded layout cell before mid seen
+  pub loaded : IsLoaded layout cell old mid seen
   pub swapped : IsTried layout cell mid new seen object tried
+
+-- another thread came between
+abbrev pub is_stale : Result Swapped PutIfRefusal → Bool
+is_stale (Ok swapped) = false
+is_stale (Err (put_ifs.Stale version)) = true
+is_stale (Err (put_ifs.Spent number)) = false
+is_stale (Err (put_ifs.BucketFull version)) = false
+is_stale (Err put_ifs.Full) = false
+
+-- so many attempts, one after another, in each of which one did
+pub data AllStale (layout : Layout) (cell : ℕ) (object : Option ℕ) (old : UserNow) : (attempts : ℕ) → UserNow → Type 0 where
+  NoneYet : AllStale layout cell object old 0 old
+  OneMore : (attempts : ℕ) → (mid new : UserNow) → (seen : Loaded) → (tried : Result Swapped PutIfRefusal) → AllStale layout cell object old attempts mid → IsAttempt layout cell mid new object seen tried → is_stale tried ≡ true → AllStale layout cell object old (attempts + 1) new
+
+-- the last of some attempts: the first in which none came between, or the last of 2^64
+pub record IsReplaced (layout : Layout) (cell : ℕ) (old new : UserNow) (object : Option ℕ) (seen : Loaded) (tried : Result Swapped PutIfRefusal) : Type 0 where
+  pub attempts : ℕ
+  pub mid : UserNow
+  pub stale : AllStale layout cell object old attempts mid
+  pub last : IsAttempt layout cell mid new object seen tried
+  pub patient : is_stale tried ≡ true → attempts ≡ 2 ^ 64 - 1

@@ -1,5 +1,5 @@
 -- Why a load shows nothing and why a cell is not changed, by the calls of the table that say so; and that no bucket is lost.
-use Rattle.std.specs.Prelude.{Err, IfSome, List, None, Ok, Option, Result, Some, [], if◌then◌else◌, length, slice_index_or, sum_by, ℕ, ◌++◌, ◌+◌, ◌<◌, ◌==◌, ◌∷◌, ◌≡◌, ◌≢◌, ◌≤◌, ◌⊎◌}
+use Rattle.std.specs.Prelude.{All, Err, IfSome, List, None, Ok, Option, Result, Some, [], if◌then◌else◌, length, slice_index_or, sum_by, ℕ, ◌++◌, ◌+◌, ◌<◌, ◌==◌, ◌∷◌, ◌≡◌, ◌≢◌, ◌≤◌, ◌⊎◌}
 use Rattle.wfe_core.specs.Locals.{Group}
 use Rattle.wfe_core.specs.defs.declared.call.Answer.{Answer}
 use Rattle.wfe_core.specs.defs.declared.call.Answer.TheVariants as answers
@@ -11,13 +11,13 @@ use Rattle.wfe_table.specs.Calls.{IsMade, enqueue_answer, put_if_answer}
 use Rattle.wfe_table.specs.Public.{IsOf, SeatNow, TableNow}
 use Rattle.wfe_table.specs.all.Logs.Answered.{IsMet, IsStale}
 use Rattle.wfe_table.specs.all.Logs.Versions.{counts_of}
-use Rattle.wfe_table.specs.history.History.{record_of}
+use Rattle.wfe_table.specs.history.History.{Item, record_of}
 use Rattle.wfe_table.specs.rule.Rule.{Opens}
 use Rattle.wfe_table.specs.rule.Views.{seat_of}
 use Rattle.wfe_table_end.specs.declared.refusals.EnqueueRefusal.{EnqueueRefusal}
 use Rattle.wfe_table_end.specs.declared.refusals.PutIfRefusal.{PutIfRefusal}
 use Rattle.wfe_cells.specs.Stores.{is_object}
-use Rattle.wfe_cells.specs.Wide.{IsNamed, block_of, key_of, made_at}
+use Rattle.wfe_cells.specs.Wide.{IsNamed, IsWritten, block_of, key_of, made_at}
 use Rattle.wfe_cells.specs.declared.wide.Seen.{Seen}
 use Rattle.wfe_cells.specs.declared.wide.SwapRefusal.{SwapRefusal}
 use Rattle.wfe_cells.specs.declared.wide.SwapRefusal.TheVariants as refusals
@@ -63,19 +63,27 @@ pub data AllDisturbed (layout : Layout) (cell width : ℕ) (old : SeatNow) : (at
   NoneYet : AllDisturbed layout cell width old 0 old
   OneMore : (attempts : ℕ) → (mid new : SeatNow) → AllDisturbed layout cell width old attempts mid → IsDisturbed layout cell width mid new → AllDisturbed layout cell width old (attempts + 1) new
 
--- the put of a word was refused, at a version that its bucket had since
-pub record IsWordRefused (layout : Layout) (old new : SeatNow) (words : List ℕ) (refusal : PutIfRefusal) : Type 0 where
+-- the put of a word was refused, into the bucket that the thread keeps, at a version that the bucket had since
+pub record IsWordRefused (layout : Layout) (old new : SeatNow) (kept : Option ℕ) (words : List ℕ) (refusal : PutIfRefusal) : Type 0 where
   pub block : ℕ
+  pub keeps : kept ≡ Some block
+  pub bucket : block < layout.config.buckets
   pub word : ℕ
   pub within : word < length words
   pub version : ℕ
   pub met : IsMet (counts_of (record_of layout old.track.past)) (record_of layout new.track.past) block version
   pub told : IsAmong layout old new (calls.PutIf (key_of layout.config.buckets block word) (slice_index_or words word 0) version) (put_if_answer refusal)
 
--- the put of the cell's object was refused, at the version that was seen
-pub record IsCellRefused (layout : Layout) (old new : SeatNow) (seen : Seen) (refusal : PutIfRefusal) : Type 0 where
+-- the object that a cell was to have: none for no words, or these words, which stand in the bucket that the thread keeps
+abbrev pub IsMeant : Layout → List Item → (kept : Option ℕ) → (words : List ℕ) → (object : ℕ) → Type 0
+IsMeant layout past kept [] object = object ≡ 0
+IsMeant layout past kept (word ∷ words) object = (kept ≡ Some (block_of object)) × IsWritten layout past (block_of object) (word ∷ words) object
+
+-- the put of that object was refused, at the version of the cell that was seen
+pub record IsCellRefused (layout : Layout) (old new : SeatNow) (seen : Seen) (kept : Option ℕ) (words : List ℕ) (refusal : PutIfRefusal) : Type 0 where
   pub object : ℕ
   pub told : IsAmong layout old new (calls.PutIf seen.cell object seen.version) (put_if_answer refusal)
+  pub meant : IsMeant layout told.before.track.past kept words object
 
 -- the queue had a number of no bucket
 pub record IsForeign (layout : Layout) (old new : SeatNow) : Type 0 where
@@ -100,19 +108,27 @@ pub record IsNotQueued (layout : Layout) (old new : WideUser) (refusal : Enqueue
   pub spare : old.spare ≡ Some block
   pub told : IsAmong layout old.seat new.seat (calls.Enqueue block) (enqueue_answer refusal)
 
--- why the seat did not change a cell that is at this version: the cell had another one since, or a put was refused
-abbrev pub IsRefusedAt : Layout → (old new : SeatNow) → Seen → (words : List ℕ) → SwapRefusal → Type 0
-IsRefusedAt layout old new seen words (refusals.Stale version) = IsStale (counts_of (record_of layout old.track.past)) (record_of layout new.track.past) seen.cell seen.version version
-IsRefusedAt layout old new seen words (refusals.Refused refusal) = IsWordRefused layout old new words refusal ⊎ IsCellRefused layout old new seen refusal
-IsRefusedAt layout old new seen words refusals.NoBlock = ⊥
-IsRefusedAt layout old new seen words (refusals.NotQueued refusal) = ⊥
+-- the cell had another version since than the one that was seen
+abbrev pub IsStaleAt : Layout → (old new : SeatNow) → Seen → SwapRefusal → Type 0
+IsStaleAt layout old new seen (refusals.Stale version) = IsStale (counts_of (record_of layout old.track.past)) (record_of layout new.track.past) seen.cell seen.version version
+IsStaleAt layout old new seen refusal = ⊥
 
--- why a thread did not, which was to give it these words, or none
+-- or the put of this object was refused, at that version
+abbrev pub IsNotGiven : Layout → (old new : SeatNow) → Seen → (object : ℕ) → SwapRefusal → Type 0
+IsNotGiven layout old new seen object (refusals.Refused refusal) = IsMade layout old new (calls.PutIf seen.cell object seen.version) (put_if_answer refusal)
+IsNotGiven layout old new seen object refusal = IsStaleAt layout old new seen refusal
+
+-- or that of a word: why the seat did not give the cell these words, or none, by a bucket that the thread keeps
+abbrev pub IsRefusedAt : Layout → (old new : SeatNow) → Seen → (kept : Option ℕ) → (words : List ℕ) → SwapRefusal → Type 0
+IsRefusedAt layout old new seen kept words (refusals.Refused refusal) = IsWordRefused layout old new kept words refusal ⊎ IsCellRefused layout old new seen kept words refusal
+IsRefusedAt layout old new seen kept words refusal = IsStaleAt layout old new seen refusal
+
+-- Why a thread did not give the cell these words, or none. Only words need a bucket, and only a take queues the one that the thread has kept.
 abbrev pub IsRefused : Layout → (old new : WideUser) → Seen → (words : List ℕ) → SwapRefusal → Type 0
-IsRefused layout old new seen words refusals.NoBlock = HasNoBlock layout old new
-IsRefused layout old new seen words (refusals.NotQueued refusal) = IsNotQueued layout old new refusal
-IsRefused layout old new seen words (refusals.Stale version) = IsRefusedAt layout old.seat new.seat seen words (refusals.Stale version)
-IsRefused layout old new seen words (refusals.Refused refusal) = IsRefusedAt layout old.seat new.seat seen words (refusals.Refused refusal)
+IsRefused layout old new seen words refusals.NoBlock = (words ≢ []) × HasNoBlock layout old new
+IsRefused layout old new seen words (refusals.NotQueued refusal) = (words ≡ []) × IsNotQueued layout old new refusal
+IsRefused layout old new seen words (refusals.Stale version) = IsRefusedAt layout old.seat new.seat seen new.spare words (refusals.Stale version)
+IsRefused layout old new seen words (refusals.Refused refusal) = IsRefusedAt layout old.seat new.seat seen new.spare words (refusals.Refused refusal)
 
 -- what a call took from the queue, and what it queued
 abbrev pub item_taken : Answer → Option ℕ
@@ -150,12 +166,22 @@ pub record IsNew (shared : TableNow) (seat : SeatNow) : Type 0 where
   pub of : IsOf seat shared
   pub log : seat.track.local.log ≡ []
 
--- the last of these threads has queued each of these buckets, once
-pub record IsFilled (first end : ℕ) (users : List WideUser) : Type 0 where
+-- a thread of this table that has made no call, and kept no bucket
+pub record IsFresh (shared : TableNow) (user : WideUser) : Type 0 where
+  pub seat : IsNew shared user.seat
+  pub spare : user.spare ≡ None
+
+-- the last of these threads has queued each of these buckets, once, and nothing else; the others are as they were made
+pub record IsFilled (shared : TableNow) (first : ℕ) (users : List WideUser) : Type 0 where
   pub others : List WideUser
   pub user : WideUser
   pub users_are : users ≡ others ++ user ∷ []
-  pub queued : (block : ℕ) → first ≤ block → block < end → queues block user.seat ≡ 1
+  pub fresh : All (IsFresh shared) others
+  pub spare : user.spare ≡ None
+  pub queued : (block : ℕ) → first ≤ block → block < shared.layout.config.buckets → queues block user.seat ≡ 1
+  pub no_cell : (block : ℕ) → block < first → queues block user.seat ≡ 0
+  pub no_other : (block : ℕ) → shared.layout.config.buckets ≤ block → queues block user.seat ≡ 0
+  pub untaken : (block : ℕ) → takes block user.seat ≡ 0
 
 -- the seat has made calls since, none of which took a bucket from the queue or queued one
 pub record IsQuiet (old new : SeatNow) : Type 0 where

@@ -1,13 +1,14 @@
 // Objects of several words, in the buckets of a table. An object's words are the values of one bucket at one of its versions, and a cell's
 // value names bucket and version; so who finds the bucket at another version knows that the object was replaced meanwhile, and reads the
 // cell anew. Buckets that no cell names wait in the queue, or with a thread (`swaps.rt`).
-ghost use Rattle.std.specs.Prelude.{◌≡◌, ◌≤◌, ◌<◌, ◌+◌, IfErr, IfNone, IfOk, IfSome, false, length, true, ℕ};
+ghost use Rattle.std.specs.Prelude.{◌≡◌, ◌≤◌, ◌<◌, ◌+◌, IfErr, IfNone, IfOk, IfSome, Some, false, length, true, ℕ};
 ghost use Rattle.law_all.specs.Logs.Answered.{IsMet};
 ghost use Rattle.law_all.specs.Logs.Versions.{counts_of};
 ghost use Rattle.wfe_core.specs.words.Place.{is_valid};
 ghost use Rattle.wfe_table.specs.Public.{IsOf};
 ghost use Rattle.wfe_table.specs.history.History.{record_of};
-ghost use Rattle.wfe_cells.specs.Reasons.{AllDisturbed, IsDisturbed, IsLost, IsQuiet, IsWordRefused, queues};
+ghost use Rattle.wfe_cells.specs.Only.{IsGet, IsOfWords, IsOnly};
+ghost use Rattle.wfe_cells.specs.Reasons.{AllDisturbed, IsDisturbed, IsLost, IsQuiet, IsWordRefused, queues, takes};
 ghost use Rattle.wfe_cells.specs.Wide.{HasWords, IsName, IsShown, IsWritten, block_of, key_of, made_at};
 
 use crate::wide::Seen;
@@ -19,8 +20,12 @@ pub(crate) const BUCKETS: u64 = 1_024;
 // The numbers of these buckets wait in the queue.
 pub(crate) fn offer(shared: &Shared, seat: &mut Seat, first: u64, end: u64) -> bool
     requires of { IsOf seat.old shared.now }
+    requires range { first ≤ end }
     ensures of { IsOf seat.new shared.now }
     ensures queued { result ≡ true → (block : ℕ) → first ≤ block → block < end → queues block seat.new ≡ queues block seat.old + 1 }
+    ensures before { result ≡ true → (block : ℕ) → block < first → queues block seat.new ≡ queues block seat.old }
+    ensures after { result ≡ true → (block : ℕ) → end ≤ block → queues block seat.new ≡ queues block seat.old }
+    ensures takes { result ≡ true → (block : ℕ) → takes block seat.new ≡ takes block seat.old }
 {
     for block in first..end {
         match shared.enqueue(seat, block) {
@@ -55,6 +60,7 @@ fn read(shared: &Shared, seat: &mut Seat, object: u64, words: &mut [u64]) -> boo
     requires few { length words.old ≤ 14 }
     ensures of { IsOf seat.new shared.now }
     ensures quiet { IsQuiet seat.old seat.new }
+    ensures only { IsOnly IsGet seat.old seat.new }
     ensures length { length words.new ≡ length words.old }
     ensures words { result ≡ true → HasWords shared.now.layout.config.buckets (block_of object) (made_at object) words.new (length words.new) (record_of shared.now.layout seat.new.track.past) }
     ensures lost { result ≡ false → IsLost shared.now.layout seat.old seat.new object (length words.old) }
@@ -85,6 +91,7 @@ fn try_load(shared: &Shared, seat: &mut Seat, cell: u64, words: &mut [u64]) -> O
     requires few { length words.old ≤ 14 }
     ensures of { IsOf seat.new shared.now }
     ensures quiet { IsQuiet seat.old seat.new }
+    ensures only { IsOnly IsGet seat.old seat.new }
     ensures length { length words.new ≡ length words.old }
     ensures shown { IfSome result (λ seen. IsShown shared.now.layout seat.new.track.past cell seen words.new) }
     ensures current { IfSome result (λ seen. IsMet (counts_of (record_of shared.now.layout seat.old.track.past)) (record_of shared.now.layout seat.new.track.past) cell seen.version) }
@@ -120,6 +127,7 @@ pub(crate) fn load_within(
     requires few { length words.old ≤ 14 }
     ensures of { IsOf seat.new shared.now }
     ensures quiet { IsQuiet seat.old seat.new }
+    ensures only { IsOnly IsGet seat.old seat.new }
     ensures length { length words.new ≡ length words.old }
     ensures shown { IfSome result (λ seen. IsShown shared.now.layout seat.new.track.past cell seen words.new) }
     ensures current { IfSome result (λ seen. IsMet (counts_of (record_of shared.now.layout seat.old.track.past)) (record_of shared.now.layout seat.new.track.past) cell seen.version) }
@@ -156,8 +164,9 @@ pub(crate) fn write(
     requires few { length words.now ≤ 14 }
     ensures of { IsOf seat.new shared.now }
     ensures quiet { IsQuiet seat.old seat.new }
+    ensures only { IsOnly (IsOfWords shared.now.layout.config.buckets block) seat.old seat.new }
     ensures written { IfOk result (IsWritten shared.now.layout seat.new.track.past block words.now) }
-    ensures refused { IfErr result (IsWordRefused shared.now.layout seat.old seat.new words.now) }
+    ensures refused { IfErr result (IsWordRefused shared.now.layout seat.old seat.new (Some block) words.now) }
 {
     let mut version = shared.get(seat, block).version;
     for word in 0..words.len() {

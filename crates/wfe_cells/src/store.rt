@@ -1,5 +1,5 @@
 // The objects that one thread has replaced, until they may be dropped.
-ghost use Rattle.std.specs.Prelude.{◌≡◌, ◌<◌, ◌+◌, [], All, IfOk, IfSome, IsSome, None, length, replicate};
+ghost use Rattle.std.specs.Prelude.{◌≡◌, ◌≤◌, ◌<◌, ◌+◌, [], All, IfOk, IfSome, IsSome, None, length, replicate};
 ghost use Rattle.wfe_core.specs.Held.{notes_of};
 ghost use Rattle.wfe_cells.specs.Stores.{NoneLost, StoreNow, left_by, settled, unkept, with_back, with_backs, with_kept};
 
@@ -29,6 +29,7 @@ impl Store {
     pub(crate) fn new(alloc: Global, places: usize) -> Result<Store, NoMemory>
         ensures kept { IfOk result (λ store. store.kept ≡ replicate places None) }
         ensures free { IfOk result (λ store. store.free ≡ []) }
+        ensures room { IfOk result (λ store. places ≤ store.spare) }
     {
         let Ok(mut kept) = Vec::with_capacity(alloc, places) else {
             return Err(NoMemory);

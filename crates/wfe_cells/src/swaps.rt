@@ -3,7 +3,8 @@
 ghost use Rattle.std.specs.Prelude.{◌≡◌, ◌≢◌, ◌≤◌, ◌<◌, ◌+◌, IfErr, IfNone, IfOk, IfSome, None, OnOk, Some, [], length, ℕ};
 ghost use Rattle.wfe_table.specs.Public.{IsOf};
 ghost use Rattle.wfe_table.specs.history.History.{record_of};
-ghost use Rattle.wfe_cells.specs.Reasons.{HasNoBlock, HasNone, IsLater, IsNotQueued, IsQuiet, IsRefused, IsRefusedAt, KeepsAll, KeepsBlocks, block_named, queues, takes};
+ghost use Rattle.wfe_cells.specs.Only.{IsDequeue, IsGet, IsOfPlace, IsOfSwap, IsOfTake, IsOnly, IsPutOf, IsQueueing, IsTaking};
+ghost use Rattle.wfe_cells.specs.Reasons.{HasNoBlock, HasNone, IsLater, IsNotGiven, IsNotQueued, IsQuiet, IsRefused, IsRefusedAt, IsStaleAt, KeepsAll, KeepsBlocks, block_named, queues, takes};
 ghost use Rattle.wfe_cells.specs.Stores.{is_object};
 ghost use Rattle.wfe_cells.specs.Wide.{IsIn, IsNamed, IsNext, IsPlaced, IsShown};
 
@@ -17,8 +18,9 @@ fn current(shared: &Shared, seat: &mut Seat, seen: Seen) -> Result<u64, SwapRefu
     requires cell { seen.cell < shared.now.layout.config.buckets }
     ensures of { IsOf seat.new shared.now }
     ensures quiet { IsQuiet seat.old seat.new }
+    ensures only { IsOnly IsGet seat.old seat.new }
     ensures named { IfOk result (IsNamed shared.now.layout seat.new.track.past seen) }
-    ensures refused { IfErr result (IsRefusedAt shared.now.layout seat.old seat.new seen []) }
+    ensures refused { IfErr result (IsStaleAt shared.now.layout seat.old seat.new seen) }
 {
     let got = shared.get(seat, seen.cell);
     if got.version != seen.version {
@@ -35,8 +37,9 @@ fn exchange(shared: &Shared, seat: &mut Seat, seen: Seen, object: u64) -> Result
     requires cell { seen.cell < shared.now.layout.config.buckets }
     ensures of { IsOf seat.new shared.now }
     ensures quiet { IsQuiet seat.old seat.new }
+    ensures only { IsOnly (IsPutOf seen result) seat.old seat.new }
     ensures next { IfOk result (IsNext shared.now.layout seat.new.track.past seen object) }
-    ensures refused { IfErr result (IsRefusedAt shared.now.layout seat.old seat.new seen []) }
+    ensures refused { IfErr result (IsNotGiven shared.now.layout seat.old seat.new seen object) }
 {
     match shared.put_if(seat, seen.cell, object, seen.version) {
         Ok(done) => Ok(Seen {
@@ -64,8 +67,9 @@ fn place(
     requires few { length words.now ≤ 14 }
     ensures of { IsOf seat.new shared.now }
     ensures quiet { IsQuiet seat.old seat.new }
+    ensures only { IsOnly (IsOfPlace shared.now.layout.config.buckets block seen result) seat.old seat.new }
     ensures placed { IfOk result (IsPlaced shared.now.layout seat.new.track.past seen block words.now) }
-    ensures refused { IfErr result (IsRefusedAt shared.now.layout seat.old seat.new seen words.now) }
+    ensures refused { IfErr result (IsRefusedAt shared.now.layout seat.old seat.new seen (Some block) words.now) }
 {
     let object = match write(shared, seat, block, words) {
         Ok(object) => object,
@@ -98,6 +102,7 @@ fn take_queued(shared: &Shared, seat: &mut Seat) -> Option<u64>
     requires of { IsOf seat.old shared.now }
     ensures of { IsOf seat.new shared.now }
     ensures later { IsLater seat.old seat.new }
+    ensures only { IsOnly IsDequeue seat.old seat.new }
     ensures some { IfSome result (λ block. block < shared.now.layout.config.buckets) }
     ensures takes { (block : ℕ) → block < shared.now.layout.config.buckets → takes block seat.new ≡ takes block seat.old + is_object block result }
     ensures queues { (block : ℕ) → queues block seat.new ≡ queues block seat.old }
@@ -118,6 +123,7 @@ fn take_block(shared: &Shared, user: &mut WideUser) -> Option<u64>
     requires of { IsOf user.old.seat shared.now }
     ensures of { IsOf user.new.seat shared.now }
     ensures later { IsLater user.old.seat user.new.seat }
+    ensures only { IsOnly (IsTaking shared.now.layout.config.buckets user.old.spare) user.old.seat user.new.seat }
     ensures spare { user.new.spare ≡ None }
     ensures some { IfSome result (λ block. block < shared.now.layout.config.buckets) }
     ensures kept { KeepsBlocks shared.now.layout.config.buckets user.old user.new None result }
@@ -156,6 +162,7 @@ pub(crate) fn swap_within(
     requires few { length words.now ≤ 14 }
     ensures of { IsOf user.new.seat shared.now }
     ensures later { IsLater user.old.seat user.new.seat }
+    ensures only { IsOnly (IsOfSwap shared.now.layout.config.buckets seen user.old.spare user.new.spare result) user.old.seat user.new.seat }
     ensures shown { IfOk result (λ now. IsShown shared.now.layout user.new.seat.track.past seen.cell now words.now) }
     ensures some { IfOk result (λ now. now.object ≢ 0) }
     ensures next { IfOk result (λ now. now.version ≡ seen.version + 1) }
@@ -186,6 +193,7 @@ pub(crate) fn give_back(shared: &Shared, user: &mut WideUser) -> Result<(), Enqu
     requires of { IsOf user.old.seat shared.now }
     ensures of { IsOf user.new.seat shared.now }
     ensures later { IsLater user.old.seat user.new.seat }
+    ensures only { IsOnly (IsQueueing user.old.spare) user.old.seat user.new.seat }
     ensures spare { OnOk result (user.new.spare ≡ None) }
     ensures kept { KeepsBlocks shared.now.layout.config.buckets user.old user.new None None }
     ensures refused { IfErr result (IsNotQueued shared.now.layout user.old user.new) }
@@ -212,6 +220,7 @@ pub(crate) fn take_within(
     requires cell { seen.cell < shared.now.layout.config.buckets }
     ensures of { IsOf user.new.seat shared.now }
     ensures later { IsLater user.old.seat user.new.seat }
+    ensures only { IsOnly (IsOfTake seen user.old.spare result) user.old.seat user.new.seat }
     ensures shown { IfOk result (λ now. IsIn (record_of shared.now.layout user.new.seat.track.past) seen.cell now) }
     ensures none { IfOk result (λ now. now.object ≡ 0) }
     ensures next { IfOk result (λ now. now.version ≡ seen.version + 1) }

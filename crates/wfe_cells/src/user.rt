@@ -1,5 +1,5 @@
 // A thread's part in cells: its seat, and what it has replaced.
-ghost use Rattle.std.specs.Prelude.{◌≡◌, ◌<◌, ◌+◌, ◌++◌, ◌^◌, IfOk, IfSome, None, length};
+ghost use Rattle.std.specs.Prelude.{◌≡◌, ◌≤◌, ◌<◌, ◌+◌, ◌++◌, ◌^◌, [], IfNone, IfOk, IfSome, None, length, replicate};
 ghost use Rattle.std.specs.Option.{option_to_list};
 ghost use Rattle.wfe_core.specs.defs.declared.call.Answer.TheVariants as answers;
 ghost use Rattle.wfe_core.specs.defs.declared.call.Call.TheVariants as calls;
@@ -50,7 +50,10 @@ impl User {
     // A seat with nothing replaced.
     pub(crate) fn new(alloc: Global, shared: &Shared, seat: Seat) -> Result<User, NoMemory>
         requires { IsOf seat shared.now }
-        ensures { IfOk result (λ user. user.seat ≡ seat) }
+        ensures seat { IfOk result (λ user. user.seat ≡ seat) }
+        ensures kept { IfOk result (λ user. user.store.kept ≡ replicate (shared.now.layout.config.slots + 1) None) }
+        ensures free { IfOk result (λ user. user.store.free ≡ []) }
+        ensures room { IfOk result (λ user. shared.now.layout.config.slots + 1 ≤ user.store.spare) }
     {
         let places = shared.layout().config().slots as usize + 1;
         let store = Store::new(alloc, places)?;
@@ -145,6 +148,8 @@ impl User {
         ensures seat { self.new.seat ≡ self.old.seat }
         ensures kept { self.new.store.kept ≡ self.old.store.kept }
         ensures free { self.old.store.free ≡ self.new.store.free ++ option_to_list result }
+        ensures none { IfNone result (self.old.store.free ≡ []) }
+        ensures room { self.old.store.spare ≤ self.new.store.spare }
     {
         self.store.free.pop()
     }

@@ -6,7 +6,8 @@ ghost use Rattle.wfe_core.specs.words.Place.{layout_of};
 ghost use Rattle.wfe_table.specs.Public.{IsOf};
 ghost use Rattle.wfe_table.specs.history.History.{record_of};
 ghost use Rattle.wfe_cells.specs.Making.{IsWideMade, IsWideRefused, bad_wide, wide_setting};
-ghost use Rattle.wfe_cells.specs.Reasons.{AllDisturbed, IsFilled, IsLater, IsNew, IsNotQueued, IsQuiet, IsRefused, KeepsAll, KeepsBlocks};
+ghost use Rattle.wfe_cells.specs.Only.{IsGet, IsOfSwap, IsOfTake, IsOnly, IsQueueing};
+ghost use Rattle.wfe_cells.specs.Reasons.{AllDisturbed, IsFilled, IsFresh, IsLater, IsNew, IsNotQueued, IsQuiet, IsRefused, KeepsAll, KeepsBlocks};
 ghost use Rattle.wfe_cells.specs.Wide.{IsIn, IsShown, VersionsAgree};
 
 use crate::blocks::{buckets, load_within, offer};
@@ -131,6 +132,8 @@ fn wide_table(
     width: u32,
 ) -> Result<(Shared, Vec<Seat>), MakeError>
     ensures fresh { IfOk result (λ r. All (IsNew r.0) r.1.items) }
+    ensures long { IfOk result (λ r. length r.1.items ≡ r.0.layout.config.seats) }
+    ensures seats { IfOk result (λ r. r.0.layout.config.seats ≡ threads) }
     ensures cells { IfOk result (λ r. cells ≤ r.0.layout.config.buckets) }
     ensures width { IfOk result (λ r. (1 ≤ width) × (width ≤ 14)) }
     ensures good { IfOk result (λ r. bad_wide threads cells width ≡ None) }
@@ -151,7 +154,8 @@ fn wide_table(
 // The threads' parts, with these seats.
 fn wide_users(alloc: Global, _shared: &Shared, mut seats: Vec<Seat>) -> Option<Vec<WideUser>>
     requires { All (IsNew _shared.now) seats.items }
-    ensures { IfSome result (λ users. All (λ user. IsNew _shared.now user.seat) users.items) }
+    ensures fresh { IfSome result (λ users. All (IsFresh _shared.now) users.items) }
+    ensures long { IfSome result (λ users. length users.items ≡ length seats.items) }
 {
     let mut users = Vec::new(alloc);
     while let Some(seat) = seats.pop() {
@@ -165,9 +169,11 @@ fn wide_users(alloc: Global, _shared: &Shared, mut seats: Vec<Seat>) -> Option<V
 
 // The last of the threads offers all buckets from a first one on.
 fn offer_all(shared: &Shared, mut users: Vec<WideUser>, first: u64) -> Option<Vec<WideUser>>
-    requires { All (λ user. IsNew shared.now user.seat) users.items }
+    requires fresh { All (IsFresh shared.now) users.items }
+    requires first { first ≤ shared.now.layout.config.buckets }
     ensures of { IfSome result (λ users. All (λ user. IsOf user.seat shared.now) users.items) }
-    ensures filled { IfSome result (λ users. IsFilled first shared.now.layout.config.buckets users.items) }
+    ensures filled { IfSome result (λ users. IsFilled shared.now first users.items) }
+    ensures long { IfSome result (λ all. length all.items ≡ length users.items) }
 {
     let mut user = users.pop()?;
     if !offer(shared, &mut user.seat, first, buckets(shared)) {
@@ -181,9 +187,11 @@ fn offer_all(shared: &Shared, mut users: Vec<WideUser>, first: u64) -> Option<Ve
 
 // All buckets past the cells' wait in the queue.
 fn filled(alloc: Global, shared: &Shared, seats: Vec<Seat>, cells: u64) -> Option<Vec<WideUser>>
-    requires { All (IsNew shared.now) seats.items }
+    requires fresh { All (IsNew shared.now) seats.items }
+    requires cells { cells ≤ shared.now.layout.config.buckets }
     ensures of { IfSome result (λ users. All (λ user. IsOf user.seat shared.now) users.items) }
-    ensures filled { IfSome result (λ users. IsFilled cells shared.now.layout.config.buckets users.items) }
+    ensures filled { IfSome result (λ users. IsFilled shared.now cells users.items) }
+    ensures long { IfSome result (λ users. length users.items ≡ length seats.items) }
 {
     let users = wide_users(alloc, shared, seats)?;
     offer_all(shared, users, cells)
@@ -204,7 +212,8 @@ impl WideCells {
         ensures made { IfOk result (λ r. IsWideMade scheme threads cells width r.0.table.layout) }
         ensures cells { IfOk result (λ r. r.0.cells ≡ cells) }
         ensures width { IfOk result (λ r. r.0.width ≡ width) }
-        ensures filled { IfOk result (λ r. IsFilled cells r.0.table.layout.config.buckets r.1.items) }
+        ensures users { IfOk result (λ r. length r.1.items ≡ threads) }
+        ensures filled { IfOk result (λ r. IsFilled r.0.table cells r.1.items) }
         ensures refused { IfErr result (IsWideRefused threads cells width) }
     {
         let (shared, seats) = match wide_table(alloc, scheme, threads, cells, width) {
@@ -247,6 +256,7 @@ impl WideCells {
         requires width { length words.old ≡ self.now.width }
         ensures of { IsOf seat.new self.now.table }
         ensures quiet { IsQuiet seat.old seat.new }
+        ensures only { IsOnly IsGet seat.old seat.new }
         ensures length { length words.new ≡ self.now.width }
         ensures shown { IfSome result (λ seen. IsShown self.now.table.layout seat.new.track.past cell seen words.new) }
         ensures current { IfSome result (λ seen. IsMet (counts_of (record_of self.now.table.layout seat.old.track.past)) (record_of self.now.table.layout seat.new.track.past) cell seen.version) }
@@ -268,6 +278,7 @@ impl WideCells {
         requires width { length words.now ≡ self.now.width }
         ensures of { IsOf user.new.seat self.now.table }
         ensures later { IsLater user.old.seat user.new.seat }
+        ensures only { IsOnly (IsOfSwap self.now.table.layout.config.buckets seen user.old.spare user.new.spare result) user.old.seat user.new.seat }
         ensures shown { IfOk result (λ now. IsShown self.now.table.layout user.new.seat.track.past seen.cell now words.now) }
         ensures some { IfOk result (λ now. now.object ≢ 0) }
         ensures next { IfOk result (λ now. now.version ≡ seen.version + 1) }
@@ -284,6 +295,7 @@ impl WideCells {
         requires cell { seen.cell < self.now.cells }
         ensures of { IsOf user.new.seat self.now.table }
         ensures later { IsLater user.old.seat user.new.seat }
+        ensures only { IsOnly (IsOfTake seen user.old.spare result) user.old.seat user.new.seat }
         ensures shown { IfOk result (λ now. IsIn (record_of self.now.table.layout user.new.seat.track.past) seen.cell now) }
         ensures none { IfOk result (λ now. now.object ≡ 0) }
         ensures next { IfOk result (λ now. now.version ≡ seen.version + 1) }
@@ -298,6 +310,7 @@ impl WideCells {
         requires of { IsOf user.old.seat self.now.table }
         ensures of { IsOf user.new.seat self.now.table }
         ensures later { IsLater user.old.seat user.new.seat }
+        ensures only { IsOnly (IsQueueing user.old.spare) user.old.seat user.new.seat }
         ensures spare { OnOk result (user.new.spare ≡ None) }
         ensures kept { KeepsBlocks self.now.table.layout.config.buckets user.old user.new None None }
         ensures refused { IfErr result (IsNotQueued self.now.table.layout user.old user.new) }

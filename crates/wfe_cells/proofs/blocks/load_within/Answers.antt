@@ -1,14 +1,16 @@
 -- A version that the cell had since an attempt began it had since the first began.
 use Rattle.std.proofs.Common.{arith, length, refl, subst, ◌∙◌, ◌≡◌, ℕ}
 use Rattle.wfe_table.specs.history.History.{record_of}
+use Rattle.wfe_cells.specs.Only.{IsGet}
 use Rattle.wfe_cells.specs.Reasons.{AllDisturbed, IsDisturbed}
 use Rattle.wfe_cells.specs.Reasons.AllDisturbed.{NoneYet, OneMore}
 use Rattle.wfe_cells.proofs.Among.{later_grows, quiet_on, quiet_self}
+use Rattle.wfe_cells.proofs.Only.{only_on, only_self}
 use Rattle.wfe_cells.proofs.Words.{met_later}
 use Rattle.wfe_cells.proofs.blocks.load_within.Goals as goal
 
 pub loop-attempt-init : goal.loop-attempt-init
-loop-attempt-init c = record { of = c.requires.of; quiet = quiet_self c.args.seat.now; long = refl; disturbed = NoneYet }
+loop-attempt-init c = record { of = c.requires.of; quiet = quiet_self c.args.seat.now; only = only_self IsGet c.args.seat.now; long = refl; disturbed = NoneYet }
 
 pub loop-attempt-preserved : goal.loop-attempt-preserved
 loop-attempt-preserved c =
@@ -20,12 +22,16 @@ loop-attempt-preserved c =
     record {
       of = tried.of;
       quiet = quiet_on c.args.seat.now c.loop-attempt.seat c.try_load.new.seat i.quiet tried.quiet;
+      only = only_on IsGet c.args.seat.now c.loop-attempt.seat c.try_load.new.seat i.only tried.only;
       long = tried.length ∙ i.long;
       disturbed = OneMore c.loop-attempt._attempt c.loop-attempt.seat c.try_load.new.seat i.disturbed once;
     }
 
 pub returns-in-Some-clause-quiet : goal.returns-in-Some-clause-quiet
 returns-in-Some-clause-quiet c = quiet_on c.args.seat.now c.loop-attempt.seat c.try_load.new.seat c.loop-attempt.invariant.quiet c.try_load.ensures.quiet
+
+pub returns-in-Some-clause-only : goal.returns-in-Some-clause-only
+returns-in-Some-clause-only c = only_on IsGet c.args.seat.now c.loop-attempt.seat c.try_load.new.seat c.loop-attempt.invariant.only c.try_load.ensures.only
 
 pub returns-in-Some-clause-current : goal.returns-in-Some-clause-current
 returns-in-Some-clause-current c =

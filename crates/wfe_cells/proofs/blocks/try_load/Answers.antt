@@ -1,8 +1,10 @@
 -- What was read of the cell, and then of its object.
 use Rattle.wfe_table.specs.history.History.{record_of}
+use Rattle.wfe_cells.specs.Only.{IsGet}
 use Rattle.wfe_cells.specs.Wide.{named}
 use Rattle.std.proofs.Common.{length, ◌∙◌, ◌≡◌, ◌≢◌}
 use Rattle.wfe_cells.proofs.Among.{later_grows, quiet_get, quiet_on}
+use Rattle.wfe_cells.proofs.Only.{only_get, only_on}
 use Rattle.wfe_cells.proofs.Refusals.{disturbed}
 use Rattle.wfe_cells.proofs.Words.{met_cell, met_still, named_is, shows_none, shows_words}
 use Rattle.wfe_cells.proofs.blocks.try_load.Goals as goal
@@ -14,6 +16,11 @@ pub returns-then-object-eq0-clause-quiet : goal.returns-then-object-eq0-clause-q
 returns-then-object-eq0-clause-quiet c =
     let got = c.get-got.result in
     quiet_get c.args.shared.now.layout c.args.seat.now c.get-got.new.seat c.args.cell got.version got.value c.get-got.ensures.made
+
+pub returns-then-object-eq0-clause-only : goal.returns-then-object-eq0-clause-only
+returns-then-object-eq0-clause-only c =
+    let got = c.get-got.result in
+    only_get c.args.shared.now.layout c.args.seat.now c.get-got.new.seat c.args.cell got.version got.value c.get-got.ensures.made
 
 pub returns-then-object-eq0-clause-shown : goal.returns-then-object-eq0-clause-shown
 returns-then-object-eq0-clause-shown c =
@@ -33,6 +40,11 @@ pub returns-then-read-clause-quiet : goal.returns-then-read-clause-quiet
 returns-then-read-clause-quiet c =
     let got = c.get-got.result in
     quiet_on c.args.seat.now c.get-got.new.seat c.read.new.seat (quiet_get c.args.shared.now.layout c.args.seat.now c.get-got.new.seat c.args.cell got.version got.value c.get-got.ensures.made) c.read.ensures.quiet
+
+pub returns-then-read-clause-only : goal.returns-then-read-clause-only
+returns-then-read-clause-only c =
+    let got = c.get-got.result in
+    only_on IsGet c.args.seat.now c.get-got.new.seat c.read.new.seat (only_get c.args.shared.now.layout c.args.seat.now c.get-got.new.seat c.args.cell got.version got.value c.get-got.ensures.made) c.read.ensures.only
 
 pub returns-then-read-clause-shown : goal.returns-then-read-clause-shown
 returns-then-read-clause-shown c =
@@ -55,6 +67,11 @@ pub returns-else-read-clause-quiet : goal.returns-else-read-clause-quiet
 returns-else-read-clause-quiet c =
     let got = c.get-got.result in
     quiet_on c.args.seat.now c.get-got.new.seat c.read.new.seat (quiet_get c.args.shared.now.layout c.args.seat.now c.get-got.new.seat c.args.cell got.version got.value c.get-got.ensures.made) c.read.ensures.quiet
+
+pub returns-else-read-clause-only : goal.returns-else-read-clause-only
+returns-else-read-clause-only c =
+    let got = c.get-got.result in
+    only_on IsGet c.args.seat.now c.get-got.new.seat c.read.new.seat (only_get c.args.shared.now.layout c.args.seat.now c.get-got.new.seat c.args.cell got.version got.value c.get-got.ensures.made) c.read.ensures.only
 
 pub returns-else-read-clause-disturbed : goal.returns-else-read-clause-disturbed
 returns-else-read-clause-disturbed c =

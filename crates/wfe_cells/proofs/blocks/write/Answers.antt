@@ -7,6 +7,7 @@ use Rattle.wfe_table.specs.history.History.{record_of}
 use Rattle.wfe_core.specs.defs.declared.call.Answer.TheVariants as answers
 use Rattle.wfe_cells.specs.Wide.{HasWords}
 use Rattle.wfe_cells.proofs.Among.{quiet_get, quiet_on, quiet_put}
+use Rattle.wfe_cells.proofs.Only.{words_get, words_put}
 use Rattle.wfe_cells.proofs.Refusals.{got_met, put_met, put_range, word_refused}
 use Rattle.wfe_cells.proofs.Words.{named_words, put_word}
 use Rattle.wfe_cells.proofs.blocks.write.Goals as goal
@@ -21,6 +22,7 @@ loop-word-init c =
     record {
       of = c.get-version.ensures.of;
       quiet = quiet_get layout c.args.seat.now c.get-version.new.seat c.args.block got.version got.value c.get-version.ensures.made;
+      only = words_get layout c.args.seat.now c.get-version.new.seat c.args.block c.args.block got.version got.value c.get-version.ensures.made;
       met = got_met layout c.args.seat.now c.get-version.new.seat c.args.block got.version got.value c.requires.block c.get-version.ensures.made;
       range = λ some. absurd (omega arith);
       words = λ word none. absurd (omega arith);
@@ -39,6 +41,7 @@ loop-word-preserved c =
     record {
       of = c.put_if.ensures.of;
       quiet = quiet_on c.args.seat.now before after i.quiet (quiet_put layout before after key (slice_index_or c.args.words.now c.loop-word.word 0) c.loop-word.version (answers.Done done.version done.clock) made);
+      only = words_put layout c.args.seat.now before after c.args.block key word (slice_index_or c.args.words.now word 0) c.loop-word.version (answers.Done done.version done.clock) c.word_key-key.ensures c.requires.block i.only made;
       met = put_met layout c.args.seat.now before after c.args.block key (slice_index_or c.args.words.now c.loop-word.word 0) word c.loop-word.version done.version done.clock c.word_key-key.ensures c.requires.block i.quiet.later made;
       range = λ some. put_range layout before after key (slice_index_or c.args.words.now c.loop-word.word 0) c.loop-word.version done.version done.clock made;
       words = put_word layout before after c.args.block key c.loop-word.version done.version word done.clock c.args.words.now c.requires.block c.word_key-key.ensures made i.words;
@@ -49,11 +52,16 @@ returns-in-Err-clause-quiet c =
     let layout = c.args.shared.now.layout in
     quiet_on c.args.seat.now c.loop-word.seat c.put_if.new.seat c.loop-word.invariant.quiet (quiet_put layout c.loop-word.seat c.put_if.new.seat c.word_key-key.result (slice_index_or c.args.words.now c.loop-word.word 0) c.loop-word.version (put_if_answer c.in-Err.refusal) c.in-Err.ensures.made)
 
+pub returns-in-Err-clause-only : goal.returns-in-Err-clause-only
+returns-in-Err-clause-only c =
+    words_put c.args.shared.now.layout c.args.seat.now c.loop-word.seat c.put_if.new.seat c.args.block c.word_key-key.result c.loop-word.word (slice_index_or c.args.words.now c.loop-word.word 0) c.loop-word.version (put_if_answer c.in-Err.refusal) c.word_key-key.ensures c.requires.block
+    c.loop-word.invariant.only c.in-Err.ensures.made
+
 pub returns-in-Err-clause-refused : goal.returns-in-Err-clause-refused
 returns-in-Err-clause-refused c =
     let layout = c.args.shared.now.layout in
     let i = c.loop-word.invariant in
-    word_refused layout c.args.seat.now c.loop-word.seat c.put_if.new.seat c.args.block c.word_key-key.result c.loop-word.word c.loop-word.version c.args.words.now c.in-Err.refusal c.word_key-key.ensures c.loop-word-test.true i.quiet.later i.met c.in-Err.ensures.made
+    word_refused layout c.args.seat.now c.loop-word.seat c.put_if.new.seat c.args.block c.word_key-key.result c.loop-word.word c.loop-word.version c.args.words.now c.in-Err.refusal c.requires.block c.word_key-key.ensures c.loop-word-test.true i.quiet.later i.met c.in-Err.ensures.made
 
 pub name-requires-clause-block : goal.name-requires-clause-block
 name-requires-clause-block c =

@@ -2,6 +2,7 @@
 use Rattle.std.proofs.Common.{◌∙◌, ◌≡◌}
 use Rattle.wfe_cells.specs.Wide.{named}
 use Rattle.wfe_cells.proofs.Among.{quiet_get}
+use Rattle.wfe_cells.proofs.Only.{only_get}
 use Rattle.wfe_cells.proofs.Refusals.{stale_got}
 use Rattle.wfe_cells.proofs.Words.{got_now, named_is}
 use Rattle.wfe_cells.proofs.swaps.current.Goals as goal
@@ -10,6 +11,11 @@ pub returns-then-got-seen-clause-quiet : goal.returns-then-got-seen-clause-quiet
 returns-then-got-seen-clause-quiet c =
     let got = c.get-got.result in
     quiet_get c.args.shared.now.layout c.args.seat.now c.get-got.new.seat c.args.seen.cell got.version got.value c.get-got.ensures.made
+
+pub returns-then-got-seen-clause-only : goal.returns-then-got-seen-clause-only
+returns-then-got-seen-clause-only c =
+    let got = c.get-got.result in
+    only_get c.args.shared.now.layout c.args.seat.now c.get-got.new.seat c.args.seen.cell got.version got.value c.get-got.ensures.made
 
 pub returns-then-got-seen-clause-refused : goal.returns-then-got-seen-clause-refused
 returns-then-got-seen-clause-refused c =
@@ -20,6 +26,11 @@ pub returns-clause-quiet : goal.returns-clause-quiet
 returns-clause-quiet c =
     let got = c.get-got.result in
     quiet_get c.args.shared.now.layout c.args.seat.now c.get-got.new.seat c.args.seen.cell got.version got.value c.get-got.ensures.made
+
+pub returns-clause-only : goal.returns-clause-only
+returns-clause-only c =
+    let got = c.get-got.result in
+    only_get c.args.shared.now.layout c.args.seat.now c.get-got.new.seat c.args.seen.cell got.version got.value c.get-got.ensures.made
 
 pub returns-clause-named : goal.returns-clause-named
 returns-clause-named c =

@@ -1,17 +1,24 @@
 -- The cell's bucket comes to the thread, and the thread's goes to the cell.
-use Rattle.std.proofs.Common.{None, Some, refl}
+use Rattle.std.proofs.Common.{Err, None, Ok, Some, refl}
 use Rattle.wfe_cells.proofs.Among.{later_grows, later_on, later_self}
 use Rattle.wfe_cells.proofs.Kept.{keeps_back, keeps_on, keeps_quiet, keeps_since}
-use Rattle.wfe_cells.proofs.Refusals.{has_no_block, refused_user, refused_words}
+use Rattle.wfe_cells.proofs.Only.{swap_places, swap_reads, swap_takes}
+use Rattle.wfe_cells.proofs.Refusals.{has_no_block, refused_stale, refused_user, some_words}
 use Rattle.wfe_cells.proofs.Words.{cell_stays}
 use Rattle.wfe_cells.specs.Reasons.{KeepsBlocks}
 use Rattle.wfe_cells.specs.declared.wide.Seen.{Seen}
+use Rattle.wfe_cells.specs.declared.wide.SwapRefusal.TheVariants as refusals
 use Rattle.wfe_cells.specs.declared.wide.WideUser.{WideUser}
 use Rattle.wfe_table.specs.history.History.{record_of}
 use Rattle.wfe_cells.proofs.swaps.swap_within.Goals as goal
 
 pub returns-in-Err-clause-later : goal.returns-in-Err-clause-later
 returns-in-Err-clause-later c = c.current.ensures.quiet.later
+
+pub returns-in-Err-clause-only : goal.returns-in-Err-clause-only
+returns-in-Err-clause-only c =
+    let had = c.args.user.now.spare in
+    swap_reads c.args.shared.now.layout.config.buckets c.args.seen had had (Err c.in-Err.refusal) c.args.user.now.seat c.current.new.seat c.current.ensures.only
 
 pub returns-in-Err-clause-kept : goal.returns-in-Err-clause-kept
 returns-in-Err-clause-kept c =
@@ -22,10 +29,15 @@ pub returns-in-Err-clause-refused : goal.returns-in-Err-clause-refused
 returns-in-Err-clause-refused c =
     let user : WideUser = record { seat = c.current.new.seat; spare = c.args.user.now.spare } in
     refused_user c.args.shared.now.layout c.args.user.now user c.args.user.now.seat c.current.new.seat c.args.seen c.args.words.now c.in-Err.refusal (later_self c.args.user.now.seat)
-    (refused_words c.args.shared.now.layout c.args.user.now.seat c.current.new.seat c.args.seen c.args.words.now c.in-Err.refusal c.in-Err.ensures.refused) (later_self c.current.new.seat)
+    (refused_stale c.args.shared.now.layout c.args.user.now.seat c.current.new.seat c.args.seen c.args.user.now.spare c.args.words.now c.in-Err.refusal c.in-Err.ensures.refused) (later_self c.current.new.seat)
 
 pub returns-in_default-clause-later : goal.returns-in_default-clause-later
 returns-in_default-clause-later c = later_on c.args.user.now.seat c.current.new.seat c.take_block.new.user.seat c.current.ensures.quiet.later c.take_block.ensures.later
+
+pub returns-in_default-clause-only : goal.returns-in_default-clause-only
+returns-in_default-clause-only c =
+    let last = c.take_block.new.user in
+    swap_takes c.args.shared.now.layout.config.buckets c.args.seen c.args.user.now.spare last.spare (Err refusals.NoBlock) c.args.user.now.seat c.current.new.seat last.seat c.current.ensures.only c.take_block.ensures.only
 
 pub returns-in_default-clause-kept : goal.returns-in_default-clause-kept
 returns-in_default-clause-kept c =
@@ -35,11 +47,16 @@ returns-in_default-clause-kept c =
 pub returns-in_default-clause-refused : goal.returns-in_default-clause-refused
 returns-in_default-clause-refused c =
     let mid : WideUser = record { seat = c.current.new.seat; spare = c.args.user.now.spare } in
-    has_no_block c.args.shared.now.layout c.args.user.now mid c.take_block.new.user refl c.current.ensures.quiet.later c.in_default.ensures.none
+    (some_words c.args.words.now c.requires.some, has_no_block c.args.shared.now.layout c.args.user.now mid c.take_block.new.user refl c.current.ensures.quiet.later c.in_default.ensures.none)
 
 pub returns-in-Ok-place-clause-later : goal.returns-in-Ok-place-clause-later
 returns-in-Ok-place-clause-later c =
     later_on c.args.user.now.seat c.current.new.seat c.place.new.seat c.current.ensures.quiet.later (later_on c.current.new.seat c.take_block.new.user.seat c.place.new.seat c.take_block.ensures.later c.place.ensures.quiet.later)
+
+pub returns-in-Ok-place-clause-only : goal.returns-in-Ok-place-clause-only
+returns-in-Ok-place-clause-only c =
+    swap_places c.args.shared.now.layout.config.buckets c.in-Some.block c.args.seen c.args.user.now.spare c.block_in-user.result (Ok c.in-Ok-place.now) c.args.user.now.seat c.current.new.seat c.take_block.new.user.seat c.place.new.seat c.in-Ok-place.ensures.placed.block_is c.current.ensures.only
+    c.take_block.ensures.only c.in-Ok-place.ensures.only
 
 pub returns-in-Ok-place-clause-kept : goal.returns-in-Ok-place-clause-kept
 returns-in-Ok-place-clause-kept c =
@@ -61,6 +78,11 @@ returns-in-Ok-place-clause-kept c =
 pub returns-in-Err-place-clause-later : goal.returns-in-Err-place-clause-later
 returns-in-Err-place-clause-later c =
     later_on c.args.user.now.seat c.current.new.seat c.place.new.seat c.current.ensures.quiet.later (later_on c.current.new.seat c.take_block.new.user.seat c.place.new.seat c.take_block.ensures.later c.place.ensures.quiet.later)
+
+pub returns-in-Err-place-clause-only : goal.returns-in-Err-place-clause-only
+returns-in-Err-place-clause-only c =
+    let block = c.in-Some.block in
+    swap_places c.args.shared.now.layout.config.buckets block c.args.seen c.args.user.now.spare (Some block) (Err c.in-Err-place.refusal) c.args.user.now.seat c.current.new.seat c.take_block.new.user.seat c.place.new.seat refl c.current.ensures.only c.take_block.ensures.only c.in-Err-place.ensures.only
 
 pub returns-in-Err-place-clause-kept : goal.returns-in-Err-place-clause-kept
 returns-in-Err-place-clause-kept c =

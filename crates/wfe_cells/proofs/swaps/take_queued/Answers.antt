@@ -1,13 +1,18 @@
 -- What a dequeue tells.
-use Rattle.std.proofs.Common.{arith, inl, inr, ◌≤◌}
+use Rattle.std.proofs.Common.{arith, inl, inr, refl, ◌≤◌}
 use Rattle.wfe_core.specs.defs.declared.call.Answer.TheVariants as answers
 use Rattle.wfe_core.specs.defs.declared.call.Call.TheVariants as calls
 use Rattle.wfe_cells.proofs.Among.{among_one, later_by, queues_by, takes_by}
 use Rattle.wfe_cells.proofs.Kept.{not_past}
+use Rattle.wfe_cells.proofs.Only.{only_by}
+use Rattle.wfe_cells.specs.Only.{IsDequeue}
 use Rattle.wfe_cells.proofs.swaps.take_queued.Goals as goal
 
 pub returns-in_default-clause-later : goal.returns-in_default-clause-later
 returns-in_default-clause-later c = later_by c.args.shared.now.layout c.args.seat.now c.dequeue.new.seat calls.Dequeue answers.Empty c.in_default.ensures.made
+
+pub returns-in_default-clause-only : goal.returns-in_default-clause-only
+returns-in_default-clause-only c = only_by IsDequeue c.args.shared.now.layout c.args.seat.now c.dequeue.new.seat calls.Dequeue answers.Empty c.in_default.ensures.made refl
 
 pub returns-in_default-clause-takes : goal.returns-in_default-clause-takes
 returns-in_default-clause-takes c block l = takes_by c.args.shared.now.layout c.args.seat.now c.dequeue.new.seat calls.Dequeue answers.Empty block c.in_default.ensures.made
@@ -23,6 +28,11 @@ returns-then-taken-buckets-clause-later c =
     let taken = c.in-Ok.taken in
     later_by c.args.shared.now.layout c.args.seat.now c.dequeue.new.seat calls.Dequeue (answers.Taken taken.number taken.value taken.clock) c.in-Ok.ensures.made
 
+pub returns-then-taken-buckets-clause-only : goal.returns-then-taken-buckets-clause-only
+returns-then-taken-buckets-clause-only c =
+    let taken = c.in-Ok.taken in
+    only_by IsDequeue c.args.shared.now.layout c.args.seat.now c.dequeue.new.seat calls.Dequeue (answers.Taken taken.number taken.value taken.clock) c.in-Ok.ensures.made refl
+
 pub returns-then-taken-buckets-clause-takes : goal.returns-then-taken-buckets-clause-takes
 returns-then-taken-buckets-clause-takes c block l =
     let taken = c.in-Ok.taken in
@@ -37,6 +47,11 @@ pub returns-else-taken-buckets-clause-later : goal.returns-else-taken-buckets-cl
 returns-else-taken-buckets-clause-later c =
     let taken = c.in-Ok.taken in
     later_by c.args.shared.now.layout c.args.seat.now c.dequeue.new.seat calls.Dequeue (answers.Taken taken.number taken.value taken.clock) c.in-Ok.ensures.made
+
+pub returns-else-taken-buckets-clause-only : goal.returns-else-taken-buckets-clause-only
+returns-else-taken-buckets-clause-only c =
+    let taken = c.in-Ok.taken in
+    only_by IsDequeue c.args.shared.now.layout c.args.seat.now c.dequeue.new.seat calls.Dequeue (answers.Taken taken.number taken.value taken.clock) c.in-Ok.ensures.made refl
 
 pub returns-else-taken-buckets-clause-takes : goal.returns-else-taken-buckets-clause-takes
 returns-else-taken-buckets-clause-takes c block l =

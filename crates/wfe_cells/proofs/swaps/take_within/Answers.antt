@@ -1,17 +1,23 @@
 -- The bucket that was kept is queued, and the cell's comes to the thread.
-use Rattle.std.proofs.Common.{None, [], refl}
+use Rattle.std.proofs.Common.{Err, None, Ok, [], refl}
 use Rattle.wfe_cells.proofs.Among.{later_grows, later_on, later_self}
 use Rattle.wfe_cells.proofs.Kept.{keeps_came, keeps_kept, keeps_quiet, keeps_since}
-use Rattle.wfe_cells.proofs.Refusals.{not_queued_since, refused_user}
+use Rattle.wfe_cells.proofs.Only.{take_empties, take_looks, take_queues}
+use Rattle.wfe_cells.proofs.Refusals.{none_given, not_queued_since, refused_stale, refused_user}
 use Rattle.wfe_cells.proofs.Words.{cell_stays}
 use Rattle.wfe_cells.specs.Reasons.{KeepsBlocks}
 use Rattle.wfe_cells.specs.declared.wide.Seen.{Seen}
+use Rattle.wfe_cells.specs.declared.wide.SwapRefusal.TheVariants as refusals
 use Rattle.wfe_cells.specs.declared.wide.WideUser.{WideUser}
 use Rattle.wfe_table.specs.history.History.{record_of}
 use Rattle.wfe_cells.proofs.swaps.take_within.Goals as goal
 
 pub returns-in-Err-clause-later : goal.returns-in-Err-clause-later
 returns-in-Err-clause-later c = c.current.ensures.quiet.later
+
+pub returns-in-Err-clause-only : goal.returns-in-Err-clause-only
+returns-in-Err-clause-only c =
+    take_looks c.args.seen c.args.user.now.spare (Err c.in-Err.refusal) c.args.user.now.seat c.current.new.seat c.current.ensures.only
 
 pub returns-in-Err-clause-kept : goal.returns-in-Err-clause-kept
 returns-in-Err-clause-kept c =
@@ -21,10 +27,15 @@ returns-in-Err-clause-kept c =
 pub returns-in-Err-clause-refused : goal.returns-in-Err-clause-refused
 returns-in-Err-clause-refused c =
     let user : WideUser = record { seat = c.current.new.seat; spare = c.args.user.now.spare } in
-    refused_user c.args.shared.now.layout c.args.user.now user c.args.user.now.seat c.current.new.seat c.args.seen [] c.in-Err.refusal (later_self c.args.user.now.seat) c.in-Err.ensures.refused (later_self c.current.new.seat)
+    refused_user c.args.shared.now.layout c.args.user.now user c.args.user.now.seat c.current.new.seat c.args.seen [] c.in-Err.refusal (later_self c.args.user.now.seat)
+    (refused_stale c.args.shared.now.layout c.args.user.now.seat c.current.new.seat c.args.seen c.args.user.now.spare [] c.in-Err.refusal c.in-Err.ensures.refused) (later_self c.current.new.seat)
 
 pub returns-in-Err-give_back-clause-later : goal.returns-in-Err-give_back-clause-later
 returns-in-Err-give_back-clause-later c = later_on c.args.user.now.seat c.current.new.seat c.give_back.new.user.seat c.current.ensures.quiet.later c.give_back.ensures.later
+
+pub returns-in-Err-give_back-clause-only : goal.returns-in-Err-give_back-clause-only
+returns-in-Err-give_back-clause-only c =
+    take_queues c.args.seen c.args.user.now.spare (Err (refusals.NotQueued c.in-Err-give_back.refusal)) c.args.user.now.seat c.current.new.seat c.give_back.new.user.seat c.current.ensures.only c.give_back.ensures.only
 
 pub returns-in-Err-give_back-clause-kept : goal.returns-in-Err-give_back-clause-kept
 returns-in-Err-give_back-clause-kept c =
@@ -34,11 +45,15 @@ returns-in-Err-give_back-clause-kept c =
 pub returns-in-Err-give_back-clause-refused : goal.returns-in-Err-give_back-clause-refused
 returns-in-Err-give_back-clause-refused c =
     let mid : WideUser = record { seat = c.current.new.seat; spare = c.args.user.now.spare } in
-    not_queued_since c.args.shared.now.layout c.args.user.now mid c.give_back.new.user c.in-Err-give_back.refusal refl c.current.ensures.quiet.later c.in-Err-give_back.ensures.refused
+    (refl, not_queued_since c.args.shared.now.layout c.args.user.now mid c.give_back.new.user c.in-Err-give_back.refusal refl c.current.ensures.quiet.later c.in-Err-give_back.ensures.refused)
 
 pub returns-in-Ok-exchange-clause-later : goal.returns-in-Ok-exchange-clause-later
 returns-in-Ok-exchange-clause-later c =
     later_on c.args.user.now.seat c.current.new.seat c.exchange.new.seat c.current.ensures.quiet.later (later_on c.current.new.seat c.give_back.new.user.seat c.exchange.new.seat c.give_back.ensures.later c.exchange.ensures.quiet.later)
+
+pub returns-in-Ok-exchange-clause-only : goal.returns-in-Ok-exchange-clause-only
+returns-in-Ok-exchange-clause-only c =
+    take_empties c.args.seen c.args.user.now.spare (Ok c.in-Ok-exchange.now) c.args.user.now.seat c.current.new.seat c.give_back.new.user.seat c.exchange.new.seat c.current.ensures.only c.give_back.ensures.only c.in-Ok-exchange.ensures.only
 
 pub returns-in-Ok-exchange-clause-kept : goal.returns-in-Ok-exchange-clause-kept
 returns-in-Ok-exchange-clause-kept c =
@@ -60,6 +75,10 @@ pub returns-in-Err-exchange-clause-later : goal.returns-in-Err-exchange-clause-l
 returns-in-Err-exchange-clause-later c =
     later_on c.args.user.now.seat c.current.new.seat c.exchange.new.seat c.current.ensures.quiet.later (later_on c.current.new.seat c.give_back.new.user.seat c.exchange.new.seat c.give_back.ensures.later c.exchange.ensures.quiet.later)
 
+pub returns-in-Err-exchange-clause-only : goal.returns-in-Err-exchange-clause-only
+returns-in-Err-exchange-clause-only c =
+    take_empties c.args.seen c.args.user.now.spare (Err c.in-Err-exchange.refusal) c.args.user.now.seat c.current.new.seat c.give_back.new.user.seat c.exchange.new.seat c.current.ensures.only c.give_back.ensures.only c.in-Err-exchange.ensures.only
+
 pub returns-in-Err-exchange-clause-kept : goal.returns-in-Err-exchange-clause-kept
 returns-in-Err-exchange-clause-kept c =
     let n = c.args.shared.now.layout.config.buckets in
@@ -70,6 +89,9 @@ returns-in-Err-exchange-clause-kept c =
 
 pub returns-in-Err-exchange-clause-refused : goal.returns-in-Err-exchange-clause-refused
 returns-in-Err-exchange-clause-refused c =
+    let layout = c.args.shared.now.layout in
+    let old = c.args.user.now in
     let last : WideUser = record { seat = c.exchange.new.seat; spare = c.give_back.new.user.spare } in
-    refused_user c.args.shared.now.layout c.args.user.now last c.give_back.new.user.seat c.exchange.new.seat c.args.seen [] c.in-Err-exchange.refusal
-    (later_on c.args.user.now.seat c.current.new.seat c.give_back.new.user.seat c.current.ensures.quiet.later c.give_back.ensures.later) c.in-Err-exchange.ensures.refused (later_self c.exchange.new.seat)
+    let since = later_on old.seat c.current.new.seat c.give_back.new.user.seat c.current.ensures.quiet.later c.give_back.ensures.later in
+    refused_user layout old last old.seat c.exchange.new.seat c.args.seen [] c.in-Err-exchange.refusal (later_self old.seat)
+    (none_given layout old.seat c.give_back.new.user.seat c.exchange.new.seat c.args.seen last.spare c.in-Err-exchange.refusal since c.in-Err-exchange.ensures.refused) (later_self c.exchange.new.seat)

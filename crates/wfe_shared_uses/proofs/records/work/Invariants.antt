@@ -1,0 +1,6 @@
+-- The part is the table's at each turn.
+use Rattle.wfe_table.specs.Public.{IsOf}
+use Rattle.wfe_shared_uses.proofs.records.work.Given as goal
+
+abbrev pub invariant-loop-number : goal.invariant-loop-number
+invariant-loop-number l = IsOf l.user.part.user.seat l.cells
