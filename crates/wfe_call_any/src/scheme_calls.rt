@@ -1,4 +1,5 @@
-// The calls of each scheme: a type without parameters for each, so that types that hold all four stay short.
+// The calls of each scheme: a type without parameters for each, so that types that hold all four stay short. How one is dropped is code
+// of its own, which is proved here, and not again in each crate that holds one.
 ghost use Rattle.std.specs.Prelude.{◌≡◌, true};
 ghost use Rattle.wfe_core.specs.Locals.{stays};
 ghost use Rattle.wfe_core.specs.Steps.{first_phase};
@@ -10,9 +11,15 @@ use wfe_bucketmap::{He, Hp, Ibr, Wfe};
 use wfe_core::{Answer, Call, CallMachine, Desk, Layout, Op, Post, Told};
 
 /// A call under Hazard Eras.
-#[derive(Drop)]
 pub struct HeCall {
     call: Running<He>,
+}
+
+impl Drop for HeCall {
+    #[inline(always)]
+    fn drop(self) {
+        let HeCall { call: _ } = self;
+    }
 }
 
 impl HeCall {
@@ -51,9 +58,15 @@ impl CallMachine for HeCall {
 }
 
 /// A call under 2GE intervals.
-#[derive(Drop)]
 pub struct IbrCall {
     call: Running<Ibr>,
+}
+
+impl Drop for IbrCall {
+    #[inline(always)]
+    fn drop(self) {
+        let IbrCall { call: _ } = self;
+    }
 }
 
 impl IbrCall {
@@ -92,9 +105,15 @@ impl CallMachine for IbrCall {
 }
 
 /// A call under Wait-Free Eras.
-#[derive(Drop)]
 pub struct WfeCall {
     call: Running<Wfe>,
+}
+
+impl Drop for WfeCall {
+    #[inline(always)]
+    fn drop(self) {
+        let WfeCall { call: _ } = self;
+    }
 }
 
 impl WfeCall {
@@ -133,9 +152,15 @@ impl CallMachine for WfeCall {
 }
 
 /// A call under hazard pointers.
-#[derive(Drop)]
 pub struct HpCall {
     call: Running<Hp>,
+}
+
+impl Drop for HpCall {
+    #[inline(always)]
+    fn drop(self) {
+        let HpCall { call: _ } = self;
+    }
 }
 
 impl HpCall {

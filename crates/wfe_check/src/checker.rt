@@ -6,6 +6,13 @@ ghost use Rattle.laws.specs.ScanLaw.{scan_ok};
 ghost use Rattle.laws.specs.records.Record.{Past};
 ghost use Rattle.laws.specs.records.Record.Past.{Start, Then};
 ghost use Rattle.wfe_check.specs.Checked.{IsChecked, MayCome, Shows};
+ghost use Rattle.wfe_check_calls.specs.CallSteps.{IsSteps};
+ghost use Rattle.wfe_check_calls.specs.Calls.{IsCalls};
+ghost use Rattle.wfe_check_held.specs.Protections.{IsProtections};
+ghost use Rattle.wfe_check_held.specs.Times.{IsTimes};
+ghost use Rattle.wfe_check_map.specs.ListStanding.{IsLists};
+ghost use Rattle.wfe_check_map.specs.Standing.{IsContents};
+ghost use Rattle.wfe_check_rows.specs.Rows.{IsRows};
 ghost use Rattle.wfe_check_lines.specs.Judged.{Judged};
 ghost use Rattle.wfe_words.specs.Config.{bad_field};
 ghost use Rattle.wfe_words.specs.declared.config.Config.{Config as Setting};
@@ -33,6 +40,34 @@ pub struct Checker {
     pub(crate) times: Times,
 }
 
+// What is kept of rows, and of what guards them.
+fn of_rows(alloc: Global, config: Config) -> Result<(Rows, Protections, Times), NoMemory>
+    requires { bad_field config ≡ None }
+    ensures rows { IfOk result (λ parts. IsRows config parts.0 Start) }
+    ensures protections { IfOk result (λ parts. IsProtections config parts.1 Start) }
+    ensures times { IfOk result (λ parts. IsTimes config parts.2 Start) }
+{
+    let rows = Rows::new(alloc, config)?;
+    let protections = Protections::new(alloc, config)?;
+    let times = Times::new(alloc, config)?;
+    Ok((rows, protections, times))
+}
+
+// What is kept of calls, and of what they leave.
+fn of_calls(alloc: Global, config: Config) -> Result<(Calls, Steps, Contents, Lists), NoMemory>
+    requires { bad_field config ≡ None }
+    ensures calls { IfOk result (λ parts. IsCalls config parts.0 Start) }
+    ensures steps { IfOk result (λ parts. IsSteps config parts.1 Start) }
+    ensures contents { IfOk result (λ parts. IsContents config parts.2 Start) }
+    ensures lists { IfOk result (λ parts. IsLists config parts.3 Start) }
+{
+    let calls = Calls::new(alloc, config)?;
+    let steps = Steps::new(alloc, config)?;
+    let contents = Contents::new(alloc, config)?;
+    let lists = Lists::new(alloc, config)?;
+    Ok((calls, steps, contents, lists))
+}
+
 impl Checker {
     /// Stands for the record of the version and with the setting that has no entries. NoMemory: there is none
     /// for what is kept.
@@ -40,16 +75,18 @@ impl Checker {
         requires { bad_field config ≡ None }
         ensures { IfOk result (λ checker. IsChecked version config checker Start) }
     {
+        let (rows, protections, times) = of_rows(alloc, config)?;
+        let (calls, steps, contents, lists) = of_calls(alloc, config)?;
         Ok(Checker {
             version,
             config,
-            rows: Rows::new(alloc, config)?,
-            protections: Protections::new(alloc, config)?,
-            calls: Calls::new(alloc, config)?,
-            steps: Steps::new(alloc, config)?,
-            contents: Contents::new(alloc, config)?,
-            lists: Lists::new(alloc, config)?,
-            times: Times::new(alloc, config)?,
+            rows,
+            protections,
+            calls,
+            steps,
+            contents,
+            lists,
+            times,
         })
     }
 

@@ -1,9 +1,9 @@
 -- A table that shows a World in which all seats stay: what its seats need for their units, and that units and starts keep that.
 -- Where another table has other place words, the same holds of it with each place word 0.
-use Rattle.std.proofs.Common.{Bool, List, [], ap, ap₂, arith, false, get_or, length, length-set, refl, slice_set, subst, suc, sym, true, zero, ℕ, ◌++◌, ◌+◌, ◌-◌, ◌<◌, ◌^◌, ◌∙◌, ◌∷◌, ◌≡◌, ◌≤◌}
+use Rattle.std.proofs.Common.{Bool, List, [], ap, ap₂, arith, false, get_or, length, length-set, refl, slice_set, subst, suc, sym, true, zero, ℕ, ◌+◌, ◌-◌, ◌<◌, ◌^◌, ◌∙◌, ◌∷◌, ◌≡◌}
 use Rattle.std.proofs.lemmas.Bool.Decides.{nat_tests}
 use Rattle.std.proofs.lemmas.List.{ext_get_or, get_or_past}
-use Rattle.std.proofs.lemmas.List.FromFn.{get_or-map-range_with_len, length-map-range_with_len, map-range_with_len_more}
+use Rattle.std.proofs.lemmas.List.FromFn.{get_or-map-range_with_len, length-map-range_with_len}
 use Rattle.std.specs.Prelude.{Err, IfOk, None, Ok, Option, Result, map, nat_lt, ◌==◌}
 use Rattle.std.specs.List.{range_with_len}
 use Rattle.wfe_core.specs.words.Place.{Place, has, is_valid, number, place_at, start_at, start_of, words}
@@ -333,21 +333,13 @@ layout_from table now seat v n r h e =
     let l : seat < table.layout.config.seats = subst (λ (t : TableView). seat < t.layout.config.seats) (sym n) h in
     ap (λ (x : SeatView). x.post.layout) (seat_is table seat v r l e) ∙ layout_at (bare table) seat r l
 
--- one seat more
-pub seats_more : (layout : Layout) (views : List SeatView) (seat : ℕ) (v : SeatView) (more : List SeatView) → views ≡ map (fresh_seat layout) (range_with_len 0 seat) → v ≡ fresh_seat layout seat → more ≡ views ++ v ∷ [] → more ≡ map (fresh_seat layout) (range_with_len 0 (seat + 1))
-seats_more layout views seat v more e f m = m ∙ ap₂ (λ (xs : List SeatView) (x : SeatView). xs ++ x ∷ []) e f ∙ sym (map-range_with_len_more (fresh_seat layout) 0 seat seat (omega arith))
-
 -- all the words and all the seats are the table at its start
-pub table_first : (layout : Layout) (list : List ℕ) (views : List SeatView) (seat count : ℕ) → HoldsStart layout list → views ≡ map (fresh_seat layout) (range_with_len 0 seat) → seat ≤ count → count ≤ seat → count ≡ layout.config.seats
-    → record { layout = layout; words = list; seats = views } ≡ first_table layout
-table_first layout list views seat count h e low high is =
-    let all : seat ≡ layout.config.seats = omega (low, high, is, arith) in
-    ap₂ (λ (l : List ℕ) (vs : List SeatView). let t : TableView = record { layout = layout; words = l; seats = vs } in t) (words_first layout list h) (e ∙ ap (λ (n : ℕ). map (fresh_seat layout) (range_with_len 0 n)) all)
+pub table_first : (layout : Layout) (list : List ℕ) (views : List SeatView) → HoldsStart layout list → views ≡ map (fresh_seat layout) (range_with_len 0 layout.config.seats) → record { layout = layout; words = list; seats = views } ≡ first_table layout
+table_first layout list views h e = ap₂ (λ (l : List ℕ) (vs : List SeatView). let t : TableView = record { layout = layout; words = l; seats = vs } in t) (words_first layout list h) e
 
-pub table_reached : (layout : Layout) (list : List ℕ) (views : List SeatView) (seat count : ℕ) → is_valid layout ≡ true → HoldsStart layout list → views ≡ map (fresh_seat layout) (range_with_len 0 seat) → seat ≤ count → count ≤ seat → count ≡ layout.config.seats
-    → IsReached (bare (record { layout = layout; words = list; seats = views }))
-table_reached layout list views seat count d h e low high is =
-    subst (λ (t : TableView). IsReached (bare t)) (sym (table_first layout list views seat count h e low high is)) (subst IsReached (sym (first_bare layout)) (first_reached layout list d h))
+pub table_reached : (layout : Layout) (list : List ℕ) (views : List SeatView) → is_valid layout ≡ true → HoldsStart layout list → views ≡ map (fresh_seat layout) (range_with_len 0 layout.config.seats) → IsReached (bare (record { layout = layout; words = list; seats = views }))
+table_reached layout list views d h e =
+    subst (λ (t : TableView). IsReached (bare t)) (sym (table_first layout list views h e)) (subst IsReached (sym (first_bare layout)) (first_reached layout list d h))
 
 -- a call that begins is under way
 pub begun_busy : (v : SeatView) (call : Call) → busy_in (first_phase call (begun_post v.post)) ≡ true

@@ -18,7 +18,7 @@ use std::marker::Model;
 use wfe_call_any::{HeCall, HpCall, IbrCall, WfeCall};
 use wfe_core::{Answer, Call, CallMachine, Layout, NoMemory, Op, SchemeKind, Told};
 use wfe_drive_cells::Cells;
-use wfe_drive_seat::{Engaged, SeatState, move_list};
+use wfe_drive_seat::{Engaged, SeatState, fresh_seats, move_list};
 
 type State = SeatState<HeCall, IbrCall, WfeCall, HpCall>;
 
@@ -68,17 +68,7 @@ impl<C: Cells> Rig<C> {
         requires cells { HoldsStart layout (C.words cells) }
         ensures { IfOk result (λ rig. rig ≡ first_table layout) }
     {
-        let count = layout.config().seats;
-        let Ok(mut seats) = Vec::with_capacity(alloc, count as usize) else {
-            return Err(NoMemory);
-        };
-        for seat in 0..count {
-            let state = SeatState::new(alloc, seat, layout)?;
-            match seats.push(state) {
-                Ok(()) => {}
-                Err(_) => return Err(NoMemory),
-            }
-        }
+        let seats = fresh_seats(alloc, layout)?;
         Ok(Rig {
             cells,
             layout,

@@ -1,4 +1,5 @@
 pub use Rattle.wfe_drive_cells.proofs as drive_cells
+mod Fresh
 pub mod Leaving
 pub mod Left
 pub mod Moving

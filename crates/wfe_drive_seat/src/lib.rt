@@ -5,4 +5,4 @@
 mod letting;
 mod seat;
 
-pub use seat::{Engaged, SeatState, move_list};
+pub use seat::{Engaged, SeatState, fresh_seats, move_list};

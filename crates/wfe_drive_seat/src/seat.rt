@@ -1,5 +1,6 @@
 // A seat of a rig: its post, its desk and the call under way on it, and the seat's part of a unit.
-ghost use Rattle.std.specs.Prelude.{◌≡◌, ◌<◌, ◌≤◌, ◌+◌, ◌==◌, [], IfOk, length, true, false, slice_get, Some};
+ghost use Rattle.std.specs.Prelude.{◌≡◌, ◌<◌, ◌≤◌, ◌+◌, ◌==◌, [], IfOk, length, map, true, false, slice_get, Some};
+ghost use Rattle.std.specs.List.{range_with_len};
 ghost use Rattle.wfe_core.specs.words.Place.{is_valid};
 ghost use Rattle.wfe_drive_cells.specs.Operations.{answered, performed, word_in};
 ghost use Rattle.wfe_drive_cells.specs.Unit.{Leaves, SeatView, answer_in, asked, fresh_seat, seat_after, turned};
@@ -311,4 +312,26 @@ pub fn move_list<H: CallMachine, I: CallMachine, W: CallMachine, P: CallMachine>
     seats[to].clear_notes();
     seats[from].empty_list();
     count
+}
+
+/// The seats of a table in number order, none of which has made a call.
+pub fn fresh_seats<H: CallMachine, I: CallMachine, W: CallMachine, P: CallMachine>(
+    alloc: Global,
+    layout: Layout,
+) -> Result<Vec<SeatState<H, I, W, P>>, NoMemory>
+    requires { is_valid layout ≡ true }
+    ensures { IfOk result (λ seats. seats.items ≡ map (fresh_seat layout) (range_with_len 0 layout.config.seats)) }
+{
+    let count = layout.config().seats;
+    let Ok(mut seats) = Vec::with_capacity(alloc, count as usize) else {
+        return Err(NoMemory);
+    };
+    for seat in 0..count {
+        let state = SeatState::new(alloc, seat, layout)?;
+        match seats.push(state) {
+            Ok(()) => {}
+            Err(_) => return Err(NoMemory),
+        }
+    }
+    Ok(seats)
 }

@@ -1,7 +1,9 @@
 // The events of a record.
 ghost use Rattle.std.specs.Prelude.{◌≡◌, ℕ, option_map, IfSome, Some};
 ghost use Rattle.wfe_defs.specs.declared.event.Event.{Event as AnyEvent};
+ghost use Rattle.wfe_defs.specs.declared.event.Event.TheVariants as events;
 ghost use Rattle.wfe_trace.specs.Words.{words};
+ghost use Rattle.wfe_record_words.specs.Reader.{index, long, root, short, slot, since as since_by, three, two};
 ghost use Rattle.wfe_record_words.specs.Within.{Small};
 ghost use Rattle.wfe_record.specs.Entry.{IsEntry};
 ghost use Rattle.wfe_record.specs.Reader.{event as event_of, event_by, entry as entry_of, entry_in as entry_by, hazard_event_by, row_event_by, standing_event_by};
@@ -11,37 +13,96 @@ use wfe_record_calls::{read_answer, read_call};
 use wfe_record_words::{Words, read_contents, since};
 use wfe_words::Config;
 
+#[inline(always)]
+fn held(line: &mut Words<'_>, config: &Config) -> Option<Event>
+    ensures { option_map (λ event. (event, line.new)) result ≡ three (index config.now) (slot config.now) long events.Held line.old }
+{
+    Some(Event::Held {
+        index: line.index(config)?,
+        slot: line.slot(config)?,
+        steps: line.long()?,
+    })
+}
+
+#[inline(always)]
+fn null(line: &mut Words<'_>, config: &Config) -> Option<Event>
+    ensures { option_map (λ event. (event, line.new)) result ≡ two (index config.now) long events.Null line.old }
+{
+    Some(Event::Null {
+        index: line.index(config)?,
+        steps: line.long()?,
+    })
+}
+
+#[inline(always)]
+fn clear(line: &mut Words<'_>, config: &Config) -> Option<Event>
+    ensures { option_map (λ event. (event, line.new)) result ≡ two (index config.now) (slot config.now) events.Clear line.old }
+{
+    Some(Event::Clear {
+        index: line.index(config)?,
+        slot: line.slot(config)?,
+    })
+}
+
+#[inline(always)]
+fn copied(line: &mut Words<'_>, version: u32, config: &Config) -> Option<Event>
+    ensures { option_map (λ event. (event, line.new)) result ≡ since_by 2 version (three (index config.now) (index config.now) (slot config.now) events.Copied) line.old }
+{
+    since(2, version)?;
+    Some(Event::Copied {
+        from: line.index(config)?,
+        index: line.index(config)?,
+        slot: line.slot(config)?,
+    })
+}
+
 // An event of a protection, or one of those that follow.
 #[tactic(auto, unfolding(crate::specs::Reader::standing_event_by))]
 fn standing_event(name: &[u8], line: &mut Words<'_>, version: u32, config: &Config) -> Option<Event>
     ensures { option_map (λ event. (event, line.new)) result ≡ standing_event_by version config.now name.now line.old }
 {
     if name == b"held".as_slice() {
-        Some(Event::Held {
-            index: line.index(config)?,
-            slot: line.slot(config)?,
-            steps: line.long()?,
-        })
+        held(line, config)
     } else if name == b"null".as_slice() {
-        Some(Event::Null {
-            index: line.index(config)?,
-            steps: line.long()?,
-        })
+        null(line, config)
     } else if name == b"clear".as_slice() {
-        Some(Event::Clear {
-            index: line.index(config)?,
-            slot: line.slot(config)?,
-        })
+        clear(line, config)
     } else if name == b"copied".as_slice() {
-        since(2, version)?;
-        Some(Event::Copied {
-            from: line.index(config)?,
-            index: line.index(config)?,
-            slot: line.slot(config)?,
-        })
+        copied(line, version, config)
     } else {
         read_contents(name, line, version, config)
     }
+}
+
+#[inline(always)]
+fn given(line: &mut Words<'_>, config: &Config) -> Option<Event>
+    ensures { option_map (λ event. (event, line.new)) result ≡ two (slot config.now) short events.Give line.old }
+{
+    Some(Event::Give {
+        slot: line.slot(config)?,
+        birth: line.short()?,
+    })
+}
+
+#[inline(always)]
+fn linked(line: &mut Words<'_>, config: &Config) -> Option<Event>
+    ensures { option_map (λ event. (event, line.new)) result ≡ two (root config.now) (slot config.now) events.Link line.old }
+{
+    Some(Event::Link {
+        root: line.root(config)?,
+        slot: line.slot(config)?,
+    })
+}
+
+#[inline(always)]
+fn retired(line: &mut Words<'_>, config: &Config) -> Option<Event>
+    ensures { option_map (λ event. (event, line.new)) result ≡ three (slot config.now) short short events.Retire line.old }
+{
+    Some(Event::Retire {
+        slot: line.slot(config)?,
+        birth: line.short()?,
+        retire: line.short()?,
+    })
 }
 
 // An event of a row, or one of those that follow.
@@ -50,29 +111,19 @@ fn row_event(name: &[u8], line: &mut Words<'_>, version: u32, config: &Config) -
     ensures { option_map (λ event. (event, line.new)) result ≡ row_event_by version config.now name.now line.old }
 {
     if name == b"give".as_slice() {
-        Some(Event::Give {
-            slot: line.slot(config)?,
-            birth: line.short()?,
-        })
+        given(line, config)
     } else if name == b"unused".as_slice() {
         Some(Event::Unused {
             slot: line.slot(config)?,
         })
     } else if name == b"link".as_slice() {
-        Some(Event::Link {
-            root: line.root(config)?,
-            slot: line.slot(config)?,
-        })
+        linked(line, config)
     } else if name == b"cut".as_slice() {
         Some(Event::Cut {
             slot: line.slot(config)?,
         })
     } else if name == b"retire".as_slice() {
-        Some(Event::Retire {
-            slot: line.slot(config)?,
-            birth: line.short()?,
-            retire: line.short()?,
-        })
+        retired(line, config)
     } else if name == b"back".as_slice() {
         Some(Event::Back {
             slot: line.slot(config)?,

@@ -1,6 +1,8 @@
 // The events of keys and values, and of lists, that a line's words tell.
 ghost use Rattle.std.specs.Prelude.{◌≡◌, option_map};
+ghost use Rattle.wfe_defs.specs.declared.event.Event.TheVariants as events;
 ghost use Rattle.wfe_record_words.specs.ContentsReader.{contents_event_by, leaving_event_by};
+ghost use Rattle.wfe_record_words.specs.Reader.{bucket, four, long, three, two, value};
 
 use crate::{Words, since};
 use wfe_defs::Event;
@@ -27,6 +29,61 @@ fn leaving_event(name: &[u8], line: &mut Words<'_>, version: u32, config: &Confi
     }
 }
 
+#[inline(always)]
+fn put(line: &mut Words<'_>, config: &Config) -> Option<Event>
+    ensures { option_map (λ event. (event, line.new)) result ≡ four (bucket config.now) long long long events.Put line.old }
+{
+    Some(Event::Put {
+        bucket: line.bucket(config)?,
+        version: line.long()?,
+        key: line.long()?,
+        value: line.long()?,
+    })
+}
+
+#[inline(always)]
+fn removed(line: &mut Words<'_>, config: &Config) -> Option<Event>
+    ensures { option_map (λ event. (event, line.new)) result ≡ three (bucket config.now) long long events.Removed line.old }
+{
+    Some(Event::Removed {
+        bucket: line.bucket(config)?,
+        version: line.long()?,
+        key: line.long()?,
+    })
+}
+
+#[inline(always)]
+fn got(line: &mut Words<'_>, config: &Config) -> Option<Event>
+    ensures { option_map (λ event. (event, line.new)) result ≡ four (bucket config.now) long long value events.Got line.old }
+{
+    Some(Event::Got {
+        bucket: line.bucket(config)?,
+        version: line.long()?,
+        key: line.long()?,
+        value: line.value()?,
+    })
+}
+
+#[inline(always)]
+fn queued(line: &mut Words<'_>) -> Option<Event>
+    ensures { option_map (λ event. (event, line.new)) result ≡ two long long events.Queued line.old }
+{
+    Some(Event::Queued {
+        number: line.long()?,
+        value: line.long()?,
+    })
+}
+
+#[inline(always)]
+fn taken(line: &mut Words<'_>) -> Option<Event>
+    ensures { option_map (λ event. (event, line.new)) result ≡ two long long events.Taken line.old }
+{
+    Some(Event::Taken {
+        number: line.long()?,
+        value: line.long()?,
+    })
+}
+
 /// An event of keys, values or lists that records of the version have, with each number in its range
 /// in a record of the setting, and what is left of the line.
 #[tactic(auto, unfolding(crate::specs::ContentsReader::contents_event_by))]
@@ -39,35 +96,15 @@ pub fn read_contents(
     ensures { option_map (λ event. (event, line.new)) result ≡ contents_event_by version config.now name.now line.old }
 {
     if name == b"put".as_slice() {
-        Some(Event::Put {
-            bucket: line.bucket(config)?,
-            version: line.long()?,
-            key: line.long()?,
-            value: line.long()?,
-        })
+        put(line, config)
     } else if name == b"removed".as_slice() {
-        Some(Event::Removed {
-            bucket: line.bucket(config)?,
-            version: line.long()?,
-            key: line.long()?,
-        })
+        removed(line, config)
     } else if name == b"got".as_slice() {
-        Some(Event::Got {
-            bucket: line.bucket(config)?,
-            version: line.long()?,
-            key: line.long()?,
-            value: line.value()?,
-        })
+        got(line, config)
     } else if name == b"queued".as_slice() {
-        Some(Event::Queued {
-            number: line.long()?,
-            value: line.long()?,
-        })
+        queued(line)
     } else if name == b"taken".as_slice() {
-        Some(Event::Taken {
-            number: line.long()?,
-            value: line.long()?,
-        })
+        taken(line)
     } else {
         leaving_event(name, line, version, config)
     }

@@ -1,9 +1,11 @@
-//! Tests of words by hand, deleters, readers and sinks that fail, texts without an end, and workers at a gate. These are what no
-//! text of a case shows and no clause says.
+//! Tests of words by hand, atomic words beside plain ones, deleters, readers and sinks that fail, texts without an end, and workers at a
+//! gate. These are what no text of a case shows and no clause says.
 #![tactic(auto)]
 
 #[cfg(test)]
 mod adapters;
+#[cfg(test)]
+mod atomic;
 #[cfg(test)]
 mod deleters;
 #[cfg(test)]

@@ -1,12 +1,14 @@
 // The shared table, and how it is made.
-ghost use Rattle.std.specs.Prelude.{◌≡◌, ◌≤◌, [], All, IfErr, IfOk, Ok, length, map, true};
+ghost use Rattle.std.specs.Prelude.{◌≡◌, ◌≤◌, ◌<◌, ◌+◌, ◌-◌, [], All, IfErr, IfOk, Ok, length, map, true};
+ghost use Rattle.std.specs.List.{range_with_len};
 ghost use Rattle.wfe_core.specs.Locals.{may_begin, stays};
 ghost use Rattle.wfe_core.specs.words.Place.{is_valid, layout_of};
 ghost use Rattle.wfe_drive_rule.specs.Handles.{IsSized};
+ghost use Rattle.wfe_drive_rule.specs.Views.{bare_view, first_view, fresh_track};
 ghost use Rattle.wfe_table.specs.Calls.{IsMade};
 ghost use Rattle.wfe_table.specs.Closing.{IsLeft, track_of};
 ghost use Rattle.wfe_table.specs.Making.{IsRefused};
-ghost use Rattle.wfe_table.specs.Public.{IsOf, new_seats, steps_of};
+ghost use Rattle.wfe_table.specs.Public.{IsOf, new_seat, new_seats, steps_of};
 ghost use Rattle.wfe_table.specs.Steps.{FewSteps};
 
 use crate::close::{gathered, read_end};
@@ -14,7 +16,7 @@ use crate::seat::Seat;
 use std::alloc::Global;
 use std::marker::Model;
 use wfe_core::{Answer, Call, Config, Layout, NoMemory};
-use wfe_drive_rule::{OwnedLedger, open, split, take_slot};
+use wfe_drive_rule::{Handle, Ledger, OwnedLedger, open, split, take_slot};
 use wfe_table_end::{Closed, ClosedRoom, MakeError};
 
 /// A table of words that threads share. Calls are made on it with its seats. It is seen as which table
@@ -61,18 +63,7 @@ impl Shared {
         ensures of { IfOk result (λ r. All (λ seat. IsOf seat r.0) r.1.items) }
     {
         let (ledger, mut first) = open(alloc, layout)?;
-        let count = layout.config().seats;
-        let Ok(mut seats) = Vec::with_capacity(alloc, count as usize) else {
-            return Err(NoMemory);
-        };
-        for number in 1..count {
-            let mut handle = split(&ledger.shared, &mut first);
-            take_slot(&ledger.shared, &mut handle, number);
-            let seat = Seat::new(alloc, handle, number, layout)?;
-            if seats.push(seat).is_err() {
-                return Err(NoMemory);
-            }
-        }
+        let mut seats = later_seats(alloc, &ledger.shared, &mut first, layout)?;
         take_slot(&ledger.shared, &mut first, 0);
         let seat = Seat::new(alloc, first, 0, layout)?;
         if seats.insert(0, seat).is_err() {
@@ -127,4 +118,57 @@ impl Shared {
     {
         seat.make(&self.ledger.shared, call)
     }
+}
+
+// The seats after the first, in number order, each out of the first one's handle, which counts them.
+fn later_seats(
+    alloc: Global,
+    ledger: &Ledger,
+    first: &mut Handle,
+    layout: Layout,
+) -> Result<Vec<Seat>, NoMemory>
+    requires ids { first.old.table_id ≡ ledger.now.table_id }
+    requires key { ledger.now.key ≡ layout }
+    requires sized { IsSized ledger.now.table_id layout }
+    requires valid { is_valid layout ≡ true }
+    requires first { first.old.me ≡ (first_view layout, []) }
+    ensures ids { first.new.table_id ≡ first.old.table_id }
+    ensures first { IfOk result (λ _. first.new.me ≡ (bare_view layout.config.seats (fresh_track layout 0), [])) }
+    ensures seats { IfOk result (λ seats. seats.items ≡ map (new_seat (record { table = ledger.now.table_id; layout = layout })) (range_with_len 1 (layout.config.seats - 1))) }
+{
+    let count = layout.config().seats;
+    let Ok(mut seats) = Vec::with_capacity(alloc, count as usize) else {
+        return Err(NoMemory);
+    };
+    for number in 1..count {
+        let seat = next_seat(alloc, ledger, first, number, layout)?;
+        if seats.push(seat).is_err() {
+            return Err(NoMemory);
+        }
+    }
+    Ok(seats)
+}
+
+// One seat more.
+fn next_seat(
+    alloc: Global,
+    ledger: &Ledger,
+    first: &mut Handle,
+    number: u32,
+    layout: Layout,
+) -> Result<Seat, NoMemory>
+    requires ids { first.old.table_id ≡ ledger.now.table_id }
+    requires key { ledger.now.key ≡ layout }
+    requires sized { IsSized ledger.now.table_id layout }
+    requires valid { is_valid layout ≡ true }
+    requires some { 1 ≤ number }
+    requires range { number < layout.config.seats }
+    requires counts { first.old.me ≡ (bare_view number (fresh_track layout 0), []) }
+    ensures ids { first.new.table_id ≡ first.old.table_id }
+    ensures counts { first.new.me ≡ (bare_view (number + 1) (fresh_track layout 0), []) }
+    ensures seat { IfOk result (λ seat. seat ≡ new_seat (record { table = ledger.now.table_id; layout = layout }) number) }
+{
+    let mut handle = split(ledger, first);
+    take_slot(ledger, &mut handle, number);
+    Seat::new(alloc, handle, number, layout)
 }

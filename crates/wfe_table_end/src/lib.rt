@@ -9,8 +9,6 @@ mod reading;
 mod refusals;
 mod room;
 mod setting;
-#[cfg(test)]
-mod texts;
 
 pub use answers::{AdoptEnd, Done, Got, Looked, Queued, Scanned, Taken};
 pub use closed::{BucketRow, Closed};

@@ -1,6 +1,6 @@
 //! Tests of the threads' table, of its seats and its end. They are scripts of calls of more seats than one in a fixed order, of
 //! seats that leave and lists that are taken over, of what a seat shows, and of what a close hands back (`script.rt`); how a
-//! table is made, and what errors say (`texts.rt`). What the calls of one seat answer is in the cases of `wfe run`.
+//! table is made, and what errors say (`texts.rt`, `refusals.rt`). What the calls of one seat answer is in the cases of `wfe run`.
 #![tactic(auto)]
 
 #[cfg(test)]
@@ -17,6 +17,8 @@ mod handing;
 mod kept;
 #[cfg(test)]
 mod making;
+#[cfg(test)]
+mod refusals;
 #[cfg(test)]
 mod script;
 #[cfg(test)]

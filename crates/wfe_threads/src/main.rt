@@ -8,7 +8,7 @@ mod report;
 mod tally;
 mod worker;
 
-ghost use Rattle.std.specs.Prelude.{◌<◌, All, IfOk};
+ghost use Rattle.std.specs.Prelude.{◌<◌, All, IfOk, IfSome};
 ghost use Rattle.wfe_table.specs.Public.{IsOf};
 ghost use Rattle.wfe_threads.specs.Works.{WorksOn};
 
@@ -40,6 +40,18 @@ fn setting(scheme: SchemeKind, seats: u32) -> Config {
     }
 }
 
+// The worker of a seat.
+fn worker_of(alloc: Global, shared: &Shared, seat: Seat, bounded: bool) -> Option<Worker>
+    requires of { IsOf seat shared.now }
+    requires indexes { 3 < shared.now.layout.config.indexes }
+    ensures works { IfSome result (λ worker. WorksOn worker shared.now) }
+{
+    match Boxes::new(alloc, shared.layout().config().slots) {
+        Ok(boxes) => Some(Worker::new(seat, boxes, bounded)),
+        Err(_) => None,
+    }
+}
+
 // A worker for each seat.
 fn hire(
     alloc: Global,
@@ -51,13 +63,12 @@ fn hire(
     requires indexes { 3 < shared.now.layout.config.indexes }
     ensures works { IfOk result (λ workers. All (λ worker. WorksOn worker shared.now) workers.items) }
 {
-    let slots = shared.layout().config().slots;
     let mut workers = Vec::new(alloc);
     while let Some(seat) = seats.pop() {
-        let Ok(boxes) = Boxes::new(alloc, slots) else {
+        let Some(worker) = worker_of(alloc, shared, seat, bounded) else {
             return Err(NO_MEMORY);
         };
-        if workers.push(Worker::new(seat, boxes, bounded)).is_err() {
+        if workers.push(worker).is_err() {
             return Err(NO_MEMORY);
         }
     }
@@ -145,7 +156,21 @@ fn open(alloc: Global, scheme: SchemeKind, count: u32) -> Result<(Shared, Vec<Se
     Ok((shared, seats))
 }
 
-// All calls of a table's workers: what came of them, and the table once it is closed.
+// All calls of a table's workers: their seats, and what came of the calls.
+fn work_off<R: Threads + Sync>(
+    rt: &R,
+    alloc: Global,
+    shared: &Shared,
+    workers: Vec<Worker>,
+) -> Result<(Vec<Seat>, Tally, u64), &'static str>
+    requires works { All (λ worker. WorksOn worker shared.now) workers.items }
+    ensures of { IfOk result (λ r. All (λ seat. IsOf seat shared.now) r.0.items) }
+{
+    let workers = work(rt, shared, workers)?;
+    hand_back(alloc, shared, workers)
+}
+
+// The same, and the table once it is closed.
 fn work_through<R: Threads + Sync>(
     rt: &R,
     alloc: Global,
@@ -154,8 +179,7 @@ fn work_through<R: Threads + Sync>(
 ) -> Result<Ended, &'static str>
     requires works { All (λ worker. WorksOn worker shared) workers.items }
 {
-    let workers = work(rt, &shared, workers)?;
-    let (seats, tally, retired) = hand_back(alloc, &shared, workers)?;
+    let (seats, tally, retired) = work_off(rt, alloc, &shared, workers)?;
     let Ok(closed) = shared.close(alloc, seats) else {
         return Err("the table was not closed");
     };

@@ -134,6 +134,20 @@ pub fn print_report<R: Print>(
     workers: u32,
     ended: &Ended,
 ) -> io::Result<()> {
+    print_changes(rt, scheme, workers, ended)?;
+    print_queue(rt, ended)?;
+    print_order(rt, ended)?;
+    print_rows(rt, ended)?;
+    print_counts(rt, &ended.tally)?;
+    print_bounds(rt, scheme, ended.tally.long)
+}
+
+fn print_changes<R: Print>(
+    rt: &R,
+    scheme: SchemeKind,
+    workers: u32,
+    ended: &Ended,
+) -> io::Result<()> {
     let tally = &ended.tally;
     let calls = tally.calls;
     println!(rt; "{scheme:?}: {workers} threads, {calls} calls")?;
@@ -141,17 +155,22 @@ pub fn print_report<R: Print>(
         let (changes, version) = (tally.changes[bucket], ended.versions[bucket]);
         println!(rt; "bucket {bucket}: {changes} changes, version {version}")?;
     }
-    print_queue(rt, ended)?;
+    Ok(())
+}
+
+fn print_rows<R: Print>(rt: &R, ended: &Ended) -> io::Result<()> {
     let (rows, retired, used) = (ended.rows, ended.retired, ended.used);
     let queue = ended.left.count.saturating_add(1);
     println!(rt; "rows: {rows} of buckets, {queue} of the queue, {retired} retired, {used} taken")?;
-    let (counted, count) = (tally.counted, ended.count);
-    println!(rt; "counter: {counted} times up, {count} at last")?;
+    let (counted, count) = (ended.tally.counted, ended.count);
+    println!(rt; "counter: {counted} times up, {count} at last")
+}
+
+fn print_counts<R: Print>(rt: &R, tally: &Tally) -> io::Result<()> {
     let (made, freed) = (tally.made, tally.freed);
     println!(rt; "boxes of rows: {made} made, {freed} freed")?;
     let (wrong, refused) = (tally.wrong, tally.refused);
-    println!(rt; "answers that were wrong: {wrong}, refused: {refused}")?;
-    print_bounds(rt, scheme, tally.long)
+    println!(rt; "answers that were wrong: {wrong}, refused: {refused}")
 }
 
 // Copies and looks have a bound under each scheme, gets and holds under Wait-Free Eras alone.
@@ -167,15 +186,17 @@ fn print_bounds<R: Print>(rt: &R, scheme: SchemeKind, long: u64) -> io::Result<(
 // Which values were left depends on the order of the threads: what they and the taken ones add up to
 // does not.
 fn print_queue<R: Print>(rt: &R, ended: &Ended) -> io::Result<()> {
-    let tally = &ended.tally;
-    let (queued, taken, left) = (tally.queued, tally.taken, ended.left);
-    let both = taken.and(left);
-    let (disordered, gaps) = (tally.disordered, ended.gaps);
+    let (queued, taken, left) = (ended.tally.queued, ended.tally.taken, ended.left);
     let (all, took, stay) = (queued.count, taken.count, left.count);
     println!(rt; "queue: {all} queued, {took} taken, {stay} left")?;
-    let (sum, same) = (queued.sum, both.sum);
-    println!(rt; "values: {sum} queued, {same} taken and left")?;
-    let (sum, same) = (queued.numbers, both.numbers);
+    let (sum, same) = (queued.sum, taken.and(left).sum);
+    println!(rt; "values: {sum} queued, {same} taken and left")
+}
+
+fn print_order<R: Print>(rt: &R, ended: &Ended) -> io::Result<()> {
+    let tally = &ended.tally;
+    let (sum, same) = (tally.queued.numbers, tally.taken.and(ended.left).numbers);
+    let (disordered, gaps) = (tally.disordered, ended.gaps);
     println!(rt; "numbers: {sum} queued, {same} taken and left, {gaps} gaps")?;
     println!(rt; "taken out of a producer's order: {disordered}")
 }

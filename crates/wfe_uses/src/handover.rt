@@ -7,6 +7,7 @@ ghost use Rattle.wfe_table.specs.Calls.{IsMade};
 ghost use Rattle.wfe_table.specs.Public.{IsOf};
 ghost use Rattle.wfe_uses.specs.Handing.{IsNoOlder, IsTold};
 
+use crate::pair::pair_of;
 use std::alloc::Global;
 use std::thread;
 use std::thread::Threads;
@@ -105,15 +106,10 @@ pub(crate) fn hand_over<R: Threads + Sync>(
 ) -> Option<(u64, Got)>
     ensures no_older { IfSome result (λ r. IsNoOlder value r.0 r.1) }
 {
-    let Ok((shared, mut seats)) = Shared::new(alloc, usual(scheme, 2, 1)) else {
+    let Ok((shared, seats)) = Shared::new(alloc, usual(scheme, 2, 1)) else {
         return None;
     };
-    let Some(reader) = seats.pop() else {
-        return None;
-    };
-    let Some(mut writer) = seats.pop() else {
-        return None;
-    };
+    let (reader, mut writer) = pair_of(&shared, seats)?;
     let told = put_and_tell(&shared, &mut writer, key, value)?;
     let version = told.version;
     let got = get_beside(rt, &shared, reader, told, writer, key);

@@ -4,6 +4,7 @@
 
 mod counter;
 mod handover;
+mod pair;
 mod pipeline;
 mod snapshot;
 

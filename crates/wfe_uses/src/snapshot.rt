@@ -1,9 +1,10 @@
 // Two versions of a bucket in a reader's hands while it moves on: the first one reads the same as before.
 ghost use Rattle.std.specs.Prelude.{◌≡◌, ◌<◌, [], IfSome};
-ghost use Rattle.wfe_table.specs.Public.{IsOf};
+ghost use Rattle.wfe_table.specs.Public.{IsOf, new_seats};
 ghost use Rattle.wfe_table.specs.rule.Views.{seat_of};
 ghost use Rattle.wfe_uses.specs.Keeping.{Keeps, KeepsRow, ReadsTheSame};
 
+use crate::pair::pair_of;
 use std::alloc::Global;
 use wfe_table::{Config, Looked, SchemeKind, Seat, Shared, usual};
 
@@ -77,27 +78,40 @@ fn look_twice(shared: &Shared, reader: &mut Seat, writer: &mut Seat, key: u64) -
     look_again(shared, reader, key, first)
 }
 
-/// Keeps two versions of a bucket, and closes the table: the first one has read the same at both looks.
-pub(crate) fn snapshot(alloc: Global, scheme: SchemeKind, key: u64) -> Option<Views>
-    ensures { IfSome result ReadsTheSame }
+// A new table with an index at which a row is kept, and its seats.
+fn open(alloc: Global, scheme: SchemeKind) -> Option<(Shared, Vec<Seat>)>
+    ensures new { IfSome result (λ r. r.1.items ≡ new_seats r.0) }
+    ensures range { IfSome result (λ r. 3 < r.0.layout.config.indexes) }
 {
     let config = Config {
         indexes: 4,
         ..usual(scheme, 2, 1)
     };
-    let Ok((shared, mut seats)) = Shared::new(alloc, config) else {
+    let Ok((shared, seats)) = Shared::new(alloc, config) else {
         return None;
     };
     if shared.layout().config().indexes < 4 {
         return None;
     }
-    let Some(mut reader) = seats.pop() else {
-        return None;
-    };
-    let Some(mut writer) = seats.pop() else {
-        return None;
-    };
-    let views = look_twice(&shared, &mut reader, &mut writer, key)?;
+    Some((shared, seats))
+}
+
+// Closes the table with both seats: what the reader has seen, which reads the same at both looks.
+fn close(
+    alloc: Global,
+    shared: Shared,
+    writer: Seat,
+    reader: Seat,
+    _key: u64,
+    views: Views,
+) -> Option<Views>
+    requires writer { IsOf writer shared }
+    requires reader { IsOf reader shared }
+    requires kept { Keeps _key reader.track.local.log views }
+    requires number { seat_of reader.track < shared.layout.config.seats }
+    ensures { IfSome result ReadsTheSame }
+{
+    let mut seats = Vec::new(alloc);
     if seats.push(writer).is_err() || seats.push(reader).is_err() {
         return None;
     }
@@ -105,4 +119,14 @@ pub(crate) fn snapshot(alloc: Global, scheme: SchemeKind, key: u64) -> Option<Vi
         Ok(_) => Some(views),
         Err(_) => None,
     }
+}
+
+/// Keeps two versions of a bucket, and closes the table: the first one has read the same at both looks.
+pub(crate) fn snapshot(alloc: Global, scheme: SchemeKind, key: u64) -> Option<Views>
+    ensures { IfSome result ReadsTheSame }
+{
+    let (shared, seats) = open(alloc, scheme)?;
+    let (mut reader, mut writer) = pair_of(&shared, seats)?;
+    let views = look_twice(&shared, &mut reader, &mut writer, key)?;
+    close(alloc, shared, writer, reader, key, views)
 }
