@@ -12,5 +12,5 @@ mod wide;
 pub use cells::Cells;
 pub use store::none_is_lost;
 pub use user::{Loaded, Swapped, User};
-pub use wfe_table::{EnqueueRefusal, MakeError, PutIfRefusal, SchemeKind};
+pub use wfe_table::{Config, EnqueueRefusal, MakeError, PutIfRefusal, SchemeKind, usual};
 pub use wide::{Seen, SwapRefusal, WideCells, WideUser, versions_agree};

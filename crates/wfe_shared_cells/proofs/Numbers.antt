@@ -1,7 +1,7 @@
 -- What a number tells of who offered its object, and a word of the number.
 use Rattle.std.proofs.Common.{arith, ℕ, ◌%◌, ◌*◌, ◌+◌, ◌<◌, ◌≡◌}
 use Rattle.wfe_shared_cells.specs.Calls.{PartNow, next_number, number_in, word_of}
-use Rattle.wfe_table.specs.rule.Views.{seat_of}
+use Rattle.wfe_cells.specs.table.rule.Views.{seat_of}
 
 parts : (one other seat place : ℕ) → one * 64 + seat % 64 ≡ other * 64 + place % 64 → (one ≡ other) × (seat % 64 ≡ place % 64)
 parts one other seat place same = (omega (arith, same), omega (arith, same))

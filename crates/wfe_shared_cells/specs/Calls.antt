@@ -6,9 +6,9 @@ use Rattle.wfe_core.specs.words.declared.layout.Layout.{Layout}
 use Rattle.wfe_shared_cells.specs.declared.cells.Seen.{Seen}
 use Rattle.wfe_shared_cells.specs.declared.cells.SwapRefusal.{SwapRefusal}
 use Rattle.wfe_shared_cells.specs.declared.cells.SwapRefusal.TheVariants as refusals
-use Rattle.wfe_table.specs.Public.{SeatNow}
-use Rattle.wfe_table.specs.rule.Views.{seat_of}
-use Rattle.wfe_table_end.specs.declared.refusals.PutIfRefusal.{PutIfRefusal}
+use Rattle.wfe_cells.specs.table.Public.{SeatNow}
+use Rattle.wfe_cells.specs.table.rule.Views.{seat_of}
+use Rattle.wfe_cells.specs.table.closed.declared.refusals.PutIfRefusal.{PutIfRefusal}
 
 -- a thread's part: its part in cells of numbers, and how many objects it has offered
 pub record PartNow : Type 0 where

@@ -3,11 +3,12 @@ ghost use Rattle.std.specs.Prelude.{◌≡◌, ◌<◌, ◌+◌, ◌-◌, ◌^�
 ghost use Rattle.std.specs.Arc.{arc_value};
 ghost use Rattle.wfe_cells.specs.Calls.{IsLoaded};
 ghost use Rattle.wfe_core.specs.words.Place.{layout_of};
-ghost use Rattle.wfe_table.specs.Making.{IsRefused as IsNotMade};
-ghost use Rattle.wfe_table.specs.Public.{IsOf};
+ghost use Rattle.wfe_cells.specs.table.Making.{IsRefused as IsNotMade};
+ghost use Rattle.wfe_cells.specs.table.Public.{IsOf};
 ghost use Rattle.wfe_shared_cells.specs.Calls.{IsGiven, IsOffered, IsRefusedFor, next_number, number_in};
 
 use crate::Keeps;
+use crate::left::Objects;
 use crate::object::Object;
 use crate::shelves::{PLACES, Shelves};
 use crate::user::{Part, Reading, SharedUser};
@@ -15,8 +16,7 @@ use std::alloc::Global;
 use std::marker::Model;
 use std::sync::Arc;
 use thiserror::Error;
-use wfe_cells::{Cells, Loaded, MakeError, PutIfRefusal, User};
-use wfe_table::Config;
+use wfe_cells::{Cells, Config, Loaded, MakeError, PutIfRefusal, User};
 
 /// How many objects one thread may offer.
 const MOST: u64 = 2_199_023_255_552;
@@ -86,7 +86,7 @@ pub struct RuledCells<T, K: Keeps<T>> {
 }
 
 impl<T, K: Keeps<T>> Model for RuledCells<T, K> {
-    ghost use Rattle.wfe_table.specs.Public.{TableNow};
+    ghost use Rattle.wfe_cells.specs.table.Public.{TableNow};
 
     ghost Value = { TableNow };
 
@@ -177,6 +177,15 @@ impl<T: Drop, K: Keeps<T>> RuledCells<T, K> {
             Some(word) => self.shelves.show(part.user.number() as usize, word),
         };
         (Seen { cell, loaded }, object)
+    }
+
+    /// Ends the cells: the objects that are left, for the caller to take one after another. All other threads' shares of them are dropped
+    /// before. An object of which a guard was forgotten was never dropped, so it comes too.
+    pub fn into_objects(self) -> Objects<T, K> {
+        let RuledCells { cells: _, shelves } = self;
+        Objects {
+            places: shelves.into_first(),
+        }
     }
 
     /// Lets go of what was read.

@@ -1,18 +1,20 @@
-//! Cells of objects of any type, which all threads read by reference while others replace them (`cells.rt`): each object lies at a place
-//! with a share for every thread (`shelves.rt`), and a read lasts as long as its guard (`object.rt`).
+//! Cells of objects of any type, read by reference while others replace them (`cells.rt`): a place has a share for each thread
+//! (`shelves.rt`), a read lasts as long as its guard (`object.rt`), and what is left at the end comes back (`left.rt`).
 #![tactic(auto)]
 
 ghost use Rattle.std.specs.Prelude.{ℕ};
 
 mod cells;
+mod left;
 mod object;
 mod shelves;
 mod user;
 
 pub use cells::{Refused, RuledCells, Seen, SwapRefusal};
+pub use left::Objects;
 pub use object::Object;
 pub use user::{Part, Reading, SharedUser, numbers_tell};
-pub use wfe_cells::{MakeError, PutIfRefusal, SchemeKind};
+pub use wfe_cells::{Config, MakeError, PutIfRefusal, SchemeKind, usual};
 
 /// A fact about each object, by the number under which it was offered to a cell.
 pub trait Keeps<T> {

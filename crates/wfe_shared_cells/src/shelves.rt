@@ -150,6 +150,17 @@ impl<T: Drop, K: Keeps<T>> Shelves<T, K> {
         }
     }
 
+    // The first thread's places, once all other shares are dropped.
+    pub(crate) fn into_first(self) -> Vec<Counted<Option<Share<T, K>>>> {
+        let Shelves { mut shares } = self;
+        let alloc = *shares.allocator();
+        shares.truncate(1);
+        match shares.pop() {
+            Some(row) => row,
+            None => Vec::new(alloc),
+        }
+    }
+
     // The thread's share of the object that a cell of numbers names.
     pub(crate) fn show(&self, thread: usize, word: u64) -> Option<Object<'_, T, K>>
         ensures { IfSome result (λ object. object.number ≡ number_in word) }

@@ -1,19 +1,19 @@
 // A record that was replaced is there while it is read, and is dropped by the next scan of the thread that replaced it.
 ghost use Rattle.std.specs.Prelude.{◌≡◌, ◌<◌};
-ghost use Rattle.wfe_table.specs.Public.{IsOf};
+ghost use Rattle.wfe_shared_cells.specs.cells.table.Public.{IsOf};
 
-use crate::records::{Record, make_record};
+use crate::records::{Record, count_left, make_record};
 use std::alloc::Global;
 use std::sync::Arc;
-use wfe_shared_cells::{SchemeKind, SharedCells, SharedUser};
-use wfe_table::{Config, usual};
+use wfe_shared_cells::{Config, SchemeKind, SharedCells, SharedUser, usual};
 
 /// How many records were there: while the first is read that the second has replaced; once that is let go of, and the third has replaced
-/// the second; and when the cells are gone.
+/// the second; and when the cells are gone. The cells give as many objects back as were there.
 #[derive(Clone, Copy)]
 pub(crate) struct Counts {
     pub(crate) beside: usize,
     pub(crate) after: usize,
+    pub(crate) given: u64,
     pub(crate) left: usize,
 }
 
@@ -61,6 +61,7 @@ fn replace_all(
     Some(Counts {
         beside: counts[1],
         after: counts[2],
+        given: 0,
         left: 0,
     })
 }
@@ -77,7 +78,9 @@ fn counted(alloc: Global, alive: &Arc<()>) -> Option<Counts> {
     if cells.count() == 0 {
         return None;
     }
-    replace_all(alloc, &cells, user, alive)
+    let mut counts = replace_all(alloc, &cells, user, alive)?;
+    counts.given = count_left(cells.into_objects());
+    Some(counts)
 }
 
 /// Replaces a record while it is read, and the next one too.

@@ -1,5 +1,5 @@
-//! Programs on cells of objects: records that threads read by reference and replace (`records.rt`), which are dropped once nobody reads
-//! them (`dropped.rt`).
+//! Programs on cells of objects: records that are read by reference and replaced (`records.rt`), and when they are dropped
+//! (`dropped.rt`).
 #![tactic(auto)]
 
 mod dropped;
@@ -14,8 +14,8 @@ use std::thread::Threads;
 fn print_records<R: Threads + Sync + Print>(rt: &R, alloc: Global) -> Result<()> {
     if let Some(found) = read_and_replace(rt, alloc, 4) {
         println!(rt;
-            "records: {} loads were torn, {} showed nothing, {} records are there at the end",
-            found.torn, found.missed, found.left
+            "records: {} loads were torn, {} showed nothing, what came back was off by {}, {} records are there at the end",
+            found.torn, found.missed, found.off, found.left
         )?;
     }
     Ok(())
@@ -24,8 +24,8 @@ fn print_records<R: Threads + Sync + Print>(rt: &R, alloc: Global) -> Result<()>
 fn print_dropped<R: Print>(rt: &R, alloc: Global) -> Result<()> {
     if let Some(counts) = read_and_let_go(alloc) {
         println!(rt;
-            "dropped: {} {} {} records were there",
-            counts.beside, counts.after, counts.left
+            "dropped: {} {} {} records were there, {} came back at the end",
+            counts.beside, counts.after, counts.left, counts.given
         )?;
     }
     Ok(())

@@ -1,13 +1,12 @@
 // Records in cells, which threads read by reference while others replace them.
 ghost use Rattle.std.specs.Prelude.{◌≡◌, ◌<◌, All};
-ghost use Rattle.wfe_table.specs.Public.{IsOf};
+ghost use Rattle.wfe_shared_cells.specs.cells.table.Public.{IsOf};
 
 use std::alloc::Global;
 use std::sync::Arc;
 use std::thread;
 use std::thread::Threads;
-use wfe_shared_cells::{SchemeKind, SharedCells, SharedUser};
-use wfe_table::usual;
+use wfe_shared_cells::{Anything, Objects, SchemeKind, SharedCells, SharedUser, usual};
 
 const CELLS: u32 = 2;
 
@@ -37,11 +36,22 @@ pub(crate) fn make_record(alloc: Global, number: u64, alive: &Arc<()>) -> Option
     }
 }
 
-/// What was found: loads that showed half a record, or none where there was one; and how many records are left.
+/// How many objects the cells have left, each of which is dropped.
+pub(crate) fn count_left(mut objects: Objects<Record, Anything>) -> u64 {
+    let mut count = 0u64;
+    while let Some((_number, _record)) = objects.next() {
+        count = count.saturating_add(1);
+    }
+    count
+}
+
+/// What was found: loads that showed half a record, or none where there was one; by how many the records that came back at the end were
+/// more or less than those that were there; and how many records are left.
 #[derive(Clone, Copy)]
 pub(crate) struct Found {
     pub(crate) torn: u64,
     pub(crate) missed: u64,
+    pub(crate) off: u64,
     pub(crate) left: u64,
 }
 
@@ -80,6 +90,7 @@ fn work(alloc: Global, cells: &SharedCells<Record>, mut user: SharedUser, alive:
     let mut found = Found {
         torn: 0,
         missed: 0,
+        off: 0,
         left: 0,
     };
     let count = cells.count();
@@ -116,20 +127,27 @@ fn work_all<R: Threads + Sync>(
     }
 }
 
-// All that threads have found on cells that are gone at the end.
+// How many records are there.
+fn count_there(alive: &Arc<()>) -> u64 {
+    (Arc::strong_count(alive) as u64).saturating_sub(1)
+}
+
+// All that threads have found on cells that are gone at the end, and by how many the records that came back were off.
 fn found_by<R: Threads + Sync>(
     rt: &R,
     alloc: Global,
     threads: u32,
     alive: &Arc<()>,
-) -> Option<Vec<Found>> {
+) -> Option<(Vec<Found>, u64)> {
     let Ok((cells, users)) = SharedCells::<Record>::new(
         alloc,
         usual(SchemeKind::Wfe, threads, CELLS),
     ) else {
         return None;
     };
-    work_all(rt, alloc, &cells, users, alive)
+    let found = work_all(rt, alloc, &cells, users, alive)?;
+    let there = count_there(alive);
+    Some((found, count_left(cells.into_objects()).abs_diff(there)))
 }
 
 /// Has so many threads read records and replace them, and counts what was found, and how many records are left once the cells are gone.
@@ -144,12 +162,15 @@ pub(crate) fn read_and_replace<R: Threads + Sync>(
     let mut all = Found {
         torn: 0,
         missed: 0,
+        off: 0,
         left: 0,
     };
-    for found in &found_by(rt, alloc, threads, &alive)? {
+    let (each, off) = found_by(rt, alloc, threads, &alive)?;
+    for found in &each {
         all.torn = all.torn.saturating_add(found.torn);
         all.missed = all.missed.saturating_add(found.missed);
     }
-    all.left = (Arc::strong_count(&alive) as u64).saturating_sub(1);
+    all.off = off;
+    all.left = count_there(&alive);
     Some(all)
 }

@@ -2,7 +2,7 @@
 use Rattle.std.proofs.Common.{rules, [], ◌++◌, ◌∷◌}
 use Rattle.std.proofs.lemmas.List.Elements.{All-pop, All-push, All-same}
 use Rattle.wfe_cells.specs.Calls.{UserNow}
-use Rattle.wfe_table.specs.Public.{IsOf}
+use Rattle.wfe_cells.specs.table.Public.{IsOf}
 use Rattle.wfe_shared_cells.specs.declared.user.SharedUser.{SharedUser}
 use Rattle.wfe_shared_cells.proofs.cells.shared_users.Goals as goal
 

@@ -1,7 +1,7 @@
 -- The parts are the table's, and so are the users that are left.
 use Rattle.std.proofs.Common.{vec_len}
 use Rattle.std.specs.Prelude.{All}
-use Rattle.wfe_table.specs.Public.{IsOf}
+use Rattle.wfe_cells.specs.table.Public.{IsOf}
 use Rattle.wfe_shared_cells.proofs.cells.shared_users.Given as goal
 
 abbrev pub invariant-loop-user : goal.invariant-loop-user

@@ -1,7 +1,7 @@
 -- The user that is taken off the end is the cells'.
 use Rattle.std.proofs.lemmas.List.Elements.{All-pop}
 use Rattle.wfe_shared_cells.specs.declared.user.SharedUser.{SharedUser}
-use Rattle.wfe_table.specs.Public.{IsOf}
+use Rattle.wfe_shared_cells.specs.cells.table.Public.{IsOf}
 use Rattle.wfe_shared_uses.proofs.dropped.counted.Goals as goal
 
 pub replace_all-requires-clause-of : goal.replace_all-requires-clause-of
