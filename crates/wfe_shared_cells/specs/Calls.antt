@@ -1,12 +1,16 @@
 -- What calls on cells of objects come to, by the calls on cells of numbers of which they are made.
-use Rattle.std.specs.Prelude.{Err, Ok, Option, Result, Some, ℕ, ◌%◌, ◌*◌, ◌+◌, ◌/◌, ◌<◌, ◌≡◌, ◌^◌, ◌≤◌}
-use Rattle.wfe_cells.specs.Calls.{IsRefused, IsSwapped, UserNow}
+use Rattle.std.specs.Prelude.{Err, None, Ok, Option, Result, Some, [], min, ℕ, ◌%◌, ◌*◌, ◌+◌, ◌/◌, ◌<◌, ◌≡◌, ◌^◌, ◌≤◌}
+use Rattle.wfe_cells.specs.Calls.{IsFresh, IsReplaced, IsTried, UserNow, store_by}
 use Rattle.wfe_cells.specs.declared.user.Swapped.{Swapped}
+use Rattle.wfe_core.specs.defs.declared.call.Answer.TheVariants as answers
+use Rattle.wfe_core.specs.defs.declared.call.Call.TheVariants as calls
+use Rattle.wfe_core.specs.words.declared.config.Config.{Config}
 use Rattle.wfe_core.specs.words.declared.layout.Layout.{Layout}
 use Rattle.wfe_shared_cells.specs.declared.cells.Seen.{Seen}
 use Rattle.wfe_shared_cells.specs.declared.cells.SwapRefusal.{SwapRefusal}
 use Rattle.wfe_shared_cells.specs.declared.cells.SwapRefusal.TheVariants as refusals
-use Rattle.wfe_cells.specs.table.Public.{SeatNow}
+use Rattle.wfe_cells.specs.table.Calls.{IsMade}
+use Rattle.wfe_cells.specs.table.Public.{TableNow}
 use Rattle.wfe_cells.specs.table.rule.Views.{seat_of}
 use Rattle.wfe_cells.specs.table.closed.declared.refusals.PutIfRefusal.{PutIfRefusal}
 
@@ -14,6 +18,16 @@ use Rattle.wfe_cells.specs.table.closed.declared.refusals.PutIfRefusal.{PutIfRef
 pub record PartNow : Type 0 where
   pub user : UserNow
   pub count : ℕ
+
+-- a new part in these cells: it has offered none, and its part in cells of numbers is new
+pub record IsNewPart (shared : TableNow) (part : PartNow) : Type 0 where
+  pub user : IsFresh shared part.user
+  pub count : part.count ≡ 0
+
+-- how many places for objects there are: for what is in cells, for what each thread has replaced and not had back and what each index
+-- keeps, and for what each thread offers
+abbrev pub places_of : Config → ℕ
+places_of config = min ((config.every + config.indexes + 1) * config.seats + config.buckets) 65536
 
 -- the number of the object that it offers next; there are at most 64 seats
 abbrev pub next_number : PartNow → ℕ
@@ -26,6 +40,11 @@ word_of number place = number * 65536 + place
 abbrev pub number_in : (word : ℕ) → ℕ
 number_in word = word / 65536
 
+-- the number of the object that a cell names, or none
+abbrev pub number_named : Option ℕ → Option ℕ
+number_named None = None
+number_named (Some word) = Some (number_in word)
+
 -- Objects of one number were offered by one seat, after as many others; and a word tells the number of the object that it was made for.
 pub record NumbersTell : Type 0 where
   pub apart :
@@ -33,32 +52,62 @@ pub record NumbersTell : Type 0 where
       → (one.count ≡ other.count) × (seat_of one.user.seat.track % 64 ≡ seat_of other.user.seat.track % 64)
   pub told : (number place : ℕ) → place < 65536 → number_in (word_of number place) ≡ number
 
--- the cell was given what this word names, or nothing; what was replaced and is back is dropped after that
-pub record IsPut (layout : Layout) (old : UserNow) (new : SeatNow) (seen : Seen) (word : Option ℕ) (version : ℕ) : Type 0 where
-  pub mid : UserNow
-  pub swapped : Swapped
-  pub made : IsSwapped layout seen.cell old mid seen.loaded word swapped
-  pub version_is : version ≡ swapped.version
-  pub seat : new ≡ mid.seat
+-- all that this part has replaced and that may be dropped was dropped
+pub record IsCollected (old new : UserNow) : Type 0 where
+  pub seat : new.seat ≡ old.seat
+  pub kept : new.store.kept ≡ old.store.kept
+  pub free : new.store.free ≡ []
+  pub room : old.store.spare ≤ new.store.spare
 
--- or was not
-pub record IsNotPut (layout : Layout) (old : UserNow) (new : SeatNow) (seen : Seen) (word : Option ℕ) (refusal : PutIfRefusal) : Type 0 where
+-- what was read was let go of, and then what may be dropped was dropped
+pub record IsReleased (layout : Layout) (old new : UserNow) : Type 0 where
   pub mid : UserNow
-  pub made : IsRefused layout seen.cell old mid seen.loaded word refusal
-  pub seat : new ≡ mid.seat
+  pub made : IsMade layout old.seat mid.seat calls.Release answers.Released
+  pub store : mid.store ≡ store_by mid.seat None old.store
+  pub collected : IsCollected mid new
 
-abbrev pub IsGiven : Layout → (old : UserNow) → (new : SeatNow) → Seen → (word : Option ℕ) → Result ℕ PutIfRefusal → Type 0
-IsGiven layout old new seen word (Ok version) = IsPut layout old new seen word version
-IsGiven layout old new seen word (Err refusal) = IsNotPut layout old new seen word refusal
+-- the version that a swap has made, or why it made none
+abbrev pub version_of : Result Swapped PutIfRefusal → Result ℕ PutIfRefusal
+version_of (Ok swapped) = Ok swapped.version
+version_of (Err refusal) = Err refusal
+
+-- the cell was given what this word names, or nothing, or that was refused; then what may be dropped was dropped
+pub record IsGiven (layout : Layout) (old new : UserNow) (seen : Seen) (word : Option ℕ) (result : Result ℕ PutIfRefusal) : Type 0 where
+  pub mid : UserNow
+  pub swapped : Result Swapped PutIfRefusal
+  pub tried : IsTried layout seen.cell old mid seen.loaded word swapped
+  pub told : result ≡ version_of swapped
+  pub collected : IsCollected mid new
 
 -- the word named the object of this number, at some place
-pub record IsOffered (layout : Layout) (old : UserNow) (new : SeatNow) (seen : Seen) (number : ℕ) (result : Result ℕ PutIfRefusal) : Type 0 where
+pub record IsOffered (layout : Layout) (old new : UserNow) (seen : Seen) (number : ℕ) (result : Result ℕ PutIfRefusal) : Type 0 where
   pub place : ℕ
   pub below : place < 65536
   pub given : IsGiven layout old new seen (Some (word_of number place)) result
 
--- an object was refused: the table refused it, at a version that the cell had since or for want of a row; or nothing was asked of the table
-abbrev pub IsRefusedFor : Layout → (old new : PartNow) → Seen → SwapRefusal → Type 0
-IsRefusedFor layout old new seen refusals.NoPlace = (new.user ≡ old.user) × (new.count ≡ old.count + 1)
-IsRefusedFor layout old new seen refusals.NoNumber = (new ≡ old) × (2 ^ 41 ≤ old.count)
-IsRefusedFor layout old new seen (refusals.NotPut refusal) = (new.count ≡ old.count + 1) × IsOffered layout old.user new.user.seat seen (next_number old) (Err refusal)
+-- The cell was given what this word names, or nothing, whatever it had: by attempts, each of which has read it before. What the last of
+-- them has read was seen. Then what may be dropped was dropped.
+pub record IsChanged (layout : Layout) (cell : ℕ) (old new : UserNow) (word : Option ℕ) (seen : Seen) (result : Result ℕ PutIfRefusal) : Type 0 where
+  pub mid : UserNow
+  pub swapped : Result Swapped PutIfRefusal
+  pub cell_is : seen.cell ≡ cell
+  pub replaced : IsReplaced layout cell old mid word seen.loaded swapped
+  pub told : result ≡ version_of swapped
+  pub collected : IsCollected mid new
+
+-- the word named the object of this number, at one place in all attempts
+pub record IsSwappedIn (layout : Layout) (cell : ℕ) (old new : UserNow) (number : ℕ) (seen : Seen) (result : Result ℕ PutIfRefusal) : Type 0 where
+  pub place : ℕ
+  pub below : place < 65536
+  pub changed : IsChanged layout cell old new (Some (word_of number place)) seen result
+
+-- the same, of what was seen last
+pub record IsNotSwappedIn (layout : Layout) (cell : ℕ) (old new : UserNow) (number : ℕ) (refusal : PutIfRefusal) : Type 0 where
+  pub seen : Seen
+  pub tried : IsSwappedIn layout cell old new number seen (Err refusal)
+
+-- an object was refused: the table refused it, as is said of that; or nothing was asked of the table
+abbrev pub IsRefusedFor : (old new : PartNow) → (IsNotPut : PutIfRefusal → Type 0) → SwapRefusal → Type 0
+IsRefusedFor old new IsNotPut refusals.NoPlace = (new.user ≡ old.user) × (new.count ≡ old.count + 1)
+IsRefusedFor old new IsNotPut refusals.NoNumber = (new ≡ old) × (2 ^ 41 ≤ old.count)
+IsRefusedFor old new IsNotPut (refusals.NotPut refusal) = (new.count ≡ old.count + 1) × IsNotPut refusal

@@ -1,11 +1,11 @@
 // Cells that threads share, and the calls on them.
-ghost use Rattle.std.specs.Prelude.{◌≡◌, ◌<◌, ◌+◌, ◌-◌, ◌^◌, All, IfErr, IfOk, IfSome, IsSomeAnd, None, Ok};
+ghost use Rattle.std.specs.Prelude.{◌≡◌, ◌<◌, ◌+◌, ◌-◌, ◌^◌, All, Err, IfErr, IfOk, IfSome, IsSomeAnd, None, Ok, length};
 ghost use Rattle.std.specs.Arc.{arc_value};
-ghost use Rattle.wfe_cells.specs.Calls.{IsLoaded};
+ghost use Rattle.wfe_cells.specs.Calls.{IsFresh, IsLoaded};
 ghost use Rattle.wfe_core.specs.words.Place.{layout_of};
 ghost use Rattle.wfe_cells.specs.table.Making.{IsRefused as IsNotMade};
 ghost use Rattle.wfe_cells.specs.table.Public.{IsOf};
-ghost use Rattle.wfe_shared_cells.specs.Calls.{IsGiven, IsOffered, IsRefusedFor, next_number, number_in};
+ghost use Rattle.wfe_shared_cells.specs.Calls.{IsChanged, IsCollected, IsGiven, IsNewPart, IsNotSwappedIn, IsOffered, IsRefusedFor, IsReleased, IsSwappedIn, next_number, number_in, number_named, places_of, version_of, word_of};
 
 use crate::Keeps;
 use crate::left::Objects;
@@ -16,7 +16,7 @@ use std::alloc::Global;
 use std::marker::Model;
 use std::sync::Arc;
 use thiserror::Error;
-use wfe_cells::{Cells, Config, Loaded, MakeError, PutIfRefusal, User};
+use wfe_cells::{Cells, Config, Loaded, MakeError, PutIfRefusal, Swapped, User};
 
 /// How many objects one thread may offer.
 const MOST: u64 = 2_199_023_255_552;
@@ -47,7 +47,7 @@ impl Seen {
 
     /// The number of the object that it had, or none.
     pub fn number(&self) -> Option<u64>
-        ensures { IfSome result (λ number. IsSomeAnd self.now.loaded.object (λ word. number ≡ number_in word)) }
+        ensures { result ≡ number_named self.now.loaded.object }
     {
         match self.loaded.object {
             None => None,
@@ -59,7 +59,8 @@ impl Seen {
 /// Why a cell was not given an object.
 #[derive(Clone, Copy, Debug, PartialEq, Eq, Error)]
 pub enum SwapRefusal {
-    /// No place was free for the object: too many that were replaced wait for a scan.
+    /// No place was found free for the object: too many that were replaced wait for a scan, or for readers that stand still. No clause
+    /// says so, since none says what the word of a share holds.
     #[error("no place was free for the object")]
     NoPlace,
     /// The thread has offered 2^41 objects.
@@ -86,28 +87,32 @@ pub struct RuledCells<T, K: Keeps<T>> {
 }
 
 impl<T, K: Keeps<T>> Model for RuledCells<T, K> {
+    ghost use Rattle.std.specs.Prelude.{◌≡◌};
     ghost use Rattle.wfe_cells.specs.table.Public.{TableNow};
+    ghost use Rattle.wfe_shared_cells.specs.Calls.{places_of};
 
     ghost Value = { TableNow };
 
     ghost view = { λ c. c.cells };
+
+    ghost invariant = { λ c. c.shelves ≡ places_of c.cells.layout.config };
 }
 
-// How many places there are: for what is in cells, for what each thread has replaced and not had back and what each index keeps, and for
-// what each thread offers.
-fn places_for(config: Config) -> usize {
-    let waiting = config
-        .every
-        .saturating_add(config.indexes)
-        .saturating_add(1)
-        .saturating_mul(config.seats);
-    u64::from(config.buckets.saturating_add(waiting)).min(PLACES) as usize
+// How many places there are.
+fn places_for(config: Config) -> usize
+    ensures { result ≡ places_of config }
+{
+    let each = u64::from(config.every) + u64::from(config.indexes) + 1;
+    let waiting = each.saturating_mul(u64::from(config.seats));
+    let all = waiting.saturating_add(u64::from(config.buckets));
+    all.min(PLACES) as usize
 }
 
 // The threads' parts.
 fn shared_users(alloc: Global, _cells: &Cells, mut users: Vec<User>) -> Option<Vec<SharedUser>>
-    requires { All (λ user. IsOf user.seat _cells.now) users.items }
-    ensures { IfSome result (λ all. All (λ user. IsOf user.part.user.seat _cells.now) all.items) }
+    requires { All (IsFresh _cells.now) users.items }
+    ensures fresh { IfSome result (λ all. All (λ user. IsNewPart _cells.now user.part) all.items) }
+    ensures long { IfSome result (λ all. length all.items ≡ length users.items) }
 {
     let mut all = Vec::new(alloc);
     while let Some(user) = users.pop() {
@@ -122,15 +127,46 @@ fn shared_users(alloc: Global, _cells: &Cells, mut users: Vec<User>) -> Option<V
     Some(all)
 }
 
+// The version that a swap has made, or why it made none.
+fn version(swapped: Result<Swapped, PutIfRefusal>) -> Result<u64, PutIfRefusal>
+    ensures { result ≡ version_of swapped }
+{
+    match swapped {
+        Ok(swapped) => Ok(swapped.version),
+        Err(refusal) => Err(refusal),
+    }
+}
+
+// An object that lies at a place, under its number.
+#[derive(Clone, Copy)]
+struct Laid {
+    number: u64,
+    place: u64,
+}
+
+impl Laid {
+    // The word by which a cell names it.
+    fn word(self) -> u64
+        requires place { self.place < 65536 }
+        requires number { self.number < 2 ^ 48 - 1 }
+        ensures value { result ≡ word_of self.number self.place }
+        ensures most { result + 1 < 2 ^ 64 }
+    {
+        self.number * PLACES + self.place
+    }
+}
+
 impl<T: Drop, K: Keeps<T>> RuledCells<T, K> {
-    /// As many cells as the setting has buckets, all without an object, and a part for each thread. A number outside its range is
+    /// As many cells as the setting has buckets, all without an object, and a new part for each thread. A number outside its range is
     /// refused, as by `Shared::new`; `NoMemory` is answered to a good setting. A place for an object takes some 32 bytes for each
-    /// thread; there is one for each cell, and for each thread as many as `every` and `indexes`, and one more.
+    /// thread; there is one for each cell, and for each thread as many as `every` and `indexes`, and one more, up to 65,536 in all.
     pub fn new(
         alloc: Global,
         config: Config,
     ) -> Result<(RuledCells<T, K>, Vec<SharedUser>), MakeError>
+        ensures fresh { IfOk result (λ r. All (λ user. IsNewPart r.0 user.part) r.1.items) }
         ensures of { IfOk result (λ r. All (λ user. IsOf user.part.user.seat r.0) r.1.items) }
+        ensures users { IfOk result (λ r. length r.1.items ≡ config.seats) }
         ensures made { IfOk result (λ r. layout_of config ≡ Ok r.0.layout) }
         ensures refused { IfErr result (IsNotMade config) }
     {
@@ -156,7 +192,8 @@ impl<T: Drop, K: Keeps<T>> RuledCells<T, K> {
 
     /// Reads a cell: a version that it had since the call began, and the object that it had then, which is not dropped while the guard
     /// is there. The row that names it is held until this thread's next load or release; the guard borrows `reading`, so that it is gone by
-    /// then. Where the cell had an object and none is shown, a guard of that object was forgotten.
+    /// then. Where the cell had an object and none is shown, this thread has forgotten a guard of that object; no clause says so, since none
+    /// says what the word of a share holds.
     pub fn load<'a>(
         &'a self,
         part: &mut Part,
@@ -179,48 +216,34 @@ impl<T: Drop, K: Keeps<T>> RuledCells<T, K> {
         (Seen { cell, loaded }, object)
     }
 
-    /// Ends the cells: the objects that are left, for the caller to take one after another. All other threads' shares of them are dropped
-    /// before. An object of which a guard was forgotten was never dropped, so it comes too.
-    pub fn into_objects(self) -> Objects<T, K> {
+    /// Ends the cells: the objects that are left, for the caller to take one after another, from as many places as there are. All other
+    /// threads' shares of them are dropped before. An object of which a guard was forgotten was never dropped, so it comes too.
+    pub fn into_objects(self) -> Objects<T, K>
+        ensures { result ≡ places_of self.layout.config }
+    {
         let RuledCells { cells: _, shelves } = self;
         Objects {
             places: shelves.into_first(),
         }
     }
 
-    /// Lets go of what was read.
+    /// Lets go of what was read, and drops what this thread has replaced and may be dropped.
     pub fn release(&self, part: &mut Part, _reading: &mut Reading)
         requires of { IsOf part.old.user.seat self.now }
         ensures of { IsOf part.new.user.seat self.now }
         ensures count { part.new.count ≡ part.old.count }
+        ensures released { IsReleased self.now.layout part.old.user part.new.user }
     {
         self.cells.release(&mut part.user);
-        self.collect(part);
+        self.collect(&mut part.user);
     }
 
     // Drops what this thread has replaced and may be dropped: all threads' shares of it.
-    fn collect(&self, part: &mut Part)
-        ensures seat { part.new.user.seat ≡ part.old.user.seat }
-        ensures count { part.new.count ≡ part.old.count }
+    fn collect(&self, user: &mut User)
+        ensures { IsCollected user.old user.new }
     {
-        for _object in 0..PLACES {
-            if !self.collect_one(part) {
-                break;
-            }
-        }
-    }
-
-    // Drops one of these: whether there was one.
-    fn collect_one(&self, part: &mut Part) -> bool
-        ensures seat { part.new.user.seat ≡ part.old.user.seat }
-        ensures count { part.new.count ≡ part.old.count }
-    {
-        match part.user.next_free() {
-            None => false,
-            Some(word) => {
-                self.shelves.clear(word % PLACES);
-                true
-            }
+        while let Some(word) = user.next_free() {
+            self.shelves.clear(word % PLACES);
         }
     }
 
@@ -231,44 +254,87 @@ impl<T: Drop, K: Keeps<T>> RuledCells<T, K> {
         requires word { IfSome word (λ number. number + 1 < 2 ^ 64) }
         ensures of { IsOf part.new.user.seat self.now }
         ensures count { part.new.count ≡ part.old.count }
-        ensures given { IsGiven self.now.layout part.old.user part.new.user.seat seen word result }
+        ensures given { IsGiven self.now.layout part.old.user part.new.user seen word result }
     {
-        match self
+        let swapped = self
             .cells
-            .compare_swap(&mut part.user, seen.cell, seen.loaded, word)
-        {
-            Ok(swapped) => {
-                self.collect(part);
-                Ok(swapped.version)
-            }
-            Err(refusal) => {
-                self.collect(part);
-                Err(refusal)
-            }
+            .compare_swap(&mut part.user, seen.cell, seen.loaded, word);
+        self.collect(&mut part.user);
+        version(swapped)
+    }
+
+    // The same whatever the cell has.
+    fn change(
+        &self,
+        part: &mut Part,
+        cell: u64,
+        word: Option<u64>,
+    ) -> (Seen, Result<u64, PutIfRefusal>)
+        requires of { IsOf part.old.user.seat self.now }
+        requires cell { cell < self.now.layout.config.buckets }
+        requires word { IfSome word (λ number. number + 1 < 2 ^ 64) }
+        ensures of { IsOf part.new.user.seat self.now }
+        ensures count { part.new.count ≡ part.old.count }
+        ensures changed { IsChanged self.now.layout cell part.old.user part.new.user word result.0 result.1 }
+    {
+        let (loaded, swapped) = self.cells.swap(&mut part.user, cell, word);
+        self.collect(&mut part.user);
+        (Seen { cell, loaded }, version(swapped))
+    }
+
+    // Lays an object at a place, under the part's next number.
+    fn lay(&self, part: &mut Part, object: &Arc<T>) -> Result<Laid, SwapRefusal>
+        requires kept { K.holds (next_number part.old) (arc_value object.now) }
+        ensures seat { part.new.user ≡ part.old.user }
+        ensures count { IfOk result (λ _. part.new.count ≡ part.old.count + 1) }
+        ensures number { IfOk result (λ laid. laid.number ≡ next_number part.old) }
+        ensures most { IfOk result (λ laid. laid.number < 2 ^ 48 - 1) }
+        ensures place { IfOk result (λ laid. laid.place < 65536) }
+        ensures refused { IfErr result (IsRefusedFor part.old part.new (λ _. ⊥)) }
+    {
+        if part.count >= MOST {
+            return Err(SwapRefusal::NoNumber);
+        }
+        let number = part.next_number();
+        part.count += 1;
+        match self.shelves.put(number, number, object) {
+            Some(place) => Ok(Laid { number, place }),
+            None => Err(SwapRefusal::NoPlace),
         }
     }
 
-    // Gives the cell the object that lies at this place, or takes it away from there.
-    fn offer(
-        &self,
-        part: &mut Part,
-        seen: Seen,
-        number: u64,
-        place: u64,
-    ) -> Result<u64, PutIfRefusal>
+    // Gives the cell the object that was laid, or takes it away from its place.
+    fn offer(&self, part: &mut Part, seen: Seen, laid: Laid) -> Result<u64, PutIfRefusal>
         requires of { IsOf part.old.user.seat self.now }
         requires cell { seen.cell < self.now.layout.config.buckets }
-        requires place { place < 65536 }
-        requires number { number < 2 ^ 48 - 1 }
+        requires place { laid.place < 65536 }
+        requires number { laid.number < 2 ^ 48 - 1 }
         ensures of { IsOf part.new.user.seat self.now }
         ensures count { part.new.count ≡ part.old.count }
-        ensures offered { IsOffered self.now.layout part.old.user part.new.user.seat seen number result }
+        ensures offered { IsOffered self.now.layout part.old.user part.new.user seen laid.number result }
     {
-        let tried = self.give(part, seen, Some(number * PLACES + place));
+        let tried = self.give(part, seen, Some(laid.word()));
         if tried.is_err() {
-            self.shelves.clear(place);
+            self.shelves.clear(laid.place);
         }
         tried
+    }
+
+    // The same whatever the cell has.
+    fn put_in(&self, part: &mut Part, cell: u64, laid: Laid) -> (Seen, Result<u64, PutIfRefusal>)
+        requires of { IsOf part.old.user.seat self.now }
+        requires cell { cell < self.now.layout.config.buckets }
+        requires place { laid.place < 65536 }
+        requires number { laid.number < 2 ^ 48 - 1 }
+        ensures of { IsOf part.new.user.seat self.now }
+        ensures count { part.new.count ≡ part.old.count }
+        ensures swapped { IsSwappedIn self.now.layout cell part.old.user part.new.user laid.number result.0 result.1 }
+    {
+        let (seen, tried) = self.change(part, cell, Some(laid.word()));
+        if tried.is_err() {
+            self.shelves.clear(laid.place);
+        }
+        (seen, tried)
     }
 
     /// Gives the cell that was seen this object, where it is at the version that was seen: the version that this makes. The object that it
@@ -284,26 +350,16 @@ impl<T: Drop, K: Keeps<T>> RuledCells<T, K> {
         requires cell { seen.cell < self.now.layout.config.buckets }
         requires kept { K.holds (next_number part.old) (arc_value object) }
         ensures of { IsOf part.new.user.seat self.now }
-        ensures offered { IfOk result (λ version. IsOffered self.now.layout part.old.user part.new.user.seat seen (next_number part.old) (Ok version)) }
+        ensures offered { IfOk result (λ version. IsOffered self.now.layout part.old.user part.new.user seen (next_number part.old) (Ok version)) }
         ensures count { IfOk result (λ version. part.new.count ≡ part.old.count + 1) }
-        ensures refused { IfErr result (λ refused. IsRefusedFor self.now.layout part.old part.new seen refused.why) }
+        ensures refused { IfErr result (λ refused. IsRefusedFor part.old part.new (λ refusal. IsOffered self.now.layout part.old.user part.new.user seen (next_number part.old) (Err refusal)) refused.why) }
         ensures object { IfErr result (λ refused. refused.object ≡ object) }
     {
-        if part.count >= MOST {
-            return Err(Refused {
-                why: SwapRefusal::NoNumber,
-                object,
-            });
-        }
-        let number = part.next_number();
-        part.count += 1;
-        let Some(place) = self.shelves.put(number, number, &object) else {
-            return Err(Refused {
-                why: SwapRefusal::NoPlace,
-                object,
-            });
+        let laid = match self.lay(part, &object) {
+            Ok(laid) => laid,
+            Err(why) => return Err(Refused { why, object }),
         };
-        match self.offer(part, seen, number, place) {
+        match self.offer(part, seen, laid) {
             Ok(version) => Ok(version),
             Err(refusal) => Err(Refused {
                 why: SwapRefusal::NotPut { refusal },
@@ -319,8 +375,58 @@ impl<T: Drop, K: Keeps<T>> RuledCells<T, K> {
         requires cell { seen.cell < self.now.layout.config.buckets }
         ensures of { IsOf part.new.user.seat self.now }
         ensures count { part.new.count ≡ part.old.count }
-        ensures taken { IsGiven self.now.layout part.old.user part.new.user.seat seen None result }
+        ensures taken { IsGiven self.now.layout part.old.user part.new.user seen None result }
     {
         self.give(part, seen, None)
+    }
+
+    /// Gives the cell this object, whatever it has: by a load and a put, and again where another thread came between, up to 2^64 times. It
+    /// answers what the last load has read, and the version that the put made. All attempts take one number of the part and one place, where
+    /// shares are laid once. The row that was read last is held until this thread's next load or release, so that what was replaced is
+    /// dropped after that. Refused, the object comes back.
+    pub fn swap(
+        &self,
+        part: &mut Part,
+        _reading: &mut Reading,
+        cell: u64,
+        object: Arc<T>,
+    ) -> Result<(Seen, u64), Refused<T>>
+        requires of { IsOf part.old.user.seat self.now }
+        requires cell { cell < self.now.layout.config.buckets }
+        requires kept { K.holds (next_number part.old) (arc_value object) }
+        ensures of { IsOf part.new.user.seat self.now }
+        ensures swapped { IfOk result (λ r. IsSwappedIn self.now.layout cell part.old.user part.new.user (next_number part.old) r.0 (Ok r.1)) }
+        ensures count { IfOk result (λ _. part.new.count ≡ part.old.count + 1) }
+        ensures refused { IfErr result (λ refused. IsRefusedFor part.old part.new (IsNotSwappedIn self.now.layout cell part.old.user part.new.user (next_number part.old)) refused.why) }
+        ensures object { IfErr result (λ refused. refused.object ≡ object) }
+    {
+        let laid = match self.lay(part, &object) {
+            Ok(laid) => laid,
+            Err(why) => return Err(Refused { why, object }),
+        };
+        match self.put_in(part, cell, laid) {
+            (seen, Ok(version)) => Ok((seen, version)),
+            (_seen, Err(refusal)) => Err(Refused {
+                why: SwapRefusal::NotPut { refusal },
+                object,
+            }),
+        }
+    }
+
+    /// Takes the cell's object out, by attempts as a swap: what the last load has read, and the version that the put made, or why there is
+    /// none. The object is dropped as by a swap.
+    pub fn take(
+        &self,
+        part: &mut Part,
+        _reading: &mut Reading,
+        cell: u64,
+    ) -> (Seen, Result<u64, PutIfRefusal>)
+        requires of { IsOf part.old.user.seat self.now }
+        requires cell { cell < self.now.layout.config.buckets }
+        ensures of { IsOf part.new.user.seat self.now }
+        ensures count { part.new.count ≡ part.old.count }
+        ensures taken { IsChanged self.now.layout cell part.old.user part.new.user None result.0 result.1 }
+    {
+        self.change(part, cell, None)
     }
 }

@@ -1,30 +1,45 @@
 // Places for objects, each with a share for every thread. A share has a word that says whether it is there, and whether its thread reads it:
 // no other thread reads that share, so readers write no word that others read.
-ghost use Rattle.std.specs.Prelude.{◌≡◌, ◌<◌, ◌≤◌, IfSome};
+ghost use Rattle.std.specs.Prelude.{◌≡◌, ◌<◌, ◌≤◌, IfOk, IfSome};
 ghost use Rattle.std.specs.Arc.{arc_value};
+ghost use Rattle.std.specs.Vec.{vec_len};
 ghost use Rattle.wfe_shared_cells.specs.Calls.{number_in};
 
 use crate::Keeps;
 use crate::object::{Object, Share};
 use counted_slot::{Counted, FREE, ONE_READER, PRESENT, TAKEN};
 use std::alloc::{AllocError, Global};
-use std::marker::PhantomData;
+use std::marker::{Model, PhantomData};
 use std::sync::Arc;
 
 /// How many places there are at most.
 pub(crate) const PLACES: u64 = 65_536;
 
+/// Places, each with a share for every thread. They are seen as how many there are.
 #[derive(Drop)]
 pub(crate) struct Shelves<T, K: Keeps<T>> {
-    // By thread, then by place. A place is free where the first thread has no share.
-    shares: Vec<Vec<Counted<Option<Share<T, K>>>>>,
+    // The first thread's: a place is free where it has no share.
+    first: Vec<Counted<Option<Share<T, K>>>>,
+    // The other threads', by thread and then by place.
+    others: Vec<Vec<Counted<Option<Share<T, K>>>>>,
+}
+
+impl<T, K: Keeps<T>> Model for Shelves<T, K> {
+    ghost use Rattle.std.specs.Prelude.{ℕ};
+    ghost use Rattle.std.specs.Vec.{vec_len};
+
+    ghost Value = { ℕ };
+
+    ghost view = { λ s. vec_len s.first };
 }
 
 // A thread's places, all without a share.
 fn row<T: Drop, K: Keeps<T>>(
     alloc: Global,
     places: usize,
-) -> Result<Vec<Counted<Option<Share<T, K>>>>, AllocError> {
+) -> Result<Vec<Counted<Option<Share<T, K>>>>, AllocError>
+    ensures { IfOk result (λ row. vec_len row ≡ places) }
+{
     let mut row = Vec::with_capacity(alloc, places)?;
     for _place in 0..places {
         row.push(Counted::new(None, &()))?;
@@ -75,26 +90,29 @@ impl<T: Drop, K: Keeps<T>> Shelves<T, K> {
         alloc: Global,
         threads: usize,
         places: usize,
-    ) -> Result<Shelves<T, K>, AllocError> {
-        let mut shares = Vec::with_capacity(alloc, threads)?;
-        for _thread in 0..threads {
-            shares.push(row(alloc, places)?)?;
+    ) -> Result<Shelves<T, K>, AllocError>
+        ensures { IfOk result (λ shelves. shelves ≡ places) }
+    {
+        let mut others = Vec::with_capacity(alloc, threads)?;
+        for _thread in 1..threads {
+            others.push(row(alloc, places)?)?;
         }
-        Ok(Shelves { shares })
+        let first = row(alloc, places)?;
+        Ok(Shelves { first, others })
     }
 
-    // How many places there are.
+    // How many places may be used.
     fn count(&self) -> u64
         ensures { result ≤ 65536 }
     {
-        match self.shares.get(0) {
-            Some(row) => (row.len() as u64).min(PLACES),
-            None => 0,
-        }
+        (self.first.len() as u64).min(PLACES)
     }
 
     fn place(&self, thread: usize, place: usize) -> Option<&Counted<Option<Share<T, K>>>> {
-        let row: &Vec<Counted<Option<Share<T, K>>>> = self.shares.get(thread)?;
+        if thread == 0 {
+            return self.first.get(place);
+        }
+        let row: &Vec<Counted<Option<Share<T, K>>>> = self.others.get(thread - 1)?;
         row.get(place)
     }
 
@@ -106,7 +124,7 @@ impl<T: Drop, K: Keeps<T>> Shelves<T, K> {
         let count = self.count();
         for step in 0..count {
             let place = first.wrapping_add(step) % count;
-            if let Some(spot) = self.place(0, place as usize) {
+            if let Some(spot) = self.first.get(place as usize) {
                 if spot.load() == FREE {
                     let share = share_of(number, object)?;
                     if lay(spot, share) {
@@ -124,8 +142,8 @@ impl<T: Drop, K: Keeps<T>> Shelves<T, K> {
         ensures { IfSome result (λ place. place < 65536) }
     {
         let place = self.begin(first, number, object)?;
-        for thread in 1..self.shares.len() {
-            if let Some(spot) = self.place(thread, place as usize) {
+        for row in &self.others {
+            if let Some(spot) = row.get(place as usize) {
                 if let Some(share) = share_of(number, object) {
                     let _ = lay(spot, share);
                 }
@@ -138,27 +156,24 @@ impl<T: Drop, K: Keeps<T>> Shelves<T, K> {
     // was forgotten) the place stays as it is.
     pub(crate) fn clear(&self, place: u64) {
         let mut all = true;
-        for thread in 1..self.shares.len() {
-            if let Some(spot) = self.place(thread, place as usize) {
+        for row in &self.others {
+            if let Some(spot) = row.get(place as usize) {
                 all = lift(spot) && all;
             }
         }
         if all {
-            if let Some(spot) = self.place(0, place as usize) {
+            if let Some(spot) = self.first.get(place as usize) {
                 let _ = lift(spot);
             }
         }
     }
 
     // The first thread's places, once all other shares are dropped.
-    pub(crate) fn into_first(self) -> Vec<Counted<Option<Share<T, K>>>> {
-        let Shelves { mut shares } = self;
-        let alloc = *shares.allocator();
-        shares.truncate(1);
-        match shares.pop() {
-            Some(row) => row,
-            None => Vec::new(alloc),
-        }
+    pub(crate) fn into_first(self) -> Vec<Counted<Option<Share<T, K>>>>
+        ensures { vec_len result ≡ self }
+    {
+        let Shelves { first, others: _ } = self;
+        first
     }
 
     // The thread's share of the object that a cell of numbers names.

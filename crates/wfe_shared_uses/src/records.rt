@@ -55,14 +55,8 @@ pub(crate) struct Found {
     pub(crate) left: u64,
 }
 
-// Reads a cell and gives it a record.
-fn turn(
-    cells: &SharedCells<Record>,
-    user: &mut SharedUser,
-    cell: u64,
-    record: Arc<Record>,
-    found: &mut Found,
-)
+// Reads a cell.
+fn look(cells: &SharedCells<Record>, user: &mut SharedUser, cell: u64, found: &mut Found)
     requires of { IsOf user.old.part.user.seat cells.now }
     requires cell { cell < cells.now.layout.config.buckets }
     ensures of { IsOf user.new.part.user.seat cells.now }
@@ -80,7 +74,6 @@ fn turn(
             }
         }
     }
-    let _ = cells.compare_swap(&mut user.part, seen, record);
 }
 
 // A thread's work.
@@ -97,9 +90,14 @@ fn work(alloc: Global, cells: &SharedCells<Record>, mut user: SharedUser, alive:
     for number in 0..TURNS {
         if count > 0 {
             if let Some(record) = make_record(alloc, number, alive) {
-                turn(cells, &mut user, number % count, record, &mut found);
+                let cell = number % count;
+                look(cells, &mut user, cell, &mut found);
+                let _ = cells.swap(&mut user.part, &mut user.reading, cell, record);
             }
         }
+    }
+    if count > 0 {
+        let _ = cells.take(&mut user.part, &mut user.reading, 0);
     }
     found
 }
