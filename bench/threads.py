@@ -10,14 +10,18 @@ tail have a line of the cache each. The third is a map and a queue on crossbeam-
 that Debian's librust-crossbeam-epoch-dev installs, and left out where there is none. Two more make the proved calls through C and
 through the crate for Rust (`bench/border`), where `rt lib` in crates/wfe_c has made the archive. All make the same calls: gets alone
 (`reads`), nine gets and a put (`mixed`), puts alone (`puts`), and an enqueue and a dequeue by turns (`pairs`), those of
-the table under each scheme. It prints
+the table under each scheme, and add up the numbers and values that they answer, so that no compiler leaves out what carries
+an answer; on one thread all must come to the same sum, which is tried first. It prints
 
 - million calls a second: the median of the bursts, each a run of its own in which a thread makes N calls (of reads and
   mixed four times as many), without what a run of one call takes; the programs take turns in each repeat;
 - ratios of these medians: of each program to itself on one thread, to the plain program placed, and to crossbeam's; and
   the most rows that a seat's retire list had in the plain program's bursts, which the proved one doesn't tell.
 
-With --profile it counts instructions a call on one thread with callgrind instead. With --builds it times puts of the
+With --profile it counts instructions a call on one thread with callgrind instead. What the border takes is
+what a call through C or Rust has more than one from Rattle. Of `pairs` that is more than `apart`: from Rattle the queue's
+calls are compiled whole into the loop of `pairs`, which is no call any more, as there is one of each in the program; `apart`
+makes each by a call of a function, as a program does that makes them in several places. With --builds it times puts of the
 plain program alone, as it is, with weaker orders of its steps and in each placement (`bench/plain/table.rs`), beside a
 map on epochs of its own that needs no package. It fails where a call is refused.
 """
@@ -38,6 +42,8 @@ import time
 SCHEMES = ("he", "ibr", "wfe", "hp")
 # How many times the calls of a burst are made of each work: a get is over sooner than a put.
 WORKS = {"reads": 4, "mixed": 4, "puts": 1, "pairs": 1}
+# From Rattle: the work that makes the same calls each by a call of a function, where these are compiled into their loop.
+APART = {"pairs": "apart"}
 # The programs whose medians are compared.
 BESIDE = (("proved", "placed"), ("proved", "crossbeam"), ("placed", "crossbeam"))
 TOP = os.path.dirname(os.path.dirname(os.path.realpath(__file__)))
@@ -120,16 +126,27 @@ def built_border(folder):
 
 
 def burst(program, work, threads, calls):
-    """The seconds of one run, in which each call was answered as it had to be, and the longest retire list where it tells."""
+    """The seconds of one run, in which each call was answered as it had to be, the sum of the answers, and the longest retire
+    list where it tells."""
     file, scheme = program
     words = [file, scheme, work, str(threads), str(calls)]
     start = time.perf_counter()
     ran = subprocess.run(words, capture_output=True, text=True, check=True)
     took = time.perf_counter() - start
-    told = re.fullmatch(r"\d+ calls, 0 refused(?:, (\d+) rows in the longest retire list)?\n", ran.stdout)
+    told = re.fullmatch(r"\d+ calls, 0 refused, sum (\d+)(?:, (\d+) rows in the longest retire list)?\n", ran.stdout)
     if not told:
         sys.exit(f"{words}: {ran.stdout}{ran.stderr}")
-    return took, int(told[1] or 0)
+    return took, int(told[1]), int(told[2] or 0)
+
+
+def compare_sums(files):
+    """Fails where the calls of one thread are answered otherwise by one of these programs than by another, or under another scheme."""
+    for work in WORKS:
+        sums = {it: burst(it, work, 1, 1_001)[1] for scheme in SCHEMES for it in named(files, scheme).values()}
+        if work in APART:
+            sums["apart"] = burst((PROVED, SCHEMES[0]), APART[work], 1, 1_001)[1]
+        if len(set(sums.values())) != 1:
+            sys.exit(f"sums of {work} differ: {sums}")
 
 
 class Bursts:
@@ -143,7 +160,7 @@ class Bursts:
     def run(self):
         """One more burst, and a run of one call."""
         self.empty.append(burst(*self.asked, 1)[0])
-        took, longest = burst(*self.asked, self.calls)
+        took, _, longest = burst(*self.asked, self.calls)
         self.full.append(took)
         self.longest = max(self.longest, longest)
 
@@ -261,14 +278,16 @@ def instructions(program, scheme, work, calls):
 def print_profile(folder):
     """Prints instructions a call of the proved program, from Rattle and through C and Rust, and of the plain one in both placements."""
     border = built_border(folder)
-    files = PROVED, built_plain(folder), built_plain(folder, "placed"), *border.values()
+    files = {"proved": PROVED, "dense": built_plain(folder), "placed": built_plain(folder, "placed"), **border}
+    compare_sums(files)
     print_head("Instructions a call on one thread",
-               ["work", "scheme", "proved", "dense", "placed", *border, "proved to dense", "proved to placed", *(f"more by {it}" for it in border)])
+               ["work", "scheme", *files, "proved to dense", "proved to placed", "apart", *(f"more by {it}" for it in border)])
     for work in WORKS:
         for scheme in SCHEMES:
-            counts = [instructions(file, scheme, work, 20_001) for file in files]
+            counts = [instructions(file, scheme, work, 20_001) for file in files.values()]
+            apart = instructions(PROVED, scheme, APART[work], 20_001) if work in APART else counts[0]
             print_row([work, f"`{scheme}`", *(f"{it:,.0f}" for it in counts), *(f"{counts[0] / it:.2f}" for it in counts[1:3]),
-                       *(f"{it - counts[0]:.1f}" for it in counts[3:])])
+                       f"{apart:,.0f}" if work in APART else "", *(f"{it - apart:.1f}" for it in counts[3:])])
 
 
 def print_builds(folder, options):
@@ -307,6 +326,7 @@ def main():
             print_builds(folder, options)
             return
         files = columns(folder)
+        compare_sums(files)
         print_ratios(files, print_rates(files, options), options)
 
 

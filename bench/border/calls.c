@@ -2,7 +2,8 @@
  *
  *     calls SCHEME WORK THREADS CALLS
  *
- * SCHEME is `he`, `ibr`, `wfe` or `hp`, and WORK is `reads`, `mixed`, `puts` or `pairs`. Each thread makes CALLS calls. */
+ * SCHEME is `he`, `ibr`, `wfe` or `hp`, and WORK is `reads`, `mixed`, `puts` or `pairs`. Each thread makes CALLS calls, and adds up the
+ * numbers and values that they answer as `wfe_bench` does, so that both loops need the same of each answer and print the same sum. */
 #include "wfe.h"
 #include <inttypes.h>
 #include <pthread.h>
@@ -18,7 +19,7 @@ enum work { READS, MIXED, PUTS, PAIRS };
 typedef struct {
     wfe_seat seat;
     enum work work;
-    uint64_t calls, refused;
+    uint64_t calls, refused, sum;
 } caller;
 
 static int named(const char *word, const char *const *names) {
@@ -27,23 +28,27 @@ static int named(const char *word, const char *const *names) {
     return -1;
 }
 
-/* The code of one call. */
-static uint32_t call(caller *me, uint64_t turn, uint64_t key) {
-    switch (me->work) {
-    case READS: return wfe_get(&me->seat, key).code;
-    case MIXED: return turn % 10 ? wfe_get(&me->seat, key).code : wfe_put(&me->seat, key, turn).code;
-    case PUTS: return wfe_put(&me->seat, key, turn).code;
-    default: return turn % 2 ? wfe_dequeue(&me->seat).code : wfe_enqueue(&me->seat, turn).code;
+static inline wfe_answer call(wfe_seat *seat, enum work work, uint64_t turn, uint64_t key) {
+    switch (work) {
+    case READS: return wfe_get(seat, key);
+    case MIXED: return turn % 10 ? wfe_get(seat, key) : wfe_put(seat, key, turn);
+    case PUTS: return wfe_put(seat, key, turn);
+    default: return turn % 2 ? wfe_dequeue(seat) : wfe_enqueue(seat, turn);
     }
 }
 
 static void *work(void *its) {
     caller *me = its;
-    uint64_t random = wfe_about(&me->seat).number + 1;
-    for (uint64_t turn = 0; turn < me->calls; turn++) {
+    enum work kind = me->work;
+    uint64_t calls = me->calls, refused = 0, sum = 0, random = wfe_about(&me->seat).number + 1;
+    for (uint64_t turn = 0; turn < calls; turn++) {
         random = random * UINT64_C(6364136223846793005) + UINT64_C(1442695040888963407);
-        if (call(me, turn, (random >> 33) % KEYS) != WFE_OK) me->refused++;
+        wfe_answer told = call(&me->seat, kind, turn, (random >> 33) % KEYS);
+        if (told.code == WFE_OK) sum += told.number + told.value;
+        else refused++;
     }
+    me->refused = refused;
+    me->sum = sum;
     return 0;
 }
 
@@ -66,12 +71,13 @@ int main(int words, char **word) {
         if (it && pthread_create(&ids[it], 0, work, &callers[it])) return 1;
     }
     work(&callers[0]);
-    uint64_t refused = callers[0].refused;
+    uint64_t refused = callers[0].refused, sum = callers[0].sum;
     for (uint32_t it = 1; it < threads; it++) {
         pthread_join(ids[it], 0);
         refused += callers[it].refused;
+        sum += callers[it].sum;
     }
-    printf("%" PRIu64 " calls, %" PRIu64 " refused\n", threads * callers[0].calls, refused);
+    printf("%" PRIu64 " calls, %" PRIu64 " refused, sum %" PRIu64 "\n", threads * callers[0].calls, refused, sum);
     for (uint32_t it = 0; it < threads; it++) wfe_leave(&callers[it].seat);
     return 0;
 }

@@ -11,12 +11,12 @@ pub struct Boxed {
 }
 
 impl Boxed {
-    /// The key's value.
-    pub fn get(&self, key: u64) -> Option<u64> {
+    /// The version, and the key's value.
+    pub fn get(&self, key: u64) -> Option<(u64, u64)> {
         self.pairs[..self.count]
             .iter()
             .find(|pair| pair.0 == key)
-            .map(|pair| pair.1)
+            .map(|pair| (self.version, pair.1))
     }
 
     /// The bucket with this pair, or none where there is no room for the key.

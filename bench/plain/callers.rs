@@ -8,6 +8,11 @@ use crate::table::{Seat, Table};
 use crate::work::{Caller, Done, Work, run_callers};
 use crate::{map, queue};
 
+// The sum of a version, or a number, and a value.
+fn both(told: (u64, u64)) -> u64 {
+    told.0.wrapping_add(told.1)
+}
+
 struct TableCaller<'a, S> {
     table: &'a Table,
     seat: Seat,
@@ -15,20 +20,21 @@ struct TableCaller<'a, S> {
 }
 
 impl<S: Scheme + Send> Caller for TableCaller<'_, S> {
-    fn get(&mut self, key: u64) -> bool {
-        map::get::<S>(self.table, &mut self.seat, key).1.is_some()
+    fn get(&mut self, key: u64) -> Option<u64> {
+        let (version, value) = map::get::<S>(self.table, &mut self.seat, key);
+        Some(version.wrapping_add(value?))
     }
 
-    fn put(&mut self, key: u64, value: u64) -> bool {
-        map::put::<S>(self.table, &mut self.seat, key, value).is_some()
+    fn put(&mut self, key: u64, value: u64) -> Option<u64> {
+        map::put::<S>(self.table, &mut self.seat, key, value)
     }
 
-    fn enqueue(&mut self, value: u64) -> bool {
-        queue::enqueue::<S>(self.table, &mut self.seat, value).is_some()
+    fn enqueue(&mut self, value: u64) -> Option<u64> {
+        queue::enqueue::<S>(self.table, &mut self.seat, value)
     }
 
-    fn dequeue(&mut self) -> bool {
-        queue::dequeue::<S>(self.table, &mut self.seat).is_some()
+    fn dequeue(&mut self) -> Option<u64> {
+        queue::dequeue::<S>(self.table, &mut self.seat).map(both)
     }
 
     fn longest(&self) -> Option<usize> {
@@ -54,20 +60,20 @@ struct EpochCaller<'a> {
 }
 
 impl Caller for EpochCaller<'_> {
-    fn get(&mut self, key: u64) -> bool {
-        self.map.get(&mut self.seat, key).is_some()
+    fn get(&mut self, key: u64) -> Option<u64> {
+        self.map.get(&mut self.seat, key).map(both)
     }
 
-    fn put(&mut self, key: u64, value: u64) -> bool {
-        self.map.put(&mut self.seat, key, value).is_some()
+    fn put(&mut self, key: u64, value: u64) -> Option<u64> {
+        self.map.put(&mut self.seat, key, value)
     }
 
-    fn enqueue(&mut self, _: u64) -> bool {
-        false
+    fn enqueue(&mut self, _: u64) -> Option<u64> {
+        None
     }
 
-    fn dequeue(&mut self) -> bool {
-        false
+    fn dequeue(&mut self) -> Option<u64> {
+        None
     }
 }
 
@@ -90,20 +96,20 @@ struct CrossbeamCaller<'a> {
 
 #[cfg(feature = "crossbeam")]
 impl Caller for CrossbeamCaller<'_> {
-    fn get(&mut self, key: u64) -> bool {
-        self.map.get(key).is_some()
+    fn get(&mut self, key: u64) -> Option<u64> {
+        self.map.get(key).map(both)
     }
 
-    fn put(&mut self, key: u64, value: u64) -> bool {
-        self.map.put(key, value).is_some()
+    fn put(&mut self, key: u64, value: u64) -> Option<u64> {
+        self.map.put(key, value)
     }
 
-    fn enqueue(&mut self, value: u64) -> bool {
-        self.queue.enqueue(value) != 0
+    fn enqueue(&mut self, value: u64) -> Option<u64> {
+        Some(self.queue.enqueue(value))
     }
 
-    fn dequeue(&mut self) -> bool {
-        self.queue.dequeue().is_some()
+    fn dequeue(&mut self) -> Option<u64> {
+        self.queue.dequeue().map(both)
     }
 }
 

@@ -22,7 +22,8 @@ impl Map {
         &self.roots[(key % BUCKETS as u64) as usize]
     }
 
-    pub fn get(&self, key: u64) -> Option<u64> {
+    /// The bucket's version and the key's value.
+    pub fn get(&self, key: u64) -> Option<(u64, u64)> {
         let guard = &pin();
         let row = self.root(key).load(Acquire, guard);
         // The box is not freed while this thread is pinned.

@@ -61,7 +61,8 @@ impl EpochMap {
         self.pins[seat.number].0.store(0, Release);
     }
 
-    pub fn get(&self, seat: &mut EpochSeat, key: u64) -> Option<u64> {
+    /// The bucket's version and the key's value.
+    pub fn get(&self, seat: &mut EpochSeat, key: u64) -> Option<(u64, u64)> {
         self.pin(seat);
         let row = self.roots[(key % BUCKETS as u64) as usize].load(Acquire);
         // The row is not freed while this seat is pinned.

@@ -35,7 +35,12 @@ fn main() -> ExitCode {
     let Some(done) = callers::run(scheme, work, threads, calls) else {
         return usage();
     };
-    print!("{} calls, {} refused", threads as u64 * calls, done.refused);
+    print!(
+        "{} calls, {} refused, sum {}",
+        threads as u64 * calls,
+        done.refused,
+        done.sum
+    );
     match done.longest {
         Some(rows) => println!(", {rows} rows in the longest retire list"),
         None => println!(),

@@ -5,8 +5,8 @@ ghost use Rattle.std.specs.Prelude.{All, IfOk};
 ghost use Rattle.wfe_table.specs.Public.{IsOf};
 
 use crate::NO_MEMORY;
-use caller::Caller;
 pub use caller::Work;
+use caller::{Caller, Told};
 use std::process::ExitCode;
 use std::thread;
 use std::thread::Threads;
@@ -37,19 +37,19 @@ fn setting(job: Calls) -> Config {
     }
 }
 
-// Each seat goes to a thread. What comes back is how many calls of each were refused.
+// Each seat goes to a thread. What comes back is what came of the calls of each.
 fn work<R: Threads + Sync>(
     rt: &R,
     shared: &Shared,
     seats: Vec<Seat>,
     job: Calls,
-) -> Result<Vec<u64>, &'static str>
+) -> Result<Vec<Told>, &'static str>
     requires of { All (λ seat. IsOf seat shared.now) seats.items }
 {
     let done = thread::map_vec(
         rt,
         seats,
-        &|seat: Seat| -> u64
+        &|seat: Seat| -> Told
             requires { IsOf seat shared.now }
         {
             let mut caller = Caller::new(seat);
@@ -57,7 +57,7 @@ fn work<R: Threads + Sync>(
         },
     );
     match done {
-        Ok(refused) => Ok(refused),
+        Ok(told) => Ok(told),
         Err(_) => Err(NO_MEMORY),
     }
 }
@@ -78,29 +78,29 @@ fn fill(shared: &Shared, mut seats: Vec<Seat>) -> Result<Vec<Seat>, &'static str
     }
 }
 
-// How many calls were refused.
-fn run<R: Threads + Sync + AllocGlobal>(rt: &R, job: Calls) -> Result<u64, &'static str> {
+// What came of all calls.
+fn run<R: Threads + Sync + AllocGlobal>(rt: &R, job: Calls) -> Result<Told, &'static str> {
     let (shared, seats) = match Shared::new(rt.alloc(), setting(job)) {
         Ok(made) => made,
         Err(MakeError::BadConfig { .. }) => return Err("THREADS is from 1 to 64"),
         Err(MakeError::NoMemory) => return Err(NO_MEMORY),
     };
     let seats = fill(&shared, seats)?;
-    let mut sum = 0u64;
-    for refused in &work(rt, &shared, seats, job)? {
-        sum = sum.saturating_add(*refused);
+    let mut all = Told::nothing();
+    for told in &work(rt, &shared, seats, job)? {
+        all = all.with(*told);
     }
-    Ok(sum)
+    Ok(all)
 }
 
-/// Makes the calls, and prints how many they were and how many were refused.
+/// Makes the calls, and prints how many they were, how many were refused, and the sum of what the others answered.
 pub fn print_calls<R: Threads + Sync + AllocGlobal + Print>(
     rt: &R,
     job: Calls,
 ) -> Result<ExitCode, &'static str> {
-    let refused = run(rt, job)?;
+    let Told { refused, sum } = run(rt, job)?;
     let calls = u64::from(job.threads).saturating_mul(job.calls);
-    match println!(rt; "{calls} calls, {refused} refused") {
+    match println!(rt; "{calls} calls, {refused} refused, sum {sum}") {
         Ok(()) => Ok(ExitCode::SUCCESS),
         Err(_) => Ok(ExitCode::FAILURE),
     }

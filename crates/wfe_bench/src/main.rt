@@ -4,8 +4,8 @@
 //!     wfe_bench SCHEME WORK THREADS CALLS
 //!     wfe_bench SCHEME stalled SECONDS
 //!
-//! SCHEME is `he`, `ibr`, `wfe` or `hp`, and WORK is `reads`, `mixed`, `puts` or `pairs`. Each thread makes
-//! CALLS calls.
+//! SCHEME is `he`, `ibr`, `wfe` or `hp`, and WORK is `reads`, `mixed`, `puts`, `pairs` or `apart`. Each thread makes
+//! CALLS calls. Of these it prints how many there were and were refused, and the sum of the numbers and values that the others answered.
 #![tactic(auto)]
 
 mod calls;
@@ -22,7 +22,7 @@ use wfe_table::SchemeKind;
 const NO_MEMORY: &str = "memory ran out";
 
 const USAGE: &str =
-    "usage: wfe_bench he|ibr|wfe|hp reads|mixed|puts|pairs THREADS CALLS, or wfe_bench he|ibr|wfe|hp stalled SECONDS";
+    "usage: wfe_bench he|ibr|wfe|hp reads|mixed|puts|pairs|apart THREADS CALLS, or wfe_bench he|ibr|wfe|hp stalled SECONDS";
 
 /// What is to be run.
 #[derive(Clone, Copy)]

@@ -1,4 +1,7 @@
-// The calls of one thread.
+// The calls of one thread. It adds up what they answer, so that the compiler can't leave out what carries an answer. An enqueue and a
+// dequeue are made in one place each, so the compiler puts them whole into the loop there (`exchange`). A program that makes them in
+// several places calls a function for each, and so does one in C: what the border takes is what a call through C (`bench/border/calls.c`)
+// has more than one of `apart`, where that function makes one at each of its calls.
 ghost use Rattle.std.specs.Prelude.{◌≡◌};
 ghost use Rattle.wfe_table.specs.Public.{IsOf};
 
@@ -18,6 +21,8 @@ pub enum Work {
     Puts,
     /// An enqueue and a dequeue by turns.
     Pairs,
+    /// The same, each by a call of a function.
+    Apart,
 }
 
 impl Work {
@@ -28,7 +33,32 @@ impl Work {
             "mixed" => Some(Work::Mixed),
             "puts" => Some(Work::Puts),
             "pairs" => Some(Work::Pairs),
+            "apart" => Some(Work::Apart),
             _ => None,
+        }
+    }
+}
+
+/// What came of a thread's calls.
+#[derive(Clone, Copy)]
+pub struct Told {
+    /// How many were refused.
+    pub refused: u64,
+    /// What the others answered: the sum of their numbers and values, modulo 2^64.
+    pub sum: u64,
+}
+
+impl Told {
+    /// Of no calls.
+    pub fn nothing() -> Told {
+        Told { refused: 0, sum: 0 }
+    }
+
+    /// With those of another thread.
+    pub fn with(self, other: Told) -> Told {
+        Told {
+            refused: self.refused.saturating_add(other.refused),
+            sum: self.sum.wrapping_add(other.sum),
         }
     }
 }
@@ -57,61 +87,117 @@ impl Caller {
         }
     }
 
-    /// So many calls, of which it counts those that were refused.
-    pub fn work(&mut self, shared: &Shared, work: Work, calls: u64) -> u64
+    /// So many calls.
+    pub fn work(&mut self, shared: &Shared, work: Work, calls: u64) -> Told
+        requires of { IsOf self.old.seat shared.now }
+        ensures of { IsOf self.new.seat shared.now }
+    {
+        match work {
+            Work::Pairs => self.exchange(shared, 0, calls),
+            Work::Apart => self.apart(shared, calls),
+            Work::Reads | Work::Mixed | Work::Puts => self.keyed(shared, work, calls),
+        }
+    }
+
+    // So many gets and puts, of keys in a random order.
+    fn keyed(&mut self, shared: &Shared, work: Work, calls: u64) -> Told
         requires of { IsOf self.old.seat shared.now }
         ensures of { IsOf self.new.seat shared.now }
     {
         let mut refused = 0u64;
+        let mut sum = 0u64;
         let mut random = u64::from(self.seat.number()) + 1;
         for turn in 0..calls {
             random = random
                 .wrapping_mul(6_364_136_223_846_793_005)
                 .wrapping_add(1_442_695_040_888_963_407);
             let key = (random >> 33) % KEYS;
-            if !self.call(shared, work, turn, key) {
-                refused = refused.saturating_add(1);
+            match self.call(shared, work, turn, key) {
+                Some(told) => sum = sum.wrapping_add(told),
+                None => refused = refused.saturating_add(1),
             }
         }
-        refused
+        Told { refused, sum }
     }
 
-    // One call, and whether it was answered as it had to be.
-    fn call(&mut self, shared: &Shared, work: Work, turn: u64, key: u64) -> bool
+    // A get or a put: the sum of what it answered, or none where it was refused.
+    fn call(&mut self, shared: &Shared, work: Work, turn: u64, key: u64) -> Option<u64>
         requires of { IsOf self.old.seat shared.now }
         ensures of { IsOf self.new.seat shared.now }
     {
         match work {
             Work::Reads => self.get(shared, key),
-            Work::Mixed => {
-                if turn % 10 == 0 {
-                    self.put(shared, key, turn)
-                } else {
-                    self.get(shared, key)
-                }
-            }
-            Work::Puts => self.put(shared, key, turn),
-            Work::Pairs => {
-                if turn % 2 == 0 {
-                    shared.enqueue(&mut self.seat, turn).is_ok()
-                } else {
-                    shared.dequeue(&mut self.seat).is_ok()
-                }
-            }
+            Work::Mixed if turn % 10 != 0 => self.get(shared, key),
+            _ => self.put(shared, key, turn),
         }
     }
 
-    fn get(&mut self, shared: &Shared, key: u64) -> bool
+    #[inline(always)]
+    fn get(&mut self, shared: &Shared, key: u64) -> Option<u64>
         requires of { IsOf self.old.seat shared.now }
         ensures of { IsOf self.new.seat shared.now }
     {
-        shared.get(&mut self.seat, key).value.is_some()
+        let got = shared.get(&mut self.seat, key);
+        Some(got.version.wrapping_add(got.value?))
     }
 
-    fn put(&mut self, shared: &Shared, key: u64, value: u64) -> bool
+    fn put(&mut self, shared: &Shared, key: u64, value: u64) -> Option<u64>
         requires of { IsOf self.old.seat shared.now }
         ensures of { IsOf self.new.seat shared.now }
     {
-        shared.put(&mut self.seat, key, value).is_ok()
+        let done = shared.put(&mut self.seat, key, value).ok()?;
+        Some(done.version)
+    }
+
+    // An enqueue and a dequeue by turns, from the first turn up to the one past the last.
+    #[inline(never)]
+    fn exchange(&mut self, shared: &Shared, first: u64, past: u64) -> Told
+        requires of { IsOf self.old.seat shared.now }
+        ensures of { IsOf self.new.seat shared.now }
+    {
+        let mut refused = 0u64;
+        let mut sum = 0u64;
+        for turn in first..past {
+            let told = if turn % 2 == 0 {
+                self.enqueue(shared, turn)
+            } else {
+                self.dequeue(shared)
+            };
+            match told {
+                Some(told) => sum = sum.wrapping_add(told),
+                None => refused = refused.saturating_add(1),
+            }
+        }
+        Told { refused, sum }
+    }
+
+    // The same, one at a time.
+    fn apart(&mut self, shared: &Shared, calls: u64) -> Told
+        requires of { IsOf self.old.seat shared.now }
+        ensures of { IsOf self.new.seat shared.now }
+    {
+        let mut all = Told::nothing();
+        for turn in 0..calls {
+            all = all.with(self.exchange(shared, turn, turn + 1));
+        }
+        all
+    }
+
+    #[inline(always)]
+    fn enqueue(&mut self, shared: &Shared, value: u64) -> Option<u64>
+        requires of { IsOf self.old.seat shared.now }
+        ensures of { IsOf self.new.seat shared.now }
+    {
+        let queued = shared.enqueue(&mut self.seat, value).ok()?;
+        Some(queued.number)
+    }
+
+    #[inline(always)]
+    fn dequeue(&mut self, shared: &Shared) -> Option<u64>
+        requires of { IsOf self.old.seat shared.now }
+        ensures of { IsOf self.new.seat shared.now }
+    {
+        let taken = shared.dequeue(&mut self.seat).ok()?;
+        Some(taken.number.wrapping_add(taken.value))
     }
 }
