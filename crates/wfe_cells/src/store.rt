@@ -31,17 +31,12 @@ impl Store {
         ensures free { IfOk result (λ store. store.free ≡ []) }
         ensures room { IfOk result (λ store. places ≤ store.spare) }
     {
-        let Ok(mut kept) = Vec::with_capacity(alloc, places) else {
+        let Ok(kept) = vec![in alloc; None; places] else {
             return Err(NoMemory);
         };
         let Ok(free) = Vec::with_capacity(alloc, places) else {
             return Err(NoMemory);
         };
-        for _place in 0..places {
-            if kept.push(None).is_err() {
-                return Err(NoMemory);
-            }
-        }
         Ok(Store { kept, free })
     }
 

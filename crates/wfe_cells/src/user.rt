@@ -6,12 +6,12 @@ ghost use Rattle.wfe_core.specs.defs.declared.call.Call.TheVariants as calls;
 ghost use Rattle.wfe_table.specs.Calls.{IsMade};
 ghost use Rattle.wfe_table.specs.Public.{IsOf, TableNow};
 ghost use Rattle.wfe_table.specs.rule.Views.{seat_of};
-ghost use Rattle.wfe_cells.specs.Calls.{IsLoaded, IsTried, UserNow, store_by};
+ghost use Rattle.wfe_cells.specs.Calls.{IsLoaded, IsTried, UserNow, loaded_of, store_by};
 
 use crate::store::Store;
 use std::alloc::Global;
 use std::marker::Model;
-use wfe_table::{NoMemory, PutIfRefusal, Seat, Shared};
+use wfe_table::{Looked, NoMemory, PutIfRefusal, Seat, Shared};
 
 /// What a cell was when it was read: its version, and its object. A cell that was never changed has version 0.
 #[derive(Clone, Copy, Debug, PartialEq, Eq)]
@@ -26,6 +26,25 @@ pub struct Loaded {
 pub struct Swapped {
     pub version: u64,
     pub left: Option<u64>,
+}
+
+// What a look shows of a cell; nothing stands there where the cell was never changed.
+fn loaded_of(looked: Option<Looked>) -> Loaded
+    ensures { result ≡ loaded_of looked }
+{
+    match looked {
+        None => Loaded {
+            version: 0,
+            object: None,
+        },
+        Some(looked) => Loaded {
+            version: looked.version,
+            object: match looked.value {
+                None | Some(0) => None,
+                Some(value) => Some(value - 1),
+            },
+        },
+    }
 }
 
 /// A thread's part, with which it makes calls on cells. It may move to another thread.
@@ -85,19 +104,7 @@ impl User {
         self.gather();
         let looked = shared.look(&mut self.seat, 2, cell);
         self.gather();
-        match looked {
-            None => Loaded {
-                version: 0,
-                object: None,
-            },
-            Some(looked) => Loaded {
-                version: looked.version,
-                object: match looked.value {
-                    None | Some(0) => None,
-                    Some(value) => Some(value - 1),
-                },
-            },
-        }
+        loaded_of(looked)
     }
 
     pub(crate) fn compare_swap(

@@ -178,6 +178,16 @@ pub(crate) struct Board {
     pub(crate) torn: u64,
 }
 
+// What all writers have found.
+fn summed(writers: &[Writer]) -> Board {
+    let mut board = Board { tried: 0, torn: 0 };
+    for writer in writers {
+        board.tried = board.tried.saturating_add(writer.tried);
+        board.torn = board.torn.saturating_add(writer.torn);
+    }
+    board
+}
+
 /// Has so many threads read and write boards.
 pub(crate) fn write_boards<R: Threads + Sync>(
     rt: &R,
@@ -190,12 +200,40 @@ pub(crate) fn write_boards<R: Threads + Sync>(
     };
     let all = writers(alloc, &cells, users)?;
     let all = work_all(rt, &cells, all)?;
-    let mut board = Board { tried: 0, torn: 0 };
-    for writer in &all {
-        board.tried = board.tried.saturating_add(writer.tried);
-        board.torn = board.torn.saturating_add(writer.torn);
-    }
-    Some(board)
+    Some(summed(&all))
+}
+
+// The last two of these parts, the last one first.
+fn last_two(_cells: &WideCells, mut users: Vec<WideUser>) -> Option<(WideUser, WideUser)>
+    requires of { All (λ user. IsOf user.seat _cells.now.table) users.items }
+    ensures first { IfSome result (λ pair. IsOf pair.0.seat _cells.now.table) }
+    ensures second { IfSome result (λ pair. IsOf pair.1.seat _cells.now.table) }
+{
+    let first = users.pop()?;
+    let second = users.pop()?;
+    Some((first, second))
+}
+
+// Writes a board with one part, and has another one that was told of it read it.
+fn write_and_read(
+    cells: &WideCells,
+    writer: &mut WideUser,
+    reader: &mut WideUser,
+    words: &[u64],
+    read: &mut [u64],
+) -> Option<(u64, Seen)>
+    requires writer { IsOf writer.old.seat cells.now.table }
+    requires reader { IsOf reader.old.seat cells.now.table }
+    requires some { 0 < cells.now.cells }
+    requires words { length words.now ≡ cells.now.width }
+    requires read { length read.old ≡ cells.now.width }
+    ensures whole { IfSome result (λ r. IsWhole r.0 words.now r.1 read.new) }
+{
+    let seen = cells.load(&mut writer.seat, 0, read, ATTEMPTS)?;
+    let told = write_and_tell(cells, writer, seen, words)?;
+    let version = told.seen.version();
+    let seen = hear_and_read(cells, &mut reader.seat, told, 0, words, read)?;
+    Some((version, seen))
 }
 
 /// Writes a board with one seat, and has another one that was told of it read it: the version at which it was written, and what was read.
@@ -206,18 +244,9 @@ pub(crate) fn tell_and_read(
 ) -> Option<(u64, Seen)>
     ensures whole { IfSome result (λ r. IsWhole r.0 words.now r.1 read.new) }
 {
-    let Ok((cells, mut users)) = WideCells::new(alloc, SchemeKind::Wfe, 2, CELLS, WIDTH as u32)
-    else {
+    let Ok((cells, users)) = WideCells::new(alloc, SchemeKind::Wfe, 2, CELLS, WIDTH as u32) else {
         return None;
     };
-    let mut writer = users.pop()?;
-    let mut reader = users.pop()?;
-    if cells.count() == 0 {
-        return None;
-    }
-    let seen = cells.load(&mut writer.seat, 0, read, ATTEMPTS)?;
-    let told = write_and_tell(&cells, &mut writer, seen, words)?;
-    let version = told.seen.version();
-    let seen = hear_and_read(&cells, &mut reader.seat, told, 0, words, read)?;
-    Some((version, seen))
+    let (mut writer, mut reader) = last_two(&cells, users)?;
+    write_and_read(&cells, &mut writer, &mut reader, words, read)
 }

@@ -9,7 +9,7 @@ use std::sync::atomic::Ordering::SeqCst;
 use std::thread;
 use std::thread::Threads;
 use wfe_cells::{Cells, SchemeKind, User};
-use wfe_table::{Seat, usual};
+use wfe_table::{Closed, Seat, usual};
 
 const CELLS: u32 = 4;
 
@@ -166,6 +166,19 @@ fn numbers(alloc: Global, first: u64) -> Option<Vec<u64>> {
     Some(own)
 }
 
+// The reader of a user, with buffers of its own from this one on.
+fn reader_of(alloc: Global, user: User, first: u64) -> Option<Reader>
+    ensures { IfSome result (λ reader. reader.user ≡ user) }
+{
+    let own = numbers(alloc, first)?;
+    Some(Reader {
+        user,
+        own,
+        loads: 0,
+        torn: 0,
+    })
+}
+
 // A reader for each user, with buffers of its own.
 fn readers(alloc: Global, _cells: &Cells, mut users: Vec<User>) -> Option<Vec<Reader>>
     requires of { All (λ user. IsOf user.seat _cells.now) users.items }
@@ -174,14 +187,8 @@ fn readers(alloc: Global, _cells: &Cells, mut users: Vec<User>) -> Option<Vec<Re
     let mut readers = Vec::new(alloc);
     let mut first = 0u64;
     while let Some(user) = users.pop() {
-        let own = numbers(alloc, first)?;
+        let reader = reader_of(alloc, user, first)?;
         first = first.saturating_add(OWN);
-        let reader = Reader {
-            user,
-            own,
-            loads: 0,
-            torn: 0,
-        };
         if readers.push(reader).is_err() {
             return None;
         }
@@ -239,24 +246,54 @@ fn apart(alloc: Global, _cells: &Cells, mut readers: Vec<Reader>) -> Option<(Vec
     Some((seats, found))
 }
 
+// Has a thread for each user read the cells and put buffers into them: their seats, and what was found.
+fn fill_all<R: Threads + Sync>(
+    rt: &R,
+    alloc: Global,
+    cells: &Cells,
+    users: Vec<User>,
+) -> Option<(Vec<Seat>, Found)>
+    requires of { All (λ user. IsOf user.seat cells.now) users.items }
+    ensures of { IfSome result (λ r. All (λ seat. IsOf seat cells.now) r.0.items) }
+{
+    let buffers = Buffers::new(alloc, OWN.saturating_mul(users.len() as u64))?;
+    let all = readers(alloc, cells, users)?;
+    let all = work_all(rt, cells, &buffers, all)?;
+    apart(alloc, cells, all)
+}
+
+// How many buffers the cells of a closed table name.
+fn named_in(closed: &Closed) -> u64 {
+    let mut count = 0u64;
+    for bucket in &closed.buckets {
+        for pair in &bucket.pairs {
+            if pair.1 > 0 {
+                count = count.saturating_add(1);
+            }
+        }
+    }
+    count
+}
+
+// Closes the cells' table: how many buffers they name.
+fn close(alloc: Global, cells: Cells, seats: Vec<Seat>) -> Option<u64>
+    requires of { All (λ seat. IsOf seat cells) seats.items }
+{
+    match cells.into_shared().close(alloc, seats) {
+        Ok(closed) => Some(named_in(&closed)),
+        Err(_) => None,
+    }
+}
+
 /// Makes a cache, has so many threads read it and put buffers into it, and counts what is there at the end.
 pub(crate) fn cache<R: Threads + Sync>(rt: &R, alloc: Global, threads: u32) -> Option<Found> {
     let Ok((cells, users)) = Cells::new(alloc, usual(SchemeKind::Wfe, threads, CELLS)) else {
         return None;
     };
-    let buffers = Buffers::new(alloc, OWN.saturating_mul(threads as u64))?;
-    let all = readers(alloc, &cells, users)?;
-    let all = work_all(rt, &cells, &buffers, all)?;
-    let (seats, mut found) = apart(alloc, &cells, all)?;
-    let Ok(closed) = cells.into_shared().close(alloc, seats) else {
-        return None;
-    };
-    for bucket in &closed.buckets {
-        for pair in &bucket.pairs {
-            if pair.1 > 0 {
-                found.buffers = found.buffers.saturating_add(1);
-            }
-        }
-    }
-    Some(found)
+    let (seats, found) = fill_all(rt, alloc, &cells, users)?;
+    let named = close(alloc, cells, seats)?;
+    Some(Found {
+        torn: found.torn,
+        buffers: found.buffers.saturating_add(named),
+    })
 }

@@ -9,6 +9,9 @@ ghost use Rattle.wfe_check.specs.Groups.{FitsCalls, FitsContents, FitsGuards, Fi
 ghost use Rattle.wfe_check_held.specs.Roots.{last_row as last_of};
 ghost use Rattle.wfe_check_held.specs.Tests.{IsBirth, IsSource};
 ghost use Rattle.wfe_check_calls.specs.Right.{IsRight};
+ghost use Rattle.laws.specs.StateAt.{value_of};
+ghost use Rattle.wfe_defs.specs.declared.call.Call.TheVariants.{Copy as CopyCall};
+ghost use Rattle.wfe_defs.specs.declared.event.Guard.TheVariants.{Index as IndexGuard};
 ghost use Rattle.wfe_words.specs.declared.config.Config.{Config as Setting};
 
 use crate::Checker;
@@ -183,7 +186,19 @@ impl Checker {
         ensures { (config : Setting) (p : Past) → Shows config self.now p → IsSource seat result p }
     {
         match self.calls.began(seat) {
-            Some(Call::Copy { from, .. }) => {
+            Some(call) => self.source_of(seat, call),
+            None => None,
+        }
+    }
+
+    // What the index word publishes from which this call of the seat copies.
+    #[inline(always)]
+    fn source_of(&self, seat: u32, call: Call) -> Option<Interval>
+        requires seat { seat < self.now.calls.config.seats }
+        ensures { (config : Setting) (p : Past) → Shows config self.now p → (from index : ℕ) → call ≡ CopyCall from index → from < config.indexes → result ≡ value_of (IndexGuard seat from) p }
+    {
+        match call {
+            Call::Copy { from, .. } => {
                 self.protections.value(Guard::Index { seat, index: from })
             }
             _ => None,

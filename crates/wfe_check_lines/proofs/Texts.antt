@@ -23,7 +23,7 @@ use Rattle.wfe_record_words.specs.HeaderReader.{exactly}
 use Rattle.wfe_record.specs.Entry.{IsEntry}
 use Rattle.wfe_record.specs.Reader.{entry_in}
 use Rattle.wfe_record.proofs.Entries.{entry_known, entry_read}
-use Rattle.wfe_check_lines.specs.Kinds.{counted_in, counts, ending, entry_kind, kind_by, kind_in, reason_in, refusal, row}
+use Rattle.wfe_check_lines.specs.Kinds.{counted_in, counts, end_reason_in, ending, entry_kind, kind_by, kind_in, named_by, reason_in, refusal, row, seat_reason_in}
 use Rattle.wfe_check_lines.specs.Texts.{IsCounted, IsCounts, IsKind, IsRefusal, IsRow, KindsAreTexts}
 use Rattle.wfe_check_lines.specs.declared.kind.Kind.{Kind}
 use Rattle.wfe_check_lines.specs.declared.kind.Kind.TheVariants as kinds
@@ -253,14 +253,14 @@ reason-or : (w : List ℕ) (reason : Reason) (other : Option (Unit {0})) → ((u
 reason-or w reason other later u h = chosen {A = Unit {0}} (Reasoned w) (bytes_eq w (reason_word reason)) (Some tt) other (λ t v f. (reason, (bytes_eq-Decides w (reason_word reason)).0 t)) later u h
 
 reason-sound : (w : List ℕ) (u : Unit {0}) → reason_in w ≡ Some u → Reasoned w u
-unfolding reason_in
+unfolding reason_in seat_reason_in end_reason_in
 reason-sound w u h =
     reason-or w reasons.First _ (reason-or w reasons.Config _ (reason-or w reasons.Form _ (reason-or w reasons.Number _ (reason-or w reasons.RunLine _
     (reason-or w reasons.Seat _ (reason-or w reasons.Range _ (reason-or w reasons.Busy _ (reason-or w reasons.LongLine _ (reason-or w reasons.LongTrace _
     (reason-or w reasons.NoEnd _ (reason-or w reasons.AfterEnd _ (reason-or w reasons.NotYet _ (reason-or w reasons.Gone None (λ v f. absurd (cc))))))))))))))) u h
 
 reason-read : (reason : Reason) → reason_in (reason_word reason) ≡ Some tt
-unfolding reason_in
+unfolding reason_in seat_reason_in end_reason_in
 reason-read reason = search rules
 
 reason-plain : (reason : Reason) → lacks 32 (reason_word reason) ≡ true
@@ -330,6 +330,11 @@ event-known : (version : ℕ) (config : Config) → Small config → (bytes : Li
 event-known version config small bytes seat event is = seated_first version config small (words bytes) (seat, event) (entry_known version config small bytes seat event is)
 
 -- Lines of each kind.
+
+-- a line that tells no event has the kind of its first word
+pub named_kind : (version : ℕ) (config : Config) (name : List ℕ) (rest all : List (List ℕ)) → entry_in version config all ≡ None → named_by name rest ≡ kind_by version config name rest all
+unfolding kind_by named_by
+named_kind version config name rest all e = rw e refl
 
 kind-by-sound : (version : ℕ) (config : Config) → Small config → (bytes name : List ℕ) (rest : List (List ℕ)) → words bytes ≡ name ∷ rest → (kind : Kind) → kind_by version config name rest (words bytes) ≡ Some kind → IsKind version config bytes kind
 unfolding kind_by

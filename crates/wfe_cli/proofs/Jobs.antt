@@ -2,8 +2,8 @@
 use Rattle.wfe_server_out.specs.Heard.{Seen}
 use Rattle.std.proofs.Common.{Bool, List, [], Option, Some, inr, ℕ, ◌≡◌, refl, sym}
 use Rattle.std.proofs.KnownBytes.{Consumes-nil}
-use Rattle.wfe_cli.specs.declared.job.Job.{Job}
-use Rattle.wfe_cli.specs.declared.job.Job.TheVariants as jobs
+use Rattle.wfe_job.specs.declared.job.Job.{Job}
+use Rattle.wfe_job.specs.declared.job.Job.TheVariants as jobs
 use Rattle.wfe_server_gen.specs.Generated.{Generates}
 use Rattle.wfe_server_gen.proofs.History.{generated_taken}
 use Rattle.wfe_server_out.proofs.Hearing.{hears_some_none}

@@ -6,8 +6,8 @@ use Rattle.wfe_cli.proofs.Headline.{given_lawful}
 use Rattle.wfe_cli.proofs.Jobs.{job_is}
 use Rattle.wfe_cli.specs.Command.{Does}
 use Rattle.wfe_cli.specs.Headline.{HasLaws, ReadsBack}
-use Rattle.wfe_cli.specs.declared.job.Job.{Job}
-use Rattle.wfe_cli.specs.declared.job.Job.TheVariants as jobs
+use Rattle.wfe_job.specs.declared.job.Job.{Job}
+use Rattle.wfe_job.specs.declared.job.Job.TheVariants as jobs
 use Rattle.wfe_defs.specs.declared.call.Call.{Call}
 use Rattle.wfe_outside.specs.declared.watcher.WatchRow.{WatchRow}
 use Rattle.wfe_server_gen.specs.server_replay.Given.{Given, given_record}

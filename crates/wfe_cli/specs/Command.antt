@@ -3,9 +3,9 @@ use Rattle.wfe_server_out.specs.Heard.{Seen}
 use Rattle.std.specs.Prelude.{Bool, true, ◌≡◌, ◌≤◌, ◌⊎◌, ℕ, List, Option, Some, Ok, codes}
 use Rattle.std.specs.Io.KnownBytes.{Appends}
 use Rattle.wfe_check.specs.lines.Verdicts.{Checks}
-use Rattle.wfe_cli.specs.Jobs.{most_turns}
-use Rattle.wfe_cli.specs.declared.job.Job.{Job}
-use Rattle.wfe_cli.specs.declared.job.Job.TheVariants as jobs
+use Rattle.wfe_job.specs.Jobs.{most_turns}
+use Rattle.wfe_job.specs.declared.job.Job.{Job}
+use Rattle.wfe_job.specs.declared.job.Job.TheVariants as jobs
 use Rattle.wfe_server_gen.specs.Generated.{Generates}
 use Rattle.wfe_trace.specs.declared.reason.Status.{Status}
 use Rattle.wfe_trace.specs.declared.reason.Status.TheVariants as statuses

@@ -1,4 +1,2 @@
 pub mod Command
 pub mod Headline
-pub mod Jobs
-pub mod Words

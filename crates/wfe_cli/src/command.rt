@@ -4,18 +4,18 @@ ghost use Rattle.std.specs.Prelude.{◌≡◌, ◌≢◌, ◌≤◌, Bool, ℕ, 
 ghost use Rattle.wfe_check.specs.lines.Verdicts.{Checks, IsAnswered};
 ghost use Rattle.wfe_cli.specs.Command.{Allowed, Does, IsComplete, IsGenerated, Refuses, made_calls, status_number};
 ghost use Rattle.wfe_cli.specs.Headline.{GivenLawful, Keeps, ReadsBack, Summarizes};
-ghost use Rattle.wfe_cli.specs.Jobs.{asked};
+ghost use Rattle.wfe_job.specs.Jobs.{asked};
 ghost use Rattle.wfe_defs.specs.declared.call.Call.{Call};
 ghost use Rattle.wfe_outside.specs.Faults.{Rose};
 ghost use Rattle.wfe_server_gen.specs.server_replay.Sunk.{outside};
 ghost use Rattle.wfe_server_gen.specs.server_replay.Watched.{WatchersFit, watch_text};
 ghost use Rattle.wfe_server.specs.Runs.{IsComplete as IsRunWhole, Runs as RunsTrace};
 
-use crate::job::{Job, job_of};
 use std::alloc::Global;
 use std::thread::Threads;
 use wfe_check::check;
 use wfe_drive_cells::TableCells;
+use wfe_job::{Job, job_of};
 use wfe_leave::LeaveRig;
 use wfe_outside::{Sink, Source, Watcher};
 use wfe_server::{OpenGate, run};

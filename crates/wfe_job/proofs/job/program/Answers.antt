@@ -1,8 +1,8 @@
 use Rattle.std.proofs.Common.{rules, ap, ap₂, codes, ◌≡◌, ◌∙◌}
 use Rattle.std.proofs.lemmas.Result.{IfOk-weaker}
 use Rattle.clap.specs.Words.{App, app_of, new_app, with_subcommand}
-use Rattle.wfe_cli.specs.Words.{bare_app}
-use Rattle.wfe_cli.proofs.job.program.Goals as goal
+use Rattle.wfe_job.specs.Words.{bare_app}
+use Rattle.wfe_job.proofs.job.program.Goals as goal
 
 pub returns : goal.returns
 returns c =

@@ -9,10 +9,10 @@ use Rattle.clap.specs.Faults.{check_fault, defaults_fault, entered_fault, level_
 use Rattle.clap.specs.declared.error.kind.ErrorKind.TheVariants.{UnknownArgument, InvalidSubcommand}
 use Rattle.clap.proofs.OnLiterals.{clap_on_literals}
 use Rattle.clap.proofs.WalkLemmas.{walk_stopped}
-use Rattle.wfe_cli.proofs.Plain.{IsPlain, fault_next, walk_at, walk_next, walk_past}
-use Rattle.wfe_cli.specs.Words.{gen_app, job_of_rows, wfe_app}
-use Rattle.wfe_cli.specs.Jobs.{generate_of}
-use Rattle.wfe_cli.specs.declared.job.Job.TheVariants as jobs
+use Rattle.wfe_job.proofs.Plain.{IsPlain, fault_next, walk_at, walk_next, walk_past}
+use Rattle.wfe_job.specs.Words.{gen_app, job_of_rows, wfe_app}
+use Rattle.wfe_job.specs.Jobs.{generate_of}
+use Rattle.wfe_job.specs.declared.job.Job.TheVariants as jobs
 use Rattle.wfe_trace.specs.Words.{number_in}
 
 -- the program as it is built, and its four commands

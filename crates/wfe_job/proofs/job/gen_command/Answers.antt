@@ -1,8 +1,8 @@
 use Rattle.std.proofs.Common.{rules, ap₂, codes, ◌≡◌, ◌∙◌}
 use Rattle.std.proofs.lemmas.Result.{IfOk-weaker}
 use Rattle.clap.specs.Words.{app_of, new_app, rule_of, with_rule}
-use Rattle.wfe_cli.specs.Words.{needed}
-use Rattle.wfe_cli.proofs.job.gen_command.Goals as goal
+use Rattle.wfe_job.specs.Words.{needed}
+use Rattle.wfe_job.proofs.job.gen_command.Goals as goal
 
 pub returns-clause-app : goal.returns-clause-app
 returns-clause-app c =

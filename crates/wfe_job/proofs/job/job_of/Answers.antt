@@ -2,9 +2,9 @@ use Rattle.std.proofs.Common.{◌≡◌, ◌∙◌, ap, sym, true, false, List, 
 use Rattle.std.specs.List.{list_any}
 use Rattle.std.specs.Prelude.{string_bytes}
 use Rattle.clap.proofs.WalkLemmas.{list_any-map}
-use Rattle.wfe_cli.specs.Words.{begins_with_hyphen, job_of_rows}
-use Rattle.wfe_cli.proofs.Asked.{hyphen_asks, refused, taken}
-use Rattle.wfe_cli.proofs.job.job_of.Goals as goal
+use Rattle.wfe_job.specs.Words.{begins_with_hyphen, job_of_rows}
+use Rattle.wfe_job.proofs.Asked.{hyphen_asks, refused, taken}
+use Rattle.wfe_job.proofs.job.job_of.Goals as goal
 
 -- the test of the words is that of their texts
 as_texts : (words : List (String Global)) (flag test : Bool) → flag ≡ list_any (λ word. begins_with_hyphen (string_bytes word)) words → flag ≡ test

@@ -2,9 +2,9 @@
 use Rattle.std.specs.Prelude.{Bool, true, false, ◌==◌, List, [], ◌∷◌, Option, None, Some, if◌then◌else◌, codes}
 use Rattle.std.specs.Str.{bytes_eq}
 use Rattle.clap.specs.Words.{App, Row, Rule, Text, first_of, new_app, new_rule, with_rule, with_subcommand}
-use Rattle.wfe_cli.specs.Jobs.{generate_of}
-use Rattle.wfe_cli.specs.declared.job.Job.{Job}
-use Rattle.wfe_cli.specs.declared.job.Job.TheVariants as jobs
+use Rattle.wfe_job.specs.Jobs.{generate_of}
+use Rattle.wfe_job.specs.declared.job.Job.{Job}
+use Rattle.wfe_job.specs.declared.job.Job.TheVariants as jobs
 use Rattle.wfe_trace.specs.Words.{number_in}
 
 -- the word begins with a hyphen

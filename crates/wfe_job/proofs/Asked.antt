@@ -5,10 +5,10 @@ use Rattle.std.specs.Str.{bytes_eq}
 use Rattle.std.specs.List.{list_any}
 use Rattle.std.proofs.lemmas.Slice.Eq.{bytes_eq-Decides}
 use Rattle.clap.specs.Words.{Text, fault_of, subcommand_of}
-use Rattle.wfe_cli.specs.Jobs.{asked, generate_of, named}
-use Rattle.wfe_cli.specs.Words.{begins_with_hyphen, job_of_rows, wfe_app}
-use Rattle.wfe_cli.proofs.Plain.{plain_word}
-use Rattle.wfe_cli.proofs.Reading.{IsFault, check_alone, check_job, check_word, gen_alone, gen_both, gen_job, gen_seed, gen_word, no_word, other_word, replay_alone, replay_job, replay_word, run_alone, run_job, run_word}
+use Rattle.wfe_job.specs.Jobs.{asked, generate_of, named}
+use Rattle.wfe_job.specs.Words.{begins_with_hyphen, job_of_rows, wfe_app}
+use Rattle.wfe_job.proofs.Plain.{plain_word}
+use Rattle.wfe_job.proofs.Reading.{IsFault, check_alone, check_job, check_word, gen_alone, gen_both, gen_job, gen_seed, gen_word, no_word, other_word, replay_alone, replay_job, replay_word, run_alone, run_job, run_word}
 use Rattle.wfe_trace.specs.Words.{number_in}
 
 -- one of two tests holds, or neither does

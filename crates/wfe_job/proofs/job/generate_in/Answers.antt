@@ -4,10 +4,10 @@ use Rattle.std.specs.Option.{option_map}
 use Rattle.clap.specs.Words.{Row, Text, first_of, first_value, found_of, rows_of}
 use Rattle.clap.specs.declared.parser.matches.ArgMatches.{ArgMatches}
 use Rattle.clap.proofs.WalkLemmas.{first_value-rows}
-use Rattle.wfe_cli.specs.Jobs.{generate_of}
-use Rattle.wfe_cli.specs.Words.{generate_of_rows}
+use Rattle.wfe_job.specs.Jobs.{generate_of}
+use Rattle.wfe_job.specs.Words.{generate_of_rows}
 use Rattle.wfe_trace.specs.Words.{number_in}
-use Rattle.wfe_cli.proofs.job.generate_in.Goals as goal
+use Rattle.wfe_job.proofs.job.generate_in.Goals as goal
 
 -- what a getter gave is what the rows have
 got : (m : ArgMatches) (id : Text) (r : Option (Bor Text)) (text : Option Text) → option_map (λ s. s.now) r ≡ first_value (found_of m) id

@@ -1,8 +1,8 @@
 -- The job that words ask for.
 use Rattle.std.specs.Prelude.{ℕ, List, [], ◌∷◌, Option, None, Some, if◌then◌else◌, nat_le, codes}
 use Rattle.std.specs.Str.{bytes_eq}
-use Rattle.wfe_cli.specs.declared.job.Job.{Job}
-use Rattle.wfe_cli.specs.declared.job.Job.TheVariants as jobs
+use Rattle.wfe_job.specs.declared.job.Job.{Job}
+use Rattle.wfe_job.specs.declared.job.Job.TheVariants as jobs
 use Rattle.wfe_trace.specs.Words.{number_in}
 
 -- turns that a generated trace has at most

@@ -6,7 +6,7 @@ use Rattle.clap.specs.Walk.{Held, Names, Rule, Step, Text, Walk, after_step, arg
 use Rattle.clap.specs.Simple.{Shape}
 use Rattle.clap.specs.Kinds.{Kinds, or_else}
 use Rattle.clap.specs.Faults.{step_fault, walk_fault, word_fault}
-use Rattle.wfe_cli.specs.Words.{begins_with_hyphen}
+use Rattle.wfe_job.specs.Words.{begins_with_hyphen}
 
 -- no test of the lexer takes the word for a flag
 pub record IsPlain (w : Text) : Type 0 where

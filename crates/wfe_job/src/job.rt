@@ -5,8 +5,8 @@ ghost use Rattle.std.specs.List.{list_any};
 ghost use Rattle.clap.specs.Words.{app_of, fault_of, found_of, rows_of};
 ghost use Rattle.clap.specs.Words.{subcommand_of, subcommand_rows_of};
 ghost use Rattle.clap.specs.declared.builder.command.Command.TheViews.{out-Command};
-ghost use Rattle.wfe_cli.specs.Jobs.{asked, generate_of};
-ghost use Rattle.wfe_cli.specs.Words.{begins_with_hyphen, gen_app, generate_of_rows, job_of_rows, wfe_app};
+ghost use Rattle.wfe_job.specs.Jobs.{asked, generate_of};
+ghost use Rattle.wfe_job.specs.Words.{begins_with_hyphen, gen_app, generate_of_rows, job_of_rows, wfe_app};
 ghost use Rattle.wfe_trace.specs.Words.{number_in};
 
 use clap::error::ErrorKind;
