@@ -52,14 +52,14 @@ pub record NumbersTell : Type 0 where
       → (one.count ≡ other.count) × (seat_of one.user.seat.track % 64 ≡ seat_of other.user.seat.track % 64)
   pub told : (number place : ℕ) → place < 65536 → number_in (word_of number place) ≡ number
 
--- all that this part has replaced and that may be dropped was dropped
+-- nothing is left of what this part has replaced and may drop
 pub record IsCollected (old new : UserNow) : Type 0 where
   pub seat : new.seat ≡ old.seat
   pub kept : new.store.kept ≡ old.store.kept
   pub free : new.store.free ≡ []
   pub room : old.store.spare ≤ new.store.spare
 
--- what was read was let go of, and then what may be dropped was dropped
+-- what was read was let go of, and then nothing was left to drop
 pub record IsReleased (layout : Layout) (old new : UserNow) : Type 0 where
   pub mid : UserNow
   pub made : IsMade layout old.seat mid.seat calls.Release answers.Released
@@ -71,7 +71,7 @@ abbrev pub version_of : Result Swapped PutIfRefusal → Result ℕ PutIfRefusal
 version_of (Ok swapped) = Ok swapped.version
 version_of (Err refusal) = Err refusal
 
--- the cell was given what this word names, or nothing, or that was refused; then what may be dropped was dropped
+-- the cell was given what this word names, or nothing, or that was refused; then nothing was left to drop
 pub record IsGiven (layout : Layout) (old new : UserNow) (seen : Seen) (word : Option ℕ) (result : Result ℕ PutIfRefusal) : Type 0 where
   pub mid : UserNow
   pub swapped : Result Swapped PutIfRefusal
@@ -86,7 +86,7 @@ pub record IsOffered (layout : Layout) (old new : UserNow) (seen : Seen) (number
   pub given : IsGiven layout old new seen (Some (word_of number place)) result
 
 -- The cell was given what this word names, or nothing, whatever it had: by attempts, each of which has read it before. What the last of
--- them has read was seen. Then what may be dropped was dropped.
+-- them has read was seen. Then nothing was left to drop.
 pub record IsChanged (layout : Layout) (cell : ℕ) (old new : UserNow) (word : Option ℕ) (seen : Seen) (result : Result ℕ PutIfRefusal) : Type 0 where
   pub mid : UserNow
   pub swapped : Result Swapped PutIfRefusal
