@@ -1,3 +1,4 @@
+pub use Rattle.law_all.proofs as all
 pub use Rattle.law_all.proofs.laws
 pub use Rattle.law_all.proofs.inv
 pub mod Changes

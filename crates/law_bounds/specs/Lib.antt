@@ -1,3 +1,4 @@
+pub use Rattle.law_all.specs as all
 pub use Rattle.law_all.specs.laws
 pub use Rattle.law_all.specs.inv
 pub mod Changes

@@ -3,7 +3,7 @@ use Rattle.std.proofs.Common.{List, None, Option, [], ap, arith, refl, sym, ℕ,
 use Rattle.std.proofs.lemmas.List.{append-nil}
 use Rattle.std.proofs.lemmas.List.Sums.{sum_by_push}
 use Rattle.std.specs.Prelude.{sum_by}
-use Rattle.law_all.proofs.Logs.Grows.{Grows}
+use Rattle.wfe_table.proofs.all.Logs.Grows.{Grows}
 use Rattle.wfe_core.specs.Locals.{Group}
 use Rattle.wfe_core.specs.defs.declared.call.Answer.{Answer}
 use Rattle.wfe_core.specs.defs.declared.call.Answer.TheVariants as answers

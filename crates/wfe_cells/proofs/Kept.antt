@@ -1,7 +1,7 @@
 -- No bucket is lost.
 use Rattle.std.proofs.Common.{Bool, List, None, Option, Some, ap, arith, false, refl, sym, true, ℕ, ◌+◌, ◌<◌, ◌≡◌, ◌≢◌, ◌≤◌}
 use Rattle.std.specs.Prelude.{IfSome, if◌then◌else◌, sum_by, ◌==◌}
-use Rattle.law_all.proofs.laws.records.defs.Facts.{false_by, false_not_true, number_is, same_test}
+use Rattle.wfe_table.proofs.all.laws.records.defs.Facts.{false_by, false_not_true, number_is, same_test}
 use Rattle.wfe_core.specs.Locals.{Group}
 use Rattle.wfe_core.specs.defs.declared.call.Answer.TheVariants as answers
 use Rattle.wfe_core.specs.defs.declared.call.Call.TheVariants as calls

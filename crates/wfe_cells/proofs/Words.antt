@@ -6,9 +6,9 @@ use Rattle.std.proofs.lemmas.List.{append_assoc, ext_get_or, get_or-set_other, g
 use Rattle.std.proofs.lemmas.Nat.{div-mul-add, mod-mul-add}
 use Rattle.std.specs.Option.{unwrap_or}
 use Rattle.std.specs.Prelude.{Option, slice_index_or, slice_set, ◌%◌, ◌/◌, ◌==◌}
-use Rattle.law_all.proofs.Logs.Grows.{Grows, grows_tells, more_count, records_grow, same_changes}
-use Rattle.law_all.proofs.laws.records.defs.Facts.{false_by, false_not_true, number_is, same_number, same_test}
-use Rattle.law_all.proofs.laws.records.defs.Values.{value_in-changed}
+use Rattle.wfe_table.proofs.all.Logs.Grows.{Grows, grows_tells, more_count, records_grow, same_changes}
+use Rattle.wfe_table.proofs.all.laws.records.defs.Facts.{false_by, false_not_true, number_is, same_number, same_test}
+use Rattle.wfe_table.proofs.all.laws.records.defs.Values.{value_in-changed}
 use Rattle.wfe_core.specs.defs.Pairs.{Pair, pairs_after, value_in, with_pair}
 use Rattle.wfe_core.specs.defs.declared.call.Answer.TheVariants as answers
 use Rattle.wfe_core.specs.defs.declared.call.Call.TheVariants as calls

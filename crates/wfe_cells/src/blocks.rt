@@ -2,8 +2,8 @@
 // value names bucket and version; so who finds the bucket at another version knows that the object was replaced meanwhile, and reads the
 // cell anew. Buckets that no cell names wait in the queue, or with a thread (`swaps.rt`).
 ghost use Rattle.std.specs.Prelude.{◌≡◌, ◌≤◌, ◌<◌, ◌+◌, IfErr, IfNone, IfOk, IfSome, Some, false, length, true, ℕ};
-ghost use Rattle.law_all.specs.Logs.Answered.{IsMet};
-ghost use Rattle.law_all.specs.Logs.Versions.{counts_of};
+ghost use Rattle.wfe_table.specs.all.Logs.Answered.{IsMet};
+ghost use Rattle.wfe_table.specs.all.Logs.Versions.{counts_of};
 ghost use Rattle.wfe_core.specs.words.Place.{is_valid};
 ghost use Rattle.wfe_table.specs.Public.{IsOf};
 ghost use Rattle.wfe_table.specs.history.History.{record_of};

@@ -1,5 +1,5 @@
 // The objects that one thread has replaced, until they may be dropped.
-ghost use Rattle.std.specs.Prelude.{◌≡◌, ◌≤◌, ◌<◌, ◌+◌, [], All, IfOk, IfSome, IsSome, None, length, replicate};
+ghost use Rattle.std.specs.Prelude.{◌≡◌, ◌≤◌, ◌<◌, [], All, IfOk, IfSome, None, length, replicate};
 ghost use Rattle.wfe_core.specs.Held.{notes_of};
 ghost use Rattle.wfe_cells.specs.Stores.{NoneLost, StoreNow, left_by, settled, unkept, with_back, with_backs, with_kept};
 

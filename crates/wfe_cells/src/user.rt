@@ -4,7 +4,7 @@ ghost use Rattle.std.specs.Option.{option_to_list};
 ghost use Rattle.wfe_core.specs.defs.declared.call.Answer.TheVariants as answers;
 ghost use Rattle.wfe_core.specs.defs.declared.call.Call.TheVariants as calls;
 ghost use Rattle.wfe_table.specs.Calls.{IsMade};
-ghost use Rattle.wfe_table.specs.Public.{IsOf, TableNow};
+ghost use Rattle.wfe_table.specs.Public.{IsOf};
 ghost use Rattle.wfe_table.specs.rule.Views.{seat_of};
 ghost use Rattle.wfe_cells.specs.Calls.{IsLoaded, IsTried, UserNow, loaded_of, store_by};
 

@@ -1,7 +1,7 @@
 // Cells whose objects are words of their own, all of them replaced at once (`blocks.rt`, `swaps.rt`).
 ghost use Rattle.std.specs.Prelude.{◌≡◌, ◌≢◌, ◌≤◌, ◌<◌, ◌+◌, ◌↔◌, All, IfErr, IfNone, IfOk, IfSome, IsTrue, None, Ok, OnOk, [], length};
-ghost use Rattle.law_all.specs.Logs.Answered.{IsMet};
-ghost use Rattle.law_all.specs.Logs.Versions.{counts_of};
+ghost use Rattle.wfe_table.specs.all.Logs.Answered.{IsMet};
+ghost use Rattle.wfe_table.specs.all.Logs.Versions.{counts_of};
 ghost use Rattle.wfe_core.specs.words.Place.{layout_of};
 ghost use Rattle.wfe_table.specs.Public.{IsOf};
 ghost use Rattle.wfe_table.specs.history.History.{record_of};

@@ -1,3 +1,4 @@
+pub use Rattle.wfe_drive_machines.proofs as machines
 pub use Rattle.wfe_drive_runs.proofs.drive_words as drive_words
 pub use Rattle.wfe_drive_runs.proofs as drive_runs
 pub mod RoundOpening
@@ -5,6 +6,5 @@ pub mod RowFilling
 pub mod RowReading
 pub mod RowWriting
 pub mod Standing
-pub mod Starting
 pub mod Swapping
 pub mod Taking

@@ -5,11 +5,11 @@ ghost use Rattle.wfe_core.specs.Calls.{Changes, Idle};
 ghost use Rattle.wfe_core.specs.DeskHeld.{HasRoom};
 ghost use Rattle.wfe_core.specs.Frames.{SamePlace};
 ghost use Rattle.wfe_core.specs.Locals.{may_begin, stays};
-ghost use Rattle.wfe_core.specs.Rounds.{bucket_of, round};
+ghost use Rattle.wfe_core.specs.Rounds.{round};
 ghost use Rattle.wfe_core.specs.Steps.{first_phase};
 ghost use Rattle.wfe_core.specs.Valid.{IsValid};
 ghost use Rattle.wfe_core.specs.words.declared.config.SchemeKind.TheVariants.{Ibr as IbrKind};
-ghost use Rattle.wfe_core.specs.defs.declared.call.Call.TheVariants.{Dequeue as DequeueOf, Enqueue as EnqueueOf, Get as GetCall};
+ghost use Rattle.wfe_core.specs.defs.declared.call.Call.TheVariants.{Dequeue as DequeueOf, Enqueue as EnqueueOf};
 ghost use Rattle.wfe_drive_runs.specs.drive_words.Called.{Called, Here, Makes, at_phase};
 ghost use Rattle.wfe_drive_runs.specs.drive_words.Path.{Closes};
 ghost use Rattle.wfe_drive_runs.specs.drive_words.Ran.{Answered};
@@ -20,10 +20,8 @@ use crate::alone::Alone;
 use crate::change::change_bucket;
 use crate::dequeue::dequeue_item;
 use crate::enqueue::enqueue_item;
-use crate::gets::GetUnder;
-use crate::under::drive_under;
-use wfe_call_any::{He, Hp, Ibr, Scheme, Wfe};
 use wfe_core::{Answer, Call, Change, Desk, Post, SchemeKind};
+use wfe_drive_machines::{He, Hp, Ibr, Scheme, Wfe, drive_under};
 use wfe_drive_runs::Words;
 
 /// Makes a whole call of the seat of this post and desk on its words, and answers as the call does.
@@ -73,38 +71,6 @@ fn drive_begun<W: Words>(words: &mut W, post: &mut Post, desk: &mut Desk, call: 
         SchemeKind::Wfe => drive_free::<W, Wfe>(words, post, desk, call),
         SchemeKind::Hp => drive_free::<W, Hp>(words, post, desk, call),
     }
-}
-
-/// Makes a get, of a key whose bucket is known, as `drive_call` does, but without a machine, under the scheme that a type
-/// names. Its code hands the words to no function that is compiled apart, and so a compiler can keep them out of memory.
-#[inline(always)]
-pub fn drive_get<W: Words, G: GetUnder>(
-    words: &mut W,
-    post: &mut Post,
-    desk: &mut Desk,
-    key: u64,
-    bucket: u32,
-) -> Answer
-    requires valid { W.valid words.old }
-    requires scheme { post.old.layout.config.scheme ≡ G.kind }
-    requires here { Here (W.at words.old) (at_phase Idle post.old desk.old) }
-    requires room { HasRoom desk.old post.old.layout }
-    requires bucket { bucket ≡ bucket_of post.old key }
-    requires there { bucket < post.old.layout.config.buckets }
-    ensures valid { W.valid words.new }
-    ensures same { W.same words.old words.new }
-    ensures here { Here (W.at words.new) (at_phase Idle post.new desk.new) }
-    ensures room { HasRoom desk.new post.new.layout }
-    ensures place { SamePlace post.old post.new }
-    ensures suits { suits (GetCall key) result ≡ true }
-    ensures called { Called (GetCall key) result (W.at words.old) (W.at words.new)
-        (W.stands words.old) (W.stands words.new)
-        (at_phase Idle post.old desk.old) (at_phase Idle post.new desk.new) }
-{
-    words.start(Call::Get { key });
-    post.steps = 0;
-    desk.notes.clear();
-    G::get(words, post, desk, key, bucket)
 }
 
 /// Makes a call that has code of its own as `drive_call` does. All of that code is compiled into the caller, so that neither

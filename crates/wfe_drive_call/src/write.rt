@@ -1,5 +1,5 @@
 // The stores of a new row: the version, the count, and each pair in order.
-ghost use Rattle.std.specs.Prelude.{◌≡◌, ◌<◌, ◌≤◌, ◌+◌, ◌^◌, length};
+ghost use Rattle.std.specs.Prelude.{◌≡◌, ◌<◌, ◌≤◌, ◌+◌, length};
 ghost use Rattle.wfe_core.specs.words.Place.{number};
 ghost use Rattle.wfe_core.specs.words.Place.Place.{Row};
 ghost use Rattle.wfe_core.specs.Calls.{ExchangeRoot};

@@ -18,7 +18,7 @@ use Rattle.wfe_core.specs.defs.declared.call.Call.TheVariants as names
 use Rattle.wfe_core.specs.defs.declared.lifetime.Lifetime.{Lifetime}
 use Rattle.wfe_core.specs.words.Place.{is_valid}
 use Rattle.wfe_core.specs.words.declared.layout.Layout.{Layout}
-use Rattle.law_all.specs.Logs.Versions.{met_in}
+use Rattle.law_bounds.specs.all.Logs.Versions.{met_in}
 use Rattle.wfe_drive_call.specs.drive_words.Called.{Ends, at_phase}
 use Rattle.wfe_drive_call.specs.drive_words.Comes.{departs}
 use Rattle.wfe_drive_call.proofs.drive_words.Groups.{answered_call}

@@ -1,5 +1,5 @@
 -- How many steps a call takes by which a seat takes over a list, whatever the other seats do meanwhile.
-use Rattle.std.proofs.Common.{Bool, List, [], ap, arith, false, length, length-append, refl, subst, sym, true, ℕ, ◌+◌, ◌++◌, ◌∙◌, ◌∷◌, ◌≡◌}
+use Rattle.std.proofs.Common.{Bool, List, [], ap, arith, false, length, length-append, refl, sym, true, ℕ, ◌+◌, ◌∙◌, ◌∷◌, ◌≡◌}
 use Rattle.std.specs.Prelude.{Err, MatchResult, Ok, Result, if◌then◌else◌, ◌==◌}
 use Rattle.wfe_core.proofs.Facts.{false_by, number_is}
 use Rattle.wfe_core.specs.defs.declared.call.Answer.{Answer}
@@ -7,7 +7,7 @@ use Rattle.wfe_core.specs.defs.declared.call.Answer.TheVariants as answers
 use Rattle.wfe_core.specs.defs.declared.call.Call.TheVariants as names
 use Rattle.wfe_core.specs.declared.op.Op.{Op}
 use Rattle.wfe_core.specs.words.declared.layout.Layout.{Layout}
-use Rattle.wfe_core.specs.Calls.{Answers, CallOutcome, GoesOn, Idle, Keeping, MarkTaken, Phase, TakeList, Works}
+use Rattle.wfe_core.specs.Calls.{Answers, CallOutcome, GoesOn, Idle, Keeping, MarkTaken, TakeList, Works}
 use Rattle.wfe_core.specs.Keep.{not_taken}
 use Rattle.wfe_core.specs.Locals.{Local, after, begun, busy_in, turn}
 use Rattle.wfe_drive_call.specs.drive_words.Comes.{lent}

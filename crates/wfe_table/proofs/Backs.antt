@@ -17,11 +17,11 @@ use Rattle.laws.specs.HistoryHolds.{reuse_ok}
 use Rattle.laws.specs.Lists.{has_slot, list_of}
 use Rattle.laws.specs.StateAt.{is_row, stood_at, taken_at}
 use Rattle.laws.proofs.records.Entries.{each_of_entries}
-use Rattle.law_all.proofs.Logs.Grows.{snoc_tells}
-use Rattle.law_all.proofs.Logs.Ledgers.{records_keep_logs}
-use Rattle.law_all.proofs.Runs.Kept.{Kept, histories_keep, kept_before}
-use Rattle.law_all.proofs.held.reuse.Reuse.Keeps.{records_keep_reuse}
-use Rattle.law_all.specs.Logs.Ledgers.{Ledger, ledger_by, ledger_of, notes_of}
+use Rattle.law_bounds.proofs.all.Logs.Grows.{snoc_tells}
+use Rattle.law_bounds.proofs.all.Logs.Ledgers.{records_keep_logs}
+use Rattle.law_bounds.proofs.all.Runs.Kept.{Kept, histories_keep, kept_before}
+use Rattle.law_bounds.proofs.all.held.reuse.Reuse.Keeps.{records_keep_reuse}
+use Rattle.law_bounds.specs.all.Logs.Ledgers.{Ledger, ledger_by, ledger_of, notes_of}
 use Rattle.wfe_drive_rule.specs.Handles.{IsTracked}
 use Rattle.wfe_drive_rule.specs.Views.{Track, seat_of}
 use Rattle.wfe_drive_rule.specs.history.History.{record_of}

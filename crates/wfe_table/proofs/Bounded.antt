@@ -15,7 +15,7 @@ use Rattle.wfe_core.specs.words.declared.config.SchemeKind.{SchemeKind}
 use Rattle.wfe_core.specs.words.declared.config.SchemeKind.TheVariants.{Wfe}
 use Rattle.wfe_core.specs.words.declared.layout.Layout.{Layout}
 use Rattle.laws.specs.StepLaw.{steps_right}
-use Rattle.law_all.proofs.Steps.{logs_take_few_steps, scans_tell_backs}
+use Rattle.law_bounds.proofs.all.Steps.{logs_take_few_steps, scans_tell_backs}
 use Rattle.wfe_drive_rule.specs.Views.{seat_of}
 use Rattle.wfe_table.specs.Calls.{IsMade, group_of}
 use Rattle.wfe_table.specs.Public.{SeatNow, steps_of}

@@ -13,7 +13,7 @@ use Rattle.wfe_core.specs.Keep.{parting}
 use Rattle.wfe_core.specs.Locals.{Local, asks, begun, begun_post, busy_in, turn}
 use Rattle.wfe_drive_call.specs.drive_words.Comes.{lent}
 use Rattle.wfe_drive_call.specs.drive_words.Ran.{Ran}
-use Rattle.wfe_drive_call.proofs.Starting.{first_busy}
+use Rattle.wfe_drive_call.proofs.machines.Starting.{first_busy}
 use Rattle.wfe_drive_rule.specs.history.History.{Item}
 use Rattle.wfe_drive_rule.specs.Handles.{IsResting, IsSeated}
 use Rattle.wfe_drive_rule.specs.Moves.{Told, slotted}

@@ -1,15 +1,12 @@
 -- A seat that hears how far another's history is known stands as it did, and has the counts of what it has heard.
-use Rattle.std.proofs.Common.{List, [], ap, false, subst, sym, ℕ, ◌++◌, ◌∙◌, ◌≡◌}
-use Rattle.std.specs.Prelude.{Option}
-use Rattle.wfe_core.specs.Locals.{Local, busy_in}
+use Rattle.std.proofs.Common.{List, ap, subst, sym, ◌++◌, ◌∙◌, ◌≡◌}
 use Rattle.wfe_core.specs.words.declared.layout.Layout.{Layout}
-use Rattle.law_all.specs.Logs.Versions.{AtMost, counts_of}
-use Rattle.law_all.proofs.Logs.Grows.{Grows, grows_tells, more_count, more_queued, records_grow}
-use Rattle.wfe_drive_rule.specs.declared.kept.Kept.{Kept}
+use Rattle.law_bounds.specs.all.Logs.Versions.{AtMost, counts_of}
+use Rattle.law_bounds.proofs.all.Logs.Grows.{Grows, grows_tells, more_count, more_queued, records_grow}
 use Rattle.wfe_drive_rule.specs.Handles.{IsResting, IsTracked}
-use Rattle.wfe_drive_rule.specs.Moves.{Learns, aware, hearing}
+use Rattle.wfe_drive_rule.specs.Moves.{Learns, hearing}
 use Rattle.wfe_drive_rule.specs.Rule.{Opens}
-use Rattle.wfe_drive_rule.specs.Views.{Handle, Track, View, call_in, entered, own, standing}
+use Rattle.wfe_drive_rule.specs.Views.{Handle, Track, own}
 use Rattle.wfe_drive_rule.specs.history.History.{Item, record_of}
 use Rattle.wfe_drive_rule.specs.history.Record.{Past}
 use Rattle.wfe_table.specs.Hearing.{IsAware}

@@ -13,11 +13,11 @@ use Rattle.wfe_drive_rule.specs.Views.{Track}
 use Rattle.wfe_drive_rule.specs.history.History.{Item, record_of}
 use Rattle.wfe_drive_rule.specs.history.Record.{Past}
 use Rattle.laws.specs.StateAt.{clock_of}
-use Rattle.law_all.specs.RunLaw.{AtClose, RunLaw}
-use Rattle.law_all.specs.RunOrder.{RunOrder}
-use Rattle.law_all.specs.Runs.{at_close, logs_of}
-use Rattle.law_all.proofs.RunOrder.{runs_have_order}
-use Rattle.law_all.proofs.Runs.Lawful.{runs_are_lawful}
+use Rattle.law_bounds.specs.all.RunLaw.{RunLaw}
+use Rattle.law_bounds.specs.all.RunOrder.{RunOrder}
+use Rattle.law_bounds.specs.all.Runs.{at_close, logs_of}
+use Rattle.law_bounds.proofs.all.RunOrder.{runs_have_order}
+use Rattle.law_bounds.proofs.all.Runs.Lawful.{runs_are_lawful}
 use Rattle.law_bounds.specs.Waits.{ClosesFew}
 use Rattle.law_bounds.proofs.Waits.Closes.{tables_close_few}
 use Rattle.wfe_table.specs.Closing.{IsLeft, closing_of}

@@ -1,7 +1,7 @@
-pub use Rattle.law_all.proofs as all
-pub use Rattle.law_all.proofs.Logs as logs
-pub use Rattle.law_reasons.proofs.inv
-pub use Rattle.law_reasons.proofs.inv.history
+pub use Rattle.law_bounds.proofs.all as all
+pub use Rattle.law_bounds.proofs.all.Logs as logs
+pub use Rattle.law_bounds.proofs.inv
+pub use Rattle.law_bounds.proofs.inv.history
 pub use Rattle.wfe_drive_cells.proofs as drive_cells
 pub mod Adopted
 pub mod Adopts

@@ -8,13 +8,13 @@ use Rattle.wfe_core.specs.defs.declared.call.Call.{Call}
 use Rattle.wfe_core.specs.words.Place.{is_valid}
 use Rattle.wfe_core.specs.words.declared.layout.Layout.{Layout}
 use Rattle.wfe_drive_rule.specs.drive_cells.Unit.{SeatView, shown}
-use Rattle.law_all.specs.Logs.Reports.{IsReported}
-use Rattle.law_all.specs.Logs.Answered.{Says}
-use Rattle.law_all.specs.Logs.Versions.{Counts, counts_of, met_by, met_in}
-use Rattle.law_all.proofs.Logs.Reports.{records_report}
-use Rattle.law_all.proofs.Logs.Meets.{logs_extend}
-use Rattle.law_all.proofs.Records.{calls_answer, logs_answer}
-use Rattle.law_all.proofs.Whole.{histories_are_lawful}
+use Rattle.law_bounds.specs.all.Logs.Reports.{IsReported}
+use Rattle.law_bounds.specs.all.Logs.Answered.{Says}
+use Rattle.law_bounds.specs.all.Logs.Versions.{Counts, counts_of, met_by, met_in}
+use Rattle.law_bounds.proofs.all.Logs.Reports.{records_report}
+use Rattle.law_bounds.proofs.all.Logs.Meets.{logs_extend}
+use Rattle.law_bounds.proofs.all.Records.{calls_answer, logs_answer}
+use Rattle.law_bounds.proofs.all.Whole.{histories_are_lawful}
 use Rattle.law_bounds.specs.Waits.{WaitsFew, came_in, last_call}
 use Rattle.law_bounds.proofs.Waits.Came.{came_more, last_more}
 use Rattle.law_bounds.proofs.Waits.Seats.{seats_wait_few}

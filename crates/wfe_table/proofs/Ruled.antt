@@ -3,11 +3,11 @@ use Rattle.std.proofs.Common.{List, subst, sym, true, ◌++◌, ◌≡◌}
 use Rattle.wfe_core.specs.Locals.{Local}
 use Rattle.wfe_core.specs.words.Place.{is_valid}
 use Rattle.wfe_core.specs.words.declared.layout.Layout.{Layout}
-use Rattle.law_all.specs.Logs.Records.{IsBeginning}
-use Rattle.law_all.specs.Logs.Versions.{AtMost, counts_of, met_in, seen_in}
-use Rattle.law_all.proofs.Logs.Answered.{pairs_on}
-use Rattle.law_all.proofs.Logs.Grows.{Grows, grows_tells, records_grow}
-use Rattle.law_all.proofs.Records.{logs_meet}
+use Rattle.law_bounds.specs.all.Logs.Records.{IsBeginning}
+use Rattle.law_bounds.specs.all.Logs.Versions.{AtMost, counts_of, met_in, seen_in}
+use Rattle.law_bounds.proofs.all.Logs.Answered.{pairs_on}
+use Rattle.law_bounds.proofs.all.Logs.Grows.{Grows, grows_tells, records_grow}
+use Rattle.law_bounds.proofs.all.Records.{logs_meet}
 use Rattle.wfe_drive_rule.specs.Rule.{Follows}
 use Rattle.wfe_drive_rule.specs.Views.{Track, seat_of}
 use Rattle.wfe_drive_rule.specs.history.History.{Item, record_of}

@@ -9,11 +9,11 @@ use Rattle.wfe_core.specs.defs.declared.call.Call.TheVariants as calls
 use Rattle.wfe_core.specs.Keep.{not_taken}
 use Rattle.wfe_core.specs.words.declared.layout.Layout.{Layout}
 use Rattle.wfe_drive_rule.specs.history.History.{Item, record_of}
-use Rattle.law_all.specs.Logs.Answered.{Says}
-use Rattle.law_all.specs.Logs.Records.{IsAnswered}
-use Rattle.law_all.specs.Logs.Reports.{IsReported}
-use Rattle.law_all.specs.Logs.Versions.{counts_of}
-use Rattle.law_all.specs.Whole.{IsLawful}
+use Rattle.law_bounds.specs.all.Logs.Answered.{Says}
+use Rattle.law_bounds.specs.all.Logs.Records.{IsAnswered}
+use Rattle.law_bounds.specs.all.Logs.Reports.{IsReported}
+use Rattle.law_bounds.specs.all.Logs.Versions.{counts_of}
+use Rattle.law_bounds.specs.all.Whole.{IsLawful}
 use Rattle.law_bounds.specs.Waits.{WaitsFew, came_after, came_in}
 use Rattle.law_bounds.specs.Whole.{IsBounded}
 use Rattle.law_bounds.specs.Paces.{IsPaced}

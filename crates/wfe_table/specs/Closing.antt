@@ -2,9 +2,9 @@
 use Rattle.std.specs.Prelude.{All, Contains, List, false, length, map, ℕ, ◌+◌, ◌<◌, ◌≡◌, ◌≤◌}
 use Rattle.wfe_core.specs.words.declared.layout.Layout.{Layout}
 use Rattle.wfe_core.specs.World.{is_busy}
-use Rattle.law_all.specs.RunLaw.{AtClose, RunLaw}
-use Rattle.law_all.specs.RunOrder.{RunOrder}
-use Rattle.law_all.specs.Runs.{logs_of}
+use Rattle.law_bounds.specs.all.RunLaw.{AtClose, RunLaw}
+use Rattle.law_bounds.specs.all.RunOrder.{RunOrder}
+use Rattle.law_bounds.specs.all.Runs.{logs_of}
 use Rattle.law_bounds.specs.Waits.{ClosesFew}
 use Rattle.wfe_table_end.specs.ClosedTable.{IsClosed, Reaches}
 use Rattle.wfe_table_end.specs.Contents.{IsRead, filling_of}

@@ -2,7 +2,7 @@
 use Rattle.std.specs.Prelude.{List, [], ◌≡◌}
 use Rattle.atomic_table.specs.Seated.{TableId}
 use Rattle.wfe_core.specs.words.declared.layout.Layout.{Layout}
-use Rattle.law_all.specs.Logs.Versions.{AtMost, counts_of}
+use Rattle.law_bounds.specs.all.Logs.Versions.{AtMost, counts_of}
 use Rattle.wfe_drive_rule.specs.Handles.{IsTracked}
 use Rattle.wfe_drive_rule.specs.Rule.{Opens}
 use Rattle.wfe_drive_rule.specs.Views.{Handle, tidings}

@@ -1,5 +1,5 @@
-pub use Rattle.law_all.specs as all
-pub use Rattle.law_all.specs.Logs as logs
+pub use Rattle.law_bounds.specs.all as all
+pub use Rattle.law_bounds.specs.all.Logs as logs
 pub use Rattle.wfe_drive_rule.specs as rule
 pub use Rattle.wfe_drive_rule.specs.inv as inv
 pub use Rattle.wfe_drive_rule.specs.history as history

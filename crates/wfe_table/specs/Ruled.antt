@@ -7,7 +7,7 @@ use Rattle.wfe_drive_rule.specs.declared.kept.Kept.{Kept}
 use Rattle.wfe_core.specs.words.declared.layout.Layout.{Layout}
 use Rattle.wfe_drive_rule.specs.drive_cells.Memory.{memory}
 use Rattle.laws.specs.StructuresAt.{pairs_at}
-use Rattle.law_all.specs.Logs.Versions.{AtMost, counts_of, met_in, seen_in}
+use Rattle.law_bounds.specs.all.Logs.Versions.{AtMost, counts_of, met_in, seen_in}
 use Rattle.wfe_drive_rule.specs.Rule.{Rules}
 use Rattle.wfe_drive_rule.specs.Views.{Track, View}
 use Rattle.wfe_drive_rule.specs.history.History.{Item, record_of, world_of}

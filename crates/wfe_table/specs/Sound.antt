@@ -4,7 +4,7 @@ use Rattle.wfe_core.specs.words.Place.{is_valid}
 use Rattle.wfe_core.specs.Calls.{Idle}
 use Rattle.wfe_core.specs.DeskHeld.{HasRoom}
 use Rattle.wfe_drive_rule.specs.drive_cells.Unit.{shown}
-use Rattle.law_all.specs.Logs.Versions.{Counts, met_in}
+use Rattle.law_bounds.specs.all.Logs.Versions.{Counts, met_in}
 use Rattle.wfe_drive_call.specs.drive_words.Called.{at_phase}
 use Rattle.wfe_drive_call.specs.drive_words.Comes.{departs}
 use Rattle.wfe_drive_rule.specs.Handles.{IsResting, IsSeated, IsSized}

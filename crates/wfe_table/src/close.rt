@@ -1,8 +1,5 @@
 // Closing a shared table, once its threads are done.
-ghost use Rattle.std.specs.Prelude.{◌≡◌, ◌≤◌, ◌<◌, [], All, IfErr, IfOk, length, map, take};
-ghost use Rattle.std.specs.Slots.{IsFull, slots_items};
-ghost use Rattle.wfe_table_end.specs.ClosedTable.{IsReached};
-ghost use Rattle.wfe_drive_rule.specs.Ended.{Ended};
+ghost use Rattle.std.specs.Prelude.{◌≡◌, ◌≤◌, ◌<◌, [], All, IfErr, IfOk, length, map};
 ghost use Rattle.wfe_drive_rule.specs.Handles.{IsGathered, IsSized};
 ghost use Rattle.wfe_table.specs.Closing.{IsHandedBack, IsLeft, track_of};
 ghost use Rattle.wfe_table.specs.Public.{IsOf};

@@ -5,7 +5,7 @@ ghost use Rattle.wfe_core.specs.Held.{notes_of, report_of};
 ghost use Rattle.wfe_core.specs.Locals.{may_begin, stays};
 ghost use Rattle.wfe_core.specs.defs.declared.call.Answer.TheVariants.{Adopted as AdoptedAnswer, Got as GotAnswer};
 ghost use Rattle.wfe_core.specs.defs.declared.call.Call.TheVariants.{Adopt as AdoptCall, Get as GetCall};
-ghost use Rattle.law_all.specs.Logs.Versions.{met_by, met_in, seen_in, version_told};
+ghost use Rattle.law_bounds.specs.all.Logs.Versions.{met_by, seen_in, version_told};
 ghost use Rattle.wfe_drive_rule.specs.Handles.{IsGathered, IsResting, IsSeated, IsSized};
 ghost use Rattle.wfe_drive_rule.specs.Views.{fresh_track, own, seat_of, tidings};
 ghost use Rattle.wfe_drive_rule.specs.history.History.{record_of};

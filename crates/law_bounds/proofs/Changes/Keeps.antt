@@ -73,7 +73,7 @@ use Rattle.law_bounds.specs.Changes.{ChangesEnd, ChangesGoOn, change_most, chang
 use Rattle.law_bounds.specs.Gets.{is_move, moves_since}
 use Rattle.law_bounds.proofs.Changes.Falls.{counted_falls, counted_stays}
 use Rattle.law_bounds.proofs.Changes.Fits as fits
-use Rattle.law_bounds.proofs.Changes.Fits.{Spare, counted_more, phase_counts, phase_known, spare_is}
+use Rattle.law_bounds.proofs.Changes.Fits.{counted_more, phase_counts, phase_known, spare_is}
 use Rattle.law_bounds.proofs.Changes.Paid.{EarlyBy, PaidBy, early_few, is_early, most_rounds, paid_most, paid_moves, phase_low, raised_paid, round_early, round_paid, serves_known, spare_of, world_moves}
 use Rattle.law_bounds.proofs.Changes.Worth.{is_last}
 use Rattle.law_bounds.proofs.Gets.GoOn.{turns_are}

@@ -63,7 +63,7 @@ use Rattle.law_bounds.specs.Free.{turns_by}
 use Rattle.law_bounds.proofs.Changes.Falls.{counted_falls}
 use Rattle.law_bounds.proofs.Changes.Fits.{counted_more, phase_known}
 use Rattle.law_bounds.proofs.Changes.Keeps as changes
-use Rattle.law_bounds.proofs.Changes.Keeps.{begin_moves, none_fits, no_rounds, same_moves, spare_fits, step_call}
+use Rattle.law_bounds.proofs.Changes.Keeps.{begin_moves, none_fits, same_moves, spare_fits, step_call}
 use Rattle.law_bounds.proofs.Changes.Paid.{change_moves, known_task, most_rounds, phase_low, serves_each, serves_known, spare_of, world_moves}
 use Rattle.law_bounds.proofs.Changes.Worth.{is_last, last_left, phase_worth}
 use Rattle.law_bounds.proofs.Free.Entry.{Roomy, entry_fits, entry_rounds, none_losses, none_rounds, now_few, only, only_losses, only_other, only_own}

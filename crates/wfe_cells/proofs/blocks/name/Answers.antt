@@ -1,7 +1,7 @@
 -- A version that some change has made, and a bucket, have a number.
 use Rattle.std.proofs.Common.{arith, refl, ◌*◌, ◌+◌, ◌≡◌}
 use Rattle.std.specs.Prelude.{◌==◌}
-use Rattle.law_all.proofs.laws.records.defs.Facts.{false_by, number_is}
+use Rattle.wfe_table.proofs.all.laws.records.defs.Facts.{false_by, number_is}
 use Rattle.wfe_cells.proofs.Words.{name_is}
 use Rattle.wfe_cells.proofs.blocks.name.Goals as goal
 

@@ -2,7 +2,7 @@
 use Rattle.std.proofs.Common.{ap, refl, sym, ◌∙◌}
 use Rattle.wfe_core.specs.words.declared.config.Config.{Config}
 use Rattle.wfe_core.specs.words.declared.config.SchemeKind.TheVariants as kinds
-use Rattle.wfe_drive_call.proofs.Starting.{free_without}
+use Rattle.wfe_drive_call.proofs.Standing.{free_without}
 use Rattle.wfe_drive_call.proofs.drive.drive_begun.Goals as goal
 
 pub drive_free-requires-clause-scheme : goal.drive_free-requires-clause-scheme

@@ -4,7 +4,7 @@ use Rattle.wfe_core.specs.Steps.{first_phase}
 use Rattle.wfe_drive_runs.specs.drive_words.Called.{at_phase}
 use Rattle.wfe_drive_runs.specs.drive_words.Readiness.{MayAsk}
 use Rattle.wfe_drive_runs.proofs.drive_words.Makes.{may_ask_at}
-use Rattle.wfe_drive_call.proofs.Starting.{ends_free}
+use Rattle.wfe_drive_machines.proofs.Starting.{ends_free}
 use Rattle.wfe_drive_call.proofs.drive.drive_ibr.Goals as goal
 
 pub finish-requires : goal.finish-requires

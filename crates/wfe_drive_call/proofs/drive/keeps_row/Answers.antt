@@ -3,7 +3,8 @@ use Rattle.std.proofs.Common.{ap, refl, sym, ◌∙◌}
 use Rattle.std.proofs.lemmas.Bool.{false≢true}
 use Rattle.wfe_core.specs.words.declared.config.Config.{Config}
 use Rattle.wfe_drive_runs.proofs.drive_words.Beginnings.{clears_else}
-use Rattle.wfe_drive_call.proofs.Starting.{ends_free, free_without}
+use Rattle.wfe_drive_machines.proofs.Starting.{ends_free}
+use Rattle.wfe_drive_call.proofs.Standing.{free_without}
 use Rattle.wfe_drive_call.proofs.drive.keeps_row.Goals as goal
 
 pub returns-in-Some-clause-kept : goal.returns-in-Some-clause-kept

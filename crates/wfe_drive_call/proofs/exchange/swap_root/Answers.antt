@@ -1,5 +1,5 @@
 -- The root of a bucket lies beside the others.
-use Rattle.std.proofs.Common.{arith, ◌<◌, ◌≤◌}
+use Rattle.std.proofs.Common.{arith}
 use Rattle.wfe_core.proofs.Facts.{lt_test}
 use Rattle.wfe_drive_runs.proofs.drive_words.drive_cells.Lying.{bucket_below, bucket_from}
 use Rattle.wfe_drive_call.proofs.exchange.swap_root.Goals as goal

@@ -1,4 +1,4 @@
-use Rattle.std.proofs.Common.{List, [], ap, ap₂, arith, length, subst, sym, ℕ, ◌++◌, ◌<◌, ◌≡◌, ◌≤◌, ◌∙◌, ◌∷◌}
+use Rattle.std.proofs.Common.{List, [], ap, ap₂, arith, length, subst, sym, ℕ, ◌++◌, ◌≡◌, ◌≤◌, ◌∙◌, ◌∷◌}
 use Rattle.std.specs.Slots.{slots_items}
 use lib.ListN.{get_elem?}
 use Rattle.wfe_core.specs.words.Place.{words}

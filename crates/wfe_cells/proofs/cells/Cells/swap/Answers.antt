@@ -1,6 +1,6 @@
 -- Each attempt that was stale is one more.
 use Rattle.std.proofs.Common.{arith, sym, ◌∙◌}
-use Rattle.law_all.proofs.laws.records.defs.Facts.{false_not_true}
+use Rattle.wfe_table.proofs.all.laws.records.defs.Facts.{false_not_true}
 use Rattle.wfe_cells.specs.Calls.{is_stale}
 use Rattle.wfe_cells.specs.Calls.AllStale.{NoneYet, OneMore}
 use Rattle.wfe_cells.proofs.cells.Cells.swap.Goals as goal

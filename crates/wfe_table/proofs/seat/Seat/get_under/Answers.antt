@@ -7,7 +7,7 @@ use Rattle.wfe_core.specs.defs.declared.call.Call.TheVariants as calls
 use Rattle.wfe_core.specs.words.declared.layout.Layout.{Layout}
 use Rattle.wfe_drive_call.specs.drive_words.Called.{Ends, at_phase}
 use Rattle.wfe_drive_rule.specs.drive_cells.Unit.{SeatView}
-use Rattle.law_all.specs.Logs.Versions.{met_in}
+use Rattle.law_bounds.specs.all.Logs.Versions.{met_in}
 use Rattle.wfe_drive_rule.specs.Handles.{IsTracked}
 use Rattle.wfe_drive_rule.specs.Views.{own}
 use Rattle.wfe_table.specs.Calls.{IsMade}

@@ -2,7 +2,7 @@
 use Rattle.std.proofs.Common.{ap, refl, subst, sym, ◌∙◌, ◌≡◌}
 use Rattle.wfe_core.specs.Locals.{Local}
 use Rattle.wfe_core.specs.words.declared.layout.Layout.{Layout}
-use Rattle.law_all.specs.Logs.Versions.{met_in}
+use Rattle.law_bounds.specs.all.Logs.Versions.{met_in}
 use Rattle.wfe_drive_call.specs.drive_words.Comes.{departs}
 use Rattle.wfe_drive_rule.specs.drive_cells.Unit.{SeatView, shown}
 use Rattle.wfe_drive_rule.specs.Handles.{IsSeated}

@@ -5,7 +5,7 @@ use Rattle.wfe_core.specs.Locals.{may_begin}
 use Rattle.wfe_core.specs.words.declared.layout.Layout.{Layout}
 use Rattle.wfe_drive_call.specs.drive_words.Called.{at_phase}
 use Rattle.wfe_drive_rule.specs.drive_cells.Unit.{SeatView}
-use Rattle.law_all.specs.Logs.Versions.{met_in}
+use Rattle.law_bounds.specs.all.Logs.Versions.{met_in}
 use Rattle.wfe_drive_rule.specs.Handles.{IsSeated, IsTracked}
 use Rattle.wfe_drive_rule.specs.Views.{own}
 use Rattle.wfe_table.specs.Calls.{IsMade}

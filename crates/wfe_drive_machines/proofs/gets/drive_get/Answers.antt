@@ -1,13 +1,13 @@
 -- A get that begins is at its first step, and what its code has made the call has made.
-use Rattle.std.proofs.Common.{ap, refl, sym, ◌≡◌}
+use Rattle.std.proofs.Common.{ap, refl, ◌≡◌}
 use Rattle.wfe_core.specs.defs.declared.call.Call.TheVariants as calls
 use Rattle.wfe_core.specs.Calls.{Idle}
 use Rattle.wfe_core.specs.DeskHeld.{desk_of}
 use Rattle.wfe_core.specs.Desks.{Desk, Notes, no_notes}
 use Rattle.wfe_core.specs.declared.desk.Desk.{Desk as HeldDesk}
-use Rattle.wfe_drive_runs.specs.drive_words.Called.{at_phase}
-use Rattle.wfe_drive_runs.proofs.drive_words.Makes.{Over, called_by, here_begun, over_by, starts_at}
-use Rattle.wfe_drive_call.proofs.drive.drive_get.Goals as goal
+use Rattle.wfe_drive_words.specs.Called.{at_phase}
+use Rattle.wfe_drive_words.proofs.Makes.{Over, called_by, here_begun, over_by, starts_at}
+use Rattle.wfe_drive_machines.proofs.gets.drive_get.Goals as goal
 
 pub start-requires-clause-idle : goal.start-requires-clause-idle
 start-requires-clause-idle g c = starts_at (g.W.Words.at c.args.words.now) c.args.post.now c.args.desk.now (calls.Get c.args.key) c.requires.here refl

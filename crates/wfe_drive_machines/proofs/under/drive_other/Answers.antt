@@ -5,8 +5,8 @@ use Rattle.wfe_core.specs.defs.declared.call.Call.{Call}
 use Rattle.wfe_core.specs.Calls.{Advances, Runs}
 use Rattle.wfe_core.specs.Rounds.{move_base}
 use Rattle.wfe_core.specs.Steps.{first_phase}
-use Rattle.wfe_drive_call.proofs.Starting.{at_index_by}
-use Rattle.wfe_drive_call.proofs.under.drive_other.Goals as goal
+use Rattle.wfe_drive_machines.proofs.Starting.{at_index_by}
+use Rattle.wfe_drive_machines.proofs.under.drive_other.Goals as goal
 
 pub drive-requires-in-Release-clause-first : goal.drive-requires-in-Release-clause-first
 drive-requires-in-Release-clause-first g c = c.new-in-Release.ensures c.args.post.now ∙ ap (λ (call : Call). first_phase call c.args.post.now) (sym c.in-Release.is)

@@ -5,10 +5,10 @@ use Rattle.wfe_core.specs.Locals.{busy_in}
 use Rattle.wfe_core.specs.Steps.{first_phase}
 use Rattle.wfe_core.specs.defs.declared.call.Call.{Call}
 use Rattle.wfe_core.specs.defs.declared.call.Call.TheVariants.{Get}
-use Rattle.wfe_drive_runs.specs.drive_words.Called.{at_phase}
-use Rattle.wfe_drive_runs.proofs.drive_words.Leading.{closes_from, here_as}
-use Rattle.wfe_drive_call.proofs.Starting.{first_busy}
-use Rattle.wfe_drive_call.proofs.gets.get_kept.Goals as goal
+use Rattle.wfe_drive_words.specs.Called.{at_phase}
+use Rattle.wfe_drive_words.proofs.Leading.{closes_from, here_as}
+use Rattle.wfe_drive_machines.proofs.Starting.{first_busy}
+use Rattle.wfe_drive_machines.proofs.gets.get_kept.Goals as goal
 
 pub drive_apart-requires-clause-busy : goal.drive_apart-requires-clause-busy
 drive_apart-requires-clause-busy g c = ap busy_in (c.new.ensures c.args.post.now) ∙ first_busy (Get c.args.key) c.args.post.now

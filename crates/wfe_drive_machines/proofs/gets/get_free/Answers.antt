@@ -1,11 +1,11 @@
 -- Where the seat is, its numbers are in range; and where its interval would end it keeps no row.
 use Rattle.std.proofs.Common.{sym}
 use Rattle.wfe_core.specs.Steps.{first_phase}
-use Rattle.wfe_drive_runs.specs.drive_words.Called.{at_phase}
-use Rattle.wfe_drive_runs.specs.drive_words.Readiness.{MayAsk}
-use Rattle.wfe_drive_runs.proofs.drive_words.Makes.{may_ask_at}
-use Rattle.wfe_drive_call.proofs.Starting.{ends_free}
-use Rattle.wfe_drive_call.proofs.gets.get_free.Goals as goal
+use Rattle.wfe_drive_words.specs.Called.{at_phase}
+use Rattle.wfe_drive_words.specs.Readiness.{MayAsk}
+use Rattle.wfe_drive_words.proofs.Makes.{may_ask_at}
+use Rattle.wfe_drive_machines.proofs.Starting.{ends_free}
+use Rattle.wfe_drive_machines.proofs.gets.get_free.Goals as goal
 
 pub finish-requires : goal.finish-requires
 finish-requires g c =

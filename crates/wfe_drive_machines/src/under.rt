@@ -4,16 +4,17 @@ ghost use Rattle.wfe_core.specs.Calls.{Idle};
 ghost use Rattle.wfe_core.specs.DeskHeld.{HasRoom};
 ghost use Rattle.wfe_core.specs.Locals.{stays};
 ghost use Rattle.wfe_core.specs.Steps.{first_phase};
-ghost use Rattle.wfe_drive_runs.specs.drive_words.Called.{Here, Makes, at_phase};
-ghost use Rattle.wfe_drive_runs.specs.drive_words.Ran.{Answered};
-ghost use Rattle.wfe_drive_call.specs.Others.{is_at_index, is_other, is_unchanged};
+ghost use Rattle.wfe_drive_words.specs.Called.{Here, Makes, at_phase};
+ghost use Rattle.wfe_drive_words.specs.Ran.{Answered};
+ghost use Rattle.wfe_drive_machines.specs.Others.{is_at_index, is_other, is_unchanged};
 
-use wfe_call_any::{
-    Advance, CopyIndex, Dequeue, DropIndex, Enqueue, Get, Hold, Look, Put, PutIf, Release, Remove,
-    Scan, Scheme,
+use wfe_bucketmap::{
+    Advance, CopyIndex, DropIndex, Get, Hold, Look, Put, PutIf, Release, Remove, Scheme,
 };
 use wfe_core::{Answer, Call, CallMachine, Desk, Post};
-use wfe_drive_runs::{Words, drive_on};
+use wfe_drive_words::{Words, drive_on};
+use wfe_msqueue::{Dequeue, Enqueue};
+use wfe_scan::Scan;
 
 /// Makes the steps of a call that has begun, under the table's scheme. Each kind of call has a loop of
 /// its own, so that none of its steps asks which call it is of.

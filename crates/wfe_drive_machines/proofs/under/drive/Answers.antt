@@ -2,10 +2,10 @@
 use Rattle.std.proofs.Common.{ap, sym, ◌∙◌}
 use Rattle.wfe_core.specs.Calls.{Phase}
 use Rattle.wfe_core.specs.Locals.{busy_in}
-use Rattle.wfe_drive_runs.specs.drive_words.Called.{at_phase}
-use Rattle.wfe_drive_runs.proofs.drive_words.Leading.{closes_from, here_as}
-use Rattle.wfe_drive_call.proofs.Starting.{first_busy}
-use Rattle.wfe_drive_call.proofs.under.drive.Goals as goal
+use Rattle.wfe_drive_words.specs.Called.{at_phase}
+use Rattle.wfe_drive_words.proofs.Leading.{closes_from, here_as}
+use Rattle.wfe_drive_machines.proofs.Starting.{first_busy}
+use Rattle.wfe_drive_machines.proofs.under.drive.Goals as goal
 
 pub drive_on-requires-clause-busy : goal.drive_on-requires-clause-busy
 drive_on-requires-clause-busy g c = ap busy_in c.requires.first ∙ first_busy c.args._call c.args.post.now

@@ -1,8 +1,7 @@
 -- A call that begins is under way; and where under 2GE no row is kept.
-use Rattle.std.proofs.Common.{Bool, None, Option, Some, ap, drop, false, if◌then◌else◌, refl, sym, true, ℕ, ◌∙◌, ◌≡◌}
+use Rattle.std.proofs.Common.{Bool, None, Option, Some, drop, false, if◌then◌else◌, refl, true, ℕ, ◌≡◌}
 use Rattle.std.proofs.lemmas.Bool.{false≢true}
 use Rattle.wfe_core.specs.words.Schemes.{has_one_interval, publishes_rows}
-use Rattle.wfe_core.specs.words.declared.config.SchemeKind.{SchemeKind}
 use Rattle.wfe_core.specs.words.declared.config.SchemeKind.TheVariants.{Ibr}
 use Rattle.wfe_core.specs.defs.declared.call.Call.{Call}
 use Rattle.wfe_core.specs.defs.declared.call.Call.TheVariants as names
@@ -16,8 +15,7 @@ use Rattle.wfe_core.specs.Posts.{standing_from, stands}
 use Rattle.wfe_core.specs.Rounds.{begin_base, finish_base, finish_span, kept_row, let_index, letting, letting_by, release_base, round, round_by, scheme_of}
 use Rattle.wfe_core.specs.Steps.{changing, copying, first_phase, holding, looking_at}
 use Rattle.wfe_core.specs.declared.post.Post.{Post}
-use Rattle.wfe_drive_runs.specs.Pieces.{IsFree}
-use Rattle.wfe_drive_call.specs.Others.{is_at_index, is_other, is_unchanged}
+use Rattle.wfe_drive_machines.specs.Others.{is_at_index, is_other, is_unchanged}
 
 by_base : (task : Task) (post : Post) (base : Option Base) → busy_in (round_by task post base) ≡ true
 by_base task post None = refl
@@ -81,10 +79,6 @@ span_ends (Some slot) base e = absurd (cc)
 
 pub ends_free : (post : Post) (base : Base) → finish_base Ibr post ≡ Some base → kept_row post ≡ None
 ends_free post base e = span_ends (kept_row post) base e
-
--- a scheme that has no interval
-pub free_without : (kind : SchemeKind) (post : Post) → post.layout.config.scheme ≡ kind → has_one_interval kind ≡ false → IsFree post
-free_without kind post e none one = absurd (false≢true (sym none ∙ (sym (ap has_one_interval e) ∙ one)))
 
 -- a call that is no change, and one that is none of those that are made before
 pub unchanged_by : (call : Call) → ((key value : ℕ) → call ≡ names.Put key value → ⊥) → ((key : ℕ) → call ≡ names.Remove key → ⊥) → ((key value version : ℕ) → call ≡ names.PutIf key value version → ⊥) → is_unchanged call ≡ true
